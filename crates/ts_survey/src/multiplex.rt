@@ -1,4 +1,4 @@
-//! All that is followed in a transport stream, one packet after another.
+//! Follows everything in a transport stream, one packet after another.
 ghost use Rattle.std.specs.Prelude.{◌≡◌, ◌<◌, [], IfSome};
 ghost use Rattle.std.specs.Prelude.{length, true};
 ghost use Rattle.ts_survey.specs.Asked.{KeepsAsked, is_asked, keeps_asked, others_followed};
@@ -23,7 +23,7 @@ use mpeg_ts::{PACKET, announces_jump, begins, pid_of};
 use std::alloc::Global;
 use ttx_packet::PageId;
 
-/// PIDs with Teletext, clocks and video PIDs that are followed.
+/// The maximum number of PIDs with Teletext, of clocks and of video PIDs that are followed.
 const MOST: usize = 64;
 
 /// A transport stream.
@@ -31,11 +31,11 @@ const MOST: usize = 64;
 pub struct Multiplex {
     alloc: Global,
     page: PageId,
-    // The PID that alone is followed, where one is asked for.
+    // The requested PID, which alone is followed.
     asked: Option<u16>,
-    // That of the last packet.
+    // The number of the last packet.
     number: u64,
-    // The packet at which strange PCR are looked at again.
+    // The packet at which irregular PCRs are examined again.
     settle_at: u64,
     out_of_memory: bool,
     pids: Pids,
@@ -46,7 +46,7 @@ pub struct Multiplex {
 }
 
 impl Multiplex {
-    /// Before the first packet. `None` where memory runs out.
+    /// Returns the state before the first packet; `None` if memory runs out.
     pub fn new(
         alloc: Global,
         page: PageId,
@@ -55,7 +55,7 @@ impl Multiplex {
     ) -> Option<Multiplex>
         ensures asked { IfSome result (λ multiplex. (multiplex.asked ≡ asked)
             × (multiplex.page ≡ page) × (others_followed multiplex ≡ [])) }
-        // The PID that is asked for is followed from here on.
+        // The requested PID is followed from here on.
         ensures told { IfSome result (λ multiplex. AddsWords text.old
             (asked_words multiplex.asked) text.new) }
     {
@@ -80,14 +80,14 @@ impl Multiplex {
         Some(all)
     }
 
-    /// Whether memory ran out.
+    /// Returns whether memory ran out.
     pub fn out_of_memory(&self) -> bool
         ensures { result ≡ self.now.out_of_memory }
     {
         self.out_of_memory
     }
 
-    // Has the sections of a PID read.
+    // Starts to read the sections of a PID.
     fn add_table(&mut self, pid: u16)
         ensures asked { KeepsAsked self.old self.new }
     {
@@ -101,7 +101,7 @@ impl Multiplex {
         }
     }
 
-    // Follows a PID with Teletext, where it is not followed yet and another one is not asked for.
+    // Follows a PID with Teletext, unless it is followed already or another one is requested.
     fn follow(&mut self, pid: u16, text: &mut Text)
         ensures asked { KeepsAsked self.old self.new }
     {
@@ -118,7 +118,7 @@ impl Multiplex {
         }
     }
 
-    // Follows a PID with Teletext from here on. `None` where memory runs out.
+    // Follows a PID with Teletext from here on; `None` if memory runs out.
     fn add_carrier(&mut self, pid: u16, text: &mut Text) -> Option<()>
         requires { length self.old.carriers.items < 64 }
         ensures asked { is_asked self.old.asked pid ≡ true → KeepsAsked self.old self.new }
@@ -172,7 +172,7 @@ impl Multiplex {
         self.pids.set(pid, state);
     }
 
-    // A packet of a PID with Teletext came.
+    // Processes a packet of a PID with Teletext.
     #[tactic(auto, using(crate::proofs::AskedLemmas::one_changed))]
     fn carry(&mut self, state: &PidState, packet: &[u8; PACKET], text: &mut Text)
         ensures asked { KeepsAsked self.old self.new }
@@ -186,7 +186,7 @@ impl Multiplex {
         self.begin(state, pts, text);
     }
 
-    // A PTS began in a packet of a PID with Teletext.
+    // Processes a PTS that began in a packet of a PID with Teletext.
     #[tactic(auto, using(crate::proofs::AskedLemmas::one_changed))]
     fn begin(&mut self, state: &PidState, pts: u64, text: &mut Text)
         ensures asked { KeepsAsked self.old self.new }
@@ -208,7 +208,7 @@ impl Multiplex {
         );
     }
 
-    // A packet of a PID with pictures came.
+    // Processes a packet of a PID with pictures.
     #[inline(always)]
     fn show(&mut self, state: &PidState, packet: &[u8; PACKET], text: &mut Text)
         ensures asked { KeepsAsked self.old self.new }
@@ -227,8 +227,8 @@ impl Multiplex {
         }
     }
 
-    // So of a packet that is of interest: few are, and what is done for them out of line takes no
-    // registers of the walk over all packets.
+    // Processes a packet of interest: few are, and doing this out of line takes no registers of the
+    // loop over all packets.
     #[inline(never)]
     fn show_on(&mut self, place: u8, kind: u8, link: Link, packet: &[u8; PACKET], text: &mut Text)
         ensures asked { KeepsAsked self.old self.new }
@@ -239,7 +239,8 @@ impl Multiplex {
         pictures.take(packet, kind, link, text);
     }
 
-    // The last picture of the programme with that PCR_PID: of its PID of video that began first.
+    // Returns the last picture of the programme with this PCR_PID, from its video PID that began
+    // first.
     fn last_picture(&self, clock_pid: u16) -> Option<Picture> {
         if clock_pid == NULL_PID {
             return None;
@@ -252,7 +253,7 @@ impl Multiplex {
         None
     }
 
-    // A packet of a PID with a clock came.
+    // Processes a packet of a PID with a clock.
     fn read_clock(&mut self, place: u8, packet: &[u8; PACKET], text: &mut Text)
         ensures asked { KeepsAsked self.old self.new }
     {
@@ -272,7 +273,7 @@ impl Multiplex {
         self.note_pcr(pid, strange, text);
     }
 
-    // A PCR came of that PCR_PID: it is told to each PID of its programme.
+    // Passes a PCR of this PCR_PID to each PID of its programme.
     fn note_pcr(&mut self, clock_pid: u16, strange: Option<Strange>, text: &mut Text)
         ensures asked { KeepsAsked self.old self.new }
     {
@@ -281,7 +282,7 @@ impl Multiplex {
         }
     }
 
-    // Tells the strange PCR of which all is known at the packet with that number.
+    // Prints the irregular PCRs for which no more data is needed at the packet with this number.
     fn settle(&mut self, number: u64, text: &mut Text)
         ensures asked { KeepsAsked self.old self.new }
     {
@@ -297,7 +298,7 @@ impl Multiplex {
         };
     }
 
-    // Tells all strange PCR, so that none waits.
+    // Prints all irregular PCRs, so that none waits.
     fn settle_all(&mut self, text: &mut Text)
         ensures asked { KeepsAsked self.old self.new }
     {
@@ -307,7 +308,7 @@ impl Multiplex {
         self.settle_at = u64::MAX;
     }
 
-    // A packet of a PID came: its sections and its clock are read, and what begins is looked at.
+    // Processes a packet of a PID: reads its sections and its clock, and examines what begins.
     #[inline(always)]
     fn read(&mut self, pid: u16, state: &PidState, packet: &[u8; PACKET], text: &mut Text)
         ensures asked { KeepsAsked self.old self.new }
@@ -323,7 +324,7 @@ impl Multiplex {
         }
     }
 
-    // So of a PID with pictures or Teletext.
+    // Processes a packet of a PID with pictures or Teletext.
     #[inline(always)]
     fn follow_on(&mut self, state: &PidState, packet: &[u8; PACKET], text: &mut Text)
         ensures asked { KeepsAsked self.old self.new }
@@ -336,8 +337,8 @@ impl Multiplex {
         }
     }
 
-    // Looks at what begins in a PID of which nothing is known. Where a PES packet does not show
-    // its data_identifier, a later one may.
+    // Examines what begins in an unknown PID. If a PES packet does not show its data_identifier, a
+    // later one may.
     fn look(&mut self, pid: u16, packet: &[u8; PACKET], text: &mut Text)
         ensures asked { KeepsAsked self.old self.new }
     {
@@ -370,7 +371,7 @@ impl Multiplex {
         }
     }
 
-    // Reads the sections that are whole.
+    // Reads the complete sections.
     fn read_tables(&mut self, table: u8, text: &mut Text)
         ensures asked { KeepsAsked self.old self.new }
     {
@@ -381,7 +382,7 @@ impl Multiplex {
         }
     }
 
-    // Reads the next section that is whole; whether there is one.
+    // Reads the next complete section, and returns whether there is one.
     fn read_table(&mut self, table: u8, text: &mut Text) -> bool
         ensures asked { KeepsAsked self.old self.new }
     {
@@ -395,7 +396,7 @@ impl Multiplex {
         true
     }
 
-    // Reads a section that is new: of the PAT, whose place is the first, or of a PMT.
+    // Reads a new section: of the PAT, which has the first index, or of a PMT.
     fn read_section(&mut self, table: u8, section: &[u8], text: &mut Text)
         ensures asked { KeepsAsked self.old self.new }
     {
@@ -409,7 +410,7 @@ impl Multiplex {
         }
     }
 
-    // Has the PMT of each programme read that a PAT names.
+    // Starts to read the PMT of each programme in a PAT.
     fn read_pat(&mut self, section: &[u8])
         ensures asked { KeepsAsked self.old self.new }
     {
@@ -425,7 +426,7 @@ impl Multiplex {
         }
     }
 
-    // Tells the programme of a PMT, and its streams.
+    // Prints the programme of a PMT, and its streams.
     fn read_pmt(&mut self, section: &[u8], text: &mut Text)
         ensures asked { KeepsAsked self.old self.new }
     {
@@ -444,7 +445,7 @@ impl Multiplex {
         }
     }
 
-    // Tells a stream, and the pages that it announces.
+    // Prints a stream, and the pages that it announces.
     fn read_stream(&mut self, section: &[u8], stream: &Stream, clock_pid: u16, text: &mut Text)
         ensures asked { KeepsAsked self.old self.new }
     {
@@ -455,7 +456,7 @@ impl Multiplex {
         }
     }
 
-    /// Tells what is not told yet, since nothing more is there for now.
+    /// Prints what was not printed yet, since no more data is there for now.
     pub fn flush(&mut self, text: &mut Text)
         ensures asked { KeepsAsked self.old self.new }
     {
@@ -464,8 +465,8 @@ impl Multiplex {
         }
     }
 
-    /// The recording is over: tells what is known of PID after PID, and of clocks and pictures. No
-    /// strange PCR waits any more.
+    /// Prints what is known at the end of the recording: of pictures, of each PID with Teletext,
+    /// and of clocks. No irregular PCR waits any more.
     pub fn end(&mut self, text: &mut Text)
         ensures asked { KeepsAsked self.old self.new }
     {
@@ -481,7 +482,7 @@ impl Multiplex {
         }
     }
 
-    // PID after PID, those that are followed.
+    // Prints what is known of the followed PIDs, one after another.
     fn end_pids(&self, text: &mut Text) {
         for pid in 0..NULL_PID {
             self.end_pid(pid, text);
@@ -503,10 +504,11 @@ impl Multiplex {
 }
 
 impl TakesPackets for Multiplex {
-    // What is asked for stays what is followed, and looked for.
+    // The requested PID and page stay the same, and no further PID is followed that is not
+    // requested.
     ghost is_taken = { keeps_asked };
 
-    /// A packet came, the one with that number.
+    /// Processes the packet with this number.
     fn take(&mut self, number: u64, packet: &[u8; PACKET], text: &mut Text)
         ensures { keeps_asked self.old packet.now self.new }
     {
@@ -524,7 +526,7 @@ impl TakesPackets for Multiplex {
         }
     }
 
-    /// So many bytes were skipped that packets of any PID may be missing.
+    /// Notes that packets of any PID may be missing, since so many bytes were skipped.
     fn note_hole(&mut self)
         ensures taken { keeps_asked self.old [] self.new }
     {
@@ -534,7 +536,7 @@ impl TakesPackets for Multiplex {
     }
 }
 
-// Tells a PID of a PCR of that PCR_PID, where it is that of its programme.
+// Passes a PCR of this PCR_PID to a PID, if it is that of its programme.
 fn note_pcr_of(
     carrier: &mut Carrier,
     pids: &Pids,
@@ -554,13 +556,13 @@ fn is_unknown(state: &PidState) -> bool {
     state.carrier == NONE && state.table == NONE && !state.is_other
 }
 
-// Whether the first data byte of a PES packet is in the payload in which it begins.
+// Returns whether the first data byte of a PES packet is in the payload in which it begins.
 fn has_data_identifier(payload: &[u8]) -> bool {
     payload.len() > 9 && 9 + (payload[8] as usize) < payload.len()
 }
 
-// Whether a payload begins with a PES packet of Teletext: private_stream_1, whose first data byte
-// is a data_identifier of EBU data, 10 to 1F (EN 300 472).
+// Returns whether a payload begins with a PES packet of Teletext: private_stream_1, whose first
+// data byte is a data_identifier of EBU data, 10 to 1F (EN 300 472).
 fn begins_teletext(payload: &[u8]) -> bool
     ensures { result ≡ specs.begins_teletext payload.now }
 {
