@@ -54,6 +54,11 @@ class Units(Case):
         self.check("kill mode", service["KillMode"], "mixed")
         self.must("languages", "--option auto" in service["ExecStart"], service["ExecStart"])
 
+    def test_to_stop_what_judges_is_no_failure(self) -> None:
+        """A signal ends it with status 2."""
+        for name in (JUDGE, "subttx-watch.service"):
+            self.check(name, read_unit(name)["Service"]["SuccessExitStatus"], "2")
+
     def test_is_started_again_however_often_it_ends(self) -> None:
         for name in UNITS:
             unit = read_unit(name)
