@@ -80,7 +80,7 @@ unfolding blocks_from
 blocks_count s zero ebn text = refl
 blocks_count s (suc full) ebn text = ap suc (blocks_count s full (ebn + 1) (drop 112 text))
 
--- What `spell` needs.
+-- Lemmas for `spell`.
 pub ruleset spelled = (append_assoc, length-drop, joined_more, joined_end, blocks_count)
 
 -- ---- they are blocks of the subtitle

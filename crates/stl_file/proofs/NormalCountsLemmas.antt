@@ -59,7 +59,7 @@ pub counted_cons : (c : Counts) (s : SubtitleValue) (j : Judged)
     ≡ counted_on (record { tnb = c.tnb + length (blocks_of s); tns = c.tns + 1 }) (normal_counts j)
 counted_cons c s j = grind (arith, length-append)
 
--- What `judge` needs.
+-- Lemmas for `judge`.
 pub ruleset judging = (counted_none, counted_cons, blocks_count)
 
 -- ---- the second pass
