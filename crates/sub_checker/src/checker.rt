@@ -181,7 +181,7 @@ impl<'a> Checker<'a> {
         self.latest = greater(self.latest, frame);
     }
 
-    /// Tells the reporter that the packets of the current frame follow.
+    /// Notifies the reporter that the packets of the current frame follow.
     #[inline(always)]
     pub fn begin_frame<A: Audience<Event>>(&self, reporter: &mut Reporter<'_, A>)
         ensures begun { reporter.new
@@ -191,8 +191,8 @@ impl<'a> Checker<'a> {
         self.go_back(reporter);
     }
 
-    /// Tells the reporter since which frame the page has been wrong, up to the frame before. Needed
-    /// only if subtitles were refused and `within` is not 0.
+    /// Notifies the reporter since which frame the page has been wrong, up to the frame before.
+    /// Needed only if subtitles were refused and `within` is not 0.
     #[inline(always)]
     #[tactic(auto, unfolding(crate::specs::CheckedFrames::back_reporter))]
     pub fn go_back<A: Audience<Event>>(&self, reporter: &mut Reporter<'_, A>)

@@ -79,12 +79,12 @@ abbrev pub TellsChosen : Result (List Text) UsageFault → MemFilesValue → ℕ
 TellsChosen given files code =
     OfAccepted given files code (λ o. Headline o.page o.every english_due)
 
--- It also holds for every receiver that drops a row with a hit byte.
+-- If the exit code is 0, the headline also holds for receivers that drop a row with a wrong byte.
 abbrev pub TellsDropping : Result (List Text) UsageFault → MemFilesValue → ℕ → Type 0
 TellsDropping given files code =
     OfAccepted given files code (λ o. EachOfClassGets Dropping o.page o.every)
 
--- The screens of all these receivers show what is due.
+-- If the exit code is 0, the screens of all these receivers show what is due.
 abbrev pub TellsScreens : Result (List Text) UsageFault → MemFilesValue → ℕ → Type 0
 TellsScreens given files code = OfAccepted given files code (λ o. EachScreenShows o.page)
 
@@ -146,8 +146,8 @@ TellsRecordingToo given files code =
     → ServesOthers r.options (subtitles_within r.scope file)
     (frames_by_place r.options.origin (bytes_read r bytes)))
 
--- The selected bytes are a PES file that contains these frames and nothing else; the subtitle file
--- contains these subtitles, and others only outside of the selected part.
+-- If the exit code is 0, the selected bytes are a PES file that contains these frames and nothing
+-- else; the subtitle file contains these subtitles, and others only outside of the selected part.
 abbrev pub TellsRecordingFiles : Result (List Text) UsageFault → MemFilesValue → ℕ → Type 0
 TellsRecordingFiles given files code =
     OfRecording given files

@@ -32,7 +32,7 @@ pub record Gets
 -- the end of frame f) within the transmission; whichever packets arrive, as long as all page
 -- headers do, each with at most one wrong bit per byte; whatever it had before, any page, open or
 -- not, with or without a header; and whatever it chooses at bytes of even parity. A cell is excused
--- if its byte was hit or its row lost.
+-- if its byte was received with a wrong bit, or its row was lost.
 abbrev pub EachReceiverGets : PageIdValue → ℕ → (ℕ → Rows) → Transmission → Type 0
 EachReceiverGets page every due transmission =
     (g j f : ℕ) (arrived : List Bool) (got : List (List ℕ)) (old new : State)

@@ -61,7 +61,7 @@ impl From<CheckFault> for ListenFault {
 /// is left as it is unless complete pages are required.
 ///
 /// The receiver gets the packets as they are read, with their bit errors, except for skipped and
-/// lost packets and the rows that it drops. Nothing is read after the first PES packet behind that
+/// lost packets and the rows that it drops. Nothing is read after the first PES packet after that
 /// frame; faults of that PES packet itself are still returned. If `within` is not 0, consecutive
 /// PES packets may belong to one frame, and each is received.
 ///

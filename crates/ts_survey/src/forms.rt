@@ -1,7 +1,6 @@
 //! Whether the pictures that are shown before the flagged one of a group can be decoded without the
 //! group before, from the first bytes of the flagged one.
 ghost use Rattle.std.specs.Prelude.{◌≤◌, length};
-// What the reader keeps, not the standard's.
 
 /// stream_type (ISO/IEC 13818-1, table 2-34) of MPEG-1, MPEG-2, H.264 and HEVC.
 const MPEG_1: u8 = 0x01;

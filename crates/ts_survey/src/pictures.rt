@@ -1,6 +1,5 @@
 //! The pictures of a video PID: the first ones, from one that can be shown alone to the next such
 //! one, and the decoding time of the last one.
-// What the reader keeps, not the standard's.
 
 use crate::adaptation::{begins_access, is_scrambled, payload_in};
 use crate::clock::SECOND;
