@@ -14,7 +14,7 @@ from subtitles.clock.stretches import by_breaks, find_row, parts_of, runs_of
 from subtitles.common.command_line import Lateness
 from subtitles.common.times import CLOCK, FRAMES_A_SECOND, FRAMES_OF_A_DAY, TICKS
 from subtitles.stream.packets import Change, Packets, Run
-from subtitles.stream.ranges import Beginning, SentPacket, cut_of
+from subtitles.stream.ranges import Beginning, PageTexts, SentPacket, cut_of
 
 SEEDS = range(20)
 Sending = tuple[int, bytes]  # a PTS that does not wrap, and the letters of the page then
@@ -226,6 +226,9 @@ class Laws(unittest.TestCase):
         self.assertTrue(any("not unique" in line for line in one.lines))
 
 
+TEXT = ((20, b"text"),)  # of a page
+
+
 class Cuts(unittest.TestCase):
     """What is taken, beside what a plain reading of the rule takes."""
 
@@ -241,7 +244,8 @@ class Cuts(unittest.TestCase):
                 does = ("heo" if has_header else "o") + "b" * is_blank
                 made.runs.append(Run(number, 1, (origin + TICKS * frame) % CLOCK, 0, does, ""))
                 if before != is_blank:
-                    made.changes.append(Change(0, b"", number))
+                    made.changes.append(Change(made.runs[-1].pts or 0, b"", number,
+                                               () if is_blank else TEXT))
             begin = chance.randrange(1100, 1250)
             end, every = begin + chance.randrange(150), chance.choice((None, 25, 100))
             with self.subTest(seed=seed):
@@ -252,11 +256,13 @@ class Cuts(unittest.TestCase):
         """Within some frames one without a PTS between two of a frame is of the same sending."""
         for frame in (90, None):
             for within, wanted in ((0, 3), (1, 0)):
-                beginning = Beginning(100, within)
+                changes = [Change(TICKS * 100, b"", 3, TEXT)]
+                beginning = Beginning(100, within, PageTexts(
+                    Packets(0, changes=changes), 0, within, False))
                 for sent in (SentPacket(0, 90, "heo"), SentPacket(1, frame, "o"),
                              SentPacket(2, 90, "ob")):
                     beginning.take(sent)
-                self.assertEqual(beginning.find(SentPacket(3, 100, "heo"), True), wanted, frame)
+                self.assertEqual(beginning.find(SentPacket(3, 100, "heo")), wanted, frame)
 
 
 def plain(packets: Packets, frames: Sequence[int], begin: int, end: int,

@@ -17,7 +17,7 @@ from subtitles.common.times import (
     joined_spans, pts_of, ticks_after, ticks_between, ticks_within, wrapped)
 from subtitles.stream.gaps import (
     ClockJump, Place, SECOND, jumps_of, place_line, places_of, strange_of, what_of)
-from subtitles.stream.packets import Change, Clocked, Mark, Packets, Run, headers_in
+from subtitles.stream.packets import Change, Clocked, Mark, Packets, Run, Texts, headers_in
 from subtitles.stream.ranges import cut_of, is_outside
 from subtitles.stream.survey import Survey
 
@@ -53,6 +53,12 @@ def all_over_the_clock(chance: random.Random) -> Iterator[tuple[int, int]]:
                 chance.randrange(CLOCK // TICKS) * TICKS for _ in range(30))):
             for ticks in (at - EARLY - 1, at - EARLY, at - 1, at, at + 1, at + TICKS // 2):
                 yield origin, ticks % CLOCK
+
+
+def text_of(number: int, does: str) -> Texts:
+    """The rows after a PES packet with a number that changes the text: blank, the same, or its own.
+    """
+    return () if "b" in does else ((20, b"same" if does[-1] == "y" else b"%d" % number),)
 
 
 class Times(unittest.TestCase):
@@ -261,7 +267,8 @@ class Times(unittest.TestCase):
     def test_cuts_the_range_of_each_row(self) -> None:
         """The three questions of a cut of frames 100 to 200: where it begins, where it ends, which
         PES packets lie in the time. A PES packet is its frame and what it does: a header, which
-        erases, of a page that is blank then, opens it, closes it, changes its text."""
+        erases, of a page that is blank then, opens it, closes it, changes its text (`x`), to the
+        same one each time (`y`)."""
         whole, every, late = (100, 200), (100, 200, 25), (100, 200, 25, 2)
         rows: list[tuple[str, str, tuple[int, ...], tuple[int, int] | None, bool, bool, int]] = [
             # Where it begins.
@@ -304,6 +311,19 @@ class Times(unittest.TestCase):
              True, False, 4),
             ("which is no sending within 0", "80 he, 80 b, 100 he, 200 heb", every, (2, 3), True,
              False, 4),
+            ("late: with the header before, where a repeat shows text at the first TCI",
+             "75 hey, 80 -, 100 he, 200 heb", late, (0, 3), True, False, 4),
+            ("late: or as late as may be", "77 hey, 102 he, 200 heb", late, (0, 2), True, False, 3),
+            ("late: a repeat with its rows in a PES packet of its own",
+             "75 heb, 76 hey, 100 hebx, 100 oy, 200 heb", late, (0, 4), True, False, 5),
+            ("late: or two frames later", "75 heb, 76 hey, 100 hebx, 102 oy, 200 heb", late, (0, 4),
+             True, False, 5),
+            ("late: or begun before the first TCI", "75 heb, 76 hey, 99 hebx, 100 oy, 200 heb",
+             late, (0, 4), True, False, 5),
+            ("late: not where another text comes", "75 heb, 76 hey, 100 hebx, 100 ox, 200 heb",
+             late, (2, 4), True, False, 5),
+            ("late: not where the page is blank for longer",
+             "75 heb, 76 hey, 97 hebx, 100 hey, 200 heb", late, (2, 4), True, False, 5),
             # Where it ends.
             ("with what is there", "100 he, 150 -", every, (0, 1), False, False, 2),
             ("back in the time", "100 he, 150 -, 120 -", every, (0, 2), False, False, 3),
@@ -329,7 +349,7 @@ class Times(unittest.TestCase):
             ("late: what is a little early is of its frame", "74.8 heb, 99.8 he, 199.8 heb, 203 -",
              late, (0, 2), True, True, 4),
             ("late: what ended it before tells nothing",
-             "80 heo, 81 c, 100 heo, 200 heob, 201 -, 210 -", late, (2, 3), True, True, 5),
+             "80 heo, 81 c, 100 heox, 200 heob, 201 -, 210 -", late, (2, 3), True, True, 5),
             ("late: that again, in two PES packets of a frame",
              "100 heo, 101 c, 200 heob, 201 cb, 202 heob, 225 heob", late, (0, 3), True, True, 5),
             ("late: as late as may be", "100 he, 201 he, 202 he, 203 -", late, (0, 2), True, True,
@@ -350,8 +370,9 @@ class Times(unittest.TestCase):
             known = [one.split() for one in sent.split(", ") if one]
             made = Packets(257, [
                 Run(at, 1, None if one[0] == "m" else round(TICKS * float(one[0])), 0,
-                    "".join(one[1:]).strip("x-"), "") for at, one in enumerate(known)],
-                changes=[Change(0, b"", at) for at, one in enumerate(known) if "x" in one[-1]])
+                    "".join(one[1:]).strip("xy-"), "") for at, one in enumerate(known)],
+                changes=[Change(round(TICKS * float(one[0])), b"", at, text_of(at, one[-1]))
+                         for at, one in enumerate(known) if one[-1][-1] in "xy"])
             begin, end, bound, within = (*asked, None, 0)[:4] if len(asked) < 4 else asked
             found = cut_of(made, begin or 0, end or 0, 0, bound, within or 0)
             low, high = 100 - (bound or 0), 200 + (bound or 0)
@@ -369,6 +390,12 @@ class Times(unittest.TestCase):
                 words = f"{read} PES packet{'s' * (read != 1)}"
                 self.assertTrue(found.words().startswith(f"none of {words} is of" if wanted is None
                                 else f"{wanted[1] - wanted[0] + 1} of {words}, from 00:00:0"))
+        made = Packets(257, [Run(at, 1, TICKS * frame, 0, does, "") for at, (frame, does) in
+                             enumerate(((75, "he"), (100, "he"), (200, "heb")))],
+                       changes=[Change(TICKS * 75, b"", 0, text_of(0, "hey"))])
+        for within, is_continued in itertools.product((0, 1), (False, True)):
+            found = cut_of(made, 100, 200, 0, 25, within, is_continued=is_continued)
+            self.assertEqual(found.range, (int(is_continued), 2), "the text was due before")
         made = Packets(257, [Run(at, 1, TICKS * (100 + at), 0, "he", "") for at in range(9)])
         found = cut_of(made, 100, 200, 0, 25, inside=(3, 5))
         self.assertEqual((found.range, found.came, found.read), ((3, 5), 103, 7))

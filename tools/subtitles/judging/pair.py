@@ -278,7 +278,7 @@ class Pair:
             raise Unclear(f"{request.stl} has no subtitle")
         clock = given_clock(request) or NO_CLOCK
         programme = PartSearch(request, Found(subtitles[0].begin, subtitles[-1].end, clock),
-                              request.pes, self.left_out)
+                              request.pes, self.left_out, self.is_continued(subtitles[0]))
         self.recording = recording = Recording(request, self.typed, self.names, self.listener,
                                                [(subtitle.begin, subtitle.end)
                                                 for subtitle in subtitles])
@@ -295,6 +295,16 @@ class Pair:
                          pts_of(last.end, last.origin))
         self.verdict.notes[:0] = clocks.delay
         return Located(recording, clocks, subtitles)
+
+    def is_continued(self, first: Subtitle) -> bool:
+        """Whether one of the file that is not judged adjoins the first subtitle, and has its text.
+        """
+        request, option = self.request, BY_WORD[self.request.option]
+        if not request.between.begin and not self.left_out:
+            return False
+        return any(one.begin < first.begin <= one.end + request.within
+                   and letters_of_text(one.text, option) == letters_of_text(first.text, option)
+                   for one in subtitles_read(SubtitleFile(self.names.given).data))
 
     def refuse_range(self, recording: Recording) -> None:
         """A range that has none of the PES packets is told so."""

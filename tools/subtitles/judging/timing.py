@@ -34,12 +34,14 @@ SAID = "origin: "  # before what is said of it
 class PartSearch(NamedTuple):
     """What is looked for in a recording: the first and the last frame of its subtitles, with the
     clock where one was given, and which of the file are left out, by their places; `inside` are the
-    PES packets that may be judged."""
+    PES packets that may be judged; `is_continued`: the first subtitle has the text of one that is
+    not judged and adjoins it."""
 
     request: Request
     whole: Found
     inside: Range | None
     left_out: frozenset[int] = frozenset()
+    is_continued: bool = False
 
 
 class PartClocks(NamedTuple):
@@ -207,7 +209,8 @@ def clock_options(recording: Recording, origin: Origin) -> Iterator[str]:
 def cut_within(programme: PartSearch, recording: Recording, alignment: Found, within: int) -> Cut:
     """The PES packets of the time of the subtitles, within so many frames."""
     return cut_of(recording.packets, alignment.begin, alignment.end, alignment.origin,
-                  programme.request.every, within, alignment.packets or programme.inside)
+                  programme.request.every, within, alignment.packets or programme.inside,
+                  programme.is_continued and alignment.begin == programme.whole.begin)
 
 
 def cut_part(programme: PartSearch, part: Part, listener: Listener) -> Range:

@@ -1,12 +1,13 @@
 """Find which PES packets are of some frames."""
 from __future__ import annotations
 
+import bisect
 import itertools
 from typing import Iterator, NamedTuple
 
 from ..common.command_line import counted
 from ..common.times import FRAMES_OF_A_DAY, TICKS, frame_in, pts_of, time_of, wrapped
-from .packets import BLANK, CLOSED, HEADER, OPEN, Packets, Range, Run
+from .packets import BLANK, CLOSED, Change, HEADER, OPEN, Packets, Range, Run
 
 
 SKIPPED = 1 << 31  # ticks of a run that may be skipped: it does not reach around the clock
@@ -44,7 +45,7 @@ class Cut(NamedTuple):
 
 
 def cut_of(packets: Packets, begin: int, end: int, origin: int, every: int | None = None,
-           within: int = 0, inside: Range | None = None) -> Cut:
+           within: int = 0, inside: Range | None = None, is_continued: bool = False) -> Cut:
     """The PES packets of frames from `begin` to `end`, from the first header of the page on, in one
     row, up to the last before the first of a later frame.
 
@@ -52,12 +53,11 @@ def cut_of(packets: Packets, begin: int, end: int, origin: int, every: int | Non
     after which the page is blank, where there is one; and end with the first at `end` or so many
     frames later. `within` more frames they end with the first from `end` on at whose end the page
     is blank, and has ended where it does, or that is as many after it. `inside` are the numbers
-    that may be taken.
+    that may be taken. `is_continued`: the text of the first frame is expected before it, too.
     """
     low = max(begin - (every or 0), 0)
     high = end if every is None else min(end + max(every, within), FRAMES_OF_A_DAY - 1)
-    changed = {change.number for change in packets.changes}
-    beginning = Beginning(begin, within)
+    beginning = Beginning(begin, within, PageTexts(packets, origin, within, is_continued))
     ending = Ending(low, high, end, within, every is not None)
     first = came = None
     read, is_over = 0, False
@@ -70,7 +70,7 @@ def cut_of(packets: Packets, begin: int, end: int, origin: int, every: int | Non
             continue
         came = sent.frame if came is None else came
         if first is None and is_in_time:
-            first = beginning.find(sent, sent.number in changed)
+            first = beginning.find(sent)
         if first is None:
             beginning.take(sent)
         is_over = ending.take(sent, first)
@@ -83,13 +83,45 @@ def cut_of(packets: Packets, begin: int, end: int, origin: int, every: int | Non
     return Cut((first, ending.number), read, begun, ending.last, came, ending.has_end, is_over)
 
 
+class PageTexts:
+    """The texts of the page, to tell a repeat from another text: rows may come so many frames after
+    the header that erases the page. If the text of the first frame is expected before it, too, no
+    transmission counts as a repeat."""
+
+    def __init__(self, packets: Packets, origin: int, within: int, is_continued: bool) -> None:
+        self.changes, self.origin = packets.changes, origin
+        self.numbers = [change.number for change in packets.changes]
+        self.within, self.is_continued = within, is_continued
+
+    def changes_in(self, sent: SentPacket) -> list[Change]:
+        """Return what changes by a page transmission with this header."""
+        def is_of_it(change: Change) -> bool:
+            frame = frame_in(change.pts, self.origin, self.within)
+            return sent.frame is not None and sent.frame <= frame <= sent.frame + self.within
+
+        at = bisect.bisect_left(self.numbers, sent.number)
+        return [*itertools.takewhile(is_of_it, itertools.islice(self.changes, at, None))]
+
+    def is_back(self, sent: SentPacket) -> bool:
+        """Return whether a page transmission erases the text before its header and sends it again.
+        """
+        at = bisect.bisect_left(self.numbers, sent.number)
+        rows = self.changes[at - 1].rows if at else ()
+        return bool(rows) and not self.is_continued and any(
+            change.rows == rows for change in self.changes_in(sent))
+
+    def is_replaced(self, sent: SentPacket) -> bool:
+        """Return whether a page transmission replaces the text before its header."""
+        return self.is_continued or bool(self.changes_in(sent)) and not self.is_back(sent)
+
+
 class Beginning:
     """With which PES packet a range begins: with the first of the last page transmission before the
     first frame after which the page is blank, erased or kept so; else with the first header from
     that frame on. If pages may be late, all PES packets of a frame are one transmission."""
 
-    def __init__(self, begin: int, within: int) -> None:
-        self.begin, self.within = begin, within
+    def __init__(self, begin: int, within: int, texts: PageTexts) -> None:
+        self.begin, self.within, self.texts = begin, within, texts
         self.sending: list[SentPacket] = []  # the transmission that may go on
         self.blank: int | None = None  # the first of the last one before it that leaves it blank
         self.header: int | None = None  # the last header before it
@@ -107,21 +139,21 @@ class Beginning:
 
     def last_blank(self) -> int | None:
         """Return the first PES packet of the last transmission that leaves the page blank."""
-        leaves_blank = self.sending and BLANK in self.sending[-1].does and any(
-            HEADER in sent.does for sent in self.sending)
+        header = next((sent for sent in self.sending if HEADER in sent.does), None)
+        leaves_blank = header and BLANK in self.sending[-1].does and not self.texts.is_back(header)
         return self.sending[0].number if leaves_blank else self.blank
 
-    def find(self, sent: SentPacket, changes: bool) -> int | None:
+    def find(self, sent: SentPacket) -> int | None:
         """Return the number with which the range begins, if this PES packet tells it."""
         if sent.frame is None or sent.frame < self.begin:
             return None
-        is_shown = sent.frame == self.begin and not self.is_blank  # text, before the first frame
-        blank = None if is_shown and changes else self.last_blank()
+        is_shown, is_replaced = not self.is_blank, self.texts.is_replaced(sent)
+        blank = None if is_shown and is_replaced and sent.frame == self.begin else self.last_blank()
         if blank is not None or HEADER not in sent.does:
             return blank
-        # A repeat at the first frame: its text came early, which check sees from the header before.
-        is_repeat = is_shown and not changes and not self.within and self.header is not None
-        return self.header if is_repeat else sent.number
+        # A repeat of a text that came before the first frame: check sees it from the header before.
+        is_repeat = is_shown and not is_replaced and sent.frame <= self.begin + self.within
+        return self.header if is_repeat and self.header is not None else sent.number
 
 
 class Ending:
