@@ -58,6 +58,7 @@ def part_with(begin: int | None, end: int | None, origin: int | None,
     names.given = "a.stl"
     if packets is not None or places:
         more["recording"] = SimpleNamespace(packets=packets, stream=lambda: None, is_stream=False,
+                                            has_picture=lambda: False,
                                             places=lambda jumps: [*places])
     known: dict[str, Any] = {
         "request": asked_for("a.stl", "a.pes"), "names": names, "alignment": alignment,

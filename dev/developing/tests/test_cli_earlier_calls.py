@@ -143,7 +143,7 @@ class Objects(Case):
         self.must("all", found_row == Row(
             "name", "one.stl one.ts", "refused", 1, "refused 72 Content", 7,
             {**causes, "5 X": 120}, [f"refused {number}" for number in range(100)], 1.5, "a hint",
-            sentence=found_row.sentence, is_estimated=found_row.is_estimated),
+            sentence=found_row.sentence, clock=found_row.clock),
             found_row)
         self.must("none", row_of_object(unjudged("name", "why"), "name") == Row(
             "name", "name", "not judged", 2, "why", 0, {}, [], 0.0, ""))

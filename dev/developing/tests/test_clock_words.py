@@ -98,7 +98,9 @@ class Words(unittest.TestCase):
                 "4 of 9 cues agree, 4 with the letters that are due; the file has 20; next best: "
                 "none", line]))
         for part, count, lines in rows:
-            self.assertEqual(list(part_lines(part, count)), lines)
+            self.assertEqual([*part_lines(part, count, True)], lines)
+            self.assertEqual([*part_lines(part, count)], [
+                line.replace("--origin or --start", "--origin") for line in lines])
 
     def test_how_many_parts(self) -> None:
         """One more than breaks are said; else nothing is taken, and what was found is told."""

@@ -12,14 +12,14 @@ from typing import Any, Callable
 from developing.pes import packet
 from subtitles.common.times import CLOCK, TICKS, time_of
 from subtitles.formats.layout import PLAIN, Refused, cell_lines, prepared
+from subtitles.clock.start import clock_advice
 from subtitles.formats.listing import NOT_SHOWN, NamedFault, fault_of_line, meanings
 from subtitles.formats.stl import Subtitle
 from subtitles.formats.teletext import ENGLISH, OPTIONS
 from subtitles.judging.causes import IN_PAUSE, NAMES
 from subtitles.judging.pages import (
     HIDDEN as HIDDEN_KIND, Sight, hidden_rows, hidden_words, letters_in, may_hide, sight_of)
-from subtitles.judging.sentence import (
-    ADD_CLOCK, Count, Facts, SAID, WORDS, of_causes, sentence_of)
+from subtitles.judging.sentence import Count, Facts, SAID, WORDS, of_causes, sentence_of
 from subtitles.judging.status import (
     ACCEPTED, LOST, NOT_JUDGED, REFUSALS, REFUSED, RELATIVE, WAIVED, WARNED)
 from subtitles.judging.transmissions import control_words
@@ -34,7 +34,7 @@ from .test_judging_faults import cause, causes_of
 
 # What is said of a verdict in words: its sentence, and its first header that is refused (67).
 
-ADD = f"was not checked: {ADD_CLOCK}"
+ADD = f"was not checked: {clock_advice(False)}"
 OF_PACKETS = {3, 4}  # refusals of `normal`, which `check` does not have
 VERB = re.compile(r"\b(is|are|has|have|was|were|does|ends|comes|begins?|differs|fall|shows|stands?|"
                   r"cannot)\b")
@@ -86,7 +86,10 @@ class Sentences(unittest.TestCase):
                 (Facts(REFUSED, 2, first=fault, faults=1, hint="no header", delay=50),
                  "Refused: from 10:00:00:00 on no header."),
                 (Facts(RELATIVE, 40), "All 40 subtitles match relative to each other. No clock was "
-                 "given, so a delay that they all share was not checked: add --start TIME (the "
+                 "given, so a delay that they all share was not checked: add --origin PTS (the PTS "
+                 "of the subtitle file's 00:00:00:00)."),
+                (Facts(RELATIVE, 40, has_picture=True), "All 40 subtitles match relative to each "
+                 "other. No clock was given, so a delay that they all share was not checked: add --start TIME (the "
                  "time code of the recording's first picture, on the subtitle file's own clock, or "
                  "`tcp`) or --origin PTS."),
                 (Facts(RELATIVE, 2, within=1), "All 2 subtitles match relative to each other "

@@ -6,7 +6,7 @@ import re
 from typing import Any
 
 from developing.pes import pes_packet
-from subtitles.clock.start import GIVEN, RECORDING
+from subtitles.clock.start import FITTED, GIVEN, RECORDING
 from subtitles.common.markup import escape
 from subtitles.common.times import TICKS
 from subtitles.formats.listing import NamedFault
@@ -16,7 +16,7 @@ from subtitles.judging.transmissions import DuePages
 from subtitles.judging.verdict import Gap, Unjudged, Verdict
 from subtitles.recording.notices import Notice
 from subtitles.report import page as report_page
-from subtitles.report.page import BETWEEN, DELAY, ESTIMATED
+from subtitles.report.page import BETWEEN, DELAY
 from subtitles.request.commands import CommandWords
 from subtitles.stream.gaps import Place
 from subtitles.stream.receiver import BLANK_PAGE, Held
@@ -82,7 +82,7 @@ class Whole(Case):
             told += ["not judged", "why", "type <this>"] if why else [
                 verdict.lead or "", *(f"{one.line}: {one.words}" for one in verdict.named),
                 *[gap.line() for gap in verdict.gaps] * bool(kinds)]
-            told += [ESTIMATED] * (is_fitted and len(kinds) == 1 and not why)
+            told += [FITTED[1:]] * (is_fitted and len(kinds) == 1 and not why)
             each = [] if why else [DELAY] * is_fitted
             each += [BETWEEN] * (len(kinds) > 1 and not why)
             for number, kind in enumerate("" if why else kinds, 1):

@@ -17,8 +17,8 @@ from ..judging.status import (
     ACCEPTED, LOST, NOT_JUDGED, REFUSED, RELATIVE, WAIVED, WARNED, of_all)
 from ..request.commands import index_in
 from ..results.files import (
-    ENDING, Row, TestCase, in_order, junit_file, object_at, objects_in, row_of_object, table_lines,
-    unjudged)
+    ENDING, NO_CLOCK, Row, TestCase, in_order, junit_file, object_at, objects_in, row_of_object,
+    table_lines, unjudged)
 from ..results.schema import FORMAT
 from .single import now, refuse_files_of_all
 
@@ -61,8 +61,6 @@ SHAPES = {ACCEPTED: "\u2713", WAIVED: "\u2212", REFUSED: "\u2715", LOST: "\u29d6
           NOT_JUDGED: "?", RELATIVE: "\u223c"}
 PAGE_HEADS = ("Verdict", "Pair", "What is wrong", "Faults", "Files")
 MOST_CAUSES = 6
-ESTIMATED = "clock estimated"
-NO_CLOCK = "no clock was given"
 
 
 def index_page(folder: str, rows: Sequence[Row], date: str) -> bytes:
@@ -79,10 +77,10 @@ def index_page(folder: str, rows: Sequence[Row], date: str) -> bytes:
         markup('<label><input type="radio" name="verdict" value="{}"{}/> {} ({})</label>',
                one.replace(" ", "-"), markup(' checked="checked"') * (one == "all"), one, count)
         for one, count in [("all", len(rows)), *sorted(verdicts.items())])
-    estimated = sum(row.is_estimated for row in rows)
-    note = markup('<p class="estimated">{}: a delay shared by all subtitles of such a pair would '
-                  "not be seen.</p>", f"{ESTIMATED.capitalize()} in {counted(estimated, 'pair')}") \
-        if estimated else NO_MARKUP
+    without = sum(row.clock == NO_CLOCK for row in rows)
+    note = markup('<p class="estimated">{}: {} of {}. A delay that all subtitles of such a pair '
+                  "share was not checked.</p>", NO_CLOCK.capitalize(), without,
+                  counted(len(rows), "pair")) if without else NO_MARKUP
     page = HEAD + markup("<title>{}</title>", title) + STYLE + hiding + markup(
         "</style></head><body><main>\n<h1>{}</h1>\n<p><small>Made {}. Pairs that somebody has to "
         "look at come first.</small></p>\n{}{}\n<fieldset><legend>Show</legend>{}</fieldset>\n"
@@ -119,8 +117,8 @@ def pair_line(folder: str, row: Row) -> Markup:
     told += [markup("&hellip;")] if len(causes) > MOST_CAUSES else []
     why = [row.sentence or row.line, *([row.counts] if row.counts else [])]
     verdict = markup("{} {}", SHAPES.get(row.verdict, ""), row.verdict)
-    if row.is_estimated:
-        verdict += markup('<span class="estimated">{}</span>', ESTIMATED)
+    if row.clock:
+        verdict += markup('<span class="estimated">{}</span>', row.clock)
     name: Value = row.name
     if os.path.isfile(os.path.join(folder, row.name + ".html")):
         name = markup('<a href="./{}">{}</a>', quote(os.fsencode(row.name + ".html")), row.name)

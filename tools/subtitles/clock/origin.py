@@ -38,6 +38,7 @@ class Sought(NamedTuple):
     between: Between = ALL_DAY
     left_out: Collection[int] = ()
     late: Lateness | None = None  # the shares of the inserter's delays, where they are known
+    has_picture: bool = False  # one that `--start` can be the time code of
 
 
 class OfPart(NamedTuple):
@@ -157,7 +158,7 @@ def take_one(origin: Origin, sought: Sought, bases: Sequence[Base],
         is_back = len(bases) > 1 and len(parts) == 1
         add(origin, part, part.sent.packets if is_back else None, None, len(edges))
         origin.is_each = part.best.agree == part.best.letters == len(edges)
-    origin.lines += part_lines(part, len(edges))
+    origin.lines += part_lines(part, len(edges), sought.has_picture)
     measure(origin, sought.origin, part)
     if len(parts) > 1:
         origin.shifted_from = edges[row[1].first].frame
@@ -202,7 +203,7 @@ def take_parts(origin: Origin, sought: Sought, bases: Sequence[Base],
     origin.lines += [f"{len(parts)} parts: {sum(part.best.agree for part in parts)} of "
                      f"{counted(count, 'cue')} agree", *break_lines(parts)]
     for part in parts:
-        origin.lines += part_lines(part, count)
+        origin.lines += part_lines(part, count, sought.has_picture)
         if part is parts[0]:
             measure(origin, sought.origin, part)
         origin.lines += [f"the subtitle from {time_of(shown.begin)} to {time_of(shown.end)} "
@@ -286,8 +287,9 @@ def agree_line(part: FittedPart, count: int) -> str:
             f"{following}")
 
 
-def part_lines(part: FittedPart, count: int) -> Iterator[str]:
-    """What there is to know of the best origin of a part; the file has so many edges."""
+def part_lines(part: FittedPart, count: int, has_picture: bool = False) -> Iterator[str]:
+    """What there is to know of the best origin of a part; the file has so many edges, and the
+    recording a first picture or none."""
     best = part.best
     yield agree_line(part, count)
     if part.sent.within:
@@ -300,7 +302,7 @@ def part_lines(part: FittedPart, count: int) -> Iterator[str]:
         yield (f"it is not unique: as good as --origin {best.origin} are {names}"
                + (f" and {len(equal) - NAMED} more" if len(equal) > NAMED else ""))
     if part.early:
-        yield early_line(part.early)
+        yield early_line(part.early, has_picture)
     if best.first_other is not None:
         yield f"the first cue that does not agree is {time_of(best.first_other)}"
     if apart:
@@ -315,13 +317,14 @@ def part_lines(part: FittedPart, count: int) -> Iterator[str]:
                "is the right subtitle file")
 
 
-def early_line(early: Early) -> str:
+def early_line(early: Early, has_picture: bool) -> str:
     """How many cues come before the clock that was taken, and what that may be."""
     count = f"{early.cues} of {counted(early.among, 'cue')} " \
         f"{'comes' if early.cues == 1 else 'come'} up to {counted(early.frames, 'frame')} before " \
         "what is usual for the others"
-    return f"{count}: early subtitles, or an inserter that is late for the others? Give --origin " \
-        "or --start" if early.are_many else f"{count}: that is early"
+    options = "--origin or --start" if has_picture else "--origin"
+    return f"{count}: early subtitles, or an inserter that is late for the others? Give {options}" \
+        if early.are_many else f"{count}: that is early"
 
 
 def drift_line(drift: Drift) -> str:

@@ -20,10 +20,9 @@ from ..stream.survey import Survey
 RECORDING, GIVEN, START, TCP = "recording", "given", "start", "tcp"
 SOURCES = {RECORDING: "fitted to the recording", GIVEN: "given", START: "by the first picture",
            TCP: "by the first picture, TCP"}
-FITTED_SHORT = "the clock was fitted to the recording"
-FITTED = f"{FITTED_SHORT}: a delay that all subtitles share is not seen; give --origin or --start"
-FITTED_LATER = "the clock after a break was fitted to the recording: a delay that all subtitles " \
-    "of that part share is not seen"
+FITTED = "no clock was given, so a delay that all subtitles share was not checked"
+FITTED_LATER = "the clock after a break was estimated, so a delay that all subtitles of that part " \
+    "share was not checked"
 
 
 class Clock(NamedTuple):
@@ -193,6 +192,22 @@ def left_out(pts: list[int], is_cut: bool) -> int:
         del shown_at[-REORDERED:]
     steps = [second - first for first, second in zip(shown_at, shown_at[1:])]
     return sum(round(step / TICKS) - 1 for step in steps if step > TICKS + EARLY)
+
+
+def has_first_picture(survey: Survey, teletext: int) -> bool:
+    """Return whether `--start` can tell the clock of a Teletext PID."""
+    try:
+        first_picture(survey, teletext)
+    except NoFirst:
+        return False
+    return True
+
+
+def clock_advice(has_picture: bool) -> str:
+    """Return how to give the clock of a recording, by whether it has a first picture."""
+    return "add --start TIME (the time code of the recording's first picture, on the subtitle " \
+        "file's own clock, or `tcp`) or --origin PTS" if has_picture else \
+        "add --origin PTS (the PTS of the subtitle file's 00:00:00:00)"
 
 
 def after_frame(packets: Packets, pts: int, within: int) -> int:

@@ -5,6 +5,7 @@ import collections
 import enum
 from typing import Collection, Iterable, NamedTuple, Sequence
 
+from ..clock.start import clock_advice
 from ..common.command_line import counted, range_words
 from ..common.times import time_of
 from ..formats.listing import (
@@ -209,8 +210,6 @@ SAID = {
 OF_ALL = {GAP, OFF_FRAME}  # of which what is known is said of all that is judged
 BY_HINT = {CONTROL, PARITY}  # for which what is known stands alone
 MOST_NUMBERS = 4  # that are named
-ADD_CLOCK = "add --start TIME (the time code of the recording's first picture, on the subtitle " \
-    "file's own clock, or `tcp`) or --origin PTS"
 
 
 class Count(NamedTuple):
@@ -248,6 +247,7 @@ class Facts(NamedTuple):
     waived: Sequence[Count] = ()  # if something else is refused
     parts: int = 1  # each with its own clock
     delay: int = 0  # frames by which all subtitles are later than by the clock that was given
+    has_picture: bool = False  # one that `--start` can be the time code of
 
 
 def sentence_of(seen: Facts) -> str:
@@ -258,7 +258,7 @@ def sentence_of(seen: Facts) -> str:
         waived = f"; waived: {numbers_words(seen.waived)}" if seen.waived else ""
         return f"Refused: {what_is_wrong(seen)}{waived}."
     if seen.word == RELATIVE:
-        return f"{relative_words(seen)} was not checked: {ADD_CLOCK}."
+        return f"{relative_words(seen)} was not checked: {clock_advice(seen.has_picture)}."
     if seen.word == WAIVED:
         return f"{waived_words(seen)}."
     good = "all faults that were seen are named warnings" if seen.faults or seen.refused else \

@@ -100,12 +100,13 @@ def by_start(programme: PartSearch, recording: Recording, listener: Listener) ->
 
 # What is found.
 
-def search_in(programme: PartSearch, name: str, clock: Clock | None = None) -> Sought:
+def search_in(programme: PartSearch, name: str, clock: Clock | None = None,
+              has_picture: bool = False) -> Sought:
     """What is looked for in a recording by its name."""
     request = programme.request
     return Sought(request.stl_path, name, request.page, request.option, clock and clock.origin,
                   request.within, request.breaks, programme.inside, request.between,
-                  programme.left_out, request.late)
+                  programme.left_out, request.late, has_picture)
 
 
 def origin_in(packets: Packets, sought: Sought) -> Origin:
@@ -119,7 +120,8 @@ def origin_in(packets: Packets, sought: Sought) -> Origin:
 def fitted_origin(programme: PartSearch, recording: Recording, clock: Clock | None,
                   listener: Listener) -> Origin:
     """What is found of the clock, also compared with one that is known, which is said."""
-    origin = origin_in(recording.packets, search_in(programme, recording.shown, clock))
+    origin = origin_in(recording.packets, search_in(programme, recording.shown, clock,
+                                                    recording.has_picture()))
     for line in [*origin.printed, *(SAID + line for line in origin.lines)]:
         listener.said(line)
     return origin

@@ -5,7 +5,7 @@ import collections
 import dataclasses
 from typing import Callable, Collection, Iterable, NamedTuple, Sequence
 
-from ..clock.start import FITTED, FITTED_LATER
+from ..clock.start import FITTED, FITTED_LATER, clock_advice
 from ..common.command_line import range_words
 from ..common.files import SummedFile
 from ..common.times import FRAMES_OF_A_DAY, frame_in, time_of
@@ -202,7 +202,13 @@ class Verdict:
         """Return that the clock was estimated, or that of the parts after a break."""
         if not any(part.clock and part.clock.is_fitted for part in self.parts):
             return None
-        return FITTED_LATER if self.has_clock else FITTED
+        return FITTED_LATER if self.has_clock else f"{FITTED}: {clock_advice(self.has_picture)}"
+
+    @property
+    def has_picture(self) -> bool:
+        """Whether the recording has a picture that `--start` can be the time code of."""
+        recording = self.parts[0].recording if self.parts else None
+        return recording is not None and recording.has_picture()
 
     @property
     def has_clock(self) -> bool:
@@ -265,7 +271,7 @@ class Verdict:
             lost=[gap.line() for gap in self.gaps if gap.is_judged], warnings=self.seen().warnings,
             reason=self.why_not, named=self.first_named.words if self.first_named else "",
             is_file=self.request.recording is None, within=self.request.within,
-            parts=len(self.parts), delay=self.delay_of_all)
+            parts=len(self.parts), delay=self.delay_of_all, has_picture=self.has_picture)
         if refused and self.beside:
             said = self.sent_beside(said, self.beside)
         elif refused and not self.first_named:

@@ -9,7 +9,7 @@ import stat
 import subprocess
 from typing import Collection, Iterable, Iterator, Sequence
 
-from ..clock.start import NoFirst
+from ..clock.start import NoFirst, has_first_picture
 from ..common.command_line import PACKET_SIZES, Stop, counted, pid_name, shown, stream_words
 from ..common.files import (
     BackgroundSum, STANDARD, SummedFile, first_bytes, naming, pieces_of)
@@ -304,6 +304,10 @@ class Recording:
                  if self.request.page_name in packets.sent]
         return [self.again("--pid", word)
                 for word in known or ["PID"] * bool(self.survey.by_pid)]
+
+    def has_picture(self) -> bool:
+        """Return whether `--start` can tell its clock."""
+        return self.is_stream and has_first_picture(self.survey, self.packets.pid)
 
     def without_first(self, reason: NoFirst) -> Unclear:
         return Unclear(f"{self.name}: there is no first picture for --start: {reason}",

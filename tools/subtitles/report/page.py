@@ -45,10 +45,6 @@ SHAPES = {
     NOT_JUDGED: ("unjudged", markup('<path d="M31 4L58 31L31 58L4 31z"/><path d="M23 25Q23 17 31 '
                                     '17Q39 17 39 24Q39 29 31 32V37M31 41V46"/>'))}
 MOST_LINES = 5  # places in the box; more are folded
-ESTIMATED = "Clock estimated from this recording: a delay shared by all subtitles would not be " \
-    "seen. To check it, give --origin or --start."
-ESTIMATED_LATER = "Clock after a break estimated: a delay shared by all subtitles of that part " \
-    "would not be seen."
 ROW_0 = "row 0, the header line of the page"
 DELAY = "a delay shared by all subtitles, since the clock was estimated"
 BETWEEN = "the transmission between the parts"
@@ -100,8 +96,8 @@ def clock_words(verdict: Verdict) -> Markup:
     if not clocks:
         return NO_MARKUP
     if verdict.fitted:
-        words = ESTIMATED if clocks[0].is_fitted else ESTIMATED_LATER
-        return markup('<p class="clock estimated">{}</p>', with_options(words))
+        words = verdict.fitted[0].upper() + verdict.fitted[1:]
+        return markup('<p class="clock estimated">{}.</p>', with_options(words))
     return markup('<p class="clock">{}</p>', clock_source(clocks[0]))
 
 

@@ -77,6 +77,9 @@ MOST_VALUES = 2_000_000  # of it: Python takes 70 bytes for each, and 160 for on
 MOST_DIGITS = 20  # of a number in it
 
 
+NO_CLOCK, LATER_CLOCK = "no clock was given", "the clock after a break was estimated"
+
+
 class Row(NamedTuple):
     """A pair that was judged, or was not; what `title` names are its two files, `hint` what to know
     of its first fault, `counts` how many subtitles were judged, where some are refused."""
@@ -93,7 +96,7 @@ class Row(NamedTuple):
     hint: str
     counts: str = ""
     sentence: str = ""
-    is_estimated: bool = False  # its clock: a delay shared by all subtitles would not be seen
+    clock: str = ""  # what to know of it: which delay was not checked
 
     @property
     def is_judged(self) -> bool:
@@ -196,8 +199,13 @@ def row_of_object(known: dict[str, Any], name: str) -> Row:
                known["reason"] or known["lead"], known["fault_count"], causes_in(known),
                [fault["line"] for fault in known["faults"][:LINES]], known["seconds"],
                hint_in(known), Counts(**counts).words() if counts else "", known["sentence"],
-               any(part["clock"] and part["clock"]["source"] == RECORDING
-                   for part in known["parts"]))
+               clock_in(known))
+
+
+def clock_in(known: dict[str, Any]) -> str:
+    """What to know of the clock of an object: that none was given, or none after a break."""
+    fitted = [part["clock"] and part["clock"]["source"] == RECORDING for part in known["parts"]]
+    return NO_CLOCK if fitted and fitted[0] else LATER_CLOCK if any(fitted) else ""
 
 
 def hint_in(known: dict[str, Any]) -> str:
