@@ -89,9 +89,9 @@ class Sentences(unittest.TestCase):
                  "given, so a delay that they all share was not checked: add --origin PTS (the PTS "
                  "of the subtitle file's 00:00:00:00)."),
                 (Facts(RELATIVE, 40, has_picture=True), "All 40 subtitles match relative to each "
-                 "other. No clock was given, so a delay that they all share was not checked: add --start TIME (the "
-                 "time code of the recording's first picture, on the subtitle file's own clock, or "
-                 "`tcp`) or --origin PTS."),
+                 "other. No clock was given, so a delay that they all share was not checked: add "
+                 "--start TIME (the time code of the recording's first picture, on the subtitle "
+                 "file's own clock, or `tcp`) or --origin PTS."),
                 (Facts(RELATIVE, 2, within=1), "All 2 subtitles match relative to each other "
                  f"within 1 frame. No clock was given, so a delay that they all share {ADD}."),
                 (Facts(RELATIVE, 6, parts=2), "All 6 subtitles match relative to the others of "

@@ -21,8 +21,8 @@ RECORDING, GIVEN, START, TCP = "recording", "given", "start", "tcp"
 SOURCES = {RECORDING: "fitted to the recording", GIVEN: "given", START: "by the first picture",
            TCP: "by the first picture, TCP"}
 FITTED = "no clock was given, so a delay that all subtitles share was not checked"
-FITTED_LATER = "the clock after a break was estimated, so a delay that all subtitles of that part " \
-    "share was not checked"
+FITTED_LATER = "the clock after a break was estimated, so a delay that all subtitles of that " \
+    "part share was not checked"
 
 
 class Clock(NamedTuple):
