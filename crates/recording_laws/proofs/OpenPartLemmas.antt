@@ -551,7 +551,7 @@ module _ (distance number : ℕ) (wrong_behind few : Bool) where
 
   -- ---- the rest of a PES packet
 
-  -- PES packets follow a part that begins none,
+  -- PES packets follow a part that begins no PES packet.
   abbrev pub OnwardHeadless : List (SentPes Fated) → Type 0
   OnwardHeadless sent =
       (part : Part) (given gap behind : Bool) (n : ℕ) (wrong : Bool) (goods : List GoodPacket)
@@ -559,7 +559,7 @@ module _ (distance number : ℕ) (wrong_behind few : Bool) where
       → Traced distance number few behind n wrong (carriers_of sent) goods
       → Gives few (gapped given) sent (carried_from part given gap goods)
 
-  -- and one that does.
+  -- PES packets follow a part that begins one.
   abbrev pub OnwardOpen : List (SentPes Fated) → Type 0
   OnwardOpen sent =
       (part : Part) (given gap : Bool) (s : SentPes Fated) (between : ℕ) (skipped : Bool) (n : ℕ)

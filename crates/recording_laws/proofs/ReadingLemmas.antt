@@ -14,9 +14,9 @@ use Rattle.recording_laws.specs.Pace.{up_to_pts}
 use Rattle.recording_laws.proofs.PieceLemmas.{HasNoMark, heads, marks_where, not-empty}
 use Rattle.recording_laws.proofs.PieceLemmas.{sent_bytes, tails}
 
--- The state before a result: none yet; one, and a gap since; or one that begins like this PES
--- packet. After its first carrier come so many before the next PES packet, and perhaps one of the
--- PES packets among them has no result.
+-- The state before a result: there was no result yet; there was one, and a gap since; or the last
+-- one begins like this PES packet, with so many carriers between its first one and the next PES
+-- packet, and perhaps PES packets without a result among them.
 pub data Held : Type 0 where
   Nothing : Held
   Marked : Held

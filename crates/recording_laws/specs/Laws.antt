@@ -8,8 +8,8 @@ use Rattle.recording_laws.specs.Losses.{AreArriving, AreLosses, Fated, IsLossy}
 use Rattle.recording_laws.specs.Multiplex.{IsMultiplexed, Multiplex, pes_packets}
 use Rattle.recording_laws.specs.Pace.{AreFarApart, HoldsPts, KeepPace, up_to_pts}
 
--- What a multiplexer sent in packets of a PID is what they carry. So nothing of a complete
--- recording is lost, or marked as a gap.
+-- The packets of a PID carry exactly the PES packets that a multiplexer sent in them. So nothing of
+-- a complete recording is lost, or marked as a gap.
 abbrev pub LawOfMultiplex : Type 0
 LawOfMultiplex =
     (number distance : ℕ) (packets : List (List ℕ)) (recording : List ℕ)
@@ -17,17 +17,17 @@ LawOfMultiplex =
     → carried number distance recording ≡ concat packets
 
 -- If units are missing or damaged, the PES packets that arrive are carried as they were sent, in
--- order, and no others; a gap marker is between two if one is missing there. So no loss creates a
--- PES packet, and none between two goes unseen.
+-- order, and no others. If one is missing between two of them, a gap marker is there. So no loss
+-- creates a PES packet, and no loss between two goes unseen.
 abbrev pub LawOfLosses : Type 0
 LawOfLosses =
     (number distance : ℕ) (m : Multiplex Fated) (recording : List ℕ)
     → IsLossy number distance m recording
     → AreArriving m.sent (carried number distance recording)
 
--- PES packets that are carried without a gap marker between them were sent one after another: none
--- that the multiplexer sent between the first and the last of them is missing. So if nothing is
--- refused as lost, everything is recorded.
+-- PES packets that are carried without a gap marker between them were sent one after another: no
+-- PES packet that the multiplexer sent between the first and the last of them is missing. So if
+-- nothing is refused as lost, everything is recorded.
 abbrev pub LawOfNeighbours : Type 0
 LawOfNeighbours =
     (number distance : ℕ) (m : Multiplex Fated) (recording : List ℕ)
@@ -61,9 +61,9 @@ LawOfPace =
     × (up_to_pts next ≡ up_to_pts last)
 
 -- If everything that is carried, or a run of PES packets in it, is a file of PES packets with
--- Teletext, there is no gap marker in it, and none that the multiplexer sent between the first and
--- the last of them is missing. `check` accepts only such files. So if it accepts a recording,
--- everything is recorded.
+-- Teletext, there is no gap marker in it, and no PES packet that the multiplexer sent between the
+-- first and the last of them is missing. `check` accepts only such files. So if it accepts a
+-- recording, everything is recorded.
 abbrev pub LawOfWholeFile : Type 0
 LawOfWholeFile =
     (number distance : ℕ) (recording : List ℕ)

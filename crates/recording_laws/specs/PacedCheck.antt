@@ -19,8 +19,8 @@ use Rattle.sub_rules.specs.Transmission.{Transmission}
 abbrev pub frame_by_clock : OptionsValue → List ℕ → ℕ
 frame_by_clock options front = unwrap_or (clock_of options (pts_bits (drop 6 front))) 0
 
--- The PES packets are a run of those that were sent, none between them missing: each as it was
--- sent, except that the last is so only up to its PTS. There is at least one.
+-- The PES packets are a run of those that were sent, with none missing between them. Each is as it
+-- was sent; the last one, only up to its PTS. There is at least one.
 pub record WereSent (sent packets : List (List ℕ)) : Type 0 where
   pub run : List (List ℕ)
   pub last : List ℕ

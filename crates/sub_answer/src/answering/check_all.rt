@@ -26,9 +26,9 @@ use sub_listing::{
 use sub_plan::Options;
 use ttx_pes::{NumberedPieces, PesFault};
 
-/// Checks a PES file against a subtitle file, and prints a line for each fault, and where a rule of
-/// a frame's end is no longer broken, as they are found, those of the subtitle file first; then the
-/// number of faults, or the line of an accepted transmission.
+/// Checks a PES file against a subtitle file. Prints a line for each fault, and for each end of a
+/// frame at which a rule is kept again, as they are found, those of the subtitle file first; then
+/// the number of faults, or the line of an accepted transmission.
 ///
 /// If subtitles are refused, the PES file is compared with the reliable ones; `pes` is not used if
 /// these do not suffice. Returns `Done` if the files are accepted; `Refused` if there is a fault;
@@ -83,9 +83,9 @@ pub fn print_every_fault<S: Source, P: NumberedPieces, K: Flush>(
     print_end(first, refused, answer, out)
 }
 
-// Tells a printer the faults of the subtitle file, and then those of the PES file, if it can be
-// judged. Returns `None` if it can't, or the printer said stop, otherwise what was read of the PES
-// file.
+// Reports to a printer the faults of the subtitle file, and then those of the PES file, if it can
+// be judged. Returns `None` if it can't, or the printer said stop, otherwise what was read of the
+// PES file.
 fn tell_every_fault<S: Source, P: NumberedPieces, K: Flush>(
     alloc: Global,
     stl: &mut S,
@@ -145,7 +145,7 @@ fn hand_on_told<A: LiveAudience<LoadFault>>(audience: &mut A) -> Result<(), Stop
     audience.hand_on()
 }
 
-// Tells a printer the events of the PES file, compared with what can be judged of the subtitle
+// Reports to a printer the events of the PES file, compared with what can be judged of the subtitle
 // file.
 fn tell_transmission<P: NumberedPieces, K: Flush>(
     judging: &Judging<'_>,
