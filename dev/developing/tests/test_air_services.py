@@ -49,15 +49,13 @@ class Units(Case):
         words = {name: words_of(read_unit(name)["Service"]["ExecStart"]) for name in UNITS}
         self.must("the same folder", words[RECORD][-1] in words[JUDGE], words)
 
-    def test_a_signal_ends_what_judges_for_the_watch_folder(self) -> None:
-        service = read_unit("subttx-watch.service")["Service"]
+    def test_a_signal_ends_what_judges(self) -> None:
+        """With status 2, so a stop is no failure."""
+        for name in (JUDGE, "subttx-watch.service"):
+            service = read_unit(name)["Service"]
+            self.check(name, service["SuccessExitStatus"], "2")
         self.check("kill mode", service["KillMode"], "mixed")
         self.must("languages", "--option auto" in service["ExecStart"], service["ExecStart"])
-
-    def test_to_stop_what_judges_is_no_failure(self) -> None:
-        """A signal ends it with status 2."""
-        for name in (JUDGE, "subttx-watch.service"):
-            self.check(name, read_unit(name)["Service"]["SuccessExitStatus"], "2")
 
     def test_is_started_again_however_often_it_ends(self) -> None:
         for name in UNITS:
