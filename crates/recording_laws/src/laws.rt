@@ -5,21 +5,21 @@ ghost use Rattle.recording_laws.specs.Laws.{LawOfLosses, LawOfMultiplex, LawOfNe
 ghost use Rattle.recording_laws.specs.Laws.{LawOfPace, LawOfWholeFile};
 ghost use Rattle.recording_laws.specs.PacedCheck.{LawOfPacedCheck};
 
-/// What a multiplexer sent in packets of a PID is what they carry.
+/// The packets of a PID carry exactly the PES packets that a multiplexer sent in them.
 #[tactic(auto, using(crate::proofs::MultiplexLemmas::law_of_multiplex))]
 pub fn law_of_multiplex()
     ensures { LawOfMultiplex }
 {}
 
 /// If units are missing or damaged, the PES packets that arrive are carried as they were sent, in
-/// order, and no others; a gap marker is between two if one is missing there.
+/// order, and no others. If one is missing between two of them, a gap marker is there.
 #[tactic(auto, using(crate::proofs::ArrivingLaw::law_of_losses))]
 pub fn law_of_losses()
     ensures { LawOfLosses }
 {}
 
-/// PES packets that are carried without a gap marker between them were sent one after another: none
-/// is missing between the first and the last of them.
+/// PES packets that are carried without a gap marker between them were sent one after another: no
+/// PES packet is missing between the first and the last of them.
 pub fn law_of_neighbours()
     ensures { LawOfNeighbours }
 {}

@@ -80,12 +80,12 @@ pub fn check<S: Source>(
 /// everything that is broken to `audience`, one event after another, until it says stop.
 ///
 /// The events are the faults that `check` lists, each at the place where it occurs: all rules that
-/// a packet breaks; for a rule that applies to the end of each frame, where it begins to be broken
-/// and where that has ended. Further events say which frames are trusted to be right on air, at the
-/// end of each run of them. A PES packet that can't be read, or whose PTS is that of no frame of
-/// the day, is skipped if it has a start code and as many bytes as its length field says. Of
-/// consecutive skipped packets with the same fault, the first is reported, and up to which one they
-/// go. If the bytes can't be read on, that is the last event.
+/// a packet breaks; for a rule that applies to the end of each frame, the first and the last frame
+/// at whose end it is broken. Further events report runs of frames that are trusted to be right on
+/// air, each at its end. A PES packet that can't be read, or whose PTS is that of no frame of the
+/// day, is skipped if it has a start code and as many bytes as its length field says. Of
+/// consecutive skipped packets with the same fault, the first one and the last one are reported. If
+/// the bytes can't be read on, that is the last event.
 ///
 /// If subtitles were refused, cells are not checked at frames whose due page is unknown for that
 /// reason; `Undecided` is reported there, and the trusted frames always.

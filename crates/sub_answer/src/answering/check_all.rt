@@ -26,9 +26,9 @@ use sub_listing::{
 use sub_plan::Options;
 use ttx_pes::{NumberedPieces, PesFault};
 
-/// Checks a PES file against a subtitle file. Prints a line for each fault, and for each end of a
-/// frame at which a rule is kept again, as they are found, those of the subtitle file first; then
-/// the number of faults, or the line of an accepted transmission.
+/// Checks a PES file against a subtitle file. Prints a line for each fault, and one for the last
+/// frame at whose end a reported rule is broken, as they are found, those of the subtitle file
+/// first; then the number of faults, or the line of an accepted transmission.
 ///
 /// If subtitles are refused, the PES file is compared with the reliable ones; `pes` is not used if
 /// these do not suffice. Returns `Done` if the files are accepted; `Refused` if there is a fault;
