@@ -324,6 +324,17 @@ impl Multiplex {
         }
     }
 
+    // Reads a packet that begins something or whose PID is followed, and processes it if its PID
+    // has pictures or Teletext.
+    #[inline(always)]
+    fn read_on(&mut self, pid: u16, state: &PidState, packet: &[u8; PACKET], text: &mut Text)
+        ensures asked { KeepsAsked self.old self.new }
+    {
+        self.read(pid, state, packet, text);
+        let state = self.pids.get(pid);
+        self.follow_on(&state, packet, text);
+    }
+
     // Processes a packet of a PID with pictures or Teletext.
     #[inline(always)]
     fn follow_on(&mut self, state: &PidState, packet: &[u8; PACKET], text: &mut Text)
@@ -517,10 +528,12 @@ impl TakesPackets for Multiplex {
         if pid == NULL_PID {
             return;
         }
-        let state = self.pids.count(pid, packet, number);
-        self.read(pid, &state, packet, text);
+        self.pids.count(pid, packet, number);
         let state = self.pids.get(pid);
-        self.follow_on(&state, packet, text);
+        // Most packets of a recording neither begin anything nor are of a PID that is followed.
+        if begins(packet) || is_followed(&state) {
+            self.read_on(pid, &state, packet, text);
+        }
         if number >= self.settle_at {
             self.settle(number, text);
         }
@@ -549,6 +562,13 @@ fn note_pcr_of(
     if pids.get(carrier.pid()).clock_pid == clock_pid {
         carrier.note_pcr(strange, pids, text);
     }
+}
+
+// Whether the sections, the clock, the pictures or the PES packets of a PID are followed: one test
+// in place of four, since each packet of a recording comes here.
+#[inline(always)]
+fn is_followed(state: &PidState) -> bool {
+    state.table & state.clock & state.video & state.carrier != NONE
 }
 
 // Whether nothing is known of what a PID carries.

@@ -111,11 +111,13 @@ fn no_breaks() -> [Break; BREAKS] {
 // here.
 #[inline(always)]
 fn note_packet(state: &mut PidState, packet: &[u8; PACKET], number: u64) {
+    // Read before anything is written, so that its byte is read once.
+    let counter = counter_of(packet);
     if state.last == 0 {
         state.first = number;
     }
     state.before = state.counter;
-    state.counter = counter_of(packet);
+    state.counter = counter;
     state.last = number;
 }
 
@@ -204,26 +206,24 @@ impl Pids {
         self.set(pid, state);
     }
 
-    /// Follows the counter of a PID, and returns the state. Only this packet has the number.
+    /// Follows the counter of a PID. Only this packet has the number.
     #[inline(always)]
-    pub fn count(&mut self, pid: u16, packet: &[u8; PACKET], number: u64) -> PidState {
+    pub fn count(&mut self, pid: u16, packet: &[u8; PACKET], number: u64) {
         let Some(state) = self.states.get_mut(pid as usize) else {
-            return unknown();
+            return;
         };
         if !is_counted(packet) {
             note_jump(state, packet);
-            return *state;
+        } else if is_break(state, packet) {
+            self.count_break(pid, packet, number);
+        } else {
+            note_packet(state, packet, number);
         }
-        if is_break(state, packet) {
-            return self.count_break(pid, packet, number);
-        }
-        note_packet(state, packet, number);
-        *state
     }
 
     // Does the same for a packet before which others are missing; out of line, since few are.
     #[inline(never)]
-    fn count_break(&mut self, pid: u16, packet: &[u8; PACKET], number: u64) -> PidState {
+    fn count_break(&mut self, pid: u16, packet: &[u8; PACKET], number: u64) {
         let mut state = self.get(pid);
         self.add_break(Break {
             pid,
@@ -232,7 +232,6 @@ impl Pids {
         });
         note_packet(&mut state, packet, number);
         self.set(pid, state);
-        state
     }
 
     // Keeps a break, in place of the oldest.
