@@ -530,7 +530,7 @@ impl TakesPackets for Multiplex {
         }
         self.pids.count(pid, packet, number);
         let state = self.pids.get(pid);
-        // Most packets of a recording neither begin anything nor are of a PID that is followed.
+        // Most packets of a recording neither begin anything nor belong to a followed PID.
         if begins(packet) || is_followed(&state) {
             self.read_on(pid, &state, packet, text);
         }
@@ -564,14 +564,14 @@ fn note_pcr_of(
     }
 }
 
-// Whether the sections, the clock, the pictures or the PES packets of a PID are followed: one test
-// in place of four, since each packet of a recording comes here.
+// Returns whether the sections, the clock, the pictures or the PES packets of a PID are followed:
+// one test in place of four, since each packet of a recording comes here.
 #[inline(always)]
 fn is_followed(state: &PidState) -> bool {
     state.table & state.clock & state.video & state.carrier != NONE
 }
 
-// Whether nothing is known of what a PID carries.
+// Returns whether it is unknown what a PID carries.
 fn is_unknown(state: &PidState) -> bool {
     state.carrier == NONE && state.table == NONE && !state.is_other
 }
