@@ -1,0 +1,221 @@
+"""Without a clock nothing is accepted, whatever the call: random pairs and options, by their seeds.
+
+From dev/, `python3 -m developing.tests.test_cli_relative PROGRAM FIRST LAST` makes the calls of
+other seeds.
+"""
+from __future__ import annotations
+
+import json
+import os
+import random
+import re
+import shutil
+import sys
+from typing import Any, NamedTuple
+from unittest import mock
+
+from subtitles.air.check import Checker
+from subtitles.air.schedule import read_schedule
+from subtitles.air.segments import segments_between, stretches_in
+from subtitles.cli import batch
+from subtitles.cli.main import main as qc
+from subtitles.common.times import CLOCK, TICKS
+from .air import DAY
+from .at_random import in_process
+from .bench import BENCH, example
+from .programmes import BEGIN, SECOND
+from .test_air_calls import ALL, LEAD, Feeds
+
+SEEDS = 12  # in the gate
+# Subtitle files, recordings, and the origins of these.
+PAIRS = [("hello", "hello.pes", 0), ("story", "story.pes", 0), ("story", "recording.ts", 5 * 10**9),
+         ("story", "five-faults.pes", 0), ("story", "late-rows.pes", 0), ("german", "german.pes", 0)]
+OTHERS = ("", "--within 1", "--severity severity", "--severity severity --strict", "--allow-lost",
+          "--every 30", "--option auto")
+GOOD = {"accepted", "waived"}
+
+
+class Given(NamedTuple):
+    """What is given for a pair: whether its clock is, and whether `relative` has status 0."""
+
+    has_clock: bool
+    is_allowed: bool
+
+    def may_be(self, verdict: str, status: int) -> bool:
+        """Return whether a pair may have a verdict and a status."""
+        return self.has_clock or verdict not in GOOD and (status != 0 or self.is_allowed)
+
+
+class Clocks(Feeds):
+    """Calls of all kinds."""
+
+    def test_nothing_is_accepted_without_a_clock(self) -> None:
+        """Neither a last line, a line of a batch, a CSV row nor a JSON result says so, and no
+        status is 0 without `--relative`."""
+        for seed in range(SEEDS):
+            self.try_seed(seed)
+
+    def try_seed(self, seed: int) -> None:
+        """Make one call of each kind on the pairs of a seed."""
+        chance = random.Random(seed)
+        given = self.make_pairs(chance)
+        kinds = {"single": self.single, "folder": self.folder_call, "list": self.list_call,
+                 "watch": self.watch}
+        for kind in chance.sample([*kinds], 2):
+            self.delete_all("out")
+            kinds[kind](f"{seed}, {kind}", chance, given)
+        self.air(f"{seed}, air", chance) if seed % 3 == 0 else None
+
+    # What there is.
+
+    def make_pairs(self, chance: random.Random) -> dict[str, int]:
+        """Make pairs in a folder; return the origin of each by its name."""
+        shutil.rmtree(self.path("in"), ignore_errors=True)
+        os.mkdir(self.path("in"))
+        self.write("severity", b"others warning\n")
+        origins = dict[str, int]()
+        for name in "abc"[:chance.choice((1, 2, 3))]:
+            stl, recording, origins[name] = chance.choice(PAIRS)
+            ending = recording.rpartition(".")[2]
+            shutil.copyfile(example(f"{stl}.stl"), self.path(f"in/{name}.stl"))
+            shutil.copyfile(example(recording), self.path(f"in/{name}.{ending}"))
+        return origins
+
+    def options(self, chance: random.Random, origin: int | None) -> tuple[list[str], Given]:
+        """Return random options, some of them in a profile, and what they give."""
+        given = Given(origin is not None and chance.random() < .3, chance.random() < .3)
+        clock = ["--origin", f"{origin}"] * given.has_clock
+        allowed = ["--relative"] * given.is_allowed
+        words = chance.choice(OTHERS).split()
+        profile = [clock, allowed][chance.randrange(2)]
+        if profile and chance.random() < .5:
+            self.write("profile", f"{' '.join(profile)}\n".encode())
+            words += ["--profile", self.path("profile")]
+            clock, allowed = ([] if one is profile else one for one in (clock, allowed))
+        return [word.replace("severity", self.path("severity")) if word == "severity" else word
+                for word in [*words, *clock, *allowed]], given
+
+    def paths(self, name: str) -> list[str]:
+        """Return the two files of a pair."""
+        return [self.path(f"in/{one}") for one in sorted(os.listdir(self.path("in")), key=lambda
+                one: not one.endswith(".stl")) if one.startswith(f"{name}.")]
+
+    # Calls.
+
+    def qc(self, *words: str) -> tuple[int, list[str]]:
+        """Call qc in this process; return its status, and what it prints on standard output."""
+        status, out, _ = in_process(lambda line: qc("", "tools/qc", line), [
+            "tools/qc", *words, "-p", self.bench.program])
+        return status, out.splitlines()
+
+    def check_results(self, name: str, given: dict[str, Given], folder: str = "out") -> None:
+        """Check the JSON results of pairs, those that are collected, and the CSV rows."""
+        found = dict[str, tuple[str, int]]()
+        for one in given:
+            known = self.object(f"{folder}/{one}.json")
+            found[one] = known["verdict"], known["status"]
+        self.check(f"{name}: results", [one for one, seen in found.items()
+                                        if not given[one].may_be(*seen)], [])
+        words = ["--collect", self.path(folder), "--csv", self.path("all.csv")]
+        status, _, _ = in_process(lambda line: qc("", "tools/qc", line), ["tools/qc", *words])
+        self.check_status(f"{name}: collected", status, given)
+        self.check_lines(f"{name}: rows", self.read("all.csv").decode().splitlines(), given)
+
+    def check_status(self, name: str, status: int, given: dict[str, Given]) -> None:
+        """Check that the status is 0 only if each pair may have it."""
+        is_zero_allowed = all(one.has_clock or one.is_allowed for one in given.values())
+        self.must(f"{name}: status", status != 0 or is_zero_allowed, given)
+
+    def check_lines(self, name: str, lines: list[str], given: dict[str, Given]) -> None:
+        """Check that no line of a pair without a clock says that it is accepted."""
+        self.check(name, [line for line in lines for one, some in given.items()
+                          if re.search(rf"\b{one}(  |,|\.(stl|pes|ts),)", line)
+                          and re.search(r"\b(accepted|(?<!relative, )waived)\b", line)
+                          and not some.has_clock], [])
+
+    def object(self, path: str) -> dict[str, Any]:
+        """Return a JSON result."""
+        known: dict[str, Any] = json.loads(self.read(path))
+        return known
+
+    def single(self, name: str, chance: random.Random, origins: dict[str, int]) -> None:
+        """A call for one pair."""
+        one = chance.choice([*origins])
+        words, given = self.options(chance, origins[one])
+        status, lines = self.qc(*self.paths(one), *words, "-o", self.path("out"))
+        is_good = {lines[-1].split(" ")[0].strip(":"), lines[-2].split(" ")[0].lower().strip(":,")}
+        self.must(f"{name}: last lines", given.has_clock or not GOOD & is_good, lines[-2:])
+        self.must(f"{name}: status", given.may_be("", status), (status, words))
+        self.check_results(name, {one: given})
+
+    def folder_call(self, name: str, chance: random.Random, origins: dict[str, int]) -> None:
+        """A batch of a folder, whose pairs have the same options."""
+        words, given = self.options(chance, None)
+        status, lines = self.qc("--batch", self.path("in"), "-o", self.path("out"), *words)
+        several = dict.fromkeys(origins, given)
+        self.check_status(name, status, several)
+        self.check_lines(f"{name}: lines", lines, several)
+        self.check_results(name, several)
+
+    def list_call(self, name: str, chance: random.Random, origins: dict[str, int]) -> None:
+        """A batch of a list, in which each pair has its own; some have a clock."""
+        lines, given = list[str](), dict[str, Given]()
+        common = ["--relative"] * (chance.random() < .2)
+        for one, origin in origins.items():
+            clock = chance.random() < .5
+            given[one] = Given(clock, bool(common))
+            lines.append(" ".join([*self.paths(one), *[f"--origin {origin}"] * clock]))
+        self.write("list", "".join(f"{line}\n" for line in lines).encode())
+        status, said = self.qc("--batch", self.path("list"), "-o", self.path("out"), *common)
+        self.check_status(name, status, given)
+        self.check_lines(f"{name}: lines", said, given)
+        self.check_results(name, given)
+
+    def watch(self, name: str, chance: random.Random, origins: dict[str, int]) -> None:
+        """A folder that is watched until its pairs are judged."""
+        words, given = self.options(chance, None)
+        real, looks = batch.time.sleep, list[float]()
+
+        def sleep(seconds: float) -> None:
+            looks.append(seconds)
+            if looks.count(batch.LOOK) > 1:
+                raise KeyboardInterrupt
+            real(0 if seconds == batch.LOOK else seconds)
+
+        with mock.patch("signal.signal"), mock.patch.object(batch.time, "sleep", sleep):
+            _, lines = self.qc("--watch", self.path("in"), "-o", self.path("out"), "--settled", "0",
+                               *words)
+        several = dict.fromkeys(origins, given)
+        self.check_lines(f"{name}: lines", lines, several)
+        self.check_results(name, several)
+
+    def air(self, name: str, chance: random.Random) -> None:
+        """A programme on air."""
+        frames = self.feed()
+        self.delete_all("segments", "out")
+        self.put_segment(0, ALL, b"".join(frames))
+        origin = (BEGIN + SECOND * LEAD - TICKS * 1_000_000) % CLOCK
+        words, given = self.options(chance, origin)
+        self.write_schedule(" ".join(["2026-12-01T08:00:00Z one.stl", *words]))
+        one, = read_schedule(self.path("schedule"), self.args()).programmes
+        stretch, = stretches_in(segments_between(self.path("segments"), DAY, DAY + 60), 5)
+        out = self.path("out")
+        checker = Checker(self.bench.program, "qc", out, out, 60)
+        found = checker.check(one.request, one.name, DAY, stretch).result
+        checker.clear()
+        assert found
+        self.must(f"{name}: result", given.may_be(found["verdict"], found["status"]), found)
+
+
+def main(program: str, first: int, last: int) -> None:
+    """Makes the calls of some seeds."""
+    BENCH.chosen = program
+    case = Clocks("test_nothing_is_accepted_without_a_clock")
+    case.setUp()
+    for seed in range(first, last):
+        case.try_seed(seed)
+    print(f"{last - first} seeds")
+
+
+if __name__ == "__main__":
+    main(sys.argv[1], int(sys.argv[2]), int(sys.argv[3]))
