@@ -9,5 +9,6 @@ loop-carrier-preserved c =
     let items = c.loop-carrier.carrier-items in
     let at = c.loop-carrier.carrier-index in
     let below : at < length items = search rules in
-    map-same pid_followed items at c.note_pcr_of.new.carrier c.carrier-item.result below c.note_pcr_of.ensures
+    let kept = c.note_pcr_of.ensures in
+    map-same pid_followed items at c.note_pcr_of.new.carrier c.carrier-item.result below kept
     ∙ c.loop-carrier.invariant

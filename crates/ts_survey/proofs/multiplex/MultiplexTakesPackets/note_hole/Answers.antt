@@ -9,5 +9,6 @@ loop-carrier-preserved c =
     let items = c.loop-carrier.carrier-items in
     let at = c.loop-carrier.carrier-index in
     let below : at < length items = search rules in
-    map-same pid_followed items at c.note_hole.new.self c.carrier-item.result below c.note_hole.ensures
+    let kept = c.note_hole.ensures in
+    map-same pid_followed items at c.note_hole.new.self c.carrier-item.result below kept
     ∙ c.loop-carrier.invariant
