@@ -118,7 +118,6 @@ class Judged(Air):
             self.check(f"{name}: once", self.verdicts().get(NAME), trial.verdict)
 
     def test_the_recorder_may_lag(self) -> None:
-        """What it still has to write at the end of the window was not lost."""
         self.put_segments(0, 900)
         self.lag = 9
         with mock.patch.object(judging, "segments_between", self.recorded_so_far):

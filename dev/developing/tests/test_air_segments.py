@@ -54,13 +54,13 @@ JOINTS = {
     "the recorder stalled": (900.5, 900.5, "0-10 18-20", "0-20"),
     "it started again, and lost nothing": (900.5, 900.5, "0-10 !11-20", "0-20"),
     "it started again, and lost a packet": (900, 901, "0-10 !11-20", "0-10 11-20"),
-    "a packet is lost in a stall": (900, 901, "0-10 18-20", "0-10 18-20"),
     "15 packets are lost in a stall": (895, 910, "0-10 18-20", "0-10 18-20"),
     "a frame is lost in a stall": (900, 917, "0-10 18-20", "0-10 18-20"),
     "a packet is lost on air": (900, 901, "0-10 10-20", "0-20"),
     "the first is cut in a packet": (880.3, 900.5, "0-10 10-20", "10-20"),
     "the first is cut between packets": (880, 900, "0-10 10-20", "10-20"),
     "more is cut, without a PCR": (880, 1150, "0-10 10-20", "10-20"),
+    "it stalled, and no counters are in the tables": (900.5, 900.5, "0-10 18-20", "0-20"),
     "the second is cut, and starts later": (900.5, 930.3, "0-10 18-20", "0-10 18-20"),
     "the first is too short to tell": (3.5, 3.5, "0-10 18-20", "0-10 18-20"),
 }
@@ -92,10 +92,11 @@ class Segments(Air):
     def test_follows_the_packets_from_one_segment_to_the_next(self) -> None:
         feed = b"".join(in_frames([], BEGIN, 110, 1))
         packets = [feed[at:at + 188] for at in range(0, len(feed), 188)]
-        counted = b"".join(one for one in packets if one[3] & 0x10)  # but the PCR
+        feeds = {"PCR": b"".join(one for one in packets if one[3] & 0x10), "tables": b"".join(
+            one[:3] + b"\x10" + one[4:] if one[1] in (0x40, 0x41) else one for one in packets)}
         for name, (end, begin, text, expected) in JOINTS.items():
             for size in (188, 192, 204):
-                data = spaced(counted if "without a PCR" in name else feed, size)
+                data = spaced(feeds.get(name.split()[-1], feed), size)
                 found = self.divided(text, 5, data[:int(end * size)], data[int(begin * size):])
                 self.check(f"{name}, {size} bytes a packet", found, expected)
 

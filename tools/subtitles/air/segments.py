@@ -122,8 +122,8 @@ def read_range(path: str, first: int, end: int) -> Iterator[bytes]:
 
 @functools.lru_cache(maxsize=10_000)
 def is_continued(before: Segment, after: Segment) -> bool | None:
-    """Return whether no TS packet is missing between two segments: `True` if all continuity
-    counters and PCR go on, `False` if most counters do not, or one and a PCR; else `None`."""
+    """Return whether no TS packet is missing between two segments, by the continuity counters that
+    go on before and after, and the PCR: `False` if most do not, or one and a PCR; else `None`."""
     middle, data = min(before.size, BLOCK), b""
     with contextlib.suppress(OSError):  # one of them has been deleted
         data = b"".join((*read_range(before.path, before.size - middle, before.size),
@@ -143,7 +143,8 @@ def is_continued(before: Segment, after: Segment) -> bool | None:
             pcr = int.from_bytes(packet[6:11], "big") >> 7
             clocks.setdefault(pid, ([], []))[number >= count].append(pcr)
     out = sum(packet[0] != SYNC for packet in packets[count:count + LEAST_PACKETS])
-    lost = [(new[0] - old[-1]) % 16 != 1 for old, new in counters.values() if old and new]
+    lost = [(new[0] - old[-1]) % 16 != 1 for old, new in counters.values()
+            if len(old) > 1 < len(new) and (old[-1] - old[-2]) % 16 == (new[1] - new[0]) % 16 == 1]
     usual = [is_usual(*pcrs) for pcrs in clocks.values() if all(pcrs) and sum(map(len, pcrs)) > 2]
     is_cut = 2 * out > LEAST_PACKETS or 2 * sum(lost) > len(lost) or not all(usual)
     if out or any(lost):
@@ -163,15 +164,14 @@ def stretches_in(segments: Iterable[Segment], longest_pause: float) -> Iterator[
     begins more than so many seconds after the last byte, unless the TS packets go on; and where
     they do not. If only they show it the first segment was cut, so it is left out."""
     stretch = list[Segment]()
-    for segment in segments:
-        is_next = is_continued(stretch[-1], segment) if stretch else None
-        is_expected = bool(stretch) and (
-            segment.is_new or segment.begin - stretch[-1].end > longest_pause)
+    for one in segments:
+        is_next = is_continued(stretch[-1], one) if stretch else None
+        is_expected = bool(stretch) and (one.is_new or one.begin - stretch[-1].end > longest_pause)
         if is_next is False and not is_expected:
             stretch.pop()
         if stretch and not is_next and (is_expected or is_next is False):
             yield Unbroken(tuple(stretch))
             stretch = []
-        stretch.append(segment)
+        stretch.append(one)
     if stretch:
         yield Unbroken(tuple(stretch))
