@@ -47,8 +47,8 @@ STRETCHES = {
     "new ones": ("!0-10 10-20 !20-30 30-40", 2, "0-20 20-40"),
 }
 
-# Two segments of one feed: before which of its TS packets the first one ends and the second one
-# begins; their seconds, as above; and the stretches.
+# The last two segments are of one feed: before which of its TS packets the first one ends and the
+# second one begins; the seconds of all, as above; and the stretches.
 JOINTS = {
     "the feed goes on": (900.5, 900.5, "0-10 10-20", "0-20"),
     "the recorder stalled": (900.5, 900.5, "0-10 18-20", "0-20"),
@@ -57,7 +57,7 @@ JOINTS = {
     "15 packets are lost in a stall": (895, 910, "0-10 18-20", "0-10 18-20"),
     "a frame is lost in a stall": (900, 917, "0-10 18-20", "0-10 18-20"),
     "a packet is lost on air": (900, 901, "0-10 10-20", "0-20"),
-    "the first is cut in a packet": (880.3, 900.5, "0-10 10-20", "10-20"),
+    "the first is cut in a packet": (880.3, 900.5, "0-10 10-20 20-30", "0-10 20-30"),
     "the first is cut between packets": (880, 900, "0-10 10-20", "10-20"),
     "more is cut, without a PCR": (880, 1150, "0-10 10-20", "10-20"),
     "it stalled, and no counters are in the tables": (900.5, 900.5, "0-10 18-20", "0-20"),
@@ -97,7 +97,8 @@ class Segments(Air):
         for name, (end, begin, text, expected) in JOINTS.items():
             for size in (188, 192, 204):
                 data = spaced(feeds.get(name.split()[-1], feed), size)
-                found = self.divided(text, 5, data[:int(end * size)], data[int(begin * size):])
+                parts = data[:int(end * size)], data[int(begin * size):]
+                found = self.divided(text, 5, *[b""] * text.count(" ", 5), *parts)
                 self.check(f"{name}, {size} bytes a packet", found, expected)
 
     def divided(self, text: str, pause: float, *data: bytes) -> str:
