@@ -17,7 +17,7 @@ from ..common.times import ticks_between
 NAME = re.compile(r"(?:.*\D)?(\d{4})-?(\d\d)-?(\d\d)[T_-]?(\d\d)[-.:]?(\d\d)[-.:]?(\d\d)"
                   r"(\.\d{1,6})?Z?(?:-new)?\.(?:ts|m2ts|mts|trp)", re.ASCII | re.DOTALL)
 NEW = "-new.ts"  # ends the name of a segment if something may be missing before it
-BLOCK = 1 << 20  # bytes that are read at a time
+BLOCK = 1 << 19  # bytes that are read at a time, and compared where segments meet
 PACKET_SIZES, SYNC, NULL_PID = (188, 192, 204), 0x47, 0x1FFF
 LEAST_PACKETS = 5  # whose sync bytes tell where the TS packets begin
 Sides = tuple[list[int], list[int]]  # numbers before and after the middle
