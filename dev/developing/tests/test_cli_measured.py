@@ -123,15 +123,15 @@ class Cues(Case):
                             most + 1 in (*begins, *ends)) and sum(
                                 "z" in line for line in lines) == len(some) - 1 and
                     "whose letters were never sent: y" in lines, found)
-        late = [Delays(Counter([0]), Counter([0]), [], [])]
-        for some, off, wanted in (
-                (late, (0, 100), ""), (late, (4, 100), ""), ([], (4, 100), ""),
-                (late, (5, 100), "--within 1|--late 0:1/0:1"), ([], (5, 100), "--within 1"),
-                ([Delays(Counter(), Counter([0]), [], [])], (5, 100), "--within 1"),
-                ([Delays(Counter([3]), Counter([0]), [], [])], (50, 100),
-                 "--within 3|--late 3:1/0:1")):
-            found = [*late_found(some, [], off)]
-            self.check(f"{len(some)} recordings, {off} off", "|".join(filter(None, (
+        on_time = [Delays(Counter([0]), Counter([0]), [], [])]
+        of_off: list[tuple[list[Delays], tuple[int, int], str]] = [
+            (on_time, (0, 100), ""), (on_time, (4, 100), ""), ([], (4, 100), ""),
+            (on_time, (5, 100), "--within 1|--late 0:1/0:1"), ([], (5, 100), "--within 1"),
+            ([Delays(Counter(), Counter([0]), [], [])], (5, 100), "--within 1"),
+            ([Delays(Counter([3]), Counter([0]), [], [])], (50, 100), "--within 3|--late 3:1/0:1")]
+        for delays, off, wanted in of_off:
+            found = [*late_found(delays, [], off)]
+            self.check(f"{delays}, {off} off", "|".join(filter(None, (
                 finding.words for finding in found))), wanted)
         names = [f"n{at}" for at in range(NAMED + 2)]
         for count, end in ((0, None), (NAMED, ""), (NAMED + 1, ", and 1 more"),

@@ -11,6 +11,7 @@ import random
 import re
 import shutil
 import sys
+import time
 from typing import Any, NamedTuple
 from unittest import mock
 
@@ -174,7 +175,7 @@ class Clocks(Feeds):
     def watch(self, name: str, chance: random.Random, origins: dict[str, int]) -> None:
         """A folder that is watched until its pairs are judged."""
         words, given = self.options(chance, None)
-        real, looks = batch.time.sleep, list[float]()
+        real, looks = time.sleep, list[float]()
 
         def sleep(seconds: float) -> None:
             looks.append(seconds)
@@ -182,7 +183,7 @@ class Clocks(Feeds):
                 raise KeyboardInterrupt
             real(0 if seconds == batch.LOOK else seconds)
 
-        with mock.patch("signal.signal"), mock.patch.object(batch.time, "sleep", sleep):
+        with mock.patch("signal.signal"), mock.patch("time.sleep", sleep):
             _, lines = self.qc("--watch", self.path("in"), "-o", self.path("out"), "--settled", "0",
                                *words)
         several = dict.fromkeys(origins, given)

@@ -323,7 +323,8 @@ class Dead(OfProgramme):
             "a header before it": (joined(self.without(end - 26)), ("--origin", "0"),
                                    "1 header, no row"),
             "rows behind the last TCO": (joined([*self.blank(), *later]), ("--origin", "0"),
-                                         f"{count - 1} headers, no row"),
+                                         f"{count - 1} headers, no row; the first row comes "
+                                         f"{2 * end} frames after the first TCI"),
             "rows behind it, without a clock": (joined([*self.blank(), *later]), (), ""),
             "a row": (joined(self.blank(0, end - 100)), ("--origin", "0"), ""),
             "a row when the page is closed": (joined([

@@ -411,7 +411,7 @@ class Measured(NamedTuple):
     is_alone: bool
     options: set[str]
     sendings: Sequence[Sending]
-    off_frame: tuple[int, int]  # PTS that are off their frames, of how many
+    off_frame: tuple[int, int] = (0, 0)  # PTS that are off their frames, of how many
     option: str = "english"  # by which its letters were read
 
 

@@ -10,8 +10,8 @@ from ..clock.start import NoFirst, first_picture, start_frame
 from ..common.command_line import counted, pid_name, shown
 from ..common.files import first_bytes
 from ..common.times import (
-    FRAMES_OF_A_DAY, NO_FRAME, TICKS, frame_in, frames_at, pts_of, ticks_between, ticks_within,
-    time_of, wrapped)
+    FRAMES_OF_A_DAY, NO_FRAME, TICKS, frame_in, frames_at, pts_of, ticks_after, ticks_between,
+    ticks_within, time_of, wrapped)
 from ..formats.listing import NEVER_SENT, NamedFault
 from ..formats.stl import SubtitleFile
 from ..formats.teletext import BY_WORD, OTHER_REGIONS, Page, as_sent, of_track, page_name
@@ -322,12 +322,15 @@ def refuse_dead(request: Request, survey: Survey, packets: Packets,
         return pts is not None and (origin is None or ticks_within(
             pts_of(begin, origin), TICKS * (end - begin), pts) < TICKS * (end - begin))
 
-    rows = (number for number, texts in [*packets.held, *packets.strays] if texts)
-    if any(is_before_end(packets.pts_at(number)) for number in rows):
+    rows = [packets.pts_at(number) for number, texts in [*packets.held, *packets.strays] if texts]
+    if any(map(is_before_end, rows)):
         return
     headers = sum(map(is_before_end, packets.pts(does=HEADER)))
     what = f"{headers:,} header{'s' * (headers != 1)}, no row" if headers else \
         f"{sum(map(is_before_end, packets.pts())):,} PES packets, no header"
+    if origin is not None and rows and rows[0] is not None:
+        late = round(ticks_after(pts_of(begin, origin), rows[0]) / TICKS)
+        what += f"; the first row comes {counted(late, 'frame')} after the first TCI"
     raise NeverSent(f"page {request.page_name} is never sent while subtitles are expected: {what}")
 
 
