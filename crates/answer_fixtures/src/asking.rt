@@ -20,9 +20,9 @@ pub const ACCEPTED: &str = "accepted 51 frames 2 transmissions\n";
 pub const SCHEDULE: [&str; 4] = ["subttx", "schedule", "a", "b"];
 
 /// Answers a command with two sources, an output file, and an output.
-pub fn answer_words<'a, S: Source, T: Source, F: Close, K: Flush>(
+pub fn answer_arguments<'a, S: Source, T: Source, F: Close, K: Flush>(
     alloc: Global,
-    words: &'a [&'a str],
+    arguments: &'a [&'a str],
     first: &mut S,
     second: &mut T,
     file: &mut F,
@@ -33,7 +33,7 @@ pub fn answer_words<'a, S: Source, T: Source, F: Close, K: Flush>(
     requires file { CanFail (F.failure_count file.old) }
     requires out { CanFail (K.failure_count out.old) }
 {
-    match Request::parse(alloc, words) {
+    match Request::parse(alloc, arguments) {
         Ok(request) => { answer::<S, T, F, K>(alloc, &request, first, second, file, out) }
         Err(fault) => say(&fault, out),
     }
@@ -43,20 +43,27 @@ pub fn answer_words<'a, S: Source, T: Source, F: Close, K: Flush>(
 /// there are too many.
 pub(crate) fn answer_all<'a>(
     alloc: Global,
-    words: &[&'a str],
+    arguments: &[&'a str],
     first: &[u8],
     second: &[u8],
-    room: &mut [u8],
+    buffer: &mut [u8],
 ) -> Option<Status> {
     let mut all_words = ["--all"; 20];
-    let len = words.len();
+    let len = arguments.len();
     if len >= 20 {
         return None;
     }
-    all_words[..len].copy_from_slice(words);
+    all_words[..len].copy_from_slice(arguments);
     let (mut first, mut second) = (MemSource::new(first), MemSource::new(second));
-    let (mut file, mut out) = (MemSink::new(&mut []), MemSink::new(room));
-    let words = &all_words[..len + 1];
-    let status = answer_words(alloc, words, &mut first, &mut second, &mut file, &mut out);
+    let (mut file, mut out) = (MemSink::new(&mut []), MemSink::new(buffer));
+    let arguments = &all_words[..len + 1];
+    let status = answer_arguments(
+        alloc,
+        arguments,
+        &mut first,
+        &mut second,
+        &mut file,
+        &mut out,
+    );
     Some(status)
 }

@@ -9,6 +9,6 @@ mod asking;
 mod judging;
 mod text;
 
-pub use asking::{ACCEPTED, CHECK, CHECK_ALL, SCHEDULE, answer_words};
-pub use judging::{fills, prints, prints_of, tells, tells_all};
+pub use asking::{ACCEPTED, CHECK, CHECK_ALL, SCHEDULE, answer_arguments};
+pub use judging::{fills, prints, prints_of, reports, reports_all};
 pub use text::{first_lines, status_of};

@@ -36,30 +36,30 @@ pub fn status_of(text: &[u8]) -> Status {
 }
 
 /// Returns whether a text consists of these two parts.
-pub(crate) fn is_made_of(text: &[u8], front: &[u8], end: &[u8]) -> bool {
-    text.len() == front.len() + end.len() && text.starts_with(front) && text.ends_with(end)
+pub(crate) fn is_made_of(text: &[u8], prefix: &[u8], end: &[u8]) -> bool {
+    text.len() == prefix.len() + end.len() && text.starts_with(prefix) && text.ends_with(end)
 }
 
 /// Returns the text in a room, without the zeros after it.
-pub(crate) fn text_in(room: &[u8]) -> &[u8] {
-    for (place, byte) in room.iter().enumerate() {
+pub(crate) fn text_in(buffer: &[u8]) -> &[u8] {
+    for (place, byte) in buffer.iter().enumerate() {
         if *byte == 0 {
-            return room.get(..place).unwrap_or(room);
+            return buffer.get(..place).unwrap_or(buffer);
         }
     }
-    room
+    buffer
 }
 
 /// Returns the text from its first line on that is not about trusted frames.
-pub(crate) fn told_in(text: &[u8]) -> &[u8] {
-    let mut told = text;
+pub(crate) fn reported_in(text: &[u8]) -> &[u8] {
+    let mut reported = text;
     for (place, byte) in text.iter().enumerate() {
-        if !told.starts_with(b"trusted ") {
-            return told;
+        if !reported.starts_with(b"trusted ") {
+            return reported;
         }
         if *byte == b'\n' {
-            told = text.get(place.saturating_add(1)..).unwrap_or(&[]);
+            reported = text.get(place.saturating_add(1)..).unwrap_or(&[]);
         }
     }
-    told
+    reported
 }

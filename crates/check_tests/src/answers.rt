@@ -1,65 +1,73 @@
 //! Asserts what the program answers with devices in memory.
 ghost use Rattle.sub_io.specs.Device.{CanFail};
 
-use answer_fixtures::{fills, prints, tells, tells_all};
+use answer_fixtures::{fills, prints, reports, reports_all};
 use std::alloc::Global;
 use std::process::Abort;
 use sub_io::Source;
 
-fn assert_right(rt: &impl Abort, is_right: bool, words: &[&str]) {
-    assert!(rt; is_right, "{words:?}");
+fn assert_right(rt: &impl Abort, is_right: bool, arguments: &[&str]) {
+    assert!(rt; is_right, "{arguments:?}");
 }
 
 /// Asserts the output of a command for two sources, in two parts, and the status that the last line
 /// implies.
 pub fn assert_prints<'a, S: Source, T: Source>(
     rt: &(impl Abort + Alloc<A = Global>),
-    words: &'a [&'a str],
+    arguments: &'a [&'a str],
     first: &mut S,
     second: &mut T,
-    front: &[u8],
+    prefix: &[u8],
     end: &[u8],
 )
     requires first { CanFail (S.failure_count first.old) }
     requires second { CanFail (T.failure_count second.old) }
 {
-    let is_right = prints(rt.alloc(), words, first, second, front, end);
-    assert_right(rt, is_right, words);
+    let is_right = prints(rt.alloc(), arguments, first, second, prefix, end);
+    assert_right(rt, is_right, arguments);
 }
 
 /// Asserts the output of a check with `--all` for two files in memory, in two parts, and the
 /// status; and that without it the first line that is not about trusted frames is printed.
 pub fn assert_all<'a>(
     rt: &(impl Abort + Alloc<A = Global>),
-    words: &'a [&'a str],
+    arguments: &'a [&'a str],
     first: &[u8],
     second: &[u8],
-    front: &str,
+    prefix: &str,
     end: &str,
 ) {
-    let is_right = tells_all(rt.alloc(), words, first, second, front, end);
-    assert_right(rt, is_right, words);
+    let is_right = reports_all(rt.alloc(), arguments, first, second, prefix, end);
+    assert_right(rt, is_right, arguments);
 }
 
 /// Asserts the output of a command for two files in memory, and the status that it implies. For a
 /// check, also that with `--all` it is the first line that is not about trusted frames.
-pub fn assert_tells<'a>(
+pub fn assert_reports<'a>(
     rt: &(impl Abort + Alloc<A = Global>),
-    words: &'a [&'a str],
+    arguments: &'a [&'a str],
     first: &[u8],
     second: &[u8],
     want: &str,
 ) {
-    assert_right(rt, tells(rt.alloc(), words, first, second, want), words);
+    assert_right(
+        rt,
+        reports(rt.alloc(), arguments, first, second, want),
+        arguments,
+    );
 }
 
 /// Asserts that each output with less room than a text gets the beginning of it.
 pub fn assert_fills<'a>(
     rt: &(impl Abort + Alloc<A = Global>),
-    words: &'a [&'a str],
+    arguments: &'a [&'a str],
     read: (&[u8], &[u8]),
     written: &[u8],
     text: &[u8],
 ) {
-    assert_right(rt, fills(rt.alloc(), words, read, written, text), words);
+    assert_right(
+        rt,
+        fills(rt.alloc(), arguments, read, written, text),
+        arguments,
+    );
 }

@@ -1,5 +1,5 @@
 //! `check`: verdicts on transmissions of `Hi` with one change.
-use crate::answers::{assert_fills, assert_tells};
+use crate::answers::{assert_fills, assert_reports};
 use crate::asserting::assert_same_in;
 use answer_fixtures::{ACCEPTED, CHECK};
 use fixtures::{
@@ -12,11 +12,11 @@ use sub_io::MemSink;
 
 // Asserts the line of a check of the subtitle file of `Hi` and these bytes.
 fn assert_judges(rt: &(impl Abort + Alloc<A = Global>), pes: &[u8], want: &str) {
-    assert_tells(rt, &CHECK, &file_of_hi(), pes, want);
+    assert_reports(rt, &CHECK, &file_of_hi(), pes, want);
 }
 
 #[test]
-fn accepts_a_schedule_and_tells_it_to_a_whole_output(rt: HostRuntime) {
+fn accepts_a_schedule_and_reports_it_to_an_output_that_takes_all(rt: HostRuntime) {
     let (stl, pes) = (file_of_hi(), schedule_of_hi());
     assert_judges(&rt, &pes, ACCEPTED);
     assert_fills(&rt, &CHECK, (&stl, &pes), &[], ACCEPTED.as_bytes());
@@ -24,14 +24,14 @@ fn accepts_a_schedule_and_tells_it_to_a_whole_output(rt: HostRuntime) {
 
 #[test]
 fn checks_a_programme_without_subtitles(rt: HostRuntime) {
-    let mut room = [0; 184];
-    let mut pes = MemSink::new(&mut room);
+    let mut buffer = [0; 184];
+    let mut pes = MemSink::new(&mut buffer);
     push_pes(&mut pes, 0, &[HEADER]);
     let accepted = "accepted 1 frames 1 transmissions\n";
-    assert_tells(&rt, &CHECK, &gsi(), pes.written(), accepted);
-    assert_tells(&rt, &CHECK, &gsi(), &[], "refused 60 Empty\n");
+    assert_reports(&rt, &CHECK, &gsi(), pes.written(), accepted);
+    assert_reports(&rt, &CHECK, &gsi(), &[], "refused 60 Empty\n");
     let truncated = "refused 30 Truncated pes 0\n";
-    assert_tells(&rt, &CHECK, &gsi(), &[0, 0, 1], truncated);
+    assert_reports(&rt, &CHECK, &gsi(), &[0, 0, 1], truncated);
 }
 
 #[test]
@@ -61,7 +61,7 @@ fn refuses_a_cut_subtitle_file(rt: HostRuntime) {
             _ => ACCEPTED,
         };
         let (cut, _) = stl.split_at(len);
-        assert_tells(&rt, &CHECK, cut, &pes, want);
+        assert_reports(&rt, &CHECK, cut, &pes, want);
     }
 }
 
@@ -115,7 +115,7 @@ const FILL: [u8; 178] = [0xFF; 178];
 const PAYLOAD_OF_FF: [u8; 184] = [0xFF; 184];
 
 #[test]
-fn tells_a_mark_where_all_bytes_from_6_on_are_ff(rt: HostRuntime) {
+fn reports_a_gap_marker_where_all_bytes_from_6_on_are_ff(rt: HostRuntime) {
     let mut pes = schedule_of_hi();
     put(&mut pes, 6, &FILL);
     assert_judges(&rt, &pes, "refused 45 Lost pes 0\n");
@@ -159,8 +159,8 @@ fn assert_judges_two(
     last: &[[u8; 42]],
     want: &str,
 ) {
-    let mut room = [0; 1024];
-    let mut pes = MemSink::new(&mut room);
+    let mut buffer = [0; 1024];
+    let mut pes = MemSink::new(&mut buffer);
     push_two(&mut pes, first, last);
     assert_judges(rt, pes.written(), want);
 }

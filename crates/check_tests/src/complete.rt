@@ -1,5 +1,5 @@
 //! Complete pages, required by `--complete`, and pages that are spread over several frames.
-use crate::answers::assert_tells;
+use crate::answers::assert_reports;
 use answer_fixtures::{ACCEPTED, CHECK};
 use fixtures::{
     CLOSING, FIRST, HEADER, OTHER_HEADER, ROW, TEN, TWO_ROWS, block, file_of, file_of_hi, head,
@@ -19,8 +19,8 @@ fn assert_checks(
     plain: &str,
     complete: &str,
 ) {
-    assert_tells(rt, &CHECK, stl, pes, plain);
-    assert_tells(
+    assert_reports(rt, &CHECK, stl, pes, plain);
+    assert_reports(
         rt,
         &["subttx", "check", "a", "b", "--complete"],
         stl,
@@ -58,14 +58,14 @@ fn refuses_a_page_that_is_open_at_a_frames_end(rt: HostRuntime) {
 }
 
 #[test]
-fn tells_an_open_page_before_an_early_end_and_a_gap_before_it(rt: HostRuntime) {
+fn reports_an_open_page_before_an_early_end_and_a_gap_before_it(rt: HostRuntime) {
     let mut first = FIRST;
     first[138] = 0xFF;
     let late = "refused 74 Late frame 10:00:00:00\n";
     assert_checks(&rt, &file_of_hi(), &first, late, OPEN);
-    let words = ["subttx", "check", "a", "b", "--every", "25", "--complete"];
+    let arguments = ["subttx", "check", "a", "b", "--every", "25", "--complete"];
     let gap = "refused 73 Gap frame 10:00:01:00\n";
-    assert_tells(&rt, &words, &file_of_hi(), &schedule_of_hi(), gap);
+    assert_reports(&rt, &arguments, &file_of_hi(), &schedule_of_hi(), gap);
 }
 
 // Asserts the lines of a check of `Hi` with these packets at 10:00:00:00, and others two seconds
@@ -77,8 +77,8 @@ fn assert_checks_two(
     plain: &str,
     complete: &str,
 ) {
-    let mut room = [0; 1024];
-    let mut pes = MemSink::new(&mut room);
+    let mut buffer = [0; 1024];
+    let mut pes = MemSink::new(&mut buffer);
     push_two(&mut pes, first, last);
     assert_checks(rt, &file_of_hi(), pes.written(), plain, complete);
 }
@@ -106,14 +106,14 @@ fn counts_a_header_that_ends_the_page_alone(rt: HostRuntime) {
 fn judges_a_page_that_is_spread_over_two_frames(rt: HostRuntime) {
     let file = file_of(&block(&head(TEN, TEN + 50, 20), &TWO_ROWS));
     let (upper, lower) = (row_of(0x8C, 0xC1), row_of(0x9B, 0xC2));
-    let mut room = [0; 1024];
-    let mut closed_later = MemSink::new(&mut room);
+    let mut buffer = [0; 1024];
+    let mut closed_later = MemSink::new(&mut buffer);
     push_pes(&mut closed_later, TEN, &[HEADER, upper, lower]);
     push_pes(&mut closed_later, TEN + 1, &[CLOSING]);
     push_pes(&mut closed_later, TEN + 50, &[HEADER, CLOSING]);
     assert_checks(&rt, &file, closed_later.written(), ACCEPTED, OPEN);
-    let mut room = [0; 1024];
-    let mut spread = MemSink::new(&mut room);
+    let mut buffer = [0; 1024];
+    let mut spread = MemSink::new(&mut buffer);
     push_pes(&mut spread, TEN, &[HEADER, upper]);
     push_pes(&mut spread, TEN + 1, &[lower, CLOSING]);
     let content = "refused 72 Content frame 10:00:00:00 row 22 column 17\n";

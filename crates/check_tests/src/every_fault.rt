@@ -12,7 +12,7 @@ pub const OF_FIVE: &str = "refused 57 Overlap block 2\n\
     refused 56 OutOfOrder block 5\n";
 
 #[test]
-fn tells_every_fault_of_five_subtitles(rt: HostRuntime) {
+fn reports_every_fault_of_five_subtitles(rt: HostRuntime) {
     let pes = schedule_of_hi();
     assert_all(&rt, &CHECK, &file_of_five(), &pes, OF_FIVE, "4 faults\n");
     let mut cut_file = [0x8F; 1791];

@@ -2,7 +2,7 @@
 //! among them.
 ghost use Rattle.std.specs.Prelude.{◌≡◌, length};
 
-use crate::answers::{assert_all, assert_tells};
+use crate::answers::{assert_all, assert_reports};
 use answer_fixtures::{ACCEPTED, CHECK};
 use fixtures::{
     CLOSING, HEADER, ROW, TEN, every_second, file_of_hi, push_pes, schedule_of_hi, schedule_twice,
@@ -12,74 +12,74 @@ use std::process::Abort;
 use sub_io::MemSink;
 
 /// Asserts the output of a check of a subtitle file and these bytes, with these options.
-pub fn assert_told_of<'x>(
+pub fn assert_reported_of<'x>(
     rt: &(impl Abort + Alloc<A = Global>),
     stl: &[u8],
     pes: &[u8],
     options: &[&'x str],
     lines: &str,
 ) {
-    let mut words = ["a"; 10];
+    let mut arguments = ["a"; 10];
     assert!(rt; options.len() <= 6);
-    words[..4].copy_from_slice(&CHECK);
-    words[4..4 + options.len()].copy_from_slice(options);
-    let words = &words[..4 + options.len()];
-    assert_all(rt, words, stl, pes, "", lines);
+    arguments[..4].copy_from_slice(&CHECK);
+    arguments[4..4 + options.len()].copy_from_slice(options);
+    let arguments = &arguments[..4 + options.len()];
+    assert_all(rt, arguments, stl, pes, "", lines);
 }
 
 /// Asserts the output of a check of the subtitle file of `Hi` and these bytes, with these options.
-pub fn assert_told<'x>(
+pub fn assert_reported<'x>(
     rt: &(impl Abort + Alloc<A = Global>),
     pes: &[u8],
     options: &[&'x str],
     lines: &str,
 ) {
-    assert_told_of(rt, &file_of_hi(), pes, options, lines);
+    assert_reported_of(rt, &file_of_hi(), pes, options, lines);
 }
 
 #[rattlefmt::skip]
 #[test]
-fn tells_all_of_a_schedule_by_other_options(rt: HostRuntime) {
+fn reports_all_of_a_schedule_by_other_options(rt: HostRuntime) {
     let pes = schedule_of_hi();
-    assert_told(&rt, &pes, &[], ACCEPTED);
-    assert_told(&rt, &pes, &["--complete"], ACCEPTED);
-    assert_told(&rt, &pes, &["--every", "25"],
+    assert_reported(&rt, &pes, &[], ACCEPTED);
+    assert_reported(&rt, &pes, &["--complete"], ACCEPTED);
+    assert_reported(&rt, &pes, &["--every", "25"],
         "trusted frames 10:00:00:00 10:00:00:24\n\
         refused 73 Gap frame 10:00:01:00\n\
         ended 73 Gap frame 10:00:01:24\n\
         trusted frames 10:00:02:00 10:00:02:00\n\
         1 faults\n");
-    assert_told(&rt, &pes, &["--every", "50"], ACCEPTED);
-    assert_told(&rt, &pes, &["--every", "49"],
+    assert_reported(&rt, &pes, &["--every", "50"], ACCEPTED);
+    assert_reported(&rt, &pes, &["--every", "49"],
         "trusted frames 10:00:00:00 10:00:01:23\n\
         refused 73 Gap frame 10:00:01:24\n\
         ended 73 Gap frame 10:00:01:24\n\
         trusted frames 10:00:02:00 10:00:02:00\n\
         1 faults\n");
-    assert_told(&rt, &pes, &["--page", "100"],
+    assert_reported(&rt, &pes, &["--page", "100"],
         "refused 71 NoFirstHeader frame 10:00:00:00\n\
         refused 72 Content frame 10:00:00:00 row 22 column 16\n\
         ended 72 Content frame 10:00:01:24\n\
         2 faults\n");
-    assert_told(&rt, &pes, &["--option", "german"],
+    assert_reported(&rt, &pes, &["--option", "german"],
         "refused 67 Control frame 10:00:00:00 packet 0\n\
         refused 67 Control frame 10:00:02:00 packet 0\n\
         2 faults\n");
-    assert_told(&rt, &pes, &["--origin", "3600"],
+    assert_reported(&rt, &pes, &["--origin", "3600"],
         "refused 72 Content frame 09:59:59:24 row 22 column 16\n\
         ended 72 Content frame 09:59:59:24\n\
         refused 72 Content frame 10:00:01:24 row 22 column 16\n\
         ended 72 Content frame 10:00:01:24\n\
         refused 74 Late frame 10:00:01:24\n\
         3 faults\n");
-    assert_told(&rt, &pes, &["--origin", "8589930992"],
+    assert_reported(&rt, &pes, &["--origin", "8589930992"],
         "refused 63 Early frame 10:00:00:01\n\
         trusted frames 10:00:00:01 10:00:01:24\n\
         refused 72 Content frame 10:00:02:00 row 22 column 16\n\
         ended 72 Content frame 10:00:02:00\n\
         trusted frames 10:00:02:01 10:00:02:01\n\
         2 faults\n");
-    assert_told(&rt, &pes, &["--origin", "1"],
+    assert_reported(&rt, &pes, &["--origin", "1"],
         "refused 61 OffFrame pes 0\n\
         ended 61 OffFrame pes 1\n\
         1 faults\n");
@@ -104,15 +104,15 @@ fn changed(rt: &impl Abort, first: (usize, u8), second: (usize, u8)) -> [u8; 368
 }
 
 #[test]
-fn tells_all_of_a_schedule_with_an_even_byte(rt: HostRuntime) {
+fn reports_all_of_a_schedule_with_an_even_byte(rt: HostRuntime) {
     let even = changed(&rt, EVEN, EVEN);
     let lines = "refused 68 Parity frame 10:00:00:00 packet 1\n\
         trusted frames 10:00:02:00 10:00:02:00\n1 faults\n";
-    assert_told(&rt, &even, &[], lines);
+    assert_reported(&rt, &even, &[], lines);
     // The header after it is two seconds later: until then the letter may be missing.
     let listen = ["subttx", "listen", "a", "--at", "10:00:01:24"];
     let shown = "heard yes\nopen no\nrow 22 |                ... i..                 |\n";
-    assert_tells(&rt, &listen, &even, &[], shown);
+    assert_reports(&rt, &listen, &even, &[], shown);
 }
 
 // The bytes that are cut off may have been sent in the last frame that was read; at the end of a
@@ -122,39 +122,39 @@ fn tells_all_of_a_schedule_with_an_even_byte(rt: HostRuntime) {
 fn doubts_the_last_frame_where_bytes_are_left(rt: HostRuntime) {
     let pes = schedule_of_hi();
     let (first, _) = pes.split_at(184);
-    assert_told(&rt, first, &[],
+    assert_reported(&rt, first, &[],
         "trusted frames 10:00:00:00 10:00:00:00\n\
         refused 74 Late frame 10:00:00:00\n\
         1 faults\n");
     let (cut, _) = pes.split_at(367);
-    assert_told(&rt, cut, &[], "refused 30 Truncated pes 1\n1 faults\n");
+    assert_reported(&rt, cut, &[], "refused 30 Truncated pes 1\n1 faults\n");
     let even = changed(&rt, NO_ERASE, EVEN);
     let (cut, _) = even.split_at(367);
-    assert_told(&rt, cut, &[],
+    assert_reported(&rt, cut, &[],
         "refused 67 Control frame 10:00:00:00 packet 0\n\
         refused 68 Parity frame 10:00:00:00 packet 1\n\
         refused 30 Truncated pes 1\n\
         3 faults\n");
     let three = every_second();
     let (cut, _) = three.split_at(551);
-    assert_told(&rt, cut, &[],
+    assert_reported(&rt, cut, &[],
         "trusted frames 10:00:00:00 10:00:00:24\n\
         refused 30 Truncated pes 2\n\
         1 faults\n");
-    assert_told(&rt, &[], &[], "refused 60 Empty\n1 faults\n");
+    assert_reported(&rt, &[], &[], "refused 60 Empty\n1 faults\n");
 }
 
 #[rattlefmt::skip]
 #[test]
-fn tells_all_of_a_schedule_with_bytes_changed(rt: HostRuntime) {
-    assert_told(&rt, &changed(&rt, OTHER, OTHER), &[],
+fn reports_all_of_a_schedule_with_bytes_changed(rt: HostRuntime) {
+    assert_reported(&rt, &changed(&rt, OTHER, OTHER), &[],
         "refused 72 Content frame 10:00:00:00 row 22 column 19\n\
         ended 72 Content frame 10:00:01:24\n\
         trusted frames 10:00:02:00 10:00:02:00\n\
         1 faults\n");
     // The first closing header becomes a stuffing unit.
-    assert_told(&rt, &changed(&rt, (138, 0xFF), (138, 0xFF)), &[], ACCEPTED);
-    assert_told(&rt, &changed(&rt, (138, 0xFF), (138, 0xFF)), &["--complete"],
+    assert_reported(&rt, &changed(&rt, (138, 0xFF), (138, 0xFF)), &[], ACCEPTED);
+    assert_reported(&rt, &changed(&rt, (138, 0xFF), (138, 0xFF)), &["--complete"],
         "refused 77 Incomplete frame 10:00:00:00\n\
         ended 77 Incomplete frame 10:00:01:24\n\
         trusted frames 10:00:02:00 10:00:02:00\n\
@@ -165,9 +165,9 @@ fn tells_all_of_a_schedule_with_bytes_changed(rt: HostRuntime) {
 #[test]
 fn goes_on_after_frames_that_do_not_rise(rt: HostRuntime) {
     let lines = "trusted frames 10:00:00:00 10:00:01:24\nrefused 62 Order pes 2\n1 faults\n";
-    assert_told(&rt, &schedule_twice(), &[], lines);
-    let mut room = [0; 736];
-    let mut pes = MemSink::new(&mut room);
+    assert_reported(&rt, &schedule_twice(), &[], lines);
+    let mut buffer = [0; 736];
+    let mut pes = MemSink::new(&mut buffer);
     push_pes(&mut pes, TEN, &[HEADER, ROW, CLOSING]);
     push_pes(&mut pes, TEN + 24, &[HEADER, ROW, CLOSING]);
     push_pes(&mut pes, TEN + 10, &[CLOSING]);
@@ -179,5 +179,5 @@ fn goes_on_after_frames_that_do_not_rise(rt: HostRuntime) {
         refused 73 Gap frame 10:00:01:19\n\
         ended 73 Gap frame 10:00:01:24\n\
         3 faults\n";
-    assert_told(&rt, pes.written(), &["--every", "20"], lines);
+    assert_reported(&rt, pes.written(), &["--every", "20"], lines);
 }

@@ -2,7 +2,7 @@
 //! the PES packet of the byte that was being read, or reports a fault that was found before.
 use crate::answers::assert_prints;
 use crate::asserting::assert_same_in;
-use answer_fixtures::{ACCEPTED, CHECK, SCHEDULE, answer_words};
+use answer_fixtures::{ACCEPTED, CHECK, SCHEDULE, answer_arguments};
 use fixtures::{
     Counting, Drip, Endless, FIRST, SECOND, file_of_hi, file_of_three, gsi, schedule_of_hi,
 };
@@ -31,9 +31,9 @@ const PACKETS: [&[u8]; 4] = [
 ];
 
 // Asserts the last line for a file whose source fails at a call, and the status.
-fn assert_tells_at<'a>(
+fn assert_reports_at<'a>(
     rt: &(impl Abort + Alloc<A = Global>),
-    words: &'a [&'a str],
+    arguments: &'a [&'a str],
     bytes: &[u8],
     call: u64,
     want: &[u8],
@@ -42,11 +42,11 @@ fn assert_tells_at<'a>(
     let mut first = FailAt::new(MemSource::new(bytes), call);
     let mut second = MemSource::new(&[]);
     let mut file = MemSink::new(&mut []);
-    let mut room = [0; 1024];
-    let mut out = MemSink::new(&mut room);
-    let given = answer_words(
+    let mut buffer = [0; 1024];
+    let mut out = MemSink::new(&mut buffer);
+    let given = answer_arguments(
         rt.alloc(),
-        words,
+        arguments,
         &mut first,
         &mut second,
         &mut file,
@@ -54,15 +54,15 @@ fn assert_tells_at<'a>(
     );
     assert!(rt;
         out.written().ends_with(want) && given == status,
-        "{words:?}, call {call}"
+        "{arguments:?}, call {call}"
     );
 }
 
 // Asserts the last line if each call in turn fails: the fault of that call or, from the call on at
 // which a fault of the file is found before it, that one.
-fn assert_tells_last<'a>(
+fn assert_reports_last<'a>(
     rt: &(impl Abort + Alloc<A = Global>),
-    words: &'a [&'a str],
+    arguments: &'a [&'a str],
     bytes: &[u8],
     reads: &[&[u8]],
     found: usize,
@@ -70,29 +70,36 @@ fn assert_tells_last<'a>(
 ) {
     for call in 0..reads.len() {
         if call < found {
-            assert_tells_at(rt, words, bytes, call as u64, reads[call], Status::Fault);
+            assert_reports_at(
+                rt,
+                arguments,
+                bytes,
+                call as u64,
+                reads[call],
+                Status::Fault,
+            );
         } else {
-            assert_tells_at(rt, words, bytes, call as u64, refusal, Status::Refused);
+            assert_reports_at(rt, arguments, bytes, call as u64, refusal, Status::Refused);
         }
     }
 }
 
 #[test]
-fn a_reader_of_subtitles_names_the_block_or_tells_a_fault_before(rt: HostRuntime) {
+fn a_reader_of_subtitles_names_the_block_or_reports_a_fault_before(rt: HostRuntime) {
     let show = ["subttx", "show", "a.stl"];
     let good = file_of_three(2, 0);
-    assert_tells_last(&rt, &show, &good, &BLOCKS, 5, b"");
-    assert_tells_last(&rt, &SCHEDULE, &good, &BLOCKS, 5, b"");
+    assert_reports_last(&rt, &show, &good, &BLOCKS, 5, b"");
+    assert_reports_last(&rt, &SCHEDULE, &good, &BLOCKS, 5, b"");
     let cumulative = file_of_three(2, 1);
     let refused = b"refused 16 Cumulative block 2\n";
-    assert_tells_last(&rt, &show, &cumulative, &BLOCKS, 3, refused);
+    assert_reports_last(&rt, &show, &cumulative, &BLOCKS, 3, refused);
     let early = file_of_three(1, 0);
     let refused = b"refused 57 Overlap block 2\n";
-    assert_tells_last(&rt, &SCHEDULE, &early, &BLOCKS, 3, refused);
+    assert_reports_last(&rt, &SCHEDULE, &early, &BLOCKS, 3, refused);
 }
 
 #[test]
-fn a_reader_of_pes_packets_names_the_pes_packet_or_tells_a_fault_before(rt: HostRuntime) {
+fn a_reader_of_pes_packets_names_the_pes_packet_or_reports_a_fault_before(rt: HostRuntime) {
     let mut good = [0; 552];
     good[..184].copy_from_slice(&FIRST);
     good[184..368].copy_from_slice(&SECOND);
@@ -101,13 +108,13 @@ fn a_reader_of_pes_packets_names_the_pes_packet_or_tells_a_fault_before(rt: Host
     wrong[184] = 1;
     let packets = ["subttx", "packets", "a.pes"];
     let start = b"refused 31 Start pes 1\n";
-    assert_tells_last(&rt, &packets, &good, &PACKETS, 4, b"");
-    assert_tells_last(&rt, &packets, &wrong, &PACKETS, 2, start);
+    assert_reports_last(&rt, &packets, &good, &PACKETS, 4, b"");
+    assert_reports_last(&rt, &packets, &wrong, &PACKETS, 2, start);
     let listen = ["subttx", "listen", "a.pes", "--at", "10:00:04:00"];
     // The third PES packet is not after the second.
     let order = b"refused 62 Order pes 2\n";
-    assert_tells_last(&rt, &listen, &good, &PACKETS, 3, order);
-    assert_tells_last(&rt, &listen, &wrong, &PACKETS, 2, start);
+    assert_reports_last(&rt, &listen, &good, &PACKETS, 3, order);
+    assert_reports_last(&rt, &listen, &wrong, &PACKETS, 2, start);
 }
 
 // Asserts the line of a check of `Hi` and these bytes whose sources give a byte a pull and fail at
@@ -130,7 +137,7 @@ fn assert_fails(
 
 // 1152 pulls of the subtitle source give a byte each, and one the end; so do 368 of the PES source.
 #[test]
-fn tells_the_pes_packet_of_a_failing_pull(rt: HostRuntime) {
+fn reports_the_pes_packet_of_a_failing_pull(rt: HostRuntime) {
     let pes = schedule_of_hi();
     for pull in 0..369 {
         let want = match pull {
@@ -146,7 +153,7 @@ fn tells_the_pes_packet_of_a_failing_pull(rt: HostRuntime) {
 }
 
 #[test]
-fn tells_a_broken_rule_before_the_pull_that_fails_after_it(rt: HostRuntime) {
+fn reports_a_broken_rule_before_the_pull_that_fails_after_it(rt: HostRuntime) {
     let mut pes = schedule_of_hi();
     pes[98] ^= 1; // a bit of the row's first text byte
     let even = "refused 68 Parity frame 10:00:00:00 packet 1\n";
@@ -157,7 +164,7 @@ fn tells_a_broken_rule_before_the_pull_that_fails_after_it(rt: HostRuntime) {
 
 // The PES source would fail, too.
 #[test]
-fn tells_the_block_of_a_failing_pull(rt: HostRuntime) {
+fn reports_the_block_of_a_failing_pull(rt: HostRuntime) {
     let pes = schedule_of_hi();
     for pull in 0..1153 {
         let want = match pull {

@@ -1,5 +1,5 @@
 //! `check --keeping`: headers that repeat the page may keep it, with C4, erase page, clear.
-use crate::answers::assert_tells;
+use crate::answers::assert_reports;
 use crate::scope::{HO, at};
 use crate::within::assert_row;
 use answer_fixtures::{ACCEPTED, CHECK};
@@ -10,15 +10,15 @@ use sub_io::MemSink;
 
 // Asserts the line of a check for a row of a table: its PES packets, the options, the line.
 fn assert_line(rt: &(impl Abort + Alloc<A = Global>), stl: &[u8], row: &[&[&str]; 3]) {
-    let mut room = [0; 920];
-    let mut pes = MemSink::new(&mut room);
+    let mut buffer = [0; 920];
+    let mut pes = MemSink::new(&mut buffer);
     push_spelled(&mut pes, row[0]);
-    let mut words = ["a"; 9];
+    let mut arguments = ["a"; 9];
     let len = row[1].len();
     assert!(rt; len <= 5 && row[2].len() == 1);
-    words[..4].copy_from_slice(&CHECK);
-    words[4..4 + len].copy_from_slice(row[1]);
-    assert_tells(rt, &words[..4 + len], stl, pes.written(), row[2][0]);
+    arguments[..4].copy_from_slice(&CHECK);
+    arguments[4..4 + len].copy_from_slice(row[1]);
+    assert_reports(rt, &arguments[..4 + len], stl, pes.written(), row[2][0]);
 }
 
 // Asserts it for each of these rows.
@@ -72,7 +72,7 @@ const LEFT_OUT: [[&[&str]; 3]; 6] = [
 ];
 
 #[test]
-fn asks_for_all_of_the_page_again(rt: HostRuntime) {
+fn requires_all_of_the_page_again(rt: HostRuntime) {
     assert_lines(&rt, &file_of_hi(), &LEFT_OUT);
 }
 
@@ -172,7 +172,7 @@ const HEADERS_LISTED: [[&[&str]; 3]; 3] = [
 ];
 
 #[test]
-fn asks_a_repeat_for_its_control_bits_and_its_subcode(rt: HostRuntime) {
+fn requires_of_a_repeat_its_control_bits_and_its_subcode(rt: HostRuntime) {
     assert_lines(&rt, &file_of_hi(), &HEADERS);
     assert_lists(&rt, &file_of_hi(), &HEADERS_LISTED);
 }
@@ -191,7 +191,7 @@ const OPEN: [[&[&str]; 3]; 6] = [
 ];
 
 #[test]
-fn tells_repeats_while_the_page_is_open(rt: HostRuntime) {
+fn reports_repeats_while_the_page_is_open(rt: HostRuntime) {
     assert_lines(&rt, &file_of_hi(), &OPEN);
 }
 
@@ -243,7 +243,7 @@ const ONE_ROW: [[&[&str]; 3]; 1] = [
 ];
 
 #[test]
-fn asks_for_each_row_of_the_page_again(rt: HostRuntime) {
+fn requires_each_row_of_the_page_again(rt: HostRuntime) {
     let stl = file_of(&twice_at(0, 50));
     assert_lines(&rt, &stl, &TWO_ROWS);
     assert_lists(&rt, &stl, &ONE_ROW);
@@ -272,7 +272,7 @@ const MORE_ROWS: [[&[&str]; 3]; 1] = [
 ];
 
 #[test]
-fn asks_for_erasing_where_text_goes(rt: HostRuntime) {
+fn requires_erasing_where_text_goes(rt: HostRuntime) {
     let first = at(0, 50, &HI);
     assert_lines(&rt, &file_of_two(&first, &at(50, 100, &HO)), &OTHER_TEXT);
     let on_20 = block(&head(TEN + 50, TEN + 100, 20), &HI);

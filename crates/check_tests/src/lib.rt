@@ -26,9 +26,9 @@ mod national;
 #[cfg(test)]
 mod pace;
 #[cfg(test)]
-mod passed_over;
-#[cfg(test)]
 mod scope;
+#[cfg(test)]
+mod skipped_over;
 #[cfg(test)]
 mod stopped;
 #[cfg(test)]

@@ -1,10 +1,10 @@
 //! Lists that are followed while a PES file arrives: all output is flushed whenever its source may
 //! have to wait.
 ghost use Rattle.std.specs.Prelude.{None};
-ghost use Rattle.sub_io.specs.Device.{holds_nothing};
+ghost use Rattle.sub_io.specs.Device.{buffers_nothing};
 
 use crate::asserting::assert_same_in;
-use answer_fixtures::answer_words;
+use answer_fixtures::answer_arguments;
 use fixtures::{Counting, Drip, Watched, file_of_hi, schedule_of_hi};
 use std::alloc::Global;
 use std::cell::Cell;
@@ -30,7 +30,7 @@ const AT_BOTH: &[u8] = b"refused 71 NoFirstHeader frame 10:00:00:00\n\
 #[derive(Drop)]
 struct Line {
     // The number of bytes that the output holds back.
-    held: Cell<u64>,
+    buffered: Cell<u64>,
     // The number of calls in which it passed bytes on.
     calls: Cell<u64>,
     // The number of pulls that found bytes held back.
@@ -40,7 +40,7 @@ struct Line {
 impl Line {
     fn new() -> Self {
         Line {
-            held: Cell::new(0),
+            buffered: Cell::new(0),
             calls: Cell::new(0),
             early: Cell::new(0),
         }
@@ -65,7 +65,7 @@ impl Source for Fed<'_> {
     ghost failure_count = { λ _. 0 };
 
     fn pull(&mut self, to: &mut [u8]) -> Result<usize, Failed> {
-        if self.line.held.get() > 0 {
+        if self.line.buffered.get() > 0 {
             add(&self.line.early, 1);
         }
         let n = self.rest.len().min(to.len()).min(self.most);
@@ -79,7 +79,7 @@ impl Source for Fed<'_> {
         0
     }
 
-    fn pass(&mut self, _count: usize) -> bool {
+    fn skip_bytes(&mut self, _count: usize) -> bool {
         false
     }
 }
@@ -96,7 +96,7 @@ impl Sink for Holding<'_> {
     ghost failure_count = { λ _. 0 };
 
     fn push(&mut self, from: &[u8]) -> Result<usize, Failed> {
-        add(&self.line.held, from.len() as u64);
+        add(&self.line.buffered, from.len() as u64);
         Ok(from.len())
     }
 
@@ -106,12 +106,12 @@ impl Sink for Holding<'_> {
 }
 
 impl Flush for Holding<'_> {
-    ghost held = { holds_nothing };
+    ghost buffered = { buffers_nothing };
 
     fn flush(&mut self) -> Result<(), Failed> {
-        if self.line.held.get() > 0 {
+        if self.line.buffered.get() > 0 {
             add(&self.line.calls, 1);
-            self.line.held.set(0);
+            self.line.buffered.set(0);
         }
         Ok(())
     }
@@ -122,7 +122,7 @@ impl Flush for Holding<'_> {
 // which comes after the last read, is still held back.
 fn assert_hands_on<'a>(
     rt: &(impl Abort + Alloc<A = Global>),
-    words: &'a [&'a str],
+    arguments: &'a [&'a str],
     most: usize,
     calls: u64,
     last: &str,
@@ -130,22 +130,36 @@ fn assert_hands_on<'a>(
     let (stl, pes) = (file_of_hi(), schedule_of_hi());
     let line = Line::new();
     let (rest, line) = (&pes[..], &line);
-    let mut room = [0; 512];
-    let mut pes = BufferedSource::new(Fed { rest, most, line }, &mut room);
+    let mut buffer = [0; 512];
+    let mut pes = BufferedSource::new(Fed { rest, most, line }, &mut buffer);
     let mut stl = MemSource::new(&stl);
     let mut file = MemSink::new(&mut []);
     let mut out = Holding { line };
-    if words.len() == PACKETS.len() {
-        answer_words(rt.alloc(), words, &mut pes, &mut stl, &mut file, &mut out);
+    if arguments.len() == PACKETS.len() {
+        answer_arguments(
+            rt.alloc(),
+            arguments,
+            &mut pes,
+            &mut stl,
+            &mut file,
+            &mut out,
+        );
     } else {
-        answer_words(rt.alloc(), words, &mut stl, &mut pes, &mut file, &mut out);
+        answer_arguments(
+            rt.alloc(),
+            arguments,
+            &mut stl,
+            &mut pes,
+            &mut file,
+            &mut out,
+        );
     }
-    let seen = (line.early.get(), line.calls.get(), line.held.get());
+    let seen = (line.early.get(), line.calls.get(), line.buffered.get());
     assert_same_in(rt, &seen, &(0, calls, last.len() as u64), &most);
 }
 
 #[test]
-fn hands_on_what_was_told_before_each_read(rt: HostRuntime) {
+fn flushes_what_was_reported_before_each_read(rt: HostRuntime) {
     // The schedule has two PES packets of 184 bytes: they are read at once, one by one, and in
     // parts.
     for (most, calls) in [(512, 1), (184, 2), (92, 2), (1, 2)] {
@@ -162,13 +176,20 @@ fn assert_stops(rt: &(impl Abort + Alloc<A = Global>), call: u64, lines: &[u8], 
     let mut pes = Counting { inner, pulls: 0 };
     let mut stl = MemSource::new(&stl);
     let mut file = MemSink::new(&mut []);
-    let mut room = [0; 512];
-    let mut out = Watched::new(FailAt::new(MemSink::new(&mut room), call));
-    let words = &PAGE_100;
-    let status = answer_words(rt.alloc(), words, &mut stl, &mut pes, &mut file, &mut out);
+    let mut buffer = [0; 512];
+    let mut out = Watched::new(FailAt::new(MemSink::new(&mut buffer), call));
+    let arguments = &PAGE_100;
+    let status = answer_arguments(
+        rt.alloc(),
+        arguments,
+        &mut stl,
+        &mut pes,
+        &mut file,
+        &mut out,
+    );
     let seen = (out.failures(), out.late_calls, pes.pulls);
     assert_same_in(rt, &seen, &(1, 0, bytes), &call);
-    let is_right = room.starts_with(lines) && room.get(lines.len()) == Some(&0);
+    let is_right = buffer.starts_with(lines) && buffer.get(lines.len()) == Some(&0);
     assert!(rt; status == Status::Fault && is_right, "{call}");
 }
 

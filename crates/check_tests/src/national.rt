@@ -1,5 +1,5 @@
 //! `check` with each national option: each header of the page must have its bits C12 to C14.
-use crate::answers::assert_tells;
+use crate::answers::assert_reports;
 use answer_fixtures::ACCEPTED;
 use fixtures::{file_of_hi, schedule_of_hi};
 use std::alloc::Global;
@@ -29,8 +29,8 @@ fn sent_with(first: u8, second: u8) -> [u8; 368] {
 
 // Asserts the line of a check of `Hi` with an option.
 fn assert_checks(rt: &(impl Abort + Alloc<A = Global>), word: &str, pes: &[u8], want: &str) {
-    let words = ["subttx", "check", "a", "b", "--option", word];
-    assert_tells(rt, &words, &file_of_hi(), pes, want);
+    let arguments = ["subttx", "check", "a", "b", "--option", word];
+    assert_reports(rt, &arguments, &file_of_hi(), pes, want);
 }
 
 // Asserts it for the transmissions of all options, with the option whose byte 9 this is.
@@ -49,7 +49,7 @@ fn assert_asks_for(rt: &(impl Abort + Alloc<A = Global>), word: &str, own: u8) {
 }
 
 #[test]
-fn asks_for_the_bits_of_the_option_in_each_header_of_the_page(rt: HostRuntime) {
+fn requires_the_bits_of_the_option_in_each_header_of_the_page(rt: HostRuntime) {
     for (word, own) in WORDS.iter().zip(LAST_BYTES.iter()) {
         assert_asks_for(&rt, *word, *own);
     }

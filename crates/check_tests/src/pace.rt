@@ -54,7 +54,7 @@ const PACED: [[&[&str]; 3]; 11] = [
 ];
 
 #[test]
-fn tells_where_pes_packets_are_too_far_apart(rt: HostRuntime) {
+fn reports_where_pes_packets_are_too_far_apart(rt: HostRuntime) {
     let stl = file_of_hi();
     for row in &PACED {
         assert_row(&rt, &stl, row);

@@ -1,5 +1,5 @@
 //! `check` with a part of a subtitle file, `--from` and `--to`, and with open subtitles, `--open`.
-use crate::answers::{assert_all, assert_tells};
+use crate::answers::{assert_all, assert_reports};
 use answer_fixtures::ACCEPTED;
 use fixtures::{HI, TEN, block, file_of_hi, file_of_two, head, push_spelled, put, schedule_of_hi};
 use std::alloc::Global;
@@ -34,20 +34,20 @@ pub fn file_with_bad() -> [u8; 1408] {
 }
 
 // Asserts the output with options for a transmission that is spelled.
-fn assert_told(
+fn assert_reported(
     rt: &(impl Abort + Alloc<A = Global>),
     options: &[&str; 4],
     stl: &[u8],
     sent: &[&str],
     want: &str,
 ) {
-    let mut room = [0; 1104];
-    let mut pes = MemSink::new(&mut room);
+    let mut buffer = [0; 1104];
+    let mut pes = MemSink::new(&mut buffer);
     push_spelled(&mut pes, sent);
-    let words = [
+    let arguments = [
         "subttx", "check", "a", "b", options[0], options[1], options[2], options[3],
     ];
-    assert_tells(rt, &words, stl, pes.written(), want);
+    assert_reports(rt, &arguments, stl, pes.written(), want);
 }
 
 // The day.
@@ -61,7 +61,7 @@ fn assert_to(
     sent: &[&str],
     want: &str,
 ) {
-    assert_told(rt, &[FROM[0], FROM[1], "--to", to], stl, sent, want);
+    assert_reported(rt, &[FROM[0], FROM[1], "--to", to], stl, sent, want);
 }
 
 // Asserts the output with `--from`.
@@ -72,7 +72,7 @@ fn assert_from(
     sent: &[&str],
     want: &str,
 ) {
-    assert_told(rt, &["--from", from, "--every", "250"], stl, sent, want);
+    assert_reported(rt, &["--from", from, "--every", "250"], stl, sent, want);
 }
 
 #[test]
@@ -123,11 +123,11 @@ fn judges_the_subtitles_between_two_times(rt: HostRuntime) {
         "--to",
         "10:00:00:01",
     ];
-    assert_tells(&rt, &one_frame, &hi, &schedule_of_hi(), ACCEPTED);
+    assert_reports(&rt, &one_frame, &hi, &schedule_of_hi(), ACCEPTED);
     let none = ["--from", "10:00:02:00", "--to", "10:00:01:24"];
     let sent = ["0:hrc", "50:hoc", "100:hc", "120:hrc", "150:hc"];
     let content = "refused 72 Content frame 10:00:00:00 row 22 column 16\n";
-    assert_told(&rt, &none, &file_with_bad(), &sent, content);
+    assert_reported(&rt, &none, &file_with_bad(), &sent, content);
     let twice = [
         "subttx",
         "check",
@@ -138,7 +138,7 @@ fn judges_the_subtitles_between_two_times(rt: HostRuntime) {
         "--from",
         "09:59:00:00",
     ];
-    assert_tells(&rt, &twice, &hi, &schedule_of_hi(), "usage 0 Words\n");
+    assert_reports(&rt, &twice, &hi, &schedule_of_hi(), "usage 0 Words\n");
 }
 
 // Asserts the output for `Hi` in a file with this display standard, without the flag and with it.
@@ -146,8 +146,8 @@ fn assert_takes(rt: &(impl Abort + Alloc<A = Global>), display: u8, plain: &str,
     let mut file = file_of_hi();
     file[11] = display;
     let pes = schedule_of_hi();
-    assert_tells(rt, &["subttx", "check", "a", "b"], &file, &pes, plain);
-    assert_tells(
+    assert_reports(rt, &["subttx", "check", "a", "b"], &file, &pes, plain);
+    assert_reports(
         rt,
         &["subttx", "check", "a", "b", "--open"],
         &file,
@@ -157,7 +157,7 @@ fn assert_takes(rt: &(impl Abort + Alloc<A = Global>), display: u8, plain: &str,
 }
 
 #[test]
-fn takes_open_subtitles_where_they_are_asked_for(rt: HostRuntime) {
+fn takes_open_subtitles_where_they_are_requested(rt: HostRuntime) {
     let refused = "refused 13 Display block 0\n";
     assert_takes(&rt, b'0', refused, ACCEPTED);
     assert_takes(&rt, b' ', refused, ACCEPTED);
@@ -167,9 +167,9 @@ fn takes_open_subtitles_where_they_are_asked_for(rt: HostRuntime) {
 
 #[rattlefmt::skip]
 #[test]
-fn tells_all_of_a_part(rt: HostRuntime) {
-    let mut room = [0; 1104];
-    let mut pes = MemSink::new(&mut room);
+fn reports_all_of_a_part(rt: HostRuntime) {
+    let mut buffer = [0; 1104];
+    let mut pes = MemSink::new(&mut buffer);
     push_spelled(&mut pes, &["0:hrc", "50:hoc", "100:hc", "120:hrc", "150:hc"]);
     let first = ["subttx", "check", "a", "b", "--to", "10:00:02:00"];
     assert_all(&rt, &first, &file_with_bad(), pes.written(), "",
@@ -181,8 +181,8 @@ fn tells_all_of_a_part(rt: HostRuntime) {
         ended 72 Content frame 10:00:05:24\n\
         trusted frames 10:00:06:00 10:00:06:00\n\
         2 faults\n");
-    let mut other_room = [0; 1104];
-    let mut other = MemSink::new(&mut other_room);
+    let mut other_buffer = [0; 1104];
+    let mut other = MemSink::new(&mut other_buffer);
     push_spelled(&mut other, &["0:hrc", "40:hoc", "60:hrc", "100:hc"]);
     let overlapping = file_of_blocks(&at(0, 50, &HI), &at(40, 60, &HO), &at(60, 100, &HI));
     let last = ["subttx", "check", "a", "b", "--from", "10:00:01:15"];

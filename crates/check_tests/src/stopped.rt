@@ -3,7 +3,7 @@
 use crate::answers::{assert_fills, assert_prints};
 use crate::asserting::assert_same_in;
 use crate::every_fault::OF_FIVE;
-use answer_fixtures::{ACCEPTED, CHECK_ALL, answer_words, first_lines};
+use answer_fixtures::{ACCEPTED, CHECK_ALL, answer_arguments, first_lines};
 use fixtures::{Counting, Drip, Endless, FIRST, file_of_five, file_of_hi, schedule_of_hi};
 use std::alloc::Global;
 use std::process::Abort;
@@ -50,16 +50,26 @@ fn assert_stops(rt: &(impl Abort + Alloc<A = Global>), call: u64, count: usize, 
     let mut stl = Counting { inner, pulls: 0 };
     let inner = MemSource::new(&pes);
     let mut pes = Counting { inner, pulls: 0 };
-    let mut room = [0; 512];
-    let mut out = FailAt::new(MemSink::new(&mut room), call);
+    let mut buffer = [0; 512];
+    let mut out = FailAt::new(MemSink::new(&mut buffer), call);
     let mut file = MemSink::new(&mut []);
-    let words = &PAGE_100;
-    let status = answer_words(rt.alloc(), words, &mut stl, &mut pes, &mut file, &mut out);
+    let arguments = &PAGE_100;
+    let status = answer_arguments(
+        rt.alloc(),
+        arguments,
+        &mut stl,
+        &mut pes,
+        &mut file,
+        &mut out,
+    );
     assert_same_in(rt, &(status, out.failures()), &(Status::Fault, 1), &call);
     assert_same_in(rt, &(stl.pulls, pes.pulls), &(3, pulls), &call);
     let lines = first_lines(ALL, count);
     assert!(rt; lines.len() < 512);
-    assert!(rt; room.starts_with(lines) && room[lines.len()] == 0, "{call}");
+    assert!(rt;
+        buffer.starts_with(lines) && buffer[lines.len()] == 0,
+        "{call}"
+    );
 }
 
 #[test]
@@ -80,11 +90,18 @@ fn ends_on_a_source_without_end_where_the_output_is_full(rt: HostRuntime) {
         again: &FIRST,
     };
     let mut pes = Counting { inner, pulls: 0 };
-    let mut room = [0; 64];
-    let mut out = MemSink::new(&mut room);
+    let mut buffer = [0; 64];
+    let mut out = MemSink::new(&mut buffer);
     let (mut stl, mut file) = (MemSource::new(&stl), MemSink::new(&mut []));
-    let words = &CHECK_ALL;
-    let status = answer_words(rt.alloc(), words, &mut stl, &mut pes, &mut file, &mut out);
+    let arguments = &CHECK_ALL;
+    let status = answer_arguments(
+        rt.alloc(),
+        arguments,
+        &mut stl,
+        &mut pes,
+        &mut file,
+        &mut out,
+    );
     let lines = b"refused 62 Order pes 1\nrefused 62 Order pes 2\nrefused 62 Order p";
     assert!(rt; status == Status::Fault && out.written() == lines.as_slice());
     assert_same_in(&rt, &pes.pulls, &4, &lines);
@@ -107,7 +124,7 @@ fn assert_fails(
 }
 
 #[test]
-fn tells_what_was_found_before_a_pes_source_failed(rt: HostRuntime) {
+fn reports_what_was_found_before_a_pes_source_failed(rt: HostRuntime) {
     // 368 pulls give a byte each, and one the end.
     assert_fails(&rt, (0, 184), b"", b"fault 41 Read pes 0\n");
     assert_fails(&rt, (184, 368), AT_FIRST, b"fault 41 Read pes 1\n");
@@ -128,7 +145,7 @@ fn assert_fails_at(rt: &(impl Abort + Alloc<A = Global>), call: u64, count: usiz
 }
 
 #[test]
-fn tells_what_was_found_before_a_subtitle_source_failed(rt: HostRuntime) {
+fn reports_what_was_found_before_a_subtitle_source_failed(rt: HostRuntime) {
     assert_fails_at(&rt, 0, 0, b"fault 26 Read block 0\n");
     assert_fails_at(&rt, 1, 0, b"fault 26 Read block 1\n");
     assert_fails_at(&rt, 2, 0, b"fault 26 Read block 2\n");

@@ -1,6 +1,6 @@
 //! `check --all`: trusted frames next to faults, reported as soon as they are known.
 use crate::answers::{assert_fills, assert_prints};
-use crate::every_place::assert_told;
+use crate::every_place::assert_reported;
 use answer_fixtures::CHECK_ALL;
 use fixtures::{
     CLOSING, HEADER, ROW, TEN, every_second, file_of_hi, packet_of, push_pes, schedule_of_hi,
@@ -29,7 +29,7 @@ const ALL: &str = "trusted frames 10:00:00:00 10:00:00:24\n\
 fn trusts_from_the_first_header_on(rt: HostRuntime) {
     let mut pes = every_second();
     pes[117] = 0x12;
-    assert_told(&rt, &pes, &[],
+    assert_reported(&rt, &pes, &[],
         "refused 68 Parity frame 10:00:00:00 packet 1\n\
         trusted frames 10:00:01:00 10:00:02:00\n\
         1 faults\n");
@@ -39,16 +39,16 @@ fn trusts_from_the_first_header_on(rt: HostRuntime) {
 // before are trusted up to the row, which receivers depend on.
 #[rattlefmt::skip]
 #[test]
-fn tells_what_is_trusted_directly_before_what_ended_it(rt: HostRuntime) {
+fn reports_what_is_trusted_directly_before_what_ended_it(rt: HostRuntime) {
     let mut row = ROW;
     row[21] = 0x48;
     let enhancement = packet_of(&[0x15, 0xB6]);
-    let mut room = [0; 736];
-    let mut pes = MemSink::new(&mut room);
+    let mut buffer = [0; 736];
+    let mut pes = MemSink::new(&mut buffer);
     push_pes(&mut pes, TEN, &[HEADER, ROW, CLOSING]);
     push_pes(&mut pes, TEN + 25, &[HEADER, enhancement, row, CLOSING]);
     push_pes(&mut pes, TEN + 50, &[HEADER, CLOSING]);
-    assert_told(&rt, pes.written(), &[],
+    assert_reported(&rt, pes.written(), &[],
         "refused 70 Enhancement frame 10:00:01:00 packet 1\n\
         trusted frames 10:00:00:00 10:00:00:24\n\
         refused 68 Parity frame 10:00:01:00 packet 2\n\
@@ -60,7 +60,7 @@ fn tells_what_is_trusted_directly_before_what_ended_it(rt: HostRuntime) {
 // A call gives a PES packet.
 fn assert_fails<'a>(
     rt: &(impl Abort + Alloc<A = Global>),
-    words: &'a [&'a str],
+    arguments: &'a [&'a str],
     call: u64,
     lines: &str,
     last: &[u8],
@@ -68,7 +68,7 @@ fn assert_fails<'a>(
     let (stl, pes) = (file_of_hi(), schedule_of_hi());
     let mut stl = MemSource::new(&stl);
     let mut pes = FailAt::new(MemSource::new(&pes), call);
-    assert_prints(rt, words, &mut stl, &mut pes, lines.as_bytes(), last);
+    assert_prints(rt, arguments, &mut stl, &mut pes, lines.as_bytes(), last);
 }
 
 #[test]

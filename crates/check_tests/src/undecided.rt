@@ -16,18 +16,18 @@ const COMPLETE: [&str; 2] = ["--every=250", "--complete"];
 const ALL_SENT: [&str; 5] = ["0:hrc", "50:hoc", "100:hc", "120:hrc", "150:hc"];
 
 // Asserts the output of `check --all` with options for a transmission that is spelled.
-fn assert_beside(
+fn assert_all_faults(
     rt: &(impl Abort + Alloc<A = Global>),
     options: [&str; 2],
     stl: &[u8],
     sent: &[&str],
     want: &str,
 ) {
-    let mut room = [0; 1104];
-    let mut pes = MemSink::new(&mut room);
+    let mut buffer = [0; 1104];
+    let mut pes = MemSink::new(&mut buffer);
     push_spelled(&mut pes, sent);
-    let words = ["subttx", "check", "a", "b", options[0], options[1]];
-    assert_all(rt, &words, stl, pes.written(), "", want);
+    let arguments = ["subttx", "check", "a", "b", options[0], options[1]];
+    assert_all(rt, &arguments, stl, pes.written(), "", want);
 }
 
 // Returns the file of four blocks.
@@ -45,22 +45,22 @@ fn file_of_more(
 
 #[rattlefmt::skip]
 #[test]
-fn judges_beside_a_text_that_can_not_be_drawn(rt: HostRuntime) {
+fn judges_subtitles_with_a_text_that_can_not_be_drawn(rt: HostRuntime) {
     let bad = file_with_bad();
-    assert_beside(&rt, PLAIN, &bad, &ALL_SENT,
+    assert_all_faults(&rt, PLAIN, &bad, &ALL_SENT,
         "refused 50 Character block 2 at 4\n\
         trusted frames 10:00:00:00 10:00:01:24\n\
         refused 78 Undecided frame 10:00:02:00\n\
         ended 78 Undecided frame 10:00:04:19\n\
         trusted frames 10:00:04:20 10:00:06:00\n\
         2 faults\n");
-    assert_beside(&rt, ["--from", "10:00:02:00"], &bad, &ALL_SENT,
+    assert_all_faults(&rt, ["--from", "10:00:02:00"], &bad, &ALL_SENT,
         "refused 50 Character block 2 at 4\n\
         refused 78 Undecided frame 10:00:00:00\n\
         ended 78 Undecided frame 10:00:04:19\n\
         trusted frames 10:00:04:20 10:00:06:00\n\
         2 faults\n");
-    assert_beside(&rt, ["--every", "49"], &bad, &ALL_SENT,
+    assert_all_faults(&rt, ["--every", "49"], &bad, &ALL_SENT,
         "refused 50 Character block 2 at 4\n\
         trusted frames 10:00:00:00 10:00:01:23\n\
         refused 73 Gap frame 10:00:01:24\n\
@@ -75,16 +75,16 @@ fn judges_beside_a_text_that_can_not_be_drawn(rt: HostRuntime) {
 
 #[rattlefmt::skip]
 #[test]
-fn asks_for_the_page_where_it_is_known_again(rt: HostRuntime) {
+fn requires_the_page_where_it_is_known_again(rt: HostRuntime) {
     let bad = file_with_bad();
-    assert_beside(&rt, PLAIN, &bad, &["0:hrc", "120:hrc", "150:hc"],
+    assert_all_faults(&rt, PLAIN, &bad, &["0:hrc", "120:hrc", "150:hc"],
         "refused 50 Character block 2 at 4\n\
         trusted frames 10:00:00:00 10:00:01:24\n\
         refused 78 Undecided frame 10:00:02:00\n\
         ended 78 Undecided frame 10:00:04:19\n\
         trusted frames 10:00:04:20 10:00:06:00\n\
         2 faults\n");
-    assert_beside(&rt, PLAIN, &bad, &["0:hrc", "50:hoc", "121:hrc", "150:hc"],
+    assert_all_faults(&rt, PLAIN, &bad, &["0:hrc", "50:hoc", "121:hrc", "150:hc"],
         "refused 50 Character block 2 at 4\n\
         trusted frames 10:00:00:00 10:00:01:24\n\
         refused 78 Undecided frame 10:00:02:00\n\
@@ -93,14 +93,14 @@ fn asks_for_the_page_where_it_is_known_again(rt: HostRuntime) {
         ended 72 Content frame 10:00:04:20\n\
         trusted frames 10:00:04:21 10:00:06:00\n\
         3 faults\n");
-    assert_beside(&rt, ["--within", "1"], &bad, &["0:hrc", "50:hoc", "121:hrc", "150:hc"],
+    assert_all_faults(&rt, ["--within", "1"], &bad, &["0:hrc", "50:hoc", "121:hrc", "150:hc"],
         "refused 50 Character block 2 at 4\n\
         trusted frames 10:00:00:00 10:00:01:24\n\
         refused 78 Undecided frame 10:00:02:00\n\
         ended 78 Undecided frame 10:00:04:20\n\
         trusted frames 10:00:04:21 10:00:06:00\n\
         2 faults\n");
-    assert_beside(&rt, ["--within", "1"], &bad, &["0:hrc", "50:hoc", "122:hrc", "150:hc"],
+    assert_all_faults(&rt, ["--within", "1"], &bad, &["0:hrc", "50:hoc", "122:hrc", "150:hc"],
         "refused 50 Character block 2 at 4\n\
         trusted frames 10:00:00:00 10:00:01:24\n\
         refused 78 Undecided frame 10:00:02:00\n\
@@ -113,9 +113,9 @@ fn asks_for_the_page_where_it_is_known_again(rt: HostRuntime) {
 
 #[rattlefmt::skip]
 #[test]
-fn tells_what_is_broken_before_it_is_not_known(rt: HostRuntime) {
+fn reports_what_is_broken_before_it_is_not_known(rt: HostRuntime) {
     let bad = file_with_bad();
-    assert_beside(&rt, PLAIN, &bad, &["0:hrc", "49:hc", "50:hoc", "120:hrc", "150:hc"],
+    assert_all_faults(&rt, PLAIN, &bad, &["0:hrc", "49:hc", "50:hoc", "120:hrc", "150:hc"],
         "refused 50 Character block 2 at 4\n\
         trusted frames 10:00:00:00 10:00:01:23\n\
         refused 72 Content frame 10:00:01:24 row 22 column 16\n\
@@ -124,7 +124,8 @@ fn tells_what_is_broken_before_it_is_not_known(rt: HostRuntime) {
         ended 78 Undecided frame 10:00:04:19\n\
         trusted frames 10:00:04:20 10:00:06:00\n\
         3 faults\n");
-    assert_beside(&rt, ["--within", "2"], &bad, &["0:hrc", "49:hc", "50:hoc", "120:hrc", "150:hc"],
+    assert_all_faults(&rt, ["--within", "2"], &bad, &["0:hrc", "49:hc", "50:hoc", "120:hrc",
+        "150:hc"],
         "refused 50 Character block 2 at 4\n\
         trusted frames 10:00:00:00 10:00:01:23\n\
         refused 78 Undecided frame 10:00:02:00\n\
@@ -135,9 +136,9 @@ fn tells_what_is_broken_before_it_is_not_known(rt: HostRuntime) {
 
 #[rattlefmt::skip]
 #[test]
-fn tells_all_else_where_it_is_not_known(rt: HostRuntime) {
+fn reports_all_else_where_it_is_not_known(rt: HostRuntime) {
     let bad = file_with_bad();
-    assert_beside(&rt, PLAIN, &bad, &["0:hrc", "50:hec", "120:hrc", "150:hc"],
+    assert_all_faults(&rt, PLAIN, &bad, &["0:hrc", "50:hec", "120:hrc", "150:hc"],
         "refused 50 Character block 2 at 4\n\
         trusted frames 10:00:00:00 10:00:01:24\n\
         refused 68 Parity frame 10:00:02:00 packet 1\n\
@@ -145,7 +146,7 @@ fn tells_all_else_where_it_is_not_known(rt: HostRuntime) {
         ended 78 Undecided frame 10:00:04:19\n\
         trusted frames 10:00:04:20 10:00:06:00\n\
         3 faults\n");
-    assert_beside(&rt, COMPLETE, &bad, &["0:hrc", "50:ho", "120:hrc", "150:hc"],
+    assert_all_faults(&rt, COMPLETE, &bad, &["0:hrc", "50:ho", "120:hrc", "150:hc"],
         "refused 50 Character block 2 at 4\n\
         trusted frames 10:00:00:00 10:00:01:24\n\
         refused 77 Incomplete frame 10:00:02:00\n\
@@ -154,14 +155,14 @@ fn tells_all_else_where_it_is_not_known(rt: HostRuntime) {
         ended 78 Undecided frame 10:00:04:19\n\
         trusted frames 10:00:04:20 10:00:06:00\n\
         3 faults\n");
-    assert_beside(&rt, PLAIN, &bad, &["0:hrc", "50:hoc"],
+    assert_all_faults(&rt, PLAIN, &bad, &["0:hrc", "50:hoc"],
         "refused 50 Character block 2 at 4\n\
         trusted frames 10:00:00:00 10:00:01:24\n\
         refused 78 Undecided frame 10:00:02:00\n\
         ended 78 Undecided frame 10:00:02:00\n\
         refused 74 Late frame 10:00:02:00\n\
         3 faults\n");
-    assert_beside(&rt, PLAIN, &bad, &["60:hoc", "120:hrc", "150:hc"],
+    assert_all_faults(&rt, PLAIN, &bad, &["60:hoc", "120:hrc", "150:hc"],
         "refused 50 Character block 2 at 4\n\
         refused 63 Early frame 10:00:02:10\n\
         refused 78 Undecided frame 10:00:02:10\n\
@@ -172,34 +173,34 @@ fn tells_all_else_where_it_is_not_known(rt: HostRuntime) {
 
 #[rattlefmt::skip]
 #[test]
-fn judges_before_and_behind_what_is_refused(rt: HostRuntime) {
+fn judges_before_and_after_what_is_refused(rt: HostRuntime) {
     let last = file_of_two(&at(0, 50, &HI), &at(50, 100, &BAD));
     let first = file_of_two(&at(0, 50, &BAD), &at(50, 100, &HI));
     let only = file_of(&at(0, 50, &BAD));
     let title = file_of_two(&block(&head(0, 100, 22), &BAD), &at(0, 50, &HI));
-    assert_beside(&rt, PLAIN, &last, &["0:hrc", "50:hoc", "100:hc"],
+    assert_all_faults(&rt, PLAIN, &last, &["0:hrc", "50:hoc", "100:hc"],
         "refused 50 Character block 2 at 4\n\
         trusted frames 10:00:00:00 10:00:01:24\n\
         refused 78 Undecided frame 10:00:02:00\n\
         ended 78 Undecided frame 10:00:04:00\n\
         2 faults\n");
-    assert_beside(&rt, PLAIN, &last, &["0:hrc", "49:hoc"],
+    assert_all_faults(&rt, PLAIN, &last, &["0:hrc", "49:hoc"],
         "refused 50 Character block 2 at 4\n\
         trusted frames 10:00:00:00 10:00:01:23\n\
         refused 72 Content frame 10:00:01:24 row 22 column 20\n\
         ended 72 Content frame 10:00:01:24\n\
         refused 74 Late frame 10:00:01:24\n\
         3 faults\n");
-    assert_beside(&rt, PLAIN, &first, &["10:hoc", "50:hrc", "100:hc"],
+    assert_all_faults(&rt, PLAIN, &first, &["10:hoc", "50:hrc", "100:hc"],
         "refused 50 Character block 1 at 4\n\
         refused 78 Undecided frame 10:00:00:10\n\
         ended 78 Undecided frame 10:00:01:24\n\
         trusted frames 10:00:02:00 10:00:04:00\n\
         2 faults\n");
-    assert_beside(&rt, PLAIN, &only, &["0:hrc", "50:hc"],
+    assert_all_faults(&rt, PLAIN, &only, &["0:hrc", "50:hc"],
         "refused 50 Character block 1 at 4\n\
         1 faults\n");
-    assert_beside(&rt, PLAIN, &title, &["0:hrc", "50:hc"],
+    assert_all_faults(&rt, PLAIN, &title, &["0:hrc", "50:hc"],
         "refused 50 Character block 1 at 4\n\
         trusted frames 10:00:00:00 10:00:02:00\n\
         1 faults\n");
@@ -207,7 +208,7 @@ fn judges_before_and_behind_what_is_refused(rt: HostRuntime) {
 
 #[rattlefmt::skip]
 #[test]
-fn asks_no_time_beside_what_is_refused(rt: HostRuntime) {
+fn requires_no_time_next_to_what_is_refused(rt: HostRuntime) {
     let hi = at(0, 50, &HI);
     let overlapping = file_of_blocks(&hi, &at(40, 60, &HO), &at(60, 100, &HI));
     let next = at(80, 100, &HI);
@@ -215,24 +216,24 @@ fn asks_no_time_beside_what_is_refused(rt: HostRuntime) {
     let empty = file_of_blocks(&hi, &at(50, 50, &HO), &at(50, 100, &HI));
     let mut within = file_of_blocks(&hi, &at(20, 30, &HO), &at(50, 100, &HI));
     within[1156] = 1; // CS
-    assert_beside(&rt, PLAIN, &overlapping, &["0:hrc", "40:hoc", "60:hrc", "100:hc"],
+    assert_all_faults(&rt, PLAIN, &overlapping, &["0:hrc", "40:hoc", "60:hrc", "100:hc"],
         "refused 57 Overlap block 2\n\
         refused 78 Undecided frame 10:00:00:00\n\
         ended 78 Undecided frame 10:00:02:09\n\
         trusted frames 10:00:02:10 10:00:04:00\n\
         2 faults\n");
-    assert_beside(&rt, PLAIN, &early, &["0:hrc", "50:hc", "60:hoc", "80:hrc", "100:hc"],
+    assert_all_faults(&rt, PLAIN, &early, &["0:hrc", "50:hc", "60:hoc", "80:hrc", "100:hc"],
         "refused 56 OutOfOrder block 3\n\
         trusted frames 10:00:00:00 10:00:01:24\n\
         refused 78 Undecided frame 10:00:02:00\n\
         ended 78 Undecided frame 10:00:03:04\n\
         trusted frames 10:00:03:05 10:00:04:00\n\
         2 faults\n");
-    assert_beside(&rt, PLAIN, &empty, &["0:hrc", "100:hc"],
+    assert_all_faults(&rt, PLAIN, &empty, &["0:hrc", "100:hc"],
         "refused 21 EmptyTime block 2\n\
         trusted frames 10:00:00:00 10:00:04:00\n\
         1 faults\n");
-    assert_beside(&rt, PLAIN, &within, &["0:hrc", "100:hc"],
+    assert_all_faults(&rt, PLAIN, &within, &["0:hrc", "100:hc"],
         "refused 16 Cumulative block 2\n\
         trusted frames 10:00:00:00 10:00:04:00\n\
         1 faults\n");
@@ -240,35 +241,35 @@ fn asks_no_time_beside_what_is_refused(rt: HostRuntime) {
 
 #[rattlefmt::skip]
 #[test]
-fn asks_no_time_of_a_pause_with_what_is_refused(rt: HostRuntime) {
+fn requires_no_time_of_a_pause_with_what_is_refused(rt: HostRuntime) {
     let pause = file_of_blocks(&at(0, 50, &HI), &at(60, 70, &HO), &at(80, 100, &HI));
     let (mut before, mut no_time, mut cumulative, mut justified) = (pause, pause, pause, pause);
     put(&mut before, 1161, &[9, 0, 0, 0]); // TCO
     no_time[1164] = 25; // frames of TCO
     cumulative[1156] = 1; // CS
     justified[1166] = 4; // JC
-    assert_beside(&rt, PLAIN, &before, &["0:hrc", "50:hc", "80:hrc", "100:hc"],
+    assert_all_faults(&rt, PLAIN, &before, &["0:hrc", "50:hc", "80:hrc", "100:hc"],
         "refused 21 EmptyTime block 2\n\
         trusted frames 10:00:00:00 10:00:01:24\n\
         refused 78 Undecided frame 10:00:02:00\n\
         ended 78 Undecided frame 10:00:03:04\n\
         trusted frames 10:00:03:05 10:00:04:00\n\
         2 faults\n");
-    assert_beside(&rt, PLAIN, &no_time, &["0:hrc", "50:hc", "80:hrc", "100:hc"],
+    assert_all_faults(&rt, PLAIN, &no_time, &["0:hrc", "50:hc", "80:hrc", "100:hc"],
         "refused 20 Time block 2\n\
         trusted frames 10:00:00:00 10:00:01:24\n\
         refused 78 Undecided frame 10:00:02:00\n\
         ended 78 Undecided frame 10:00:03:04\n\
         trusted frames 10:00:03:05 10:00:04:00\n\
         2 faults\n");
-    assert_beside(&rt, PLAIN, &cumulative, &["0:hrc", "50:hc", "80:hrc", "100:hc"],
+    assert_all_faults(&rt, PLAIN, &cumulative, &["0:hrc", "50:hc", "80:hrc", "100:hc"],
         "refused 16 Cumulative block 2\n\
         trusted frames 10:00:00:00 10:00:01:24\n\
         refused 78 Undecided frame 10:00:02:00\n\
         ended 78 Undecided frame 10:00:03:04\n\
         trusted frames 10:00:03:05 10:00:04:00\n\
         2 faults\n");
-    assert_beside(&rt, PLAIN, &justified, &["0:hrc", "50:hc", "80:hrc", "100:hc"],
+    assert_all_faults(&rt, PLAIN, &justified, &["0:hrc", "50:hc", "80:hrc", "100:hc"],
         "refused 18 Justify block 2\n\
         trusted frames 10:00:00:00 10:00:01:24\n\
         refused 78 Undecided frame 10:00:02:00\n\
@@ -279,7 +280,7 @@ fn asks_no_time_of_a_pause_with_what_is_refused(rt: HostRuntime) {
 
 #[rattlefmt::skip]
 #[test]
-fn asks_no_time_behind_what_is_out_of_order(rt: HostRuntime) {
+fn requires_no_time_after_what_is_out_of_order(rt: HostRuntime) {
     let hi = at(0, 50, &HI);
     let late = file_of_blocks(&hi, &at(200, 250, &HO), &at(60, 100, &HI));
     let mut lost = [0; 1664];
@@ -289,16 +290,16 @@ fn asks_no_time_behind_what_is_out_of_order(rt: HostRuntime) {
     put(&mut far, 0,
         &file_of_more(&hi, &at(500, 510, &HO), &at(520, 530, &HO), &at(60, 100, &HI)));
     put(&mut far, 1536, &at(120, 150, &HI));
-    assert_beside(&rt, PLAIN, &late, &["0:hrc", "50:hc", "60:hrc", "100:hc"],
+    assert_all_faults(&rt, PLAIN, &late, &["0:hrc", "50:hc", "60:hrc", "100:hc"],
         "refused 56 OutOfOrder block 3\n\
         trusted frames 10:00:00:00 10:00:01:24\n\
         refused 78 Undecided frame 10:00:02:00\n\
         ended 78 Undecided frame 10:00:04:00\n\
         2 faults\n");
-    assert_beside(&rt, PLAIN, &lost, &["0:hrc", "50:hc", "60:hoc", "80:hrc", "100:hc"],
+    assert_all_faults(&rt, PLAIN, &lost, &["0:hrc", "50:hc", "60:hoc", "80:hrc", "100:hc"],
         "refused 56 OutOfOrder block 3\n\
         1 faults\n");
-    assert_beside(&rt, PLAIN, &far, &["0:hrc", "50:hc", "60:hrc", "100:hc", "150:hc"],
+    assert_all_faults(&rt, PLAIN, &far, &["0:hrc", "50:hc", "60:hrc", "100:hc", "150:hc"],
         "refused 56 OutOfOrder block 4\n\
         1 faults\n");
 }

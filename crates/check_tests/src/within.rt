@@ -1,6 +1,6 @@
 //! `check --within`: pages that become right some frames late, and several PES packets of one
 //! frame.
-use crate::every_place::assert_told_of;
+use crate::every_place::assert_reported_of;
 use answer_fixtures::ACCEPTED;
 use fixtures::{HEAD, HI, TEN, block, file_of_hi, file_of_two, head, push_spelled};
 use std::alloc::Global;
@@ -10,11 +10,11 @@ use sub_io::MemSink;
 /// Asserts the output for a subtitle file and a transmission, by a row of a table: its PES packets,
 /// the options of the check, and the lines that it prints with `--all`.
 pub fn assert_row(rt: &(impl Abort + Alloc<A = Global>), stl: &[u8], row: &[&[&str]; 3]) {
-    let mut room = [0; 920];
-    let mut pes = MemSink::new(&mut room);
+    let mut buffer = [0; 920];
+    let mut pes = MemSink::new(&mut buffer);
     push_spelled(&mut pes, row[0]);
     assert!(rt; row[2].len() == 1);
-    assert_told_of(rt, stl, pes.written(), row[1], row[2][0]);
+    assert_reported_of(rt, stl, pes.written(), row[1], row[2][0]);
 }
 
 // Pages that are sent late, with the frames within which they have to be right.
@@ -121,7 +121,7 @@ const LATE: [[&[&str]; 3]; 22] = [
 ];
 
 #[test]
-fn tells_which_pages_are_late(rt: HostRuntime) {
+fn reports_which_pages_are_late(rt: HostRuntime) {
     let stl = file_of_hi();
     for row in &LATE {
         assert_row(&rt, &stl, row);
@@ -246,18 +246,18 @@ fn assert_changed(
     (place, value, cut): (usize, u8, usize),
     row: &[&[&str]; 3],
 ) {
-    let mut room = [0; 920];
-    let mut pes = MemSink::new(&mut room);
+    let mut buffer = [0; 920];
+    let mut pes = MemSink::new(&mut buffer);
     push_spelled(&mut pes, row[0]);
     let len = pes.written().len();
     assert!(rt; row[2].len() == 1 && place < len && cut <= len && len <= 920);
-    room[place] = value;
-    assert_told_of(rt, &file_of_hi(), &room[..len - cut], row[1], row[2][0]);
+    buffer[place] = value;
+    assert_reported_of(rt, &file_of_hi(), &buffer[..len - cut], row[1], row[2][0]);
 }
 
 #[rattlefmt::skip]
 #[test]
-fn tells_what_is_broken_within_frames(rt: HostRuntime) {
+fn reports_what_is_broken_within_frames(rt: HostRuntime) {
     // The closing header becomes a stuffing unit.
     let page: &[&str] = &["0:hrc", "50:hc"];
     assert_changed(&rt, (138, 0xFF, 0), &[page, &["--within", "1", "--complete"], &[

@@ -54,8 +54,8 @@ fn assert_stores<K: Close>(
 
 // Asserts the result of storing six bytes if so many are found after the file was closed.
 fn assert_finds(rt: &impl Abort, found: u64, answer: Result<(), Failed>, failures: u64) {
-    let mut room = [0; 8];
-    let mut file = CheckedFile::new(MemoryFile::Created(&mut room, 0), Finding(found));
+    let mut buffer = [0; 8];
+    let mut file = CheckedFile::new(MemoryFile::Created(&mut buffer, 0), Finding(found));
     assert_pushes(rt, &mut file, b"sub", Ok(3), 0);
     assert_pushes(rt, &mut file, b"ttx", Ok(3), 0);
     assert_stores(rt, &mut file, found, answer, failures);

@@ -3,8 +3,8 @@
 use crate::asserting::assert_same_in;
 use crate::pes_ranges::FIRST_LINES;
 use crate::recorded::{
-    BEGINS_0, BEGINS_1, BEGINS_2, FILL, LATE, LOST, MARK_HEAD, NULL, assert_answers, put_pieces,
-    recording,
+    BEGINS_0, BEGINS_1, BEGINS_2, FILL, LATE, LOST, MARK_HEAD, NULL, assert_answers,
+    put_pes_packets, recording,
 };
 use fixtures::{FIRST, SECOND, file_of_hi};
 use std::alloc::Global;
@@ -20,26 +20,33 @@ const FAILED_3: &str = "fault 41 Read pes 3\n";
 // Asserts the output if a read fails after these bytes. A file is written into the room.
 fn assert_fails_in<'a>(
     rt: &(impl Abort + Alloc<A = Global>),
-    words: &'a [&'a str],
-    pieces: &[&[u8]],
-    room: &mut [u8],
+    arguments: &'a [&'a str],
+    pes_packets: &[&[u8]],
+    buffer: &mut [u8],
     want: &str,
 ) {
     let mut bytes = [0; 1024];
     let mut file = MemSink::new(&mut bytes);
-    put_pieces(&mut file, pieces);
+    put_pes_packets(&mut file, pes_packets);
     let stl = file_of_hi();
-    assert_answers(rt, words, &stl, recording(file.written(), true), room, want);
+    assert_answers(
+        rt,
+        arguments,
+        &stl,
+        recording(file.written(), true),
+        buffer,
+        want,
+    );
 }
 
 // The same if no file is written.
 fn assert_fails<'a>(
     rt: &(impl Abort + Alloc<A = Global>),
-    words: &'a [&'a str],
-    pieces: &[&[u8]],
+    arguments: &'a [&'a str],
+    pes_packets: &[&[u8]],
     want: &str,
 ) {
-    assert_fails_in(rt, words, pieces, &mut [], want);
+    assert_fails_in(rt, arguments, pes_packets, &mut [], want);
 }
 
 // Asserts the output of each command for a range of a recording: `check`, also with `--all`,
@@ -47,18 +54,18 @@ fn assert_fails<'a>(
 fn assert_ranges_fail<'a>(
     rt: &(impl Abort + Alloc<A = Global>),
     range: &'a str,
-    pieces: &[&[u8]],
+    pes_packets: &[&[u8]],
     want: &str,
 ) {
-    let words = ["subttx", "check", "a", "b", "--pid", "257", "--pes", range];
-    assert_fails(rt, &words, pieces, want);
-    let words = [
+    let arguments = ["subttx", "check", "a", "b", "--pid", "257", "--pes", range];
+    assert_fails(rt, &arguments, pes_packets, want);
+    let arguments = [
         "subttx", "check", "--all", "a", "b", "--pid", "257", "--pes", range,
     ];
-    assert_fails(rt, &words, pieces, want);
-    let words = ["subttx", "packets", "b", "--pid", "257", "--pes", range];
-    assert_fails(rt, &words, pieces, want);
-    let words = [
+    assert_fails(rt, &arguments, pes_packets, want);
+    let arguments = ["subttx", "packets", "b", "--pid", "257", "--pes", range];
+    assert_fails(rt, &arguments, pes_packets, want);
+    let arguments = [
         "subttx",
         "listen",
         "b",
@@ -69,16 +76,16 @@ fn assert_ranges_fail<'a>(
         "--pes",
         range,
     ];
-    assert_fails(rt, &words, pieces, want);
+    assert_fails(rt, &arguments, pes_packets, want);
 }
 
 #[test]
-fn tells_the_pes_packet_of_a_recording_that_was_reached(rt: HostRuntime) {
+fn reports_the_pes_packet_of_a_recording_that_was_reached(rt: HostRuntime) {
     let cut: [&[u8]; 6] = [&BEGINS_0, &FIRST, &NULL, &FILL, &BEGINS_1, &SECOND[..100]];
-    let words = ["subttx", "check", "a", "b", "--pid", "257"];
-    assert_fails(&rt, &words, &cut, FAILED_1);
-    assert_fails(&rt, &words, &[], FAILED_0);
-    let words = [
+    let arguments = ["subttx", "check", "a", "b", "--pid", "257"];
+    assert_fails(&rt, &arguments, &cut, FAILED_1);
+    assert_fails(&rt, &arguments, &[], FAILED_0);
+    let arguments = [
         "subttx",
         "listen",
         "b",
@@ -87,17 +94,17 @@ fn tells_the_pes_packet_of_a_recording_that_was_reached(rt: HostRuntime) {
         "--pid",
         "257",
     ];
-    assert_fails(&rt, &words, &cut, FAILED_1);
-    let mut room = [0; 1024];
-    let mut lines = MemSink::new(&mut room);
-    put_pieces(&mut lines, &[FIRST_LINES.as_bytes(), FAILED_1.as_bytes()]);
+    assert_fails(&rt, &arguments, &cut, FAILED_1);
+    let mut buffer = [0; 1024];
+    let mut lines = MemSink::new(&mut buffer);
+    put_pes_packets(&mut lines, &[FIRST_LINES.as_bytes(), FAILED_1.as_bytes()]);
     let want = std::str::from_utf8(lines.written()).unwrap_or("");
-    let words = ["subttx", "packets", "b", "--pid", "257"];
-    assert_fails(&rt, &words, &cut, want);
+    let arguments = ["subttx", "packets", "b", "--pid", "257"];
+    assert_fails(&rt, &arguments, &cut, want);
 }
 
 #[test]
-fn tells_it_before_the_range_and_in_it(rt: HostRuntime) {
+fn reports_it_before_the_range_and_in_it(rt: HostRuntime) {
     let cut: [&[u8]; 6] = [&BEGINS_0, &FIRST, &NULL, &FILL, &BEGINS_1, &SECOND[..100]];
     assert_ranges_fail(&rt, "1-", &cut, FAILED_1);
     assert_ranges_fail(&rt, "5-9", &cut, FAILED_1);
@@ -106,38 +113,38 @@ fn tells_it_before_the_range_and_in_it(rt: HostRuntime) {
     assert_ranges_fail(&rt, "3-", &lost, FAILED_3);
     assert_ranges_fail(&rt, "4-", &lost, FAILED_3);
     // Earlier reports come before it, and nothing is read after the range.
-    let words = ["subttx", "check", "a", "b", "--pid", "257"];
-    assert_fails(&rt, &words, &lost, LOST);
-    let words = ["subttx", "check", "a", "b", "--pid", "257", "--pes", "0-0"];
-    assert_fails(&rt, &words, &cut, LATE);
+    let arguments = ["subttx", "check", "a", "b", "--pid", "257"];
+    assert_fails(&rt, &arguments, &lost, LOST);
+    let arguments = ["subttx", "check", "a", "b", "--pid", "257", "--pes", "0-0"];
+    assert_fails(&rt, &arguments, &cut, LATE);
 }
 
 #[test]
-fn tells_it_of_a_range_of_a_file_of_pes_packets(rt: HostRuntime) {
+fn reports_it_of_a_range_of_a_file_of_pes_packets(rt: HostRuntime) {
     let cut: [&[u8]; 2] = [&FIRST, &SECOND[..100]];
     for range in ["0-1", "1-", "5-9"] {
-        let words = ["subttx", "check", "a", "b", "--pes", range];
-        assert_fails(&rt, &words, &cut, FAILED_1);
+        let arguments = ["subttx", "check", "a", "b", "--pes", range];
+        assert_fails(&rt, &arguments, &cut, FAILED_1);
     }
     for range in ["1-", "5-9"] {
-        let words = ["subttx", "packets", "b", "--pes", range];
-        assert_fails(&rt, &words, &cut, FAILED_1);
+        let arguments = ["subttx", "packets", "b", "--pes", range];
+        assert_fails(&rt, &arguments, &cut, FAILED_1);
     }
 }
 
 // Asserts what is written of a recording of which a read fails after these bytes.
 fn assert_extracts(
     rt: &(impl Abort + Alloc<A = Global>),
-    pieces: &[&[u8]],
+    pes_packets: &[&[u8]],
     want: &str,
     written: &[&[u8]],
 ) {
-    let mut wanted_room = [0x55; 1024];
-    let mut wanted = MemSink::new(&mut wanted_room);
-    put_pieces(&mut wanted, written);
+    let mut wanted_buffer = [0x55; 1024];
+    let mut wanted = MemSink::new(&mut wanted_buffer);
+    put_pes_packets(&mut wanted, written);
     let mut output = [0x55; 1024];
-    let words = ["subttx", "extract", "b", "c", "--pid", "257"];
-    assert_fails_in(rt, &words, pieces, &mut output, want);
+    let arguments = ["subttx", "extract", "b", "c", "--pid", "257"];
+    assert_fails_in(rt, &arguments, pes_packets, &mut output, want);
     let len = wanted.written().len().min(1024);
     let (begin, _) = output.split_at(len);
     assert_same_in(rt, &begin, &wanted.written(), &want);

@@ -34,16 +34,16 @@ fn second(found: Found) -> Entry<'static> {
 
 // Asserts the calls for the files of a command, and whether they are opened. A file can be created
 // if the room is not empty.
-fn assert_asks<'a, 'f>(
+fn assert_file_calls<'a, 'f>(
     rt: &(impl Abort + Alloc<A = Global>),
-    words: &'a [&'a str],
+    arguments: &'a [&'a str],
     entries: &'f [Entry<'f>],
-    room: &'f mut [u8],
+    buffer: &'f mut [u8],
     calls: &str,
     is_opened: bool,
 ) {
-    let mut files = FilesInMemory::new(entries, room);
-    if let Ok(request) = Request::parse(rt.alloc(), words) {
+    let mut files = FilesInMemory::new(entries, buffer);
+    if let Ok(request) = Request::parse(rt.alloc(), arguments) {
         let opened = open(&mut files, &request.files());
         assert_same_in(rt, &opened.is_some(), &is_opened, &calls);
     }
@@ -62,62 +62,62 @@ const EXTRACT: [&str; 6] = ["subttx", "extract", "a", "b", "--pid", "257"];
 
 #[test]
 fn opens_the_file_that_is_read(rt: HostRuntime) {
-    assert_asks(&rt, &SHOW, &[INPUT], &mut [], "o0", true);
-    assert_asks(&rt, &PACKETS, &[INPUT], &mut [], "o0", true);
-    assert_asks(&rt, &SHOW, &[NOTHING], &mut [], "o?", false);
+    assert_file_calls(&rt, &SHOW, &[INPUT], &mut [], "o0", true);
+    assert_file_calls(&rt, &PACKETS, &[INPUT], &mut [], "o0", true);
+    assert_file_calls(&rt, &SHOW, &[NOTHING], &mut [], "o?", false);
 }
 
 #[test]
-fn opens_two_files_in_the_order_of_the_words(rt: HostRuntime) {
+fn opens_two_files_in_the_order_of_the_arguments(rt: HostRuntime) {
     let other = Entry { name: "b", ..INPUT };
-    assert_asks(&rt, &CHECK, &[other, INPUT], &mut [], "o1o0", true);
-    assert_asks(&rt, &CHECK, &[INPUT, NOTHING], &mut [], "o0o1", false);
-    assert_asks(&rt, &CHECK, &[other], &mut [], "o?", false);
+    assert_file_calls(&rt, &CHECK, &[other, INPUT], &mut [], "o1o0", true);
+    assert_file_calls(&rt, &CHECK, &[INPUT, NOTHING], &mut [], "o0o1", false);
+    assert_file_calls(&rt, &CHECK, &[other], &mut [], "o?", false);
 }
 
 #[test]
 fn creates_a_file_once_the_input_is_opened_and_both_are_looked_up(rt: HostRuntime) {
     let there = [INPUT, second(Found::Nothing)];
-    assert_asks(&rt, &NORMAL, &there, &mut [0], "o0l0l1p?c1", true);
+    assert_file_calls(&rt, &NORMAL, &there, &mut [0], "o0l0l1p?c1", true);
     let other = [INPUT, second(Found::At(1, 2))];
-    assert_asks(&rt, &NORMAL, &other, &mut [0], "o0l0l1p?c1", true);
+    assert_file_calls(&rt, &NORMAL, &other, &mut [0], "o0l0l1p?c1", true);
     // It can't be created; the input can't be opened.
-    assert_asks(&rt, &NORMAL, &there, &mut [], "o0l0l1p?c1", false);
-    assert_asks(&rt, &NORMAL, &[NOTHING], &mut [0], "o?", false);
+    assert_file_calls(&rt, &NORMAL, &there, &mut [], "o0l0l1p?c1", false);
+    assert_file_calls(&rt, &NORMAL, &[NOTHING], &mut [0], "o?", false);
 }
 
 #[test]
 fn creates_no_file_over_the_input(rt: HostRuntime) {
     // The output is the input under another name, or can't be looked up; or the input can't be.
     let link = [INPUT, second(Found::At(1, 1))];
-    assert_asks(&rt, &NORMAL, &link, &mut [0], "o0l0l1p?", false);
+    assert_file_calls(&rt, &NORMAL, &link, &mut [0], "o0l0l1p?", false);
     let unknown = [INPUT, second(Found::Unknown)];
-    assert_asks(&rt, &NORMAL, &unknown, &mut [0], "o0l0l1p?", false);
+    assert_file_calls(&rt, &NORMAL, &unknown, &mut [0], "o0l0l1p?", false);
     let lost = Entry {
         found: Found::Unknown,
         ..INPUT
     };
     let there = [lost, second(Found::At(1, 2))];
-    assert_asks(&rt, &NORMAL, &there, &mut [0], "o0l0l1p?", false);
+    assert_file_calls(&rt, &NORMAL, &there, &mut [0], "o0l0l1p?", false);
 }
 
 #[test]
 fn creates_the_file_of_a_recording_as_that_of_a_subtitle_file(rt: HostRuntime) {
     let there = [INPUT, second(Found::Nothing)];
-    assert_asks(&rt, &EXTRACT, &there, &mut [0], "o0l0l1p?c1", true);
+    assert_file_calls(&rt, &EXTRACT, &there, &mut [0], "o0l0l1p?c1", true);
     let other = [INPUT, second(Found::At(1, 2))];
-    assert_asks(&rt, &EXTRACT, &other, &mut [0], "o0l0l1p?c1", true);
+    assert_file_calls(&rt, &EXTRACT, &other, &mut [0], "o0l0l1p?c1", true);
     // It can't be created; the recording can't be opened.
-    assert_asks(&rt, &EXTRACT, &there, &mut [], "o0l0l1p?c1", false);
-    assert_asks(&rt, &EXTRACT, &[NOTHING], &mut [0], "o?", false);
+    assert_file_calls(&rt, &EXTRACT, &there, &mut [], "o0l0l1p?c1", false);
+    assert_file_calls(&rt, &EXTRACT, &[NOTHING], &mut [0], "o?", false);
 }
 
 #[test]
 fn creates_no_file_over_the_recording(rt: HostRuntime) {
     let link = [INPUT, second(Found::At(1, 1))];
-    assert_asks(&rt, &EXTRACT, &link, &mut [0], "o0l0l1p?", false);
+    assert_file_calls(&rt, &EXTRACT, &link, &mut [0], "o0l0l1p?", false);
     let unknown = [INPUT, second(Found::Unknown)];
-    assert_asks(&rt, &EXTRACT, &unknown, &mut [0], "o0l0l1p?", false);
+    assert_file_calls(&rt, &EXTRACT, &unknown, &mut [0], "o0l0l1p?", false);
 }
 
 #[test]
@@ -128,28 +128,28 @@ fn creates_no_file_that_standard_output_goes_into(rt: HostRuntime) {
         ..INPUT
     };
     let same = [INPUT, second(Found::At(1, 2)), printed];
-    assert_asks(&rt, &NORMAL, &same, &mut [0], "o0l0l1p2", false);
-    assert_asks(&rt, &EXTRACT, &same, &mut [0], "o0l0l1p2", false);
+    assert_file_calls(&rt, &NORMAL, &same, &mut [0], "o0l0l1p2", false);
+    assert_file_calls(&rt, &EXTRACT, &same, &mut [0], "o0l0l1p2", false);
     // It goes to another file: of the same device, of the same inode, or to one when the output's
     // name has none.
     let inode = [INPUT, second(Found::At(1, 3)), printed];
-    assert_asks(&rt, &NORMAL, &inode, &mut [0], "o0l0l1p2c1", true);
+    assert_file_calls(&rt, &NORMAL, &inode, &mut [0], "o0l0l1p2c1", true);
     let device = [INPUT, second(Found::At(2, 2)), printed];
-    assert_asks(&rt, &NORMAL, &device, &mut [0], "o0l0l1p2c1", true);
+    assert_file_calls(&rt, &NORMAL, &device, &mut [0], "o0l0l1p2c1", true);
     let nothing = [INPUT, second(Found::Nothing), printed];
-    assert_asks(&rt, &NORMAL, &nothing, &mut [0], "o0l0l1p2c1", true);
+    assert_file_calls(&rt, &NORMAL, &nothing, &mut [0], "o0l0l1p2c1", true);
 }
 
 // Returns whether a command is answered with files, and what is printed.
 fn answers<'a, D: FileSystem>(
     alloc: Global,
-    words: &'a [&'a str],
+    arguments: &'a [&'a str],
     files: &mut D,
     text: &mut [u8],
 ) -> bool {
-    let mut held = [0; 20];
-    let mut out = BufferedSink::new(MemSink::new(text), &mut held);
-    let Ok(request) = Request::parse(alloc, words) else {
+    let mut buffered = [0; 20];
+    let mut out = BufferedSink::new(MemSink::new(text), &mut buffered);
+    let Ok(request) = Request::parse(alloc, arguments) else {
         return false;
     };
     match open_and_answer(alloc, files, &request, &mut out) {
@@ -161,25 +161,30 @@ fn answers<'a, D: FileSystem>(
 // Asserts the output of a command with files, if there is memory and nothing fails.
 fn assert_answers<'a, 'f>(
     rt: &(impl Abort + Alloc<A = Global>),
-    words: &'a [&'a str],
+    arguments: &'a [&'a str],
     entries: &'f [Entry<'f>],
-    room: &'f mut [u8],
+    buffer: &'f mut [u8],
     want: &str,
 ) {
-    assert_answers_over(rt, words, &mut FilesInMemory::new(entries, room), want);
+    assert_answers_over(
+        rt,
+        arguments,
+        &mut FilesInMemory::new(entries, buffer),
+        want,
+    );
 }
 
 // The same with any files.
 fn assert_answers_over<'a, D: FileSystem>(
     rt: &(impl Abort + Alloc<A = Global>),
-    words: &'a [&'a str],
+    arguments: &'a [&'a str],
     files: &mut D,
     want: &str,
 ) {
     let mut text = [0; 128];
-    let is_done = answers(rt.alloc(), words, files, &mut text);
+    let is_done = answers(rt.alloc(), arguments, files, &mut text);
     let len = want.len().min(128);
-    assert!(rt; is_done && &text[..len] == want.as_bytes(), "{words:?}");
+    assert!(rt; is_done && &text[..len] == want.as_bytes(), "{arguments:?}");
 }
 
 const HEADER: &str =
@@ -221,7 +226,7 @@ fn answers_each_command_that_reads_files(rt: HostRuntime) {
 // read fails.
 fn assert_refuses_unread<'a>(
     rt: &(impl Abort + Alloc<A = Global>),
-    words: &'a [&'a str],
+    arguments: &'a [&'a str],
     stl: &[u8],
     want: &str,
 ) {
@@ -237,14 +242,17 @@ fn assert_refuses_unread<'a>(
     let mut text = [0; 64];
     let there = [subtitles, failing];
     let mut files = FilesInMemory::new(&there, &mut []);
-    let is_done = answers(rt.alloc(), words, &mut files, &mut text);
+    let is_done = answers(rt.alloc(), arguments, &mut files, &mut text);
     let len = want.len().min(64);
-    assert!(rt; !is_done && &text[..len] == want.as_bytes(), "{words:?}");
+    assert!(rt;
+        !is_done && &text[..len] == want.as_bytes(),
+        "{arguments:?}"
+    );
 }
 
 // A byte of the PES file is read only if the subtitle file is not refused.
 #[test]
-fn reads_no_pes_file_beside_a_refused_subtitle_file(rt: HostRuntime) {
+fn reads_no_pes_file_with_a_refused_subtitle_file(rt: HostRuntime) {
     let stl = file_of_hi();
     let mut refused = stl;
     refused[13] = b'1'; // CCT
@@ -256,9 +264,9 @@ fn reads_no_pes_file_beside_a_refused_subtitle_file(rt: HostRuntime) {
 }
 
 // Asserts that exactly this was written into a room that had bytes of ones.
-fn assert_starts(rt: &impl Abort, room: &[u8], written: &[u8]) {
-    let len = written.len().min(room.len());
-    let (begin, rest) = room.split_at(len);
+fn assert_starts(rt: &impl Abort, buffer: &[u8], written: &[u8]) {
+    let len = written.len().min(buffer.len());
+    let (begin, rest) = buffer.split_at(len);
     let one_more: &[u8] = &[0xFF];
     assert_same(rt, &begin, &written);
     assert_same(rt, &rest, &one_more);
@@ -302,9 +310,9 @@ fn answers_over_files_that_tell_their_bytes(rt: HostRuntime) {
     );
     let mut none = MemFiles::new(subtitles, sent, &mut []);
     assert_answers_over(&rt, &CHECK, &mut none, ACCEPTED);
-    let mut room = [0xFF; 369];
+    let mut buffer = [0xFF; 369];
     let schedule = ["subttx", "schedule", "a", "c"];
-    let mut files = MemFiles::new(subtitles, sent, &mut room);
+    let mut files = MemFiles::new(subtitles, sent, &mut buffer);
     assert_answers_over(&rt, &schedule, &mut files, "written 2 transmissions\n");
-    assert_starts(&rt, &room, &pes);
+    assert_starts(&rt, &buffer, &pes);
 }

@@ -27,7 +27,7 @@ pub struct Entry<'a> {
 pub struct FilesInMemory<'a> {
     entries: &'a [Entry<'a>],
     // `None` once a file is created.
-    room: Option<&'a mut [u8]>,
+    buffer: Option<&'a mut [u8]>,
     calls: [u8; 10],
     len: usize,
 }
@@ -42,11 +42,11 @@ pub enum MemoryFile<'a> {
 }
 
 impl<'a> FilesInMemory<'a> {
-    /// Returns these files; `room` is that of a file that is created. If it is empty none can be.
-    pub fn new(entries: &'a [Entry<'a>], room: &'a mut [u8]) -> Self {
+    /// Returns these files; `buffer` is that of a file that is created. If it is empty none can be.
+    pub fn new(entries: &'a [Entry<'a>], buffer: &'a mut [u8]) -> Self {
         FilesInMemory {
             entries,
-            room: Some(room),
+            buffer: Some(buffer),
             calls: [0; 10],
             len: 0,
         }
@@ -112,13 +112,13 @@ impl<'a> FileSystem for FilesInMemory<'a> {
 
     fn create(&mut self, name: &str) -> Option<IntoFile<MemoryFile<'a>>> {
         self.ask(b'c', name);
-        let Some(room) = self.room.take() else {
+        let Some(buffer) = self.buffer.take() else {
             return None;
         };
-        if room.is_empty() {
+        if buffer.is_empty() {
             return None;
         }
-        Some(IntoFile::new(MemoryFile::Created(room, 0)))
+        Some(IntoFile::new(MemoryFile::Created(buffer, 0)))
     }
 
     fn let_go_input(&mut self, _file: FromRead<MemoryFile<'a>>) {}
@@ -148,11 +148,11 @@ impl Write for MemoryFile<'_> {
     ghost contents = { λ _. None };
 
     fn write(&mut self, from: &[u8]) -> io::Result<usize> {
-        let MemoryFile::Created(room, len) = self else {
+        let MemoryFile::Created(buffer, len) = self else {
             return Err(ErrorKind::PermissionDenied.into());
         };
-        let at = room.len().min(*len);
-        let (_, free) = room.split_at_mut(at);
+        let at = buffer.len().min(*len);
+        let (_, free) = buffer.split_at_mut(at);
         let n = free.len().min(from.len());
         free[..n].copy_from_slice(&from[..n]);
         *len = at + n;

@@ -1,7 +1,7 @@
 //! Recordings with PES packets of many transport packets, some of which are left out, repeated or
 //! announce a jump.
-use crate::recorded::{JUMP, JUMP_FILL, LOST, assert_answers, put_pieces, recording};
-use answer_fixtures::answer_words;
+use crate::recorded::{JUMP, JUMP_FILL, LOST, assert_answers, put_pes_packets, recording};
+use answer_fixtures::answer_arguments;
 use fixtures::{TEN, block, file_of, head};
 use std::alloc::Global;
 use std::process::Abort;
@@ -48,19 +48,19 @@ fn put_packets(rt: &impl Abort, pes: &[u8], sent: Sent, recording: &mut MemSink)
             0
         };
         let counter = ((index + more) % 16) as u8;
-        let front = [0x47, flag, 0x01, 0x10 + counter];
+        let prefix = [0x47, flag, 0x01, 0x10 + counter];
         let number = index + 1;
         if number > sent.last {
             break;
         }
         if number != sent.left_out {
-            put_pieces(recording, &[&front, payload]);
+            put_pes_packets(recording, &[&prefix, payload]);
         }
         if number == sent.twice {
-            put_pieces(recording, &[&front, payload]);
+            put_pes_packets(recording, &[&prefix, payload]);
         }
         if number == sent.jump {
-            put_pieces(recording, &[&JUMP, &JUMP_FILL]);
+            put_pes_packets(recording, &[&JUMP, &JUMP_FILL]);
         }
     }
 }
@@ -68,15 +68,15 @@ fn put_packets(rt: &impl Abort, pes: &[u8], sent: Sent, recording: &mut MemSink)
 // Asserts the output of a check of the packets.
 fn assert_checks(rt: &(impl Abort + Alloc<A = Global>), sent: Sent, want: &str) {
     let stl = file_of_23_rows();
-    let mut room = [0; 2760];
-    let mut pes = MemSink::new(&mut room);
+    let mut buffer = [0; 2760];
+    let mut pes = MemSink::new(&mut buffer);
     let mut line = [0; 64];
     let mut out = MemSink::new(&mut line);
-    let words = ["subttx", "schedule", "a", "b", "--every", "25"];
+    let arguments = ["subttx", "schedule", "a", "b", "--every", "25"];
     let (mut input, mut none) = (MemSource::new(&stl), MemSource::new(&[]));
-    answer_words(
+    answer_arguments(
         rt.alloc(),
-        &words,
+        &arguments,
         &mut input,
         &mut none,
         &mut pes,

@@ -27,36 +27,36 @@ const SECOND_LINES: &str = "pts 3240180000\n\
 // Asserts that these parts are printed one after another.
 fn assert_lists<'a>(
     rt: &(impl Abort + Alloc<A = Global>),
-    words: &'a [&'a str],
-    pieces: &[&[u8]],
+    arguments: &'a [&'a str],
+    pes_packets: &[&[u8]],
     parts: [&str; 4],
 ) {
-    let mut room = [0; 1024];
-    let mut text = MemSink::new(&mut room);
+    let mut buffer = [0; 1024];
+    let mut text = MemSink::new(&mut buffer);
     for part in parts {
         if text.failures() == 0 {
             let _ = put_all(&mut text, part.as_bytes());
         }
     }
     let want = std::str::from_utf8(text.written()).unwrap_or("");
-    assert_prints(rt, words, pieces, want);
+    assert_prints(rt, arguments, pes_packets, want);
 }
 
 #[test]
 fn lists_pes_packets_by_their_numbers_in_the_file(rt: HostRuntime) {
     let stream: [&[u8]; 6] = [&BEGINS_0, &FIRST, &NULL, &FILL, &BEGINS_1, &SECOND];
-    let words = ["subttx", "packets", "b", "--pid", "257"];
+    let arguments = ["subttx", "packets", "b", "--pid", "257"];
     let parts = [FIRST_LINES, "pes 1 ", SECOND_LINES, "2 pes\n"];
-    assert_lists(&rt, &words, &stream, parts);
+    assert_lists(&rt, &arguments, &stream, parts);
     let lost: [&[u8]; 4] = [&BEGINS_0, &FIRST, &BEGINS_2, &SECOND];
-    let words = ["subttx", "packets", "b", "--pid", "257", "--pes", "2-"];
+    let arguments = ["subttx", "packets", "b", "--pid", "257", "--pes", "2-"];
     let parts = ["", "pes 2 ", SECOND_LINES, "1 pes\n"];
-    assert_lists(&rt, &words, &lost, parts);
+    assert_lists(&rt, &arguments, &lost, parts);
     // It stops at a gap marker, and so does `listen`.
-    let words = ["subttx", "packets", "b", "--pid", "257"];
+    let arguments = ["subttx", "packets", "b", "--pid", "257"];
     let parts = [FIRST_LINES, "", "", LOST];
-    assert_lists(&rt, &words, &lost, parts);
-    let words = [
+    assert_lists(&rt, &arguments, &lost, parts);
+    let arguments = [
         "subttx",
         "listen",
         "b",
@@ -65,8 +65,8 @@ fn lists_pes_packets_by_their_numbers_in_the_file(rt: HostRuntime) {
         "--pid",
         "257",
     ];
-    assert_prints(&rt, &words, &lost, LOST);
-    let words = [
+    assert_prints(&rt, &arguments, &lost, LOST);
+    let arguments = [
         "subttx",
         "listen",
         "b",
@@ -77,18 +77,18 @@ fn lists_pes_packets_by_their_numbers_in_the_file(rt: HostRuntime) {
         "--pes",
         "1-",
     ];
-    assert_prints(&rt, &words, &lost, LOST);
+    assert_prints(&rt, &arguments, &lost, LOST);
 }
 
 // Asserts the output of a check of this range of a file of PES packets.
 fn assert_checks_range<'a>(
     rt: &(impl Abort + Alloc<A = Global>),
     range: &'a str,
-    pieces: &[&[u8]],
+    pes_packets: &[&[u8]],
     want: &str,
 ) {
-    let words = ["subttx", "check", "a", "b", "--pes", range];
-    assert_prints(rt, &words, pieces, want);
+    let arguments = ["subttx", "check", "a", "b", "--pes", range];
+    assert_prints(rt, &arguments, pes_packets, want);
 }
 
 #[test]
@@ -105,13 +105,13 @@ fn checks_a_range_of_a_file_of_pes_packets(rt: HostRuntime) {
     assert_checks_range(&rt, "2-9", &cut, truncated);
     let twice: [&[u8]; 4] = [&FIRST, &SECOND, &FIRST, &SECOND];
     assert_checks_range(&rt, "2-3", &twice, ACCEPTED);
-    let words = ["subttx", "check", "a", "b", "--pes", "1-3", "--all"];
+    let arguments = ["subttx", "check", "a", "b", "--pes", "1-3", "--all"];
     let lines = "refused 63 Early frame 10:00:02:00\nrefused 62 Order pes 2\n2 faults\n";
-    assert_prints(&rt, &words, &twice, lines);
+    assert_prints(&rt, &arguments, &twice, lines);
 }
 
 #[test]
-fn tells_up_to_which_pes_packet_of_the_file_others_are_passed_over(rt: HostRuntime) {
+fn reports_up_to_which_pes_packet_of_the_file_others_are_skipped(rt: HostRuntime) {
     let marked: [&[u8]; 6] = [
         &FIRST,
         &MARK_HEAD,
@@ -120,27 +120,27 @@ fn tells_up_to_which_pes_packet_of_the_file_others_are_passed_over(rt: HostRunti
         &FILL[..178],
         &SECOND,
     ];
-    let words = ["subttx", "check", "a", "b", "--pes", "1-", "--all"];
+    let arguments = ["subttx", "check", "a", "b", "--pes", "1-", "--all"];
     let lines = "refused 45 Lost pes 1\nended 45 Lost pes 2\n\
         refused 63 Early frame 10:00:02:00\n\
         trusted frames 10:00:02:00 10:00:02:00\n2 faults\n";
-    assert_prints(&rt, &words, &marked, lines);
+    assert_prints(&rt, &arguments, &marked, lines);
 }
 
 #[test]
 fn refuses_wrong_numbers(rt: HostRuntime) {
     let stream: [&[u8]; 2] = [&BEGINS_0, &FIRST];
     for pid in ["8191", "x", "0x", "0X101", "0x000000101"] {
-        let words = ["subttx", "check", "a", "b", "--pid", pid];
-        assert_prints(&rt, &words, &stream, "usage 86 Pid\n");
+        let arguments = ["subttx", "check", "a", "b", "--pid", pid];
+        assert_prints(&rt, &arguments, &stream, "usage 86 Pid\n");
     }
-    let words = ["subttx", "check", "a", "b", "--pid=-1"];
-    assert_prints(&rt, &words, &stream, "usage 86 Pid\n");
-    let words = ["subttx", "check", "a", "b", "--packet-size", "190"];
-    assert_prints(&rt, &words, &stream, "usage 87 PacketSize\n");
+    let arguments = ["subttx", "check", "a", "b", "--pid=-1"];
+    assert_prints(&rt, &arguments, &stream, "usage 86 Pid\n");
+    let arguments = ["subttx", "check", "a", "b", "--packet-size", "190"];
+    assert_prints(&rt, &arguments, &stream, "usage 87 PacketSize\n");
     for range in ["2-1", "1", "a-b"] {
         assert_checks_range(&rt, range, &stream, "usage 88 Range\n");
     }
-    let words = ["subttx", "check", "a", "b", "--pes=-1"];
-    assert_prints(&rt, &words, &stream, "usage 88 Range\n");
+    let arguments = ["subttx", "check", "a", "b", "--pes=-1"];
+    assert_prints(&rt, &arguments, &stream, "usage 88 Range\n");
 }

@@ -5,7 +5,7 @@ use answer_fixtures::status_of;
 use fixtures::file_of_hi;
 use std::alloc::Global;
 use std::process::Abort;
-use sub_answer::{open_and_answer, say_and_hand_on};
+use sub_answer::{open_and_answer, say_and_flush};
 use sub_files::Found;
 use sub_io::{BufferedSink, MemSink, Sink, put_all};
 use sub_request::Request;
@@ -49,10 +49,10 @@ pub const LATE: &str = "refused 74 Late frame 10:00:00:00\n";
 pub const EMPTY: &str = "refused 60 Empty\n";
 
 /// Puts byte strings one after another, as far as there is room.
-pub fn put_pieces(sink: &mut MemSink<'_>, pieces: &[&[u8]]) {
-    for piece in pieces {
+pub fn put_pes_packets(sink: &mut MemSink<'_>, pes_packets: &[&[u8]]) {
+    for pes_packet in pes_packets {
         if sink.failures() == 0 {
-            let _ = put_all(sink, piece);
+            let _ = put_all(sink, pes_packet);
         }
     }
 }
@@ -89,39 +89,39 @@ const WRITTEN: Entry = Entry {
 /// last line implies. A file `c` is written into the room.
 pub fn assert_answers<'a, 'f>(
     rt: &(impl Abort + Alloc<A = Global>),
-    words: &'a [&'a str],
+    arguments: &'a [&'a str],
     stl: &'f [u8],
     recording: Entry<'f>,
-    room: &'f mut [u8],
+    buffer: &'f mut [u8],
     want: &str,
 ) {
     let entries = [subtitle_file(stl), recording, WRITTEN];
-    let mut files = FilesInMemory::new(&entries, room);
+    let mut files = FilesInMemory::new(&entries, buffer);
     let mut text = [0; 1024];
-    let mut held = [0; 64];
-    let mut out = BufferedSink::new(MemSink::new(&mut text), &mut held);
-    let status = match Request::parse(rt.alloc(), words) {
+    let mut buffered = [0; 64];
+    let mut out = BufferedSink::new(MemSink::new(&mut text), &mut buffered);
+    let status = match Request::parse(rt.alloc(), arguments) {
         Ok(request) => open_and_answer(rt.alloc(), &mut files, &request, &mut out).ok(),
-        Err(fault) => Some(say_and_hand_on(&fault, &mut out)),
+        Err(fault) => Some(say_and_flush(&fault, &mut out)),
     };
-    assert_same_in(rt, &status, &Some(status_of(want.as_bytes())), &words);
+    assert_same_in(rt, &status, &Some(status_of(want.as_bytes())), &arguments);
     let len = want.len().min(1024);
-    assert_same_in(rt, &&text[..len], &want.as_bytes(), &words);
-    assert_same_in(rt, &text.get(len), &Some(&0), &words);
+    assert_same_in(rt, &&text[..len], &want.as_bytes(), &arguments);
+    assert_same_in(rt, &text.get(len), &Some(&0), &arguments);
 }
 
 /// Asserts the output of a command for the subtitle file `Hi` and a file that consists of these
 /// byte strings.
 pub fn assert_prints<'a>(
     rt: &(impl Abort + Alloc<A = Global>),
-    words: &'a [&'a str],
-    pieces: &[&[u8]],
+    arguments: &'a [&'a str],
+    pes_packets: &[&[u8]],
     want: &str,
 ) {
-    let mut room = [0; 8192];
-    let mut file = MemSink::new(&mut room);
-    put_pieces(&mut file, pieces);
+    let mut buffer = [0; 8192];
+    let mut file = MemSink::new(&mut buffer);
+    put_pes_packets(&mut file, pes_packets);
     let stl = file_of_hi();
     let bytes = recording(file.written(), false);
-    assert_answers(rt, words, &stl, bytes, &mut [], want);
+    assert_answers(rt, arguments, &stl, bytes, &mut [], want);
 }

@@ -2,7 +2,7 @@
 use crate::asserting::assert_same_in;
 use crate::recorded::{
     BEGINS_0, BEGINS_1, BEGINS_2, EARLY, EMPTY, FILL, JUMP, JUMP_FILL, LATE, LOST, MARK_HEAD, NULL,
-    assert_answers, assert_prints, put_pieces, recording,
+    assert_answers, assert_prints, put_pes_packets, recording,
 };
 use answer_fixtures::ACCEPTED;
 use fixtures::{FIRST, SECOND};
@@ -37,28 +37,28 @@ const ZEROS: [u8; 3000] = [0; 3000];
 const CHECK: [&str; 6] = ["subttx", "check", "a", "b", "--pid", "257"];
 
 // Asserts the output of a check of PID 257.
-fn assert_checks(rt: &(impl Abort + Alloc<A = Global>), pieces: &[&[u8]], want: &str) {
-    assert_prints(rt, &CHECK, pieces, want);
+fn assert_checks(rt: &(impl Abort + Alloc<A = Global>), pes_packets: &[&[u8]], want: &str) {
+    assert_prints(rt, &CHECK, pes_packets, want);
 }
 
 // Asserts the output if a recording of these byte strings is written to a file, and its bytes.
 fn assert_extracts<'a>(
     rt: &(impl Abort + Alloc<A = Global>),
     pid: &'a str,
-    pieces: &[&[u8]],
+    pes_packets: &[&[u8]],
     want: &str,
     written: &[&[u8]],
 ) {
-    let mut room = [0; 8192];
-    let mut file = MemSink::new(&mut room);
-    put_pieces(&mut file, pieces);
-    let mut wanted_room = [0x55; 1024];
-    let mut wanted = MemSink::new(&mut wanted_room);
-    put_pieces(&mut wanted, written);
+    let mut buffer = [0; 8192];
+    let mut file = MemSink::new(&mut buffer);
+    put_pes_packets(&mut file, pes_packets);
+    let mut wanted_buffer = [0x55; 1024];
+    let mut wanted = MemSink::new(&mut wanted_buffer);
+    put_pes_packets(&mut wanted, written);
     let mut output = [0x55; 1024];
-    let words = ["subttx", "extract", "b", "c", "--pid", pid];
+    let arguments = ["subttx", "extract", "b", "c", "--pid", pid];
     let bytes = recording(file.written(), false);
-    assert_answers(rt, &words, &[], bytes, &mut output, want);
+    assert_answers(rt, &arguments, &[], bytes, &mut output, want);
     let len = wanted.written().len().min(1024);
     let (begin, _) = output.split_at(len);
     assert_same_in(rt, &begin, &wanted.written(), &want);
@@ -69,10 +69,10 @@ fn assert_extracts<'a>(
 fn checks_the_pes_packets_of_a_pid(rt: HostRuntime) {
     let stream: [&[u8]; 6] = [&BEGINS_0, &FIRST, &NULL, &FILL, &BEGINS_1, &SECOND];
     assert_checks(&rt, &stream, ACCEPTED);
-    let words = ["subttx", "check", "a", "b", "--pid", "0x101"];
-    assert_prints(&rt, &words, &stream, ACCEPTED);
-    let words = ["subttx", "check", "a", "b", "--pid", "258"];
-    assert_prints(&rt, &words, &stream, EMPTY);
+    let arguments = ["subttx", "check", "a", "b", "--pid", "0x101"];
+    assert_prints(&rt, &arguments, &stream, ACCEPTED);
+    let arguments = ["subttx", "check", "a", "b", "--pid", "258"];
+    assert_prints(&rt, &arguments, &stream, EMPTY);
     // A PID has 13 bits.
     let far: [&[u8]; 6] = [
         &[0x47, 0x51, 0x01, 0x10],
@@ -83,14 +83,14 @@ fn checks_the_pes_packets_of_a_pid(rt: HostRuntime) {
         &SECOND,
     ];
     assert_checks(&rt, &far, EMPTY);
-    let words = ["subttx", "check", "a", "b", "--pid", "0x1101"];
-    assert_prints(&rt, &words, &far, ACCEPTED);
+    let arguments = ["subttx", "check", "a", "b", "--pid", "0x1101"];
+    assert_prints(&rt, &arguments, &far, ACCEPTED);
     assert_checks(&rt, &[&BEGINS_0, &FIRST[..183]], EMPTY);
     assert_checks(&rt, &[], EMPTY);
 }
 
 #[test]
-fn tells_lost_packets_by_the_number_of_their_mark(rt: HostRuntime) {
+fn reports_lost_packets_by_the_number_of_their_gap_marker(rt: HostRuntime) {
     let lost: [&[u8]; 6] = [&BEGINS_0, &FIRST, &NULL, &FILL, &BEGINS_2, &SECOND];
     assert_checks(&rt, &lost, LOST);
     let all = ["subttx", "check", "a", "b", "--pid", "257", "--all"];
@@ -117,7 +117,7 @@ fn tells_lost_packets_by_the_number_of_their_mark(rt: HostRuntime) {
 }
 
 #[test]
-fn passes_over_a_repeat_and_a_jump_that_is_announced(rt: HostRuntime) {
+fn skips_a_repeat_and_a_jump_that_is_announced(rt: HostRuntime) {
     let twice: [&[u8]; 8] = [
         &BEGINS_0, &FIRST, &BEGINS_0, &FIRST, &NULL, &FILL, &BEGINS_1, &SECOND,
     ];
@@ -128,11 +128,11 @@ fn passes_over_a_repeat_and_a_jump_that_is_announced(rt: HostRuntime) {
     assert_checks(&rt, &thrice, LOST);
     let jump: [&[u8]; 6] = [&BEGINS_0, &FIRST, &JUMP, &JUMP_FILL, &BEGINS_9, &SECOND];
     assert_checks(&rt, &jump, ACCEPTED);
-    let (front, back) = FIRST.split_at(100);
+    let (prefix, back) = FIRST.split_at(100);
     let two: [&[u8]; 8] = [
         &SHORT_0,
         &FILL[..82],
-        front,
+        prefix,
         &SHORT_1,
         &FILL[..98],
         back,
@@ -143,10 +143,10 @@ fn passes_over_a_repeat_and_a_jump_that_is_announced(rt: HostRuntime) {
     let announced: [&[u8]; 11] = [
         &SHORT_0_JUMP,
         &FILL[..82],
-        front,
+        prefix,
         &SHORT_0_JUMP,
         &FILL[..82],
-        front,
+        prefix,
         &SHORT_1,
         &FILL[..98],
         back,
@@ -158,20 +158,20 @@ fn passes_over_a_repeat_and_a_jump_that_is_announced(rt: HostRuntime) {
 
 #[test]
 fn refuses_what_is_no_teletext(rt: HostRuntime) {
-    let (front, back) = FIRST.split_at(4);
-    let length: [&[u8]; 6] = [&BEGINS_0, front, &[0x1F], &back[1..], &BEGINS_1, &SECOND];
+    let (prefix, back) = FIRST.split_at(4);
+    let length: [&[u8]; 6] = [&BEGINS_0, prefix, &[0x1F], &back[1..], &BEGINS_1, &SECOND];
     assert_checks(&rt, &length, "refused 32 Length pes 0\n");
-    let (front, back) = FIRST.split_at(3);
-    let start: [&[u8]; 6] = [&BEGINS_0, front, &[0xBE], &back[1..], &BEGINS_1, &SECOND];
+    let (prefix, back) = FIRST.split_at(3);
+    let start: [&[u8]; 6] = [&BEGINS_0, prefix, &[0xBE], &back[1..], &BEGINS_1, &SECOND];
     assert_checks(&rt, &start, "refused 31 Start pes 0\n");
     // A file of PES packets that begins with a gap marker.
     let marked: [&[u8]; 3] = [&FIRST[..6], &FILL[..178], &SECOND];
-    let words = ["subttx", "check", "a", "b"];
-    assert_prints(&rt, &words, &marked, "refused 45 Lost pes 0\n");
+    let arguments = ["subttx", "check", "a", "b"];
+    assert_prints(&rt, &arguments, &marked, "refused 45 Lost pes 0\n");
 }
 
 #[test]
-fn finds_packets_behind_bytes_that_are_none(rt: HostRuntime) {
+fn finds_packets_after_bytes_that_are_none(rt: HostRuntime) {
     let begin: [&[u8]; 7] = [
         &ZEROS[..5],
         &BEGINS_0,
@@ -201,7 +201,7 @@ fn reads_packets_of_192_and_204_bytes(rt: HostRuntime) {
     let stamped: [&[u8]; 9] = [
         &stamp, &BEGINS_0, &FIRST, &stamp, &NULL, &FILL, &stamp, &BEGINS_1, &SECOND,
     ];
-    let words = [
+    let arguments = [
         "subttx",
         "check",
         "a",
@@ -211,13 +211,13 @@ fn reads_packets_of_192_and_204_bytes(rt: HostRuntime) {
         "--packet-size",
         "192",
     ];
-    assert_prints(&rt, &words, &stamped, ACCEPTED);
+    assert_prints(&rt, &arguments, &stamped, ACCEPTED);
     assert_checks(&rt, &stamped, EMPTY);
     let code = [0xFF; 16];
     let coded: [&[u8]; 9] = [
         &BEGINS_0, &FIRST, &code, &NULL, &FILL, &code, &BEGINS_1, &SECOND, &code,
     ];
-    let words = [
+    let arguments = [
         "subttx",
         "check",
         "a",
@@ -227,7 +227,7 @@ fn reads_packets_of_192_and_204_bytes(rt: HostRuntime) {
         "--packet-size",
         "204",
     ];
-    assert_prints(&rt, &words, &coded, ACCEPTED);
+    assert_prints(&rt, &arguments, &coded, ACCEPTED);
 }
 
 #[test]
@@ -246,11 +246,11 @@ fn writes_what_a_recording_carries(rt: HostRuntime) {
     ];
     assert_extracts(&rt, "257", &wrong, written, &marked);
     // A packet of the PES packet has more bytes than the PES packet's length.
-    let (front, back) = FIRST.split_at(100);
+    let (prefix, back) = FIRST.split_at(100);
     let longer: [&[u8]; 9] = [
         &SHORT_0,
         &FILL[..82],
-        front,
+        prefix,
         &LONGER_1,
         &FILL[..82],
         back,
@@ -262,10 +262,10 @@ fn writes_what_a_recording_carries(rt: HostRuntime) {
 }
 
 #[test]
-fn writes_the_payload_that_is_no_teletext_and_says_so(rt: HostRuntime) {
-    let (front, back) = FIRST.split_at(3);
-    let start: [&[u8]; 6] = [&BEGINS_0, front, &[0xBE], &back[1..], &BEGINS_1, &SECOND];
-    let payload: [&[u8]; 3] = [front, &[0xBE], &back[1..]];
+fn writes_the_payload_that_is_no_teletext_and_reports_it(rt: HostRuntime) {
+    let (prefix, back) = FIRST.split_at(3);
+    let start: [&[u8]; 6] = [&BEGINS_0, prefix, &[0xBE], &back[1..], &BEGINS_1, &SECOND];
+    let payload: [&[u8]; 3] = [prefix, &[0xBE], &back[1..]];
     let refused = "refused 31 Start pes 0\n";
     assert_extracts(&rt, "257", &start, refused, &payload);
 }

@@ -1,6 +1,7 @@
 //! `survey`: the output for a recording.
 use crate::recorded::{
-    BEGINS_0, BEGINS_1, BEGINS_2, FILL, NULL, assert_answers, assert_prints, put_pieces, recording,
+    BEGINS_0, BEGINS_1, BEGINS_2, FILL, NULL, assert_answers, assert_prints, put_pes_packets,
+    recording,
 };
 use fixtures::{FIRST, SECOND};
 use std::alloc::Global;
@@ -12,16 +13,16 @@ const SURVEY: [&str; 3] = ["subttx", "survey", "b"];
 // Asserts the output for a recording of these byte strings that fails at its end.
 fn assert_fails<'a>(
     rt: &(impl Abort + Alloc<A = Global>),
-    words: &'a [&'a str],
-    pieces: &[&[u8]],
+    arguments: &'a [&'a str],
+    pes_packets: &[&[u8]],
     want: &str,
 ) {
-    let mut room = [0; 8192];
-    let mut file = MemSink::new(&mut room);
-    put_pieces(&mut file, pieces);
+    let mut buffer = [0; 8192];
+    let mut file = MemSink::new(&mut buffer);
+    put_pes_packets(&mut file, pes_packets);
     assert_answers(
         rt,
-        words,
+        arguments,
         &[],
         recording(file.written(), true),
         &mut [],
@@ -30,7 +31,7 @@ fn assert_fails<'a>(
 }
 
 #[test]
-fn tells_a_space_where_a_byte_was_hit(rt: HostRuntime) {
+fn reports_a_space_where_a_byte_was_hit(rt: HostRuntime) {
     let mut hit = FIRST;
     hit[117] ^= 1;
     let stream: [&[u8]; 6] = [&BEGINS_0, &hit, &NULL, &FILL, &BEGINS_1, &SECOND];
@@ -44,7 +45,7 @@ fn tells_a_space_where_a_byte_was_hit(rt: HostRuntime) {
 }
 
 #[test]
-fn tells_the_pes_packets_of_a_pid(rt: HostRuntime) {
+fn reports_the_pes_packets_of_a_pid(rt: HostRuntime) {
     let stream: [&[u8]; 6] = [&BEGINS_0, &FIRST, &NULL, &FILL, &BEGINS_1, &SECOND];
     let want = "survey 1\nhead 47410110000001bd00b284\nsize 188\nteletext 257\nsub 257 888\n\
         pes 257 0 1 3240000000 0 hec/88080810 3 0\n\
@@ -53,7 +54,7 @@ fn tells_the_pes_packets_of_a_pid(rt: HostRuntime) {
         pes 257 1 1 3240180000 0 hecb/88080810 2 0\nrows 257 1 -\n\
         subs 257 888 2\nend 257 2 0 2 0 0 0 3240180000\nover 0 3\n";
     assert_prints(&rt, &SURVEY, &stream, want);
-    let asked = [
+    let requested = [
         "subttx",
         "survey",
         "b",
@@ -62,40 +63,40 @@ fn tells_the_pes_packets_of_a_pid(rt: HostRuntime) {
         "--packet-size",
         "188",
     ];
-    assert_prints(&rt, &asked, &stream, want);
+    assert_prints(&rt, &requested, &stream, want);
 }
 
 #[test]
-fn tells_a_gap_where_packets_are_lost(rt: HostRuntime) {
+fn reports_a_gap_where_packets_are_lost(rt: HostRuntime) {
     let lost: [&[u8]; 6] = [&BEGINS_0, &FIRST, &NULL, &FILL, &BEGINS_2, &SECOND];
-    let words = ["subttx", "survey", "b", "--page", "100"];
+    let arguments = ["subttx", "survey", "b", "--page", "100"];
     let want = "survey 1\nhead 47410110000001bd00b284\nsize 188\nteletext 257\nsub 257 888\n\
         pes 257 0 1 3240000000 0 b/ 3 0\ngap 257 1 1 0\npes 257 2 1 3240180000 0 b/ 2 0\n\
         subs 257 888 2\nend 257 3 1 2 0 0 0 3240180000\nover 0 3\n";
-    assert_prints(&rt, &words, &lost, want);
+    assert_prints(&rt, &arguments, &lost, want);
 }
 
 #[test]
-fn tells_a_file_of_pes_packets_and_where_it_ends(rt: HostRuntime) {
-    let words = ["subttx", "survey", "b", "--page", "100"];
+fn reports_a_file_of_pes_packets_and_where_it_ends(rt: HostRuntime) {
+    let arguments = ["subttx", "survey", "b", "--page", "100"];
     let whole = "survey 1\nhead 000001bd00b28480242704\nsize 0\nsub 0 888\n\
         pes 0 0 1 3240000000 0 b/ 3 0\nsubs 0 888 1\nend 0 1 0 0 0 0 0 3240000000\nover 0 0\n";
-    assert_prints(&rt, &words, &[&FIRST], whole);
+    assert_prints(&rt, &arguments, &[&FIRST], whole);
     let cut = "survey 1\nhead 000001bd00b28480242704\nsize 0\nsub 0 888\n\
         pes 0 0 1 3240000000 0 b/ 3 0\ndamaged 0 1 cut\n\
         subs 0 888 1\nend 0 1 0 0 0 0 0 3240000000\nover 0 0\n";
-    assert_prints(&rt, &words, &[&FIRST, &SECOND[..183]], cut);
+    assert_prints(&rt, &arguments, &[&FIRST, &SECOND[..183]], cut);
     let none = "survey 1\nhead\nnothing\nover 0 0\n";
-    assert_prints(&rt, &words, &[], none);
+    assert_prints(&rt, &arguments, &[], none);
     let other = "survey 1\nhead 52494646\nnothing\nover 4 0\n";
-    assert_prints(&rt, &words, &[b"RIFF"], other);
+    assert_prints(&rt, &arguments, &[b"RIFF"], other);
 }
 
 // The first PES packet in another PID, 258.
 const OTHER: [u8; 4] = [0x47, 0x41, 0x02, 0x10];
 
 #[test]
-fn tells_of_the_pid_alone_that_is_asked_for(rt: HostRuntime) {
+fn reports_the_requested_pid_alone(rt: HostRuntime) {
     let stream: [&[u8]; 4] = [&BEGINS_0, &FIRST, &OTHER, &FIRST];
     let page = ["subttx", "survey", "b", "--page", "100"];
     let both = "survey 1\nhead 47410110000001bd00b284\nsize 188\n\
@@ -104,18 +105,18 @@ fn tells_of_the_pid_alone_that_is_asked_for(rt: HostRuntime) {
         pes 258 0 1 3240000000 0 b/ 3 0\nsubs 258 888 1\nend 258 1 0 1 0 0 0 3240000000\n\
         over 0 2\n";
     assert_prints(&rt, &page, &stream, both);
-    let asked = ["subttx", "survey", "b", "--page", "100", "--pid", "258"];
+    let requested = ["subttx", "survey", "b", "--page", "100", "--pid", "258"];
     let one = "survey 1\nhead 47410110000001bd00b284\nsize 188\nteletext 258\nsub 258 888\n\
         pes 258 0 1 3240000000 0 b/ 3 0\nsubs 258 888 1\nend 258 1 0 1 0 0 0 3240000000\n\
         over 0 2\n";
-    assert_prints(&rt, &asked, &stream, one);
+    assert_prints(&rt, &requested, &stream, one);
 }
 
 #[test]
-fn tells_what_was_read_before_the_recording_failed(rt: HostRuntime) {
-    let front = "survey 1\nhead 47410110000001bd00b284\nfault 41 Read pes 0\n";
-    assert_fails(&rt, &SURVEY, &[&BEGINS_0, &FIRST], front);
-    let words = [
+fn reports_what_was_read_before_the_recording_failed(rt: HostRuntime) {
+    let prefix = "survey 1\nhead 47410110000001bd00b284\nfault 41 Read pes 0\n";
+    assert_fails(&rt, &SURVEY, &[&BEGINS_0, &FIRST], prefix);
+    let arguments = [
         "subttx",
         "survey",
         "b",
@@ -126,7 +127,7 @@ fn tells_what_was_read_before_the_recording_failed(rt: HostRuntime) {
     ];
     let sized = "survey 1\nhead 47410110000001bd00b284\nsize 188\nteletext 257\nsub 257 888\n\
         pes 257 0 1 3240000000 0 b/ 3 0\nfault 41 Read pes 0\n";
-    assert_fails(&rt, &words, &[&BEGINS_0, &FIRST], sized);
+    assert_fails(&rt, &arguments, &[&BEGINS_0, &FIRST], sized);
 }
 
 #[test]

@@ -32,7 +32,7 @@ const GOES_ON: [[u8; 4]; 5] = [
 ];
 
 #[test]
-fn tells_a_seam_where_a_jump_is_announced(rt: HostRuntime) {
+fn reports_a_seam_where_a_jump_is_announced(rt: HostRuntime) {
     let stream: [&[u8]; 6] = [&BEGINS_0, &FIRST, &JUMP, &JUMP_FILL, &BEGINS_5, &SECOND];
     let want = "survey 1\nhead 47410110000001bd00b284\nsize 188\nteletext 257\nsub 257 888\n\
         seam 257 1\npes 257 0 1 3240000000 0 b/ 3 0\npes 257 1 1 3240180000 0 b/ 2 0\n\
@@ -41,7 +41,7 @@ fn tells_a_seam_where_a_jump_is_announced(rt: HostRuntime) {
 }
 
 #[test]
-fn tells_a_seam_behind_the_mark_of_a_pes_packet_that_it_cuts(rt: HostRuntime) {
+fn reports_a_seam_after_the_gap_marker_of_a_pes_packet_that_it_cuts(rt: HostRuntime) {
     let mut long = FIRST;
     long[4..6].copy_from_slice(&[0x04, 0x4A]);
     let stream: [&[u8]; 8] = [
@@ -55,7 +55,7 @@ fn tells_a_seam_behind_the_mark_of_a_pes_packet_that_it_cuts(rt: HostRuntime) {
 }
 
 #[test]
-fn tells_no_seam_where_something_is_lost_too(rt: HostRuntime) {
+fn reports_no_seam_where_something_is_lost_too(rt: HostRuntime) {
     let stream: [&[u8]; 8] = [
         &BEGINS_0, &FIRST, &JUMP, &JUMP_FILL, &WRONG, &FILL, &BEGINS_5, &SECOND,
     ];
@@ -102,7 +102,7 @@ fn counts_long_pes_packets(rt: HostRuntime) {
 }
 
 #[test]
-fn tells_a_pes_packet_of_368_bytes_that_are_filled_as_no_mark(rt: HostRuntime) {
+fn reports_a_pes_packet_of_368_bytes_that_are_filled_as_no_gap_marker(rt: HostRuntime) {
     let filled = [0x00, 0x00, 0x01, 0xBD, 0x01, 0x6A];
     let [second, ..] = &GOES_ON;
     let stream: [&[u8]; 7] = [
@@ -114,11 +114,11 @@ fn tells_a_pes_packet_of_368_bytes_that_are_filled_as_no_mark(rt: HostRuntime) {
         &BEGINS_2,
         &SECOND,
     ];
-    let words = ["subttx", "survey", "b", "--page", "100", "--pid", "257"];
+    let arguments = ["subttx", "survey", "b", "--page", "100", "--pid", "257"];
     let want = "survey 1\nhead 47410110000001bd016aff\nsize 188\nteletext 257\nsub 257 888\n\
         pes 257 0 1 - 0 -/ 0 45\npes 257 1 1 3240180000 0 b/ 2 0\n\
         subs 257 888 1\nend 257 2 0 3 0 0 0 3240180000\nover 0 3\n";
-    assert_prints(&rt, &words, &stream, want);
+    assert_prints(&rt, &arguments, &stream, want);
 }
 
 #[test]
@@ -251,7 +251,7 @@ fn prints_the_lead_of_the_teletext_over_the_pictures(rt: HostRuntime) {
 }
 
 #[test]
-fn tells_whether_the_group_of_the_first_picture_is_closed(rt: HostRuntime) {
+fn reports_whether_the_group_of_the_first_picture_is_closed(rt: HostRuntime) {
     let closed: [&[u8]; 7] = [
         &PAT,
         &FILL[..167],
@@ -283,7 +283,7 @@ fn tells_whether_the_group_of_the_first_picture_is_closed(rt: HostRuntime) {
 }
 
 #[test]
-fn tells_whether_a_group_of_hevc_is_closed(rt: HostRuntime) {
+fn reports_whether_a_group_of_hevc_is_closed(rt: HostRuntime) {
     let closed: [&[u8]; 7] = [
         &PAT,
         &FILL[..167],
@@ -372,7 +372,7 @@ const PCR_ANNOUNCED: [u8; 12] = [
 ];
 
 #[test]
-fn tells_each_pcr_that_goes_back(rt: HostRuntime) {
+fn reports_each_pcr_that_goes_back(rt: HostRuntime) {
     let fill = &FILL[..176];
     let stream: [&[u8]; 20] = [
         &PAT,
@@ -414,7 +414,7 @@ fn tells_each_pcr_that_goes_back(rt: HostRuntime) {
 }
 
 #[test]
-fn tells_no_pcr_that_goes_back_where_it_is_announced(rt: HostRuntime) {
+fn reports_no_pcr_that_goes_back_where_it_is_announced(rt: HostRuntime) {
     let fill = &FILL[..176];
     let stream: [&[u8]; 12] = [
         &PAT,

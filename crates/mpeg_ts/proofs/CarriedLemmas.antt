@@ -6,46 +6,46 @@ use Rattle.std.proofs.Common.{length-drop, length-take-le}
 use Rattle.std.proofs.lemmas.Bool.Decides.{nat_tests}
 use Rattle.std.specs.Prelude.{◌&&◌, ◌||◌, ◌==◌, nat_lt}
 use Rattle.std.specs.Prelude.{option_map}
-use Rattle.mpeg_ts.specs.Carried.{carried, mark_where, with_marks}
-use Rattle.mpeg_ts.specs.GoodPackets.{GoodPacket, Note, good_after, hole_size}
-use Rattle.mpeg_ts.specs.GoodPackets.{note_of, notes, nothing_since}
-use Rattle.mpeg_ts.specs.Joining.{given_after, nothing_joined}
+use Rattle.mpeg_ts.specs.Carried.{carried, gap_marker_where, with_gap_markers}
+use Rattle.mpeg_ts.specs.GoodPackets.{GoodPacket, Note, good_after, loss_size}
+use Rattle.mpeg_ts.specs.GoodPackets.{note_of, notes, empty_history}
+use Rattle.mpeg_ts.specs.Joining.{last_output_after, nothing_joined}
 use Rattle.mpeg_ts.specs.PacketsInStep.{Item, Packet, Skipped, begins_packet, items, items_of}
 use Rattle.mpeg_ts.specs.Parts.{PartOutcome, begins_part, gap_where, is_break, outcomes, part_of}
 use Rattle.mpeg_ts.specs.Parts.{parts}
-use Rattle.mpeg_ts.specs.Stream.{given_of, start_of_stream, still_given, stream_gives}
+use Rattle.mpeg_ts.specs.Stream.{output_of, start_of_stream, remaining_output, stream_output}
 use Rattle.mpeg_ts.specs.TransportPacket.{begins, has_payload, is_wrong}
 use Rattle.mpeg_ts.specs.TransportPacket.{payload, pid}
 use Rattle.mpeg_ts.specs.declared.joining.Given.TheVariants as given
 use Rattle.mpeg_ts.proofs.JoinedLemmas.{claims, joined, new_part, or_true}
 use Rattle.mpeg_ts.proofs.NoteLemmas.{AreSound, FirstIsCut, first_is_cut, good_payloads}
 use Rattle.mpeg_ts.proofs.NoteLemmas.{notes_joined}
-use Rattle.mpeg_ts.proofs.OutcomeLemmas.{HavePayloads, by_bool, give, outcomes-from, tail}
-use Rattle.mpeg_ts.proofs.OutcomeLemmas.{with_marks-nothing}
+use Rattle.mpeg_ts.proofs.OutcomeLemmas.{HavePayloads, by_bool, output, outcomes-from, tail}
+use Rattle.mpeg_ts.proofs.OutcomeLemmas.{with_gap_markers-nothing}
 use Rattle.mpeg_ts.proofs.StreamLemmas.{items_end, items_packet, items_skipped}
 
 -- ---- packets have payloads
 
 -- Each packet has 188 bytes.
-abbrev AreWhole : List Item → Type 0
-AreWhole [] = Unit {0}
-AreWhole (Packet p ∷ more) = (length p ≡ 188) × AreWhole more
-AreWhole (Skipped ∷ more) = AreWhole more
+abbrev AreComplete : List Item → Type 0
+AreComplete [] = Unit {0}
+AreComplete (Packet p ∷ more) = (length p ≡ 188) × AreComplete more
+AreComplete (Skipped ∷ more) = AreComplete more
 
-items_whole : (distance : ℕ) (in_step : Bool) (room : ℕ) (bytes : List ℕ)
-    → AreWhole (items distance in_step room bytes)
+items_complete : (distance : ℕ) (in_step : Bool) (room : ℕ) (bytes : List ℕ)
+    → AreComplete (items distance in_step room bytes)
 unfolding items
-items_whole distance in_step zero bytes = tt
-items_whole distance in_step (suc room) bytes =
+items_complete distance in_step zero bytes = tt
+items_complete distance in_step (suc room) bytes =
     by_bool (nat_lt (length bytes) 188)
     (λ few. let short : length bytes < 188 = grind (arith, nat_tests) in
-    subst AreWhole (sym (items_end distance in_step (suc room) bytes short)) tt)
+    subst AreComplete (sym (items_end distance in_step (suc room) bytes short)) tt)
     (λ many. let long : 188 ≤ length bytes = grind (arith, nat_tests) in
     by_bool (begins_packet distance in_step bytes)
-    (λ begins. subst AreWhole (sym (items_packet distance in_step room bytes long begins))
-    (length-take-le 188 bytes long, items_whole distance true room (drop distance bytes)))
-    (λ skips. subst AreWhole (sym (items_skipped distance in_step room bytes long skips))
-    (items_whole distance false room (drop 1 bytes))))
+    (λ begins. subst AreComplete (sym (items_packet distance in_step room bytes long begins))
+    (length-take-le 188 bytes long, items_complete distance true room (drop distance bytes)))
+    (λ skips. subst AreComplete (sym (items_skipped distance in_step room bytes long skips))
+    (items_complete distance false room (drop 1 bytes))))
 
 -- The last condition for an unusable packet.
 last_reason : (x y a h n : Bool)
@@ -70,7 +70,7 @@ sound_note : (p : List ℕ) (more : List Note)
 sound_note p more h1 h2 = grind (arith, nat_tests, payload_some)
 
 notes_sound : (distance number run : ℕ) (all : List Item)
-    → AreWhole all
+    → AreComplete all
     → AreSound (notes distance number run all)
 unfolding notes
 notes_sound distance number run [] whole = tt
@@ -81,30 +81,31 @@ notes_sound distance number run (Packet p ∷ more) whole =
     (λ no. rw no rest)
 notes_sound distance number run (Skipped ∷ more) whole =
     let rest = notes_sound distance number (run + 1) more whole in
-    by_bool (run + 1 == hole_size distance) (λ yes. rw yes rest) (λ no. rw no rest)
+    by_bool (run + 1 == loss_size distance) (λ yes. rw yes rest) (λ no. rw no rest)
 
 -- ---- from the start
 
 -- A gap before the first PES packet has no marker.
-no_mark_yet : (b : Bool) (more : List PartOutcome)
-    → mark_where (b && false) ++ give (given_after b given.Nothing) more
-    ≡ give given.Nothing more
-no_mark_yet b more = grind (arith, nat_tests)
+no_gap_marker_yet : (b : Bool) (more : List PartOutcome)
+    → gap_marker_where (b && false) ++ output (last_output_after b given.Nothing) more
+    ≡ output given.Nothing more
+no_gap_marker_yet b more = grind (arith, nat_tests)
 
 no_gap_yet : (b : Bool) (more : List PartOutcome)
-    → give given.Nothing more ≡ give given.Nothing (gap_where b ++ more)
+    → output given.Nothing more ≡ output given.Nothing (gap_where b ++ more)
 no_gap_yet b more = grind (arith, nat_tests)
 
 no_packet_yet : (wrong : Bool)
-    → mark_where (wrong && false) ≡ with_marks false false (gap_where wrong)
-unfolding with_marks
+    → gap_marker_where (wrong && false) ≡ with_gap_markers false false (gap_where wrong)
+unfolding with_gap_markers
 no_packet_yet wrong = grind (arith, nat_tests)
 
 -- From the start, the good packets yield the bytes of their parts.
 joined_start : (wrong : Bool) (goods : List GoodPacket)
     → FirstIsCut goods
     → HavePayloads goods
-    → joined nothing_joined wrong goods ≡ with_marks false false (outcomes wrong (parts goods))
+    → joined nothing_joined wrong goods ≡ with_gap_markers false false
+    (outcomes wrong (parts goods))
 unfolding outcomes
 joined_start wrong [] cut all = no_packet_yet wrong
 joined_start wrong (g ∷ more) cut all =
@@ -113,34 +114,34 @@ joined_start wrong (g ∷ more) cut all =
     let rest = tail wrong (part_of g) more in
     rw first (
     new_part wrong more nothing_joined g all.1 (claims wrong more all.1)
-    ∙ no_mark_yet (is_break g.link || true) rest
+    ∙ no_gap_marker_yet (is_break g.link || true) rest
     ∙ no_gap_yet (is_break g.link) rest
-    ∙ sym (ap (give given.Nothing) (outcomes-from wrong (part_of g) more))
-    ∙ sym (with_marks-nothing false (outcomes wrong (parts (g ∷ more)))))
+    ∙ sym (ap (output given.Nothing) (outcomes-from wrong (part_of g) more))
+    ∙ sym (with_gap_markers-nothing false (outcomes wrong (parts (g ∷ more)))))
 
 -- Reading a recording from its start returns what the packets of the PID carry.
 pub carried_given : (number distance : ℕ) (recording : List ℕ)
-    → given_of (start_of_stream number distance) recording ≡ carried number distance recording
-unfolding stream_gives carried
+    → output_of (start_of_stream number distance) recording ≡ carried number distance recording
+unfolding stream_output carried
 carried_given number distance recording =
     let all = notes distance number 0 (items_of distance recording) in
-    let since = nothing_since None in
-    let good = good_after since all in
+    let history = empty_history None in
+    let good = good_after history all in
     let sound = notes_sound distance number 0 (items_of distance recording)
-    (items_whole distance true _ _) in
-    notes_joined nothing_joined since all (record {
+    (items_complete distance true _ _) in
+    notes_joined nothing_joined history all (record {
       repeat = refl;
       jump = refl;
       lost = refl;
-      quiet = λ e. refl;
+      silent = λ e. refl;
       none = λ e. refl;
       last = refl;
     }) sound
-    ∙ joined_start good.wrong_behind good.packets (first_is_cut since all refl)
-    (good_payloads since all sound)
+    ∙ joined_start good.wrong_after good.packets (first_is_cut history all refl)
+    (good_payloads history all sound)
 
 -- The same, if the source's bytes are known.
-pub carried_known : (number distance : ℕ) (told : Option (List ℕ))
-    → still_given (start_of_stream number distance) told
-    ≡ option_map (carried number distance) told
-carried_known number distance told = grind (arith, nat_tests, carried_given)
+pub carried_known : (number distance : ℕ) (known_bytes : Option (List ℕ))
+    → remaining_output (start_of_stream number distance) known_bytes
+    ≡ option_map (carried number distance) known_bytes
+carried_known number distance known_bytes = grind (arith, nat_tests, carried_given)

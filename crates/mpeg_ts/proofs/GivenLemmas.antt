@@ -6,49 +6,49 @@ use Rattle.std.proofs.lemmas.List.{append-nil, append_cancel_right}
 use Rattle.std.proofs.KnownBytes.{Consumes-trans}
 use Rattle.std.specs.List.{concat}
 use Rattle.ttx_pes.specs.Reader.{FailsAtPacket, FailsWithin, TakesPackets}
-use Rattle.mpeg_ts.specs.Carried.{carried, mark}
+use Rattle.mpeg_ts.specs.Carried.{carried, gap_marker}
 use Rattle.mpeg_ts.specs.Joining.{JoiningValue, TakesNext}
-use Rattle.mpeg_ts.specs.Stream.{StreamValue, given_of, start_of_stream}
-use Rattle.mpeg_ts.specs.TakenBytes.{GivesOn, IsCutOff, TakesFront, takes_bytes}
-use Rattle.mpeg_ts.specs.declared.waiting.Next.{Next}
-use Rattle.mpeg_ts.specs.declared.waiting.Next.TheVariants as next
+use Rattle.mpeg_ts.specs.Stream.{StreamValue, output_of, start_of_stream}
+use Rattle.mpeg_ts.specs.TakenBytes.{OutputsOn, IsCutOff, TakesPrefix, takes_bytes}
+use Rattle.mpeg_ts.specs.declared.pending_item.Next.{Next}
+use Rattle.mpeg_ts.specs.declared.pending_item.Next.TheVariants as next
 use Rattle.mpeg_ts.proofs.CarriedLemmas.{carried_given}
-use Rattle.mpeg_ts.proofs.StreamLemmas.{given_front}
+use Rattle.mpeg_ts.proofs.StreamLemmas.{given_prefix}
 use Rattle.mpeg_ts.proofs.TakenBytesLemmas.{takes_on}
 
 -- The output of two calls in a row.
 pub gives_then : (u v w : StreamValue) (before mid after : Option (List ℕ))
-    → GivesOn u v before mid
-    → GivesOn v w mid after
-    → GivesOn u w before after
+    → OutputsOn u v before mid
+    → OutputsOn v w mid after
+    → OutputsOn u w before after
 gives_then u v w before mid after first then = record {
   given = first.given ++ then.given;
   takes = both first.given then.given first.takes then.takes;
 }
   where
     both : (ys zs : List ℕ)
-        → TakesFront (given_of u) (λ more. ys ++ given_of v more) before mid
-        → TakesFront (given_of v) (λ more. zs ++ given_of w more) mid after
-        → TakesFront (given_of u) (λ more. (ys ++ zs) ++ given_of w more) before after
+        → TakesPrefix (output_of u) (λ more. ys ++ output_of v more) before mid
+        → TakesPrefix (output_of v) (λ more. zs ++ output_of w more) mid after
+        → TakesPrefix (output_of u) (λ more. (ys ++ zs) ++ output_of w more) before after
     both ys zs (takes_bytes _ _ _ _ xs consumed same) (takes_bytes _ _ _ _ bytes left alike) =
         takes_bytes _ _ before after (xs ++ bytes)
         (Consumes-trans before mid after xs bytes consumed left)
         (λ more.
-        ap (given_of u) (append_assoc xs bytes more)
+        ap (output_of u) (append_assoc xs bytes more)
         ∙ same (bytes ++ more)
         ∙ ap (λ (l : List ℕ). ys ++ l) (alike more)
-        ∙ sym (append_assoc ys zs (given_of w more)))
+        ∙ sym (append_assoc ys zs (output_of w more)))
 
 -- From the start of a recording, the bytes returned are those in the bytes consumed, if these yield
 -- no more.
 carried_taken : (number distance : ℕ) (v : StreamValue) (bytes given : List ℕ)
     → ((more : List ℕ)
-    → given_of (start_of_stream number distance) (bytes ++ more) ≡ given ++ given_of v more)
-    → given_of v [] ≡ []
+    → output_of (start_of_stream number distance) (bytes ++ more) ≡ given ++ output_of v more)
+    → output_of v [] ≡ []
     → carried number distance bytes ≡ given
 carried_taken number distance v bytes given same none =
     sym (carried_given number distance bytes)
-    ∙ ap (given_of (start_of_stream number distance)) (sym (append-nil bytes))
+    ∙ ap (output_of (start_of_stream number distance)) (sym (append-nil bytes))
     ∙ same []
     ∙ ap (λ (l : List ℕ). given ++ l) none
     ∙ append-nil given
@@ -57,37 +57,37 @@ carried_taken number distance v bytes given same none =
 carried_left : (number distance : ℕ) (v : StreamValue) (all taken rest given : List ℕ)
     → all ≡ taken ++ rest
     → ((more : List ℕ)
-    → given_of (start_of_stream number distance) (taken ++ more) ≡ given ++ given_of v more)
-    → given_of v [] ≡ []
-    → carried number distance all ≡ carried number distance taken ++ given_of v rest
+    → output_of (start_of_stream number distance) (taken ++ more) ≡ given ++ output_of v more)
+    → output_of v [] ≡ []
+    → carried number distance all ≡ carried number distance taken ++ output_of v rest
 carried_left number distance v all taken rest given is same none =
     sym (carried_given number distance all)
-    ∙ ap (given_of (start_of_stream number distance)) is
+    ∙ ap (output_of (start_of_stream number distance)) is
     ∙ same rest
-    ∙ ap (λ (l : List ℕ). l ++ given_of v rest)
+    ∙ ap (λ (l : List ℕ). l ++ output_of v rest)
     (sym (carried_taken number distance v taken given same none))
 
 -- If a read fails within a PES packet, it fails within the same packet of the bytes before the
 -- rest.
-failed_before : (index : ℕ) (all front left : List ℕ)
-    → all ≡ front ++ left
+failed_before : (index : ℕ) (all prefix left : List ℕ)
+    → all ≡ prefix ++ left
     → FailsAtPacket index (Some all) (Some left)
-    → FailsAtPacket index (Some front) (Some [])
-failed_before index all front left is failed =
-    at failed.behind failed.before failed.within
+    → FailsAtPacket index (Some prefix) (Some [])
+failed_before index all prefix left is failed =
+    at failed.following failed.before failed.within
   where
-    at : (behind : Option (List ℕ))
-        → TakesPackets index (Some all) behind
-        → FailsWithin behind (Some left)
-        → FailsAtPacket index (Some front) (Some [])
+    at : (following : Option (List ℕ))
+        → TakesPackets index (Some all) following
+        → FailsWithin following (Some left)
+        → FailsAtPacket index (Some prefix) (Some [])
     at None before within = absurd before.consumed
     at (Some bytes) before within = record {
-      behind = Some within.bytes;
+      following = Some within.bytes;
       before = record {
         packets = before.packets;
         number = before.number;
         each = before.each;
-        consumed = append_cancel_right front (concat before.packets ++ within.bytes) left
+        consumed = append_cancel_right prefix (concat before.packets ++ within.bytes) left
             (sym is
             ∙ before.consumed
             ∙ ap (λ (l : List ℕ). concat before.packets ++ l) within.consumed
@@ -102,67 +102,68 @@ failed_before index all front left is failed =
 
 -- The bytes consumed determine this. For `law_of_failed_read`.
 pub failed_read : (number distance : ℕ) (v : StreamValue) (recording rest : List ℕ)
-    → GivesOn (start_of_stream number distance) v (Some recording) (Some rest)
-    → given_of v [] ≡ []
+    → OutputsOn (start_of_stream number distance) v (Some recording) (Some rest)
+    → output_of v [] ≡ []
     → IsCutOff number distance v recording rest
-failed_read number distance v recording rest on none = told on.given on.takes
+failed_read number distance v recording rest on none = reported on.given on.takes
   where
-    told : (given : List ℕ)
-        → TakesFront (given_of (start_of_stream number distance))
-        (λ more. given ++ given_of v more) (Some recording) (Some rest)
+    reported : (given : List ℕ)
+        → TakesPrefix (output_of (start_of_stream number distance))
+        (λ more. given ++ output_of v more) (Some recording) (Some rest)
         → IsCutOff number distance v recording rest
-    told given (takes_bytes _ _ _ _ taken consumed same) =
+    reported given (takes_bytes _ _ _ _ taken consumed same) =
         let all = carried_left number distance v recording taken rest given consumed same none in
         record {
           taken = taken;
-          front = consumed;
+          prefix = consumed;
           carries = all;
           place = λ index failed.
               failed_before index (carried number distance recording)
-              (carried number distance taken) (given_of v rest) all failed;
+              (carried number distance taken) (output_of v rest) all failed;
         }
 
 -- ---- one call
 
 -- The first item that was ready was returned.
-front_gives : (before told : Option (List ℕ)) (u v w : StreamValue) (piece : List ℕ)
-    → TakesFront (given_of u) (given_of v) before told
-    → v.joining.pending ≡ piece ++ w.joining.pending
+prefix_gives : (before reported : Option (List ℕ)) (u v w : StreamValue) (pes_packet : List ℕ)
+    → TakesPrefix (output_of u) (output_of v) before reported
+    → v.joining.pending ≡ pes_packet ++ w.joining.pending
     → w.joining ≡ record v.joining { pending = w.joining.pending }
     → w ≡ record v { joining = w.joining }
-    → GivesOn u w before told
-front_gives before told u v w piece takes front same only = record {
-  given = piece;
-  takes = takes_on (given_of u) (given_of v) (λ more. piece ++ given_of w more) before told takes
-      (λ more. sym (given_front v w.joining.pending piece more front
-      ∙ ap (λ (s : StreamValue). piece ++ given_of s more) (sym whole)));
+    → OutputsOn u w before reported
+prefix_gives before reported u v w pes_packet takes prefix same only = record {
+  given = pes_packet;
+  takes = takes_on (output_of u) (output_of v) (λ more. pes_packet ++ output_of w more) before
+      reported takes
+      (λ more. sym (given_prefix v w.joining.pending pes_packet more prefix
+      ∙ ap (λ (s : StreamValue). pes_packet ++ output_of s more) (sym whole)));
 }
   where
     whole : w ≡ record v { joining = record v.joining { pending = w.joining.pending } }
     whole = only ∙ ap (λ (j : JoiningValue). record v { joining = j }) same
 
 -- Nothing was returned.
-nothing_gives : (before told : Option (List ℕ)) (u v w : StreamValue)
-    → TakesFront (given_of u) (given_of v) before told
+nothing_gives : (before reported : Option (List ℕ)) (u v w : StreamValue)
+    → TakesPrefix (output_of u) (output_of v) before reported
     → w.joining ≡ v.joining
     → w ≡ record v { joining = w.joining }
-    → GivesOn u w before told
-nothing_gives before told u v w takes same only =
-    subst (λ (s : StreamValue). GivesOn u s before told)
+    → OutputsOn u w before reported
+nothing_gives before reported u v w takes same only =
+    subst (λ (s : StreamValue). OutputsOn u s before reported)
     (sym (only ∙ ap (λ (j : JoiningValue). record v { joining = j }) same))
     (record { given = []; takes = takes })
 
 -- After reading on, the first item that is ready was returned. For `next`.
-pub next_gives : (before told : Option (List ℕ)) (u v w : StreamValue) (n : Next)
-    → TakesFront (given_of u) (given_of v) before told
+pub next_gives : (before reported : Option (List ℕ)) (u v w : StreamValue) (n : Next)
+    → TakesPrefix (output_of u) (output_of v) before reported
     → TakesNext v.joining n w.joining
     → w ≡ record v { joining = w.joining }
-    → GivesOn u w before told
-next_gives before told u v w next.Nothing takes taken only =
-    nothing_gives before told u v w takes taken.1 only
-next_gives before told u v w (next.Rest fault) takes taken only =
-    nothing_gives before told u v w takes taken.3 only
-next_gives before told u v w next.Mark takes taken only =
-    front_gives before told u v w mark takes taken.0 taken.1 only
-next_gives before told u v w (next.Packet size) takes taken only =
-    front_gives before told u v w (take size v.joining.bytes) takes taken.2 taken.3 only
+    → OutputsOn u w before reported
+next_gives before reported u v w next.Nothing takes taken only =
+    nothing_gives before reported u v w takes taken.1 only
+next_gives before reported u v w (next.Rest fault) takes taken only =
+    nothing_gives before reported u v w takes taken.3 only
+next_gives before reported u v w next.GapMarker takes taken only =
+    prefix_gives before reported u v w gap_marker takes taken.0 taken.1 only
+next_gives before reported u v w (next.Packet size) takes taken only =
+    prefix_gives before reported u v w (take size v.joining.bytes) takes taken.2 taken.3 only

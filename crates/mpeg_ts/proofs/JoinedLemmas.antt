@@ -4,11 +4,11 @@ use Rattle.std.proofs.Common.{◌≡◌, ℕ, List, [], ◌∷◌, ◌++◌, len
 use Rattle.std.proofs.Common.{refl, sym, ap, ◌∙◌, subst, arith, append_assoc}
 use Rattle.std.proofs.lemmas.List.{append-nil}
 use Rattle.std.specs.Prelude.{◌&&◌, ◌||◌, not, nat_lt, if◌then◌else◌}
-use Rattle.mpeg_ts.specs.Carried.{mark_where}
+use Rattle.mpeg_ts.specs.Carried.{gap_marker_where}
 use Rattle.mpeg_ts.specs.GoodPackets.{GoodPacket}
 use Rattle.mpeg_ts.specs.Joining.{JoiningValue, after_good, begun, found_in, gave_packet}
-use Rattle.mpeg_ts.specs.Joining.{given_after}
-use Rattle.mpeg_ts.specs.Joining.{handed_over, has_ended, holding, is_complete, remembering}
+use Rattle.mpeg_ts.specs.Joining.{last_output_after}
+use Rattle.mpeg_ts.specs.Joining.{delivered, has_ended, with_buffered, is_complete, remembering}
 use Rattle.mpeg_ts.specs.Joining.{settled_as, with_gap}
 use Rattle.mpeg_ts.specs.Parts.{PartOutcome, Part, begins_part, gap_where, is_break, outcome}
 use Rattle.mpeg_ts.specs.Parts.{part_bytes, part_of}
@@ -19,21 +19,24 @@ use Rattle.mpeg_ts.specs.declared.joining.Given.TheVariants as given
 use Rattle.mpeg_ts.specs.declared.joining.Found.{Found}
 use Rattle.mpeg_ts.specs.declared.joining.Found.TheVariants as found
 use Rattle.mpeg_ts.specs.declared.joining.PartState.TheVariants.{Headless, Open, Complete, Ended}
-use Rattle.mpeg_ts.proofs.OutcomeLemmas.{HavePayloads, IsOther, behind, by_bool, bytes-with, give}
-use Rattle.mpeg_ts.proofs.OutcomeLemmas.{give-again, give-end, give-end_whole, give-excess}
-use Rattle.mpeg_ts.proofs.OutcomeLemmas.{give-gap_where, give-other, give-quiet, other_found}
+use Rattle.mpeg_ts.proofs.OutcomeLemmas.{HavePayloads, IsOther, following, by_bool, bytes-with}
+use Rattle.mpeg_ts.proofs.OutcomeLemmas.{output}
+use Rattle.mpeg_ts.proofs.OutcomeLemmas.{output-again, output-end, output-end_complete}
+use Rattle.mpeg_ts.proofs.OutcomeLemmas.{output-excess}
+use Rattle.mpeg_ts.proofs.OutcomeLemmas.{output-gap_where, output-other, output-silent, other_found}
 use Rattle.mpeg_ts.proofs.OutcomeLemmas.{other_with_last, outcome-headless, outcome-unfinished}
-use Rattle.mpeg_ts.proofs.OutcomeLemmas.{quiet_after, tail, tail-whole, up_to-last, whole_found}
+use Rattle.mpeg_ts.proofs.OutcomeLemmas.{fault_free_after, tail, tail-whole, up_to-last}
+use Rattle.mpeg_ts.proofs.OutcomeLemmas.{complete_found}
 
 -- The output of good packets in order, after everything that was ready was returned; `wrong`: an
 -- unusable packet follows the last one.
 abbrev pub joined : JoiningValue → Bool → List GoodPacket → List ℕ
-joined v wrong [] = if has_ended v.part then [] else mark_where (wrong && gave_packet v.given)
+joined v wrong [] = if has_ended v.part then [] else gap_marker_where (wrong && gave_packet v.given)
 joined v wrong (g ∷ more) =
     if has_ended v.part then []
     else
     (after_good g.link v g.packet).pending
-    ++ joined (handed_over (after_good g.link v g.packet)) wrong more
+    ++ joined (delivered (after_good g.link v g.packet)) wrong more
 
 -- After the end there is no output.
 pub joined-ended : (v : JoiningValue) (wrong : Bool) (goods : List GoodPacket)
@@ -48,27 +51,27 @@ pub record Claims (wrong : Bool) (goods : List GoodPacket) : Type 0 where
   pub headless :
       (v : JoiningValue) (part : Part)
       → part.begins ≡ false
-      → joined (record v { part = Headless }) wrong goods ≡ give v.given (tail wrong part goods)
+      → joined (record v { part = Headless }) wrong goods ≡ output v.given (tail wrong part goods)
   -- A part with an incomplete PES packet.
   pub opened :
       (v : JoiningValue) (part : Part)
       → part.begins ≡ true
       → found_in (part_bytes part) ≡ found.Unfinished
       → joined (record v { part = Open; bytes = part_bytes part }) wrong goods
-      ≡ give v.given (tail wrong part goods)
+      ≡ output v.given (tail wrong part goods)
   -- A part whose PES packet was returned.
   pub complete :
       (v : JoiningValue) (excess : Bool)
       → (excess ≡ true → gave_packet v.given ≡ false)
       → joined (record v { part = Complete }) wrong goods
-      ≡ give v.given (behind excess wrong goods)
+      ≡ output v.given (following excess wrong goods)
 
 -- ---- a part with bytes
 
 -- The output of an open part, by its contents, and what follows.
 abbrev pub settled_gives : Found → JoiningValue → Bool → List GoodPacket → List ℕ
 settled_gives f v wrong more =
-    (settled_as f v).pending ++ joined (handed_over (settled_as f v)) wrong more
+    (settled_as f v).pending ++ joined (delivered (settled_as f v)) wrong more
 
 -- The output of a part with these bytes, after a gap or not.
 abbrev pub given_open : Bool → JoiningValue → List ℕ → Bool → List GoodPacket → List ℕ
@@ -77,17 +80,17 @@ given_open gap v bytes wrong more =
     more
 
 -- After a PES packet with more bytes, a gap marker was returned last.
-quiet_excess : (excess : Bool)
+fault_free_excess : (excess : Bool)
     → excess ≡ true
-    → gave_packet (if excess then given.Mark else given.Packet) ≡ false
-quiet_excess excess h1 = grind (arith, nat_tests)
+    → gave_packet (if excess then given.GapMarker else given.Packet) ≡ false
+fault_free_excess excess h1 = grind (arith, nat_tests)
 
 -- The gap marker after a PES packet.
 excess_given : (excess wrong : Bool) (more : List GoodPacket)
-    → mark_where excess
-    ++ give (if excess then given.Mark else given.Packet) (behind excess wrong more)
-    ≡ give given.Packet (behind excess wrong more)
-excess_given excess wrong more = grind (arith, nat_tests, give-excess)
+    → gap_marker_where excess
+    ++ output (if excess then given.GapMarker else given.Packet) (following excess wrong more)
+    ≡ output given.Packet (following excess wrong more)
+excess_given excess wrong more = grind (arith, nat_tests, output-excess)
 
 -- The output of a part, by its contents.
 settle_by : (gap : Bool) (v : JoiningValue) (part : Part) (wrong : Bool) (more : List GoodPacket)
@@ -98,14 +101,14 @@ settle_by : (gap : Bool) (v : JoiningValue) (part : Part) (wrong : Bool) (more :
     → (f : Found)
     → found_in (part_bytes part) ≡ f
     → settled_gives f (with_gap gap (record v { part = Open; bytes = part_bytes part })) wrong more
-    ≡ mark_where (gap && gave_packet v.given)
-    ++ give (given_after gap v.given) (tail wrong part more)
+    ≡ gap_marker_where (gap && gave_packet v.given)
+    ++ output (last_output_after gap v.given) (tail wrong part more)
 settle_by gap v part wrong more all claims begins last found.Unfinished e =
-    ap (λ l. mark_where (gap && gave_packet v.given) ++ l)
+    ap (λ l. gap_marker_where (gap && gave_packet v.given) ++ l)
     (claims.opened
-    (handed_over (with_gap gap (record v { part = Open; bytes = part_bytes part }))) part begins e)
+    (delivered (with_gap gap (record v { part = Open; bytes = part_bytes part }))) part begins e)
 settle_by gap v part wrong more all claims begins last (found.Other f) e =
-    let before = mark_where (gap && gave_packet v.given) in
+    let before = gap_marker_where (gap && gave_packet v.given) in
     let bytes = part_bytes part in
     let state : JoiningValue = record (with_gap gap (record v { part = Open; bytes = bytes })) {
       part = Ended;
@@ -115,27 +118,27 @@ settle_by gap v part wrong more all claims begins last (found.Other f) e =
     ap (λ l. (before ++ bytes) ++ l) (joined-ended state wrong more refl)
     ∙ append-nil (before ++ bytes)
     ∙ ap (λ l. before ++ l)
-    (sym (give-other (given_after gap v.given) wrong part more begins o ∙ last o))
+    (sym (output-other (last_output_after gap v.given) wrong part more begins o ∙ last o))
 settle_by gap v part wrong more all claims begins last (found.Whole size) e =
-    let before = mark_where (gap && gave_packet v.given) in
+    let before = gap_marker_where (gap && gave_packet v.given) in
     let bytes = part_bytes part in
-    let front = take size bytes in
+    let prefix = take size bytes in
     let excess = nat_lt size (length bytes) in
-    let after = if excess then given.Mark else given.Packet in
+    let after = if excess then given.GapMarker else given.Packet in
     let state : JoiningValue = record (with_gap gap (record v { part = Open; bytes = bytes })) {
       part = Complete;
       given = after;
       pending = [];
     } in
-    let w = whole_found bytes size e in
-    let rest = give after (behind excess wrong more) in
-    ap (λ l. (before ++ (front ++ mark_where excess)) ++ l)
-    (claims.complete state excess (quiet_excess excess))
-    ∙ append_assoc before (front ++ mark_where excess) rest
-    ∙ ap (λ l. before ++ l) (append_assoc front (mark_where excess) rest
-    ∙ ap (λ l. front ++ l) (excess_given excess wrong more))
+    let w = complete_found bytes size e in
+    let rest = output after (following excess wrong more) in
+    ap (λ l. (before ++ (prefix ++ gap_marker_where excess)) ++ l)
+    (claims.complete state excess (fault_free_excess excess))
+    ∙ append_assoc before (prefix ++ gap_marker_where excess) rest
+    ∙ ap (λ l. before ++ l) (append_assoc prefix (gap_marker_where excess) rest
+    ∙ ap (λ l. prefix ++ l) (excess_given excess wrong more))
     ∙ ap (λ l. before ++ l)
-    (sym (ap (give (given_after gap v.given))
+    (sym (ap (output (last_output_after gap v.given))
     (tail-whole wrong part size more all begins w)))
 
 -- The output of a part.
@@ -145,8 +148,8 @@ settle : (gap : Bool) (v : JoiningValue) (part : Part) (wrong : Bool) (more : Li
     → part.begins ≡ true
     → (IsOther (part_bytes part) → up_to 6 part.payloads ≡ part_bytes part)
     → given_open gap v (part_bytes part) wrong more
-    ≡ mark_where (gap && gave_packet v.given)
-    ++ give (given_after gap v.given) (tail wrong part more)
+    ≡ gap_marker_where (gap && gave_packet v.given)
+    ++ output (last_output_after gap v.given) (tail wrong part more)
 settle gap v part wrong more h1 h2 h3 h4 = grind (arith, nat_tests, settle_by)
 
 -- ---- a new part
@@ -163,10 +166,10 @@ new_part_by : (wrong : Bool) (more : List GoodPacket) (v : JoiningValue) (g : Go
     → (b : Bool)
     → begins g.packet ≡ b
     → (begun (is_break g.link) b (remembering v g.packet) (payload g.packet)).pending
-    ++ joined (handed_over (begun (is_break g.link) b (remembering v g.packet) (payload g.packet)))
+    ++ joined (delivered (begun (is_break g.link) b (remembering v g.packet) (payload g.packet)))
     wrong more
-    ≡ mark_where ((is_break g.link || not (is_complete v.part)) && gave_packet v.given)
-    ++ give (given_after (is_break g.link || not (is_complete v.part)) v.given)
+    ≡ gap_marker_where ((is_break g.link || not (is_complete v.part)) && gave_packet v.given)
+    ++ output (last_output_after (is_break g.link || not (is_complete v.part)) v.given)
     (tail wrong (part_of g) more)
 new_part_by wrong more v g all claims true e =
     let gap = is_break g.link || not (is_complete v.part) in
@@ -177,9 +180,9 @@ new_part_by wrong more v g all claims true e =
 new_part_by wrong more v g all claims false e =
     let gap = is_break g.link || not (is_complete v.part) in
     let state : JoiningValue =
-    holding gap (record (remembering v g.packet) { part = Headless }) (payload g.packet) in
-    ap (λ l. mark_where (gap && gave_packet v.given) ++ l)
-    (claims.headless (handed_over state) (part_of g) e)
+    with_buffered gap (record (remembering v g.packet) { part = Headless }) (payload g.packet) in
+    ap (λ l. gap_marker_where (gap && gave_packet v.given) ++ l)
+    (claims.headless (delivered state) (part_of g) e)
 
 -- The output of a new part.
 pub new_part : (wrong : Bool) (more : List GoodPacket) (v : JoiningValue) (g : GoodPacket)
@@ -187,10 +190,10 @@ pub new_part : (wrong : Bool) (more : List GoodPacket) (v : JoiningValue) (g : G
     → Claims wrong more
     → (begun (is_break g.link) (begins g.packet) (remembering v g.packet)
     (payload g.packet)).pending
-    ++ joined (handed_over (begun (is_break g.link) (begins g.packet) (remembering v g.packet)
+    ++ joined (delivered (begun (is_break g.link) (begins g.packet) (remembering v g.packet)
     (payload g.packet))) wrong more
-    ≡ mark_where ((is_break g.link || not (is_complete v.part)) && gave_packet v.given)
-    ++ give (given_after (is_break g.link || not (is_complete v.part)) v.given)
+    ≡ gap_marker_where ((is_break g.link || not (is_complete v.part)) && gave_packet v.given)
+    ++ output (last_output_after (is_break g.link || not (is_complete v.part)) v.given)
     (tail wrong (part_of g) more)
 new_part wrong more v g all claims =
     new_part_by wrong more v g all claims (begins g.packet) refl
@@ -204,32 +207,39 @@ or_false : (b : Bool) → (b || false) ≡ b
 or_false b = grind (arith, nat_tests)
 
 -- After a gap marker, another gap yields nothing.
-give-excess_quiet : (g : Given) (excess : Bool) (rest : List PartOutcome)
+output-excess_fault_free : (g : Given) (excess : Bool) (rest : List PartOutcome)
     → (excess ≡ true → gave_packet g ≡ false)
-    → give g rest ≡ give g (gap_where excess ++ rest)
-give-excess_quiet g excess rest h1 = grind (arith, nat_tests, give-quiet)
+    → output g rest ≡ output g (gap_where excess ++ rest)
+output-excess_fault_free g excess rest h1 = grind (arith, nat_tests, output-silent)
 
 -- A new part after an incomplete one, which is a gap.
 after_unfinished : (wrong : Bool) (more : List GoodPacket) (part : Part) (h : Given)
     (g : GoodPacket)
     → outcome false part ≡ gap_where true
-    → mark_where ((is_break g.link || true) && gave_packet h)
-    ++ give (given_after (is_break g.link || true) h) (tail wrong (part_of g) more)
-    ≡ give h (outcome false part ++ (gap_where (is_break g.link) ++ tail wrong (part_of g) more))
-after_unfinished wrong more part h g h1 = grind (arith, nat_tests, tail, give, or_true, give-again)
+    → gap_marker_where ((is_break g.link || true) && gave_packet h)
+    ++ output (last_output_after (is_break g.link || true) h) (tail wrong (part_of g) more)
+    ≡ output h (outcome false part ++ (gap_where (is_break g.link) ++ tail wrong (part_of g) more))
+after_unfinished wrong more part h g h1 = grind (
+  arith,
+  nat_tests,
+  tail,
+  output,
+  or_true,
+  output-again,
+)
 
 -- The output of good packets from any state.
 pub claims : (wrong : Bool) (goods : List GoodPacket) → HavePayloads goods → Claims wrong goods
 claims wrong [] all = record {
   headless = λ v part begins.
-      give-end v.given wrong
-      ∙ sym (ap (λ l. give v.given (l ++ gap_where wrong))
+      output-end v.given wrong
+      ∙ sym (ap (λ l. output v.given (l ++ gap_where wrong))
       (outcome-headless (not wrong) part begins));
   opened = λ v part begins e.
-      give-end v.given wrong
-      ∙ sym (ap (λ l. give v.given (l ++ gap_where wrong))
+      output-end v.given wrong
+      ∙ sym (ap (λ l. output v.given (l ++ gap_where wrong))
       (outcome-unfinished (not wrong) part begins e));
-  complete = λ v excess quiet. give-end_whole v.given excess wrong quiet;
+  complete = λ v excess silent. output-end_complete v.given excess wrong silent;
 }
 claims wrong (g ∷ more) all =
     let rest = claims wrong more all.1 in
@@ -242,7 +252,7 @@ claims wrong (g ∷ more) all =
           new_part wrong more state g all.1 rest
           ∙ after_unfinished wrong more part v.given g (outcome-headless false part begins)))
           (λ no. rw no (
-          rest.headless (handed_over (holding false (remembering state g.packet) p))
+          rest.headless (delivered (with_buffered false (remembering state g.packet) p))
           (with_packet part g) begins));
       opened = λ v part begins e.
           let state : JoiningValue = record v { part = Open; bytes = part_bytes part } in
@@ -257,19 +267,20 @@ claims wrong (g ∷ more) all =
           (λ o. up_to-last 6 part.payloads p
           (other_with_last (part_bytes part) p e (subst IsOther (bytes-with part g) o))
           ∙ sym (bytes-with part g))));
-      complete = λ v excess quiet.
+      complete = λ v excess silent.
           let state : JoiningValue = record v { part = Complete } in
           let after = tail wrong (part_of g) more in
           by_bool (begins_part g)
           (λ yes. rw yes (
           new_part wrong more state g all.1 rest
-          ∙ ap (λ b. mark_where (b && gave_packet v.given) ++ give (given_after b v.given) after)
+          ∙ ap (λ b. gap_marker_where (b && gave_packet v.given) ++ output
+          (last_output_after b v.given) after)
           (or_false (is_break g.link))
-          ∙ sym (give-gap_where v.given (is_break g.link) after)
-          ∙ give-excess_quiet v.given excess (gap_where (is_break g.link) ++ after) quiet))
+          ∙ sym (output-gap_where v.given (is_break g.link) after)
+          ∙ output-excess_fault_free v.given excess (gap_where (is_break g.link) ++ after) silent))
           (λ no. rw no (
-          ap (λ l. mark_where (gave_packet v.given) ++ l)
-          (rest.complete (handed_over (holding true (remembering state g.packet) p)) true
-          (λ _. quiet_after v.given))
-          ∙ sym (give-excess v.given wrong more)));
+          ap (λ l. gap_marker_where (gave_packet v.given) ++ l)
+          (rest.complete (delivered (with_buffered true (remembering state g.packet) p)) true
+          (λ _. fault_free_after v.given))
+          ∙ sym (output-excess v.given wrong more)));
     }

@@ -4,15 +4,17 @@ use Rattle.std.proofs.Common.{◌≡◌, ℕ, ◌<◌, List, [], ◌∷◌, ◌+
 use Rattle.std.proofs.Common.{Option, Some, None, refl, sym, ap, ◌∙◌, subst, arith, append_assoc}
 use Rattle.std.proofs.lemmas.List.{append-nil, get_or-take}
 use Rattle.std.specs.Prelude.{◌&&◌, ◌||◌, not, if◌then◌else◌, bytes_eq}
-use Rattle.mpeg_ts.specs.Carried.{mark, mark_where}
+use Rattle.mpeg_ts.specs.Carried.{gap_marker, gap_marker_where}
 use Rattle.mpeg_ts.specs.GoodPackets.{GoodPacket, GoodPackets, Link, First, Follows, Seam, Break}
 use Rattle.mpeg_ts.specs.GoodPackets.{Note}
-use Rattle.mpeg_ts.specs.GoodPackets.{Valid, Wrong, Hole, Since, good_after, counts_on, is_repeat}
-use Rattle.mpeg_ts.specs.GoodPackets.{is_repeat_of, link_from, linked, nothing_since, with_good}
+use Rattle.mpeg_ts.specs.GoodPackets.{Valid, Wrong, Loss, PacketHistory, good_after, counts_on}
+use Rattle.mpeg_ts.specs.GoodPackets.{is_repeat}
+use Rattle.mpeg_ts.specs.GoodPackets.{is_repeat_of, link_from, linked, empty_history, with_good}
 use Rattle.mpeg_ts.specs.Joining.{JoiningValue, after_good, after_note, after_valid, begun}
 use Rattle.mpeg_ts.specs.Joining.{found_in}
-use Rattle.mpeg_ts.specs.Joining.{counter_goes_on, gave_packet, given_after, given_later, gone_on}
-use Rattle.mpeg_ts.specs.Joining.{grown, handed_over, has_ended, link_after}
+use Rattle.mpeg_ts.specs.Joining.{counter_goes_on, gave_packet, last_output_after, later_output}
+use Rattle.mpeg_ts.specs.Joining.{gone_on}
+use Rattle.mpeg_ts.specs.Joining.{grown, delivered, has_ended, link_after}
 use Rattle.mpeg_ts.specs.Joining.{remembering, repeats, settled_as}
 use Rattle.mpeg_ts.specs.Parts.{is_unlinked}
 use Rattle.mpeg_ts.specs.TransportPacket.{announces_jump, begins, has_payload}
@@ -24,7 +26,7 @@ use Rattle.mpeg_ts.specs.declared.joining.Found.{Found}
 use Rattle.mpeg_ts.specs.declared.joining.PartState.{PartState}
 use Rattle.mpeg_ts.specs.declared.joining.PartState.TheVariants.{Open}
 use Rattle.mpeg_ts.proofs.JoinedLemmas.{joined, joined-ended, or_true}
-use Rattle.mpeg_ts.proofs.OutcomeLemmas.{HavePayloads, by_bool, quiet_after}
+use Rattle.mpeg_ts.proofs.OutcomeLemmas.{HavePayloads, by_bool, fault_free_after}
 
 -- ---- the state after a good packet
 
@@ -70,11 +72,11 @@ KeepsLast v None = v.last ≡ []
 KeepsLast v (Some q) = IsLast v q × (0 < length (payload q))
 
 -- The state agrees with the events since the last good packet.
-pub record Knows (v : JoiningValue) (s : Since) : Type 0 where
+pub record Knows (v : JoiningValue) (s : PacketHistory) : Type 0 where
   pub repeat : v.has_repeat ≡ s.has_repeat
   pub jump : v.has_jump ≡ s.has_jump
-  pub lost : v.has_break ≡ (s.has_wrong || s.has_hole)
-  pub quiet : s.has_wrong ≡ true → gave_packet v.given ≡ false
+  pub lost : v.has_break ≡ (s.has_wrong || s.has_loss)
+  pub silent : s.has_wrong ≡ true → gave_packet v.given ≡ false
   pub none : s.good ≡ None → gave_packet v.given ≡ false
   pub last : KeepsLast v s.good
 
@@ -92,7 +94,7 @@ nil_not_some : (xs : List ℕ) → 0 < length xs → bytes_eq [] xs ≡ false
 nil_not_some xs h1 = grind (arith, nat_tests)
 
 -- A packet repeats the last good one.
-repeats_by : (v : JoiningValue) (s : Since) (o : Option (List ℕ)) (p : List ℕ)
+repeats_by : (v : JoiningValue) (s : PacketHistory) (o : Option (List ℕ)) (p : List ℕ)
     → KeepsLast v o
     → v.has_repeat ≡ s.has_repeat
     → v.has_jump ≡ s.has_jump
@@ -118,10 +120,10 @@ counter_kept : (v : JoiningValue) (q p : List ℕ)
 counter_kept v q p h1 = grind (arith, nat_tests, get_or-take)
 
 -- Both definitions of the link agree.
-link_same : (v : JoiningValue) (s : Since) (o : Option (List ℕ)) (p : List ℕ)
+link_same : (v : JoiningValue) (s : PacketHistory) (o : Option (List ℕ)) (p : List ℕ)
     → KeepsLast v o
     → v.has_jump ≡ s.has_jump
-    → v.has_break ≡ (s.has_wrong || s.has_hole)
+    → v.has_break ≡ (s.has_wrong || s.has_loss)
     → link_after v v.last p ≡ link_from o s p
 link_same v s o p h1 h2 h3 = grind (arith, nat_tests, link_some, counter_kept)
 
@@ -132,10 +134,10 @@ abbrev pub AreSound : List Note → Type 0
 AreSound [] = Unit {0}
 AreSound (Valid p ∷ more) = (has_payload p ≡ true → 0 < length (payload p)) × AreSound more
 AreSound (Wrong ∷ more) = AreSound more
-AreSound (Hole ∷ more) = AreSound more
+AreSound (Loss ∷ more) = AreSound more
 
 -- A packet without a payload.
-good-no_payload : (s : Since) (p : List ℕ) (more : List Note)
+good-no_payload : (s : PacketHistory) (p : List ℕ) (more : List Note)
     → has_payload p ≡ false
     → good_after s (Valid p ∷ more)
     ≡ good_after (record s { has_jump = s.has_jump || announces_jump p }) more
@@ -143,7 +145,7 @@ unfolding good_after
 good-no_payload s p more none = rw none refl
 
 -- A repeat.
-good-repeat : (s : Since) (p : List ℕ) (more : List Note)
+good-repeat : (s : PacketHistory) (p : List ℕ) (more : List Note)
     → has_payload p ≡ true
     → is_repeat s p ≡ true
     → good_after s (Valid p ∷ more) ≡ good_after (record s { has_repeat = true }) more
@@ -151,11 +153,11 @@ unfolding good_after
 good-repeat s p more some again = rw (some, again) refl
 
 -- A good packet.
-good-good : (s : Since) (p : List ℕ) (more : List Note)
+good-good : (s : PacketHistory) (p : List ℕ) (more : List Note)
     → has_payload p ≡ true
     → is_repeat s p ≡ false
     → good_after s (Valid p ∷ more)
-    ≡ with_good (linked s p) (good_after (nothing_since (Some p)) more)
+    ≡ with_good (linked s p) (good_after (empty_history (Some p)) more)
 unfolding good_after
 good-good s p more some other = rw (some, other) refl
 
@@ -184,24 +186,24 @@ valid-good v p some other = rw (some, other) refl
 step_by : (v : JoiningValue) (n : Note) (more : List Note) (all : List ℕ)
     → (has_ended v.part ≡ true → [] ≡ all)
     → (has_ended v.part ≡ false
-    → (after_note (handed_over v) n).pending
-    ++ given_later (handed_over (after_note (handed_over v) n)) more
+    → (after_note (delivered v) n).pending
+    ++ later_output (delivered (after_note (delivered v) n)) more
     ≡ all)
-    → given_later (handed_over v) (n ∷ more) ≡ all
-unfolding given_later
+    → later_output (delivered v) (n ∷ more) ≡ all
+unfolding later_output
 step_by v n more all h1 h2 = grind (arith, nat_tests)
 
 -- Events since the last good packet do not change the output of good packets.
 joined-flags : (v : JoiningValue) (a b c wrong : Bool) (goods : List GoodPacket)
-    → joined (handed_over (record v { has_repeat = a; has_jump = b; has_break = c })) wrong goods
-    ≡ joined (handed_over v) wrong goods
+    → joined (delivered (record v { has_repeat = a; has_jump = b; has_break = c })) wrong goods
+    ≡ joined (delivered v) wrong goods
 joined-flags v a b c wrong [] = refl
 joined-flags v a b c wrong (g ∷ more) = refl
 
 -- No more events.
 no_note : (ended wrong given : Bool)
     → (wrong ≡ true → given ≡ false)
-    → ◌≡◌ {A = List ℕ} [] (if ended then [] else mark_where (wrong && given))
+    → ◌≡◌ {A = List ℕ} [] (if ended then [] else gap_marker_where (wrong && given))
 no_note ended wrong given h1 = grind (arith, nat_tests)
 
 -- ---- an unusable packet
@@ -213,16 +215,16 @@ BeginBroken wrong [] = wrong ≡ true
 BeginBroken wrong (g ∷ more) = g.link ≡ Break
 
 -- This holds after an unusable packet that follows a good one.
-begin_broken : (s : Since) (q : List ℕ) (all : List Note)
+begin_broken : (s : PacketHistory) (q : List ℕ) (all : List Note)
     → s.has_wrong ≡ true
     → s.good ≡ Some q
-    → BeginBroken (good_after s all).wrong_behind (good_after s all).packets
+    → BeginBroken (good_after s all).wrong_after (good_after s all).packets
 unfolding good_after
 begin_broken s q [] wrong good = grind (arith, nat_tests)
 begin_broken s q (Wrong ∷ more) wrong good =
     grind (arith, nat_tests, (begin_broken (record s { has_wrong = true }) q more refl good))
-begin_broken s q (Hole ∷ more) wrong good =
-    grind (arith, nat_tests, (begin_broken (record s { has_hole = true }) q more wrong good))
+begin_broken s q (Loss ∷ more) wrong good =
+    grind (arith, nat_tests, (begin_broken (record s { has_loss = true }) q more wrong good))
 begin_broken s q (Valid p ∷ more) wrong good =
     grind (
       arith,
@@ -236,23 +238,23 @@ begin_broken s q (Valid p ∷ more) wrong good =
 
 -- What is ready comes before the output of a part.
 pending_first : (f : Found) (v : JoiningValue) (wrong : Bool) (more : List GoodPacket)
-    → (settled_as f (record v { pending = mark })).pending
-    ++ joined (handed_over (settled_as f (record v { pending = mark }))) wrong more
-    ≡ mark ++ ((settled_as f (record v { pending = [] })).pending
-    ++ joined (handed_over (settled_as f (record v { pending = [] }))) wrong more)
+    → (settled_as f (record v { pending = gap_marker })).pending
+    ++ joined (delivered (settled_as f (record v { pending = gap_marker }))) wrong more
+    ≡ gap_marker ++ ((settled_as f (record v { pending = [] })).pending
+    ++ joined (delivered (settled_as f (record v { pending = [] }))) wrong more)
 pending_first f v wrong more = grind (arith, nat_tests, append_assoc, joined)
 
 -- A part after lost data, whether or not the gap marker was returned before.
 begun_first : (b : Bool) (v : JoiningValue) (p : List ℕ) (wrong : Bool) (more : List GoodPacket)
-    → (begun true b (remembering (handed_over (record v { given = given.Packet })) p)
+    → (begun true b (remembering (delivered (record v { given = given.Packet })) p)
     (payload p)).pending
-    ++ joined (handed_over (begun true b
-    (remembering (handed_over (record v { given = given.Packet })) p) (payload p))) wrong more
-    ≡ mark ++ ((begun true b
-    (remembering (handed_over (record v { has_break = true; given = given.Mark })) p)
+    ++ joined (delivered (begun true b
+    (remembering (delivered (record v { given = given.Packet })) p) (payload p))) wrong more
+    ≡ gap_marker ++ ((begun true b
+    (remembering (delivered (record v { has_break = true; given = given.GapMarker })) p)
     (payload p)).pending
-    ++ joined (handed_over (begun true b
-    (remembering (handed_over (record v { has_break = true; given = given.Mark })) p)
+    ++ joined (delivered (begun true b
+    (remembering (delivered (record v { has_break = true; given = given.GapMarker })) p)
     (payload p))) wrong more)
 begun_first true v p wrong more =
     pending_first (found_in (payload p))
@@ -260,20 +262,20 @@ begun_first true v p wrong more =
       part = Open;
       bytes = payload p;
       last = payload p;
-      given = given.Mark;
+      given = given.GapMarker;
     }) wrong more
 begun_first false v p wrong more = refl
 
 -- A good packet after lost data.
 broken_first : (v : JoiningValue) (link : Link) (p : List ℕ) (wrong : Bool) (more : List GoodPacket)
     → link ≡ Break
-    → (after_good link (handed_over (record v { given = given.Packet })) p).pending
-    ++ joined (handed_over (after_good link (handed_over (record v { given = given.Packet })) p))
+    → (after_good link (delivered (record v { given = given.Packet })) p).pending
+    ++ joined (delivered (after_good link (delivered (record v { given = given.Packet })) p))
     wrong more
-    ≡ mark ++ ((after_good link
-    (handed_over (record v { has_break = true; given = given.Mark })) p).pending
-    ++ joined (handed_over (after_good link
-    (handed_over (record v { has_break = true; given = given.Mark })) p)) wrong more)
+    ≡ gap_marker ++ ((after_good link
+    (delivered (record v { has_break = true; given = given.GapMarker })) p).pending
+    ++ joined (delivered (after_good link
+    (delivered (record v { has_break = true; given = given.GapMarker })) p)) wrong more)
 broken_first v First p wrong more is = absurd cc
 broken_first v Follows p wrong more is = absurd cc
 broken_first v Seam p wrong more is = absurd cc
@@ -285,38 +287,40 @@ broken_first v Break p wrong more is =
 gap_first : (v : JoiningValue) (g : Given) (wrong : Bool) (goods : List GoodPacket)
     → has_ended v.part ≡ false
     → (gave_packet g ≡ true → BeginBroken wrong goods)
-    → joined (handed_over (record v { given = g })) wrong goods
-    ≡ mark_where (gave_packet g)
-    ++ joined (handed_over (record v { has_break = true; given = given_after true g })) wrong goods
+    → joined (delivered (record v { given = g })) wrong goods
+    ≡ gap_marker_where (gave_packet g)
+    ++ joined (delivered (record v { has_break = true; given = last_output_after true g })) wrong
+    goods
 gap_first v given.Nothing wrong goods going broken =
     sym (joined-flags (record v { given = given.Nothing }) v.has_repeat v.has_jump true wrong goods)
-gap_first v given.Mark wrong goods going broken =
-    sym (joined-flags (record v { given = given.Mark }) v.has_repeat v.has_jump true wrong goods)
+gap_first v given.GapMarker wrong goods going broken =
+    sym (joined-flags (record v { given = given.GapMarker }) v.has_repeat v.has_jump true wrong
+    goods)
 gap_first v given.Packet wrong [] going broken =
     let yes_wrong : wrong ≡ true = broken refl in
-    rw (going, yes_wrong) (sym (append-nil mark))
+    rw (going, yes_wrong) (sym (append-nil gap_marker))
 gap_first v given.Packet wrong (g ∷ more) going broken =
     rw going (broken_first v g.link g.packet wrong more (broken refl))
 
 -- ---- all events
 
 -- An unusable packet before any good one has no gap marker.
-after_wrong_broken : (v : JoiningValue) (s : Since) (o : Option (List ℕ)) (all : List Note)
+after_wrong_broken : (v : JoiningValue) (s : PacketHistory) (o : Option (List ℕ)) (all : List Note)
     → s.good ≡ o
     → (s.good ≡ None → gave_packet v.given ≡ false)
     → gave_packet v.given ≡ true
-    → BeginBroken (good_after (record s { has_wrong = true }) all).wrong_behind
+    → BeginBroken (good_after (record s { has_wrong = true }) all).wrong_after
     (good_after (record s { has_wrong = true }) all).packets
 after_wrong_broken v s o all h1 h2 h3 = grind (arith, nat_tests, begin_broken)
 
 -- The output of events is that of the good packets among them.
-abbrev pub Agrees : JoiningValue → Since → List Note → Type 0
+abbrev pub Agrees : JoiningValue → PacketHistory → List Note → Type 0
 Agrees v s all =
-    given_later (handed_over v) all
-    ≡ joined (handed_over v) (good_after s all).wrong_behind (good_after s all).packets
+    later_output (delivered v) all
+    ≡ joined (delivered v) (good_after s all).wrong_after (good_after s all).packets
 
 -- This also holds with a packet without a payload in front.
-agree_no_payload : (v : JoiningValue) (s : Since) (p : List ℕ) (more : List Note)
+agree_no_payload : (v : JoiningValue) (s : PacketHistory) (p : List ℕ) (more : List Note)
     → has_payload p ≡ false
     → Agrees (record v { has_jump = v.has_jump || announces_jump p })
     (record s { has_jump = s.has_jump || announces_jump p }) more
@@ -324,18 +328,18 @@ agree_no_payload : (v : JoiningValue) (s : Since) (p : List ℕ) (more : List No
 agree_no_payload v s p more none rest =
     let goods = good_after s (Valid p ∷ more) in
     let after = good_after (record s { has_jump = s.has_jump || announces_jump p }) more in
-    step_by v (Valid p) more (joined (handed_over v) goods.wrong_behind goods.packets)
-    (λ yes. sym (joined-ended (handed_over v) goods.wrong_behind goods.packets yes))
-    (λ _. ap (λ (w : JoiningValue). w.pending ++ given_later (handed_over w) more)
-    (valid-no_payload (handed_over v) p none)
+    step_by v (Valid p) more (joined (delivered v) goods.wrong_after goods.packets)
+    (λ yes. sym (joined-ended (delivered v) goods.wrong_after goods.packets yes))
+    (λ _. ap (λ (w : JoiningValue). w.pending ++ later_output (delivered w) more)
+    (valid-no_payload (delivered v) p none)
     ∙ rest
     ∙ joined-flags v v.has_repeat (v.has_jump || announces_jump p) v.has_break
-    after.wrong_behind after.packets
-    ∙ ap (λ (g : GoodPackets). joined (handed_over v) g.wrong_behind g.packets)
+    after.wrong_after after.packets
+    ∙ ap (λ (g : GoodPackets). joined (delivered v) g.wrong_after g.packets)
     (sym (good-no_payload s p more none)))
 
 -- It holds with a repeated packet in front.
-agree_repeat : (v : JoiningValue) (s : Since) (p : List ℕ) (more : List Note)
+agree_repeat : (v : JoiningValue) (s : PacketHistory) (p : List ℕ) (more : List Note)
     → has_payload p ≡ true
     → repeats v p ≡ true
     → is_repeat s p ≡ true
@@ -344,13 +348,13 @@ agree_repeat : (v : JoiningValue) (s : Since) (p : List ℕ) (more : List Note)
 agree_repeat v s p more some again same rest =
     let goods = good_after s (Valid p ∷ more) in
     let after = good_after (record s { has_repeat = true }) more in
-    step_by v (Valid p) more (joined (handed_over v) goods.wrong_behind goods.packets)
-    (λ yes. sym (joined-ended (handed_over v) goods.wrong_behind goods.packets yes))
-    (λ _. ap (λ (w : JoiningValue). w.pending ++ given_later (handed_over w) more)
-    (valid-repeat (handed_over v) p some again)
+    step_by v (Valid p) more (joined (delivered v) goods.wrong_after goods.packets)
+    (λ yes. sym (joined-ended (delivered v) goods.wrong_after goods.packets yes))
+    (λ _. ap (λ (w : JoiningValue). w.pending ++ later_output (delivered w) more)
+    (valid-repeat (delivered v) p some again)
     ∙ rest
-    ∙ joined-flags v true v.has_jump v.has_break after.wrong_behind after.packets
-    ∙ ap (λ (g : GoodPackets). joined (handed_over v) g.wrong_behind g.packets)
+    ∙ joined-flags v true v.has_jump v.has_break after.wrong_after after.packets
+    ∙ ap (λ (g : GoodPackets). joined (delivered v) g.wrong_after g.packets)
     (sym (good-repeat s p more some same)))
 
 -- The next good packet, before the end.
@@ -358,29 +362,29 @@ joined-next : (v : JoiningValue) (wrong : Bool) (g : GoodPacket) (more : List Go
     → has_ended v.part ≡ false
     → joined v wrong (g ∷ more)
     ≡ (after_good g.link v g.packet).pending
-    ++ joined (handed_over (after_good g.link v g.packet)) wrong more
+    ++ joined (delivered (after_good g.link v g.packet)) wrong more
 joined-next v wrong g more going = rw going refl
 
 -- It holds with a good packet in front.
-agree_good : (v : JoiningValue) (s : Since) (p : List ℕ) (more : List Note)
+agree_good : (v : JoiningValue) (s : PacketHistory) (p : List ℕ) (more : List Note)
     → has_payload p ≡ true
     → repeats v p ≡ false
     → is_repeat s p ≡ false
     → link_after v v.last p ≡ link_from s.good s p
-    → Agrees (after_good (link_from s.good s p) (handed_over v) p) (nothing_since (Some p)) more
+    → Agrees (after_good (link_from s.good s p) (delivered v) p) (empty_history (Some p)) more
     → Agrees v s (Valid p ∷ more)
 agree_good v s p more some other same link rest =
     let goods = good_after s (Valid p ∷ more) in
-    let after = good_after (nothing_since (Some p)) more in
-    let w : JoiningValue = after_good (link_from s.good s p) (handed_over v) p in
-    step_by v (Valid p) more (joined (handed_over v) goods.wrong_behind goods.packets)
-    (λ yes. sym (joined-ended (handed_over v) goods.wrong_behind goods.packets yes))
-    (λ no. ap (λ (u : JoiningValue). u.pending ++ given_later (handed_over u) more)
-    (valid-good (handed_over v) p some other
-    ∙ ap (λ (l : Link). after_good l (handed_over v) p) link)
+    let after = good_after (empty_history (Some p)) more in
+    let w : JoiningValue = after_good (link_from s.good s p) (delivered v) p in
+    step_by v (Valid p) more (joined (delivered v) goods.wrong_after goods.packets)
+    (λ yes. sym (joined-ended (delivered v) goods.wrong_after goods.packets yes))
+    (λ no. ap (λ (u : JoiningValue). u.pending ++ later_output (delivered u) more)
+    (valid-good (delivered v) p some other
+    ∙ ap (λ (l : Link). after_good l (delivered v) p) link)
     ∙ ap (λ l. w.pending ++ l) rest
-    ∙ sym (joined-next (handed_over v) after.wrong_behind (linked s p) after.packets no)
-    ∙ ap (λ (g : GoodPackets). joined (handed_over v) g.wrong_behind g.packets)
+    ∙ sym (joined-next (delivered v) after.wrong_after (linked s p) after.packets no)
+    ∙ ap (λ (g : GoodPackets). joined (delivered v) g.wrong_after g.packets)
     (sym (good-good s p more some same)))
 
 -- The last good packet does not change.
@@ -393,51 +397,51 @@ keeps_last : (v w : JoiningValue) (o : Option (List ℕ))
 keeps_last v w o h1 h2 h3 h4 = grind (arith, nat_tests)
 
 -- The output of events is that of the good packets among them.
-pub notes_joined : (v : JoiningValue) (s : Since) (all : List Note)
+pub notes_joined : (v : JoiningValue) (s : PacketHistory) (all : List Note)
     → Knows v s
     → AreSound all
     → Agrees v s all
-unfolding given_later good_after
-notes_joined v s [] k sound = no_note (has_ended v.part) s.has_wrong (gave_packet v.given) k.quiet
+unfolding later_output good_after
+notes_joined v s [] k sound = no_note (has_ended v.part) s.has_wrong (gave_packet v.given) k.silent
 notes_joined v s (Wrong ∷ more) k sound =
-    let since : Since = record s { has_wrong = true } in
+    let history : PacketHistory = record s { has_wrong = true } in
     let after : JoiningValue =
-    record v { has_break = true; given = given_after true v.given } in
-    let goods = good_after since more in
-    let known : Knows after since = record {
+    record v { has_break = true; given = last_output_after true v.given } in
+    let goods = good_after history more in
+    let known : Knows after history = record {
       repeat = k.repeat;
       jump = k.jump;
       lost = refl;
-      quiet = λ _. quiet_after v.given;
-      none = λ _. quiet_after v.given;
+      silent = λ _. fault_free_after v.given;
+      none = λ _. fault_free_after v.given;
       last = keeps_last v after s.good refl refl refl k.last;
     } in
-    step_by v Wrong more (joined (handed_over v) goods.wrong_behind goods.packets)
-    (λ yes. sym (joined-ended (handed_over v) goods.wrong_behind goods.packets yes))
-    (λ no. ap (λ l. mark_where (gave_packet v.given) ++ l)
-    (notes_joined after since more known sound)
-    ∙ sym (gap_first v v.given goods.wrong_behind goods.packets no
+    step_by v Wrong more (joined (delivered v) goods.wrong_after goods.packets)
+    (λ yes. sym (joined-ended (delivered v) goods.wrong_after goods.packets yes))
+    (λ no. ap (λ l. gap_marker_where (gave_packet v.given) ++ l)
+    (notes_joined after history more known sound)
+    ∙ sym (gap_first v v.given goods.wrong_after goods.packets no
     (after_wrong_broken v s s.good more refl k.none)))
-notes_joined v s (Hole ∷ more) k sound =
-    let since : Since = record s { has_hole = true } in
+notes_joined v s (Loss ∷ more) k sound =
+    let history : PacketHistory = record s { has_loss = true } in
     let after : JoiningValue = record v { has_break = true } in
-    let goods = good_after since more in
-    let known : Knows after since = record {
+    let goods = good_after history more in
+    let known : Knows after history = record {
       repeat = k.repeat;
       jump = k.jump;
       lost = sym (or_true s.has_wrong);
-      quiet = k.quiet;
+      silent = k.silent;
       none = k.none;
       last = keeps_last v after s.good refl refl refl k.last;
     } in
-    step_by v Hole more (joined (handed_over v) goods.wrong_behind goods.packets)
-    (λ yes. sym (joined-ended (handed_over v) goods.wrong_behind goods.packets yes))
-    (λ _. notes_joined after since more known sound
-    ∙ joined-flags v v.has_repeat v.has_jump true goods.wrong_behind goods.packets)
+    step_by v Loss more (joined (delivered v) goods.wrong_after goods.packets)
+    (λ yes. sym (joined-ended (delivered v) goods.wrong_after goods.packets yes))
+    (λ _. notes_joined after history more known sound
+    ∙ joined-flags v v.has_repeat v.has_jump true goods.wrong_after goods.packets)
 notes_joined v s (Valid p ∷ more) k sound =
     let link = link_same v s s.good p k.last k.jump k.lost in
     let next = link_from s.good s p in
-    let fresh = good_fresh next (handed_over v) p in
+    let fresh = good_fresh next (delivered v) p in
     let jumped : JoiningValue = record v { has_jump = v.has_jump || announces_jump p } in
     let repeated : JoiningValue = record v { has_repeat = true } in
     by_bool (has_payload p)
@@ -448,16 +452,16 @@ notes_joined v s (Valid p ∷ more) k sound =
       repeat = refl;
       jump = k.jump;
       lost = k.lost;
-      quiet = k.quiet;
+      silent = k.silent;
       none = k.none;
       last = keeps_last v repeated s.good refl refl refl k.last;
     }) sound.1))
     (λ other. agree_good v s p more some (same ∙ other) other link
-    (notes_joined (after_good next (handed_over v) p) (nothing_since (Some p)) more (record {
+    (notes_joined (after_good next (delivered v) p) (empty_history (Some p)) more (record {
       repeat = fresh.no_repeat;
       jump = fresh.no_jump;
       lost = fresh.no_break;
-      quiet = λ e. absurd cc;
+      silent = λ e. absurd cc;
       none = λ e. absurd cc;
       last = (fresh.is_last, sound.0 some);
     }) sound.1)))
@@ -466,7 +470,7 @@ notes_joined v s (Valid p ∷ more) k sound =
       repeat = k.repeat;
       jump = ap (λ (b : Bool). b || announces_jump p) k.jump;
       lost = k.lost;
-      quiet = k.quiet;
+      silent = k.silent;
       none = k.none;
       last = keeps_last v jumped s.good refl refl refl k.last;
     }) sound.1))
@@ -478,15 +482,15 @@ abbrev pub FirstIsCut : List GoodPacket → Type 0
 FirstIsCut [] = Unit {0}
 FirstIsCut (g ∷ more) = is_unlinked g.link ≡ true
 
-pub first_is_cut : (s : Since) (all : List Note)
+pub first_is_cut : (s : PacketHistory) (all : List Note)
     → s.good ≡ None
     → FirstIsCut (good_after s all).packets
 unfolding good_after
 first_is_cut s [] none = grind (arith, nat_tests)
 first_is_cut s (Wrong ∷ more) none =
     grind (arith, nat_tests, (first_is_cut (record s { has_wrong = true }) more none))
-first_is_cut s (Hole ∷ more) none =
-    grind (arith, nat_tests, (first_is_cut (record s { has_hole = true }) more none))
+first_is_cut s (Loss ∷ more) none =
+    grind (arith, nat_tests, (first_is_cut (record s { has_loss = true }) more none))
 first_is_cut s (Valid p ∷ more) none =
     grind (
       arith,
@@ -499,13 +503,13 @@ first_is_cut s (Valid p ∷ more) none =
     )
 
 -- Each of them has a nonempty payload.
-pub good_payloads : (s : Since) (all : List Note)
+pub good_payloads : (s : PacketHistory) (all : List Note)
     → AreSound all
     → HavePayloads (good_after s all).packets
 unfolding good_after
 good_payloads s [] sound = tt
 good_payloads s (Wrong ∷ more) sound = good_payloads (record s { has_wrong = true }) more sound
-good_payloads s (Hole ∷ more) sound = good_payloads (record s { has_hole = true }) more sound
+good_payloads s (Loss ∷ more) sound = good_payloads (record s { has_loss = true }) more sound
 good_payloads s (Valid p ∷ more) sound =
     let Have : GoodPackets → Type 0 = λ g. HavePayloads g.packets in
     by_bool (has_payload p)
@@ -513,6 +517,6 @@ good_payloads s (Valid p ∷ more) sound =
     (λ again. subst Have (sym (good-repeat s p more some again))
     (good_payloads (record s { has_repeat = true }) more sound.1))
     (λ other. subst Have (sym (good-good s p more some other))
-    (sound.0 some, good_payloads (nothing_since (Some p)) more sound.1)))
+    (sound.0 some, good_payloads (empty_history (Some p)) more sound.1)))
     (λ empty. subst Have (sym (good-no_payload s p more empty))
     (good_payloads (record s { has_jump = s.has_jump || announces_jump p }) more sound.1))

@@ -1,5 +1,5 @@
--- The output of parts as it becomes known packet by packet; main lemmas: with_marks-nothing,
--- outcomes-from, tail-whole, give-other.
+-- The output of parts as it becomes known packet by packet; main lemmas: with_gap_markers-nothing,
+-- outcomes-from, tail-whole, output-other.
 use Rattle.std.proofs.Common.{◌≡◌, ℕ, ◌+◌, ◌-◌, ◌≤◌, ◌<◌, List, [], ◌∷◌, ◌++◌, length, take}
 use Rattle.std.proofs.Common.{Bool, true, false, refl, ap, ◌∙◌, arith, append_assoc}
 use Rattle.std.proofs.Common.{length-append, Result, Ok, Err}
@@ -10,9 +10,9 @@ use Rattle.std.specs.List.{concat}
 use lib.Seq.{take-append-le}
 use Rattle.ttx_pes.specs.Reading.{size_at}
 use Rattle.ttx_pes.specs.declared.fault.PesFault.{PesFault}
-use Rattle.mpeg_ts.specs.Carried.{mark, mark_where, with_marks}
+use Rattle.mpeg_ts.specs.Carried.{gap_marker, gap_marker_where, with_gap_markers}
 use Rattle.mpeg_ts.specs.GoodPackets.{GoodPacket}
-use Rattle.mpeg_ts.specs.Joining.{found_in, found_by_size, gave_packet, given_after}
+use Rattle.mpeg_ts.specs.Joining.{found_in, found_by_size, gave_packet, last_output_after}
 use Rattle.mpeg_ts.specs.Parts.{PartOutcome, Pes, Gap, Other, Part, begins_part, part_bytes}
 use Rattle.mpeg_ts.specs.Parts.{gap_where, is_break, may_be_cut_off, outcome, outcome_of_size}
 use Rattle.mpeg_ts.specs.Parts.{outcomes, part_of, parts_from, up_to, with_packet}
@@ -29,63 +29,64 @@ by_bool b h1 h2 = grind (arith, nat_tests)
 
 -- The bytes of outcomes after what was returned before: a gap marker is returned as soon as a gap
 -- is known.
-abbrev pub give : Given → List PartOutcome → List ℕ
-give g [] = []
-give g (Gap ∷ more) = mark_where (gave_packet g) ++ give (given_after true g) more
-give g (Pes bytes ∷ more) = bytes ++ give given.Packet more
-give g (Other bytes ∷ more) = bytes
+abbrev pub output : Given → List PartOutcome → List ℕ
+output g [] = []
+output g (Gap ∷ more) = gap_marker_where (gave_packet g) ++ output (last_output_after true g) more
+output g (Pes bytes ∷ more) = bytes ++ output given.Packet more
+output g (Other bytes ∷ more) = bytes
 
 -- After a PES packet, without and with a gap.
-marks : (all : List PartOutcome)
-    → (with_marks true false all ≡ give given.Packet all)
-    × (with_marks true true all ≡ mark ++ give given.Mark all)
-unfolding with_marks
-marks [] = grind (arith, nat_tests, append-nil)
-marks (Gap ∷ more) = grind (arith, nat_tests, (marks more))
-marks (Pes b ∷ more) = grind (arith, nat_tests, (marks more))
-marks (Other b ∷ more) = grind (arith, nat_tests)
+gap_markers : (all : List PartOutcome)
+    → (with_gap_markers true false all ≡ output given.Packet all)
+    × (with_gap_markers true true all ≡ gap_marker ++ output given.GapMarker all)
+unfolding with_gap_markers
+gap_markers [] = grind (arith, nat_tests, append-nil)
+gap_markers (Gap ∷ more) = grind (arith, nat_tests, (gap_markers more))
+gap_markers (Pes b ∷ more) = grind (arith, nat_tests, (gap_markers more))
+gap_markers (Other b ∷ more) = grind (arith, nat_tests)
 
 -- Before the first PES packet.
-pub with_marks-nothing : (gap : Bool) (all : List PartOutcome)
-    → with_marks false gap all ≡ give given.Nothing all
-unfolding with_marks
-with_marks-nothing gap [] = refl
-with_marks-nothing gap (Gap ∷ more) = with_marks-nothing true more
-with_marks-nothing gap (Pes b ∷ more) = ap (λ l. b ++ l) (marks more).0
-with_marks-nothing gap (Other b ∷ more) = refl
+pub with_gap_markers-nothing : (gap : Bool) (all : List PartOutcome)
+    → with_gap_markers false gap all ≡ output given.Nothing all
+unfolding with_gap_markers
+with_gap_markers-nothing gap [] = refl
+with_gap_markers-nothing gap (Gap ∷ more) = with_gap_markers-nothing true more
+with_gap_markers-nothing gap (Pes b ∷ more) = ap (λ l. b ++ l) (gap_markers more).0
+with_gap_markers-nothing gap (Other b ∷ more) = refl
 
 -- After a gap, the last item was no PES packet.
-pub quiet_after : (g : Given) → gave_packet (given_after true g) ≡ false
-quiet_after g = grind (arith, nat_tests)
+pub fault_free_after : (g : Given) → gave_packet (last_output_after true g) ≡ false
+fault_free_after g = grind (arith, nat_tests)
 
 -- If it was none, a gap yields nothing.
-pub give-quiet : (g : Given) (more : List PartOutcome)
+pub output-silent : (g : Given) (more : List PartOutcome)
     → gave_packet g ≡ false
-    → give g (Gap ∷ more) ≡ give g more
-give-quiet g more h1 = grind (arith, nat_tests)
+    → output g (Gap ∷ more) ≡ output g more
+output-silent g more h1 = grind (arith, nat_tests)
 
 -- A second gap yields nothing.
-pub give-again : (g : Given) (b : Bool) (more : List PartOutcome)
-    → give (given_after true g) (gap_where b ++ more) ≡ give (given_after true g) more
-give-again g b more = grind (arith, nat_tests, give-quiet, quiet_after)
+pub output-again : (g : Given) (b : Bool) (more : List PartOutcome)
+    → output (last_output_after true g) (gap_where b ++ more) ≡ output (last_output_after true g)
+    more
+output-again g b more = grind (arith, nat_tests, output-silent, fault_free_after)
 
 -- A gap, if there is one.
-pub give-gap_where : (g : Given) (b : Bool) (more : List PartOutcome)
-    → give g (gap_where b ++ more)
-    ≡ mark_where (b && gave_packet g) ++ give (given_after b g) more
-give-gap_where g b more = grind (arith, nat_tests)
+pub output-gap_where : (g : Given) (b : Bool) (more : List PartOutcome)
+    → output g (gap_where b ++ more)
+    ≡ gap_marker_where (b && gave_packet g) ++ output (last_output_after b g) more
+output-gap_where g b more = grind (arith, nat_tests)
 
 -- The end after an incomplete part.
-pub give-end : (g : Given) (wrong : Bool)
-    → mark_where (wrong && gave_packet g)
-    ≡ give g (gap_where (not (not wrong)) ++ gap_where wrong)
-give-end g wrong = grind (arith, nat_tests, append-nil)
+pub output-end : (g : Given) (wrong : Bool)
+    → gap_marker_where (wrong && gave_packet g)
+    ≡ output g (gap_where (not (not wrong)) ++ gap_where wrong)
+output-end g wrong = grind (arith, nat_tests, append-nil)
 
 -- The end after a complete part.
-pub give-end_whole : (g : Given) (excess wrong : Bool)
+pub output-end_complete : (g : Given) (excess wrong : Bool)
     → (excess ≡ true → gave_packet g ≡ false)
-    → mark_where (wrong && gave_packet g) ≡ give g (gap_where excess ++ gap_where wrong)
-give-end_whole g excess wrong h1 = grind (arith, nat_tests, append-nil)
+    → gap_marker_where (wrong && gave_packet g) ≡ output g (gap_where excess ++ gap_where wrong)
+output-end_complete g excess wrong h1 = grind (arith, nat_tests, append-nil)
 
 -- ---- parts
 
@@ -98,12 +99,12 @@ tail wrong part (g ∷ more) =
     else tail wrong (with_packet part g) more
 
 -- The outcomes after the PES packet of a complete part, with or without more bytes after it.
-abbrev pub behind : Bool → Bool → List GoodPacket → List PartOutcome
-behind excess wrong [] = gap_where excess ++ gap_where wrong
-behind excess wrong (g ∷ more) =
+abbrev pub following : Bool → Bool → List GoodPacket → List PartOutcome
+following excess wrong [] = gap_where excess ++ gap_where wrong
+following excess wrong (g ∷ more) =
     if begins_part g then
     gap_where excess ++ (gap_where (is_break g.link) ++ tail wrong (part_of g) more)
-    else behind true wrong more
+    else following true wrong more
 
 -- The recording does not end within a part that is followed by others.
 not_cut_off : (wrong : Bool) (part : Part) (goods : List GoodPacket)
@@ -132,14 +133,14 @@ outcomes-from wrong part (g ∷ more) =
 -- ---- the bytes of a part
 
 -- Joining lists, with one more at the end.
-concat-behind : (ps : List (List ℕ)) (x : List ℕ) → concat (ps ++ x ∷ []) ≡ concat ps ++ x
-concat-behind [] x = grind (arith, nat_tests, append-nil)
-concat-behind (f ∷ ps) x = grind (arith, nat_tests, append_assoc, (concat-behind ps x))
+concat-following : (ps : List (List ℕ)) (x : List ℕ) → concat (ps ++ x ∷ []) ≡ concat ps ++ x
+concat-following [] x = grind (arith, nat_tests, append-nil)
+concat-following (f ∷ ps) x = grind (arith, nat_tests, append_assoc, (concat-following ps x))
 
 -- The bytes of a part, with one more packet.
 pub bytes-with : (part : Part) (g : GoodPacket)
     → part_bytes (with_packet part g) ≡ part_bytes part ++ payload g.packet
-bytes-with part g = concat-behind part.payloads (payload g.packet)
+bytes-with part g = concat-following part.payloads (payload g.packet)
 
 -- The payloads in which a number of bytes is reached, with one more at the end.
 up_to-reached : (c : ℕ) (ps : List (List ℕ)) (x : List ℕ)
@@ -185,7 +186,7 @@ pub found-other : (n : ℕ) (r : Result ℕ PesFault) (f : PesFault)
 found-other n r f h1 = grind (arith, nat_tests, by_bool)
 
 -- Bytes that begin with a complete PES packet.
-pub record IsWhole (bytes : List ℕ) (size : ℕ) : Type 0 where
+pub record IsCompletePacket (bytes : List ℕ) (size : ℕ) : Type 0 where
   pub six : 6 ≤ length bytes
   pub sized : size_at (take 6 bytes) ≡ Ok size
   pub within : size ≤ length bytes
@@ -196,11 +197,11 @@ pub record IsOther (bytes : List ℕ) : Type 0 where
   pub fault : PesFault
   pub refused : size_at (take 6 bytes) ≡ Err fault
 
-pub whole_found : (bytes : List ℕ) (size : ℕ)
+pub complete_found : (bytes : List ℕ) (size : ℕ)
     → found_in bytes ≡ found.Whole size
-    → IsWhole bytes size
+    → IsCompletePacket bytes size
 unfolding found_in
-whole_found bytes size h1 = grind (arith, nat_tests, by_bool, found-whole)
+complete_found bytes size h1 = grind (arith, nat_tests, by_bool, found-whole)
 
 pub other_found : (bytes : List ℕ) (f : PesFault) → found_in bytes ≡ found.Other f → IsOther bytes
 unfolding found_in
@@ -230,7 +231,7 @@ outcome-unfinished cut part h1 h2 = grind (arith, nat_tests, by_bool, outcome-of
 -- A complete part.
 outcome-whole : (cut : Bool) (part : Part) (size : ℕ)
     → part.begins ≡ true
-    → IsWhole (part_bytes part) size
+    → IsCompletePacket (part_bytes part) size
     → outcome cut part
     ≡ Pes (take size (part_bytes part)) ∷ gap_where (nat_lt size (length (part_bytes part)))
 unfolding outcome
@@ -262,10 +263,10 @@ same_six bytes more all h1 h2 = grind (arith, nat_tests)
 pub tail-whole : (wrong : Bool) (part : Part) (size : ℕ) (goods : List GoodPacket)
     → HavePayloads goods
     → part.begins ≡ true
-    → IsWhole (part_bytes part) size
+    → IsCompletePacket (part_bytes part) size
     → tail wrong part goods
     ≡ Pes (take size (part_bytes part))
-    ∷ behind (nat_lt size (length (part_bytes part))) wrong goods
+    ∷ following (nat_lt size (length (part_bytes part))) wrong goods
 tail-whole wrong part size [] all begins w =
     ap (λ l. l ++ gap_where wrong) (outcome-whole (not wrong) part size begins w)
 tail-whole wrong part size (g ∷ more) all begins w =
@@ -274,12 +275,12 @@ tail-whole wrong part size (g ∷ more) all begins w =
     let grown = part_bytes (with_packet part g) in
     let same : grown ≡ bytes ++ p = bytes-with part g in
     let long : length grown ≡ length bytes + length p = ap length same ∙ length-append bytes p in
-    let w2 : IsWhole grown size = record {
+    let w2 : IsCompletePacket grown size = record {
       six = omega (arith, long, w.six);
       sized = same_six bytes p grown same w.six ∙ w.sized;
       within = omega (arith, long, w.within);
     } in
-    let front : take size grown ≡ take size bytes =
+    let prefix : take size grown ≡ take size bytes =
     ap (take size) same ∙ take-append-le size bytes p w.within in
     let excess : nat_lt size (length grown) ≡ true =
     is_lt size (length grown) (omega (arith, long, w.within, all.0)) in
@@ -289,20 +290,20 @@ tail-whole wrong part size (g ∷ more) all begins w =
     (outcome-whole false part size begins w)))
     (λ no. rw no (
     tail-whole wrong (with_packet part g) size more all.1 begins w2
-    ∙ ap (λ l. Pes l ∷ behind (nat_lt size (length grown)) wrong more) front
-    ∙ ap (λ b. Pes (take size bytes) ∷ behind b wrong more) excess))
+    ∙ ap (λ l. Pes l ∷ following (nat_lt size (length grown)) wrong more) prefix
+    ∙ ap (λ b. Pes (take size bytes) ∷ following b wrong more) excess))
   where
     is_lt : (m n : ℕ) → m < n → nat_lt m n ≡ true
     is_lt m n lt = grind (arith, nat_tests)
 
 -- So are the bytes of a part with a wrong start code or length.
-pub give-other : (g : Given) (wrong : Bool) (part : Part) (goods : List GoodPacket)
+pub output-other : (g : Given) (wrong : Bool) (part : Part) (goods : List GoodPacket)
     → part.begins ≡ true
     → IsOther (part_bytes part)
-    → give g (tail wrong part goods) ≡ up_to 6 part.payloads
-give-other h wrong part [] begins o =
-    ap (λ l. give h (l ++ gap_where wrong)) (outcome-other (not wrong) part begins o)
-give-other h wrong part (g ∷ more) begins o =
+    → output g (tail wrong part goods) ≡ up_to 6 part.payloads
+output-other h wrong part [] begins o =
+    ap (λ l. output h (l ++ gap_where wrong)) (outcome-other (not wrong) part begins o)
+output-other h wrong part (g ∷ more) begins o =
     let bytes = part_bytes part in
     let p = payload g.packet in
     let grown = part_bytes (with_packet part g) in
@@ -315,19 +316,20 @@ give-other h wrong part (g ∷ more) begins o =
     } in
     by_bool (begins_part g)
     (λ yes. rw yes (
-    ap (λ l. give h (l ++ (gap_where (is_break g.link) ++ tail wrong (part_of g) more)))
+    ap (λ l. output h (l ++ (gap_where (is_break g.link) ++ tail wrong (part_of g) more)))
     (outcome-other false part begins o)))
     (λ no. rw no (
-    give-other h wrong (with_packet part g) more begins o2
+    output-other h wrong (with_packet part g) more begins o2
     ∙ up_to-reached 6 part.payloads p (omega arith) o.six))
 
 -- Bytes after the PES packet are a gap, whatever follows.
-pub give-excess : (g : Given) (wrong : Bool) (goods : List GoodPacket)
-    → give g (behind true wrong goods)
-    ≡ mark_where (gave_packet g) ++ give (given_after true g) (behind true wrong goods)
-give-excess h wrong [] = grind (arith, nat_tests, give-quiet, quiet_after)
-give-excess h wrong (g ∷ more) =
-    grind (arith, nat_tests, by_bool, give-quiet, quiet_after, (give-excess h wrong more))
+pub output-excess : (g : Given) (wrong : Bool) (goods : List GoodPacket)
+    → output g (following true wrong goods)
+    ≡ gap_marker_where (gave_packet g) ++ output (last_output_after true g)
+    (following true wrong goods)
+output-excess h wrong [] = grind (arith, nat_tests, output-silent, fault_free_after)
+output-excess h wrong (g ∷ more) =
+    grind (arith, nat_tests, by_bool, output-silent, fault_free_after, (output-excess h wrong more))
 
 -- If a PES packet was incomplete and then has a wrong start code or length, its first six bytes
 -- were completed by the last payload.

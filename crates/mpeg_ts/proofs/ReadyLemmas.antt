@@ -1,33 +1,33 @@
--- The items that are ready; main lemmas: none_waits, packet_found, piece_first, rest_first.
+-- The items that are ready; main lemmas: none_pending, packet_found, pes_packet_first, rest_first.
 use Rattle.std.proofs.lemmas.Bool.Decides.{nat_tests}
 use Rattle.std.proofs.Common.{◌≡◌, ℕ, ◌≤◌, ◌<◌, List, [], ◌++◌, length, take, Ok}
 use Rattle.std.proofs.Common.{refl, sym, ap, ◌∙◌, arith, length-append}
 use Rattle.std.proofs.Common.{length-take-le}
 use Rattle.std.proofs.lemmas.List.{append-nil, take-take}
 use Rattle.sub_io.specs.Reading.{AreBytes}
-use Rattle.ttx_pes.specs.Pieces.{IsPiece}
+use Rattle.ttx_pes.specs.PesPackets.{IsPesPacket}
 use Rattle.ttx_pes.specs.Reading.{size_at}
 use Rattle.ttx_pes.specs.declared.fault.PesFault.{PesFault}
 use Rattle.ttx_pes.proofs.DataUnitLemmas.{AreBytes-take}
-use Rattle.ttx_pes.proofs.PieceLemmas.{sized_piece}
-use Rattle.mpeg_ts.specs.Carried.{mark, mark_where}
-use Rattle.mpeg_ts.specs.Joining.{IsRefused, JoiningValue, TakesFirst, TakesNext, WaitsFor}
-use Rattle.mpeg_ts.specs.Joining.{found_in, waiting_bytes}
+use Rattle.ttx_pes.proofs.PesPacketLemmas.{sized_pes_packet}
+use Rattle.mpeg_ts.specs.Carried.{gap_marker, gap_marker_where}
+use Rattle.mpeg_ts.specs.Joining.{IsRefused, JoiningValue, TakesFirst, TakesNext, IsPendingFor}
+use Rattle.mpeg_ts.specs.Joining.{found_in, pending_item_bytes}
 use Rattle.mpeg_ts.specs.declared.joining.Found.TheVariants as found
-use Rattle.mpeg_ts.specs.declared.waiting.Next.{Next}
-use Rattle.mpeg_ts.specs.declared.waiting.Next.TheVariants as next
+use Rattle.mpeg_ts.specs.declared.pending_item.Next.{Next}
+use Rattle.mpeg_ts.specs.declared.pending_item.Next.TheVariants as next
 use Rattle.mpeg_ts.specs.declared.joining.PartState.{PartState}
-use Rattle.mpeg_ts.specs.declared.waiting.Waiting.{Waiting}
-use Rattle.mpeg_ts.specs.declared.waiting.Waiting.TheVariants as waiting
-use Rattle.mpeg_ts.proofs.OutcomeLemmas.{by_bool, found-other, whole_found}
+use Rattle.mpeg_ts.specs.declared.pending_item.PendingItem.{PendingItem}
+use Rattle.mpeg_ts.specs.declared.pending_item.PendingItem.TheVariants as pending_item
+use Rattle.mpeg_ts.proofs.OutcomeLemmas.{by_bool, found-other, complete_found}
 
-pub length-mark : length mark ≡ 184
-unfolding mark
-length-mark = refl
+pub length-gap_marker : length gap_marker ≡ 184
+unfolding gap_marker
+length-gap_marker = refl
 
 -- A PES packet has at least 184 bytes.
-pub piece_long : (p : List ℕ) → IsPiece p → 184 ≤ length p
-piece_long p h =
+pub pes_packet_long : (p : List ℕ) → IsPesPacket p → 184 ≤ length p
+pes_packet_long p h =
     let long = h.long in
     let some = h.size.0 in
     omega (arith, long, some)
@@ -39,26 +39,28 @@ nothing_in xs ys zs e =
     omega (arith, all, length-append xs (ys ++ zs), length-append ys zs)
 
 -- If no byte is ready, no item is.
-pub none_waits : (w : Waiting) (part : PartState) (bytes : List ℕ)
-    → WaitsFor w part bytes
-    → waiting_bytes w bytes ≡ []
-    → w ≡ waiting.Nothing
-none_waits waiting.Nothing part bytes waits none = refl
-none_waits waiting.Mark part bytes waits none =
-    let long : length mark ≡ 0 = ap length none in absurd (omega (arith, long, length-mark))
-none_waits (waiting.Packet before size behind) part bytes waits none =
-    let long = piece_long (take size bytes) waits.0 in
-    let zero_long = nothing_in (mark_where before) (take size bytes) (mark_where behind) none in
+pub none_pending : (w : PendingItem) (part : PartState) (bytes : List ℕ)
+    → IsPendingFor w part bytes
+    → pending_item_bytes w bytes ≡ []
+    → w ≡ pending_item.Nothing
+none_pending pending_item.Nothing part bytes waits none = refl
+none_pending pending_item.GapMarker part bytes waits none =
+    let long : length gap_marker ≡ 0 = ap length none in absurd
+    (omega (arith, long, length-gap_marker))
+none_pending (pending_item.Packet before size following) part bytes waits none =
+    let long = pes_packet_long (take size bytes) waits.0 in
+    let zero_long = nothing_in (gap_marker_where before) (take size bytes)
+    (gap_marker_where following) none in
     absurd (omega (arith, long, zero_long))
-none_waits (waiting.Rest before fault) part bytes waits none =
-    let all : length (mark_where before ++ bytes) ≡ 0 = ap length none in
+none_pending (pending_item.Rest before fault) part bytes waits none =
+    let all : length (gap_marker_where before ++ bytes) ≡ 0 = ap length none in
     let long = waits.0.0 in
-    absurd (omega (arith, all, long, length-append (mark_where before) bytes))
+    absurd (omega (arith, all, long, length-append (gap_marker_where before) bytes))
 
 -- The converse.
-pub none_where_nothing : (w : Waiting) (bytes : List ℕ)
-    → w ≡ waiting.Nothing
-    → waiting_bytes w bytes ≡ []
+pub none_where_nothing : (w : PendingItem) (bytes : List ℕ)
+    → w ≡ pending_item.Nothing
+    → pending_item_bytes w bytes ≡ []
 none_where_nothing w bytes h1 = grind (arith, nat_tests)
 
 -- The size includes the six bytes up to the length field.
@@ -70,13 +72,13 @@ size_counts h size e = grind (arith, nat_tests)
 pub packet_found : (bytes : List ℕ) (size : ℕ)
     → AreBytes bytes
     → found_in bytes ≡ found.Whole size
-    → IsPiece (take size bytes) × (size ≤ length bytes)
+    → IsPesPacket (take size bytes) × (size ≤ length bytes)
 packet_found bytes size fit e =
-    let w = whole_found bytes size e in
+    let w = complete_found bytes size e in
     let long : length (take size bytes) ≡ size = length-take-le size bytes w.within in
     let lo : 6 ≤ size = size_counts (take 6 bytes) size w.sized in
     let head : take 6 (take size bytes) ≡ take 6 bytes = take-take 6 size bytes lo in (
-      sized_piece (take size bytes) (AreBytes-take size bytes fit) (omega (arith, long, lo))
+      sized_pes_packet (take size bytes) (AreBytes-take size bytes fit) (omega (arith, long, lo))
           (ap size_at head ∙ w.sized ∙ ap Ok (sym long)),
       w.within,
     )
@@ -89,21 +91,21 @@ some_bytes l some none =
     let zero_long : length l ≡ 0 = ap length none in omega (arith, some, zero_long)
 
 -- A PES packet that was taken, or nothing. For `take_first`.
-pub piece_first : (old new : JoiningValue) (n : Next)
+pub pes_packet_first : (old new : JoiningValue) (n : Next)
     → ((fault : PesFault) → n ≡ next.Rest fault → ⊥)
     → TakesNext old n new
     → TakesFirst old n new
-piece_first old new next.Nothing other taken =
+pes_packet_first old new next.Nothing other taken =
     (sym (ap (λ (j : JoiningValue). j.pending) taken.1), rw taken.1 refl, λ none. taken.0)
-piece_first old new (next.Rest fault) other taken = absurd (other fault refl)
-piece_first old new next.Mark other taken = (
+pes_packet_first old new (next.Rest fault) other taken = absurd (other fault refl)
+pes_packet_first old new next.GapMarker other taken = (
   taken.0,
   taken.1,
-  λ none. absurd (some_bytes mark (omega (arith, length-mark)) none),
+  λ none. absurd (some_bytes gap_marker (omega (arith, length-gap_marker)) none),
 )
-piece_first old new (next.Packet size) other taken =
+pes_packet_first old new (next.Packet size) other taken =
     let same : new.bytes ≡ old.bytes = ap (λ (j : JoiningValue). j.bytes) taken.3 in
-    let long = piece_long (take size old.bytes) taken.0 in
+    let long = pes_packet_long (take size old.bytes) taken.0 in
     let some : 0 < length (take size old.bytes) = omega (arith, long) in
     let back : take size old.bytes ≡ take size new.bytes = ap (take size) (sym same) in (
       taken.2 ∙ ap (λ (l : List ℕ). l ++ new.pending) back,
@@ -126,7 +128,7 @@ rest_first old mid new fault taken all =
       λ none. absurd (some_bytes old.bytes (omega (arith, six)) none),
     )
 
-pub ruleset firsts = (piece_first, rest_first)
+pub ruleset firsts = (pes_packet_first, rest_first)
 
 pub refused_found : (bytes : List ℕ) (fault : PesFault)
     → found_in bytes ≡ found.Other fault
@@ -134,8 +136,8 @@ pub refused_found : (bytes : List ℕ) (fault : PesFault)
 unfolding found_in
 refused_found bytes fault h1 = grind (arith, nat_tests, by_bool, found-other)
 
-pub ruleset idling = (none_waits, none_where_nothing)
+pub ruleset idling = (none_pending, none_where_nothing)
 
-pub ruleset growing = none_waits
+pub ruleset growing = none_pending
 
-pub ruleset taking = none_waits
+pub ruleset taking = none_pending

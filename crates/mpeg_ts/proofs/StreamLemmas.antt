@@ -12,18 +12,18 @@ use Rattle.std.proofs.Math.Seq.{drop-append-add, drop-append_seam, take-append-a
 use Rattle.std.specs.Prelude.{◌&&◌, ◌||◌, ◌==◌, ◌%◌, ◌*◌, nat_lt, slice_index, if◌then◌else◌}
 use Rattle.std.specs.Io.KnownBytes.{Consumes, IsAtEnd, Keeps}
 use lib.Seq.{take-add, take-append-le}
-use Rattle.sub_io.specs.Asking.{Asks, asks_on, asks_once}
-use Rattle.sub_io.specs.Device.{PassesOver}
+use Rattle.sub_io.specs.Asking.{Requests, requests_on, requests_once}
+use Rattle.sub_io.specs.Device.{SkipsOver}
 use Rattle.sub_io.specs.Reading.{AreNext}
-use Rattle.sub_io.proofs.AskingLemmas.{asked_behind, asks_none, passed_lent}
-use Rattle.mpeg_ts.specs.GoodPackets.{Note, Hole, hole_size, note_of, notes}
-use Rattle.mpeg_ts.specs.Joining.{JoiningValue, after_note, given_later, handed_over, has_ended}
+use Rattle.sub_io.proofs.AskingLemmas.{requested_after, requests_none, skipped_borrowed}
+use Rattle.mpeg_ts.specs.GoodPackets.{Note, Loss, loss_size, note_of, notes}
+use Rattle.mpeg_ts.specs.Joining.{JoiningValue, after_note, later_output, delivered, has_ended}
 use Rattle.mpeg_ts.specs.PacketsInStep.{Packet, Skipped, begins_packet, bytes_needed, items}
 use Rattle.mpeg_ts.specs.Stream.{StreamValue, after_packet, after_skipped, bytes_ahead}
-use Rattle.mpeg_ts.specs.Stream.{given_of, gives_some, still_given, stream_gives}
+use Rattle.mpeg_ts.specs.Stream.{output_of, has_output, remaining_output, stream_output}
 use Rattle.mpeg_ts.specs.TransportPacket.{packet_size, pid}
-use Rattle.mpeg_ts.specs.TakenBytes.{TakesFront, takes_bytes}
-use Rattle.mpeg_ts.specs.Window.{AsksUpTo, WindowValue, held_and_left, left_to_take}
+use Rattle.mpeg_ts.specs.TakenBytes.{TakesPrefix, takes_bytes}
+use Rattle.mpeg_ts.specs.Window.{RequestsUpTo, WindowValue, buffered_and_left, left_to_take}
 use Rattle.mpeg_ts.proofs.TakenBytesLemmas.{takes_kept, takes_none, takes_on, takes_then}
 
 -- ---- items
@@ -108,24 +108,24 @@ all_skipped distance in_step bytes h1 h2 h3 =
 later_note : (j : JoiningValue) (n : Note) (more : List Note)
     → has_ended j.part ≡ false
     → j.pending ≡ []
-    → given_later (handed_over j) (n ∷ more)
-    ≡ (after_note j n).pending ++ given_later (handed_over (after_note j n)) more
-unfolding given_later
+    → later_output (delivered j) (n ∷ more)
+    ≡ (after_note j n).pending ++ later_output (delivered (after_note j n)) more
+unfolding later_output
 later_note j n more going idle =
-    let same : handed_over j ≡ j = ap (λ (l : List ℕ). record j { pending = l }) (sym idle) in
+    let same : delivered j ≡ j = ap (λ (l : List ℕ). record j { pending = l }) (sym idle) in
     rw going (ap (λ (v : JoiningValue).
-    (after_note v n).pending ++ given_later (handed_over (after_note v n)) more) same)
+    (after_note v n).pending ++ later_output (delivered (after_note v n)) more) same)
 
 -- There is no output at the end.
-later_end : (j : JoiningValue) → given_later j [] ≡ []
-unfolding given_later
+later_end : (j : JoiningValue) → later_output j [] ≡ []
+unfolding later_output
 later_end j = refl
 
 -- There is no output after `Ended`.
 pub later_ended : (j : JoiningValue) (all : List Note)
     → has_ended j.part ≡ true
-    → given_later j all ≡ []
-unfolding given_later
+    → later_output j all ≡ []
+unfolding later_output
 later_ended j [] ended = refl
 later_ended j (n ∷ more) ended = rw ended refl
 
@@ -133,31 +133,31 @@ later_ended j (n ∷ more) ended = rw ended refl
 stream_end : (distance number run : ℕ) (in_step : Bool) (j : JoiningValue) (bytes : List ℕ)
     → length bytes < 188
     → j.pending ≡ []
-    → stream_gives distance number run in_step j bytes ≡ []
-unfolding stream_gives notes
+    → stream_output distance number run in_step j bytes ≡ []
+unfolding stream_output notes
 stream_end distance number run in_step j bytes few idle =
-    ap (λ l. l ++ given_later (handed_over j)
+    ap (λ l. l ++ later_output (delivered j)
     (notes distance number run (items distance in_step (length bytes) bytes))) idle
-    ∙ ap (λ l. given_later (handed_over j) (notes distance number run l))
+    ∙ ap (λ l. later_output (delivered j) (notes distance number run l))
     (items_end distance in_step (length bytes) bytes few)
-    ∙ later_end (handed_over j)
+    ∙ later_end (delivered j)
 
 -- There is no further output.
 stream_ended : (distance number run : ℕ) (in_step : Bool) (j : JoiningValue) (bytes : List ℕ)
     → has_ended j.part ≡ true
     → j.pending ≡ []
-    → stream_gives distance number run in_step j bytes ≡ []
-unfolding stream_gives
+    → stream_output distance number run in_step j bytes ≡ []
+unfolding stream_output
 stream_ended distance number run in_step j bytes h1 h2 = grind (arith, nat_tests, later_ended)
 
 -- The output of the events of a packet, and what follows.
 packet_notes : (distance number : ℕ) (p : List ℕ) (j : JoiningValue) (more : List Note)
     → has_ended j.part ≡ false
     → j.pending ≡ []
-    → given_later (handed_over j)
+    → later_output (delivered j)
     (if pid p == number then note_of p ∷ more else more)
     ≡ (after_packet number p j).pending
-    ++ given_later (handed_over (after_packet number p j)) more
+    ++ later_output (delivered (after_packet number p j)) more
 packet_notes distance number p j more h1 h2 = grind (arith, nat_tests, by_bool, later_note)
 
 -- The next item is a packet.
@@ -167,16 +167,16 @@ pub stream_packet : (distance number run : ℕ) (in_step : Bool) (j : JoiningVal
     → begins_packet distance in_step bytes ≡ true
     → has_ended j.part ≡ false
     → j.pending ≡ []
-    → stream_gives distance number 0 true (after_packet number (take packet_size bytes) j)
+    → stream_output distance number 0 true (after_packet number (take packet_size bytes) j)
     (drop distance bytes)
-    ≡ stream_gives distance number run in_step j bytes
-unfolding stream_gives notes
+    ≡ stream_output distance number run in_step j bytes
+unfolding stream_output notes
 stream_packet distance number run in_step j bytes far many begins going idle =
     let rest = drop distance bytes in
     let more = notes distance number 0 (items distance true (length rest) rest) in
-    sym (ap (λ l. l ++ given_later (handed_over j)
+    sym (ap (λ l. l ++ later_output (delivered j)
     (notes distance number run (items distance in_step (length bytes) bytes))) idle
-    ∙ ap (λ l. given_later (handed_over j) (notes distance number run l))
+    ∙ ap (λ l. later_output (delivered j) (notes distance number run l))
     (all_packet distance in_step bytes far many begins)
     ∙ packet_notes distance number (take packet_size bytes) j more going idle)
 
@@ -184,10 +184,10 @@ stream_packet distance number run in_step j bytes far many begins going idle =
 skipped_notes : (distance run : ℕ) (j : JoiningValue) (more : List Note)
     → has_ended j.part ≡ false
     → j.pending ≡ []
-    → given_later (handed_over j)
-    (if run + 1 == hole_size distance then Hole ∷ more else more)
+    → later_output (delivered j)
+    (if run + 1 == loss_size distance then Loss ∷ more else more)
     ≡ (after_skipped distance run j).pending
-    ++ given_later (handed_over (after_skipped distance run j)) more
+    ++ later_output (delivered (after_skipped distance run j)) more
 skipped_notes distance run j more h1 h2 = grind (arith, nat_tests, by_bool, later_note)
 
 -- A skipped byte.
@@ -197,15 +197,15 @@ pub stream_skipped : (distance number run : ℕ) (in_step : Bool) (j : JoiningVa
     → begins_packet distance in_step bytes ≡ false
     → has_ended j.part ≡ false
     → j.pending ≡ []
-    → stream_gives distance number (run + 1) false (after_skipped distance run j) (drop 1 bytes)
-    ≡ stream_gives distance number run in_step j bytes
-unfolding stream_gives notes
+    → stream_output distance number (run + 1) false (after_skipped distance run j) (drop 1 bytes)
+    ≡ stream_output distance number run in_step j bytes
+unfolding stream_output notes
 stream_skipped distance number run in_step j bytes far many skips going idle =
     let rest = drop 1 bytes in
     let more = notes distance number (run + 1) (items distance false (length rest) rest) in
-    sym (ap (λ l. l ++ given_later (handed_over j)
+    sym (ap (λ l. l ++ later_output (delivered j)
     (notes distance number run (items distance in_step (length bytes) bytes))) idle
-    ∙ ap (λ l. given_later (handed_over j) (notes distance number run l))
+    ∙ ap (λ l. later_output (delivered j) (notes distance number run l))
     (all_skipped distance in_step bytes far many skips)
     ∙ skipped_notes distance run j more going idle)
 
@@ -213,11 +213,11 @@ stream_skipped distance number run in_step j bytes far many skips going idle =
 junk_byte : (distance number run : ℕ) (j : JoiningValue) (x : ℕ) (rest : List ℕ)
     → 188 ≤ distance
     → (x ≡ 0x47 → ⊥)
-    → (run + 1 ≡ hole_size distance → ⊥)
+    → (run + 1 ≡ loss_size distance → ⊥)
     → has_ended j.part ≡ false
     → j.pending ≡ []
-    → stream_gives distance number (run + 1) false j rest
-    ≡ stream_gives distance number run false j (x ∷ rest)
+    → stream_output distance number (run + 1) false j rest
+    ≡ stream_output distance number run false j (x ∷ rest)
 junk_byte distance number run j x rest far other no_hole going idle =
     by_bool (nat_lt (length (x ∷ rest)) 188)
     (λ lt. let short : length (x ∷ rest) < 188 = grind (arith, nat_tests) in
@@ -226,7 +226,7 @@ junk_byte distance number run j x rest far other no_hole going idle =
     (λ ge. let long : 188 ≤ length (x ∷ rest) = grind (arith, nat_tests) in
     let begins : begins_packet distance false (x ∷ rest) ≡ false = grind (arith, nat_tests) in
     let same : after_skipped distance run j ≡ j = grind (arith, nat_tests) in
-    ap (λ (k : JoiningValue). stream_gives distance number (run + 1) false k rest) (sym same)
+    ap (λ (k : JoiningValue). stream_output distance number (run + 1) false k rest) (sym same)
     ∙ stream_skipped distance number run false j (x ∷ rest) far long begins going idle)
 
 -- The bytes up to a place, and the one there.
@@ -238,32 +238,32 @@ take-one zero (x ∷ xs) rest lt = refl
 take-one (suc at) (x ∷ xs) rest lt = ap (λ l. x ∷ l) (take-one at xs rest (omega arith))
 
 -- One more such byte. For `junk_size`.
-pub junk_passed : (distance number run at : ℕ) (j : JoiningValue) (bytes rest : List ℕ)
+pub junk_skipped : (distance number run at : ℕ) (j : JoiningValue) (bytes rest : List ℕ)
     → 188 ≤ distance
     → at < length bytes
     → (slice_index bytes at ≡ 0x47 → ⊥)
-    → (run < hole_size distance → run + (at + 1) < hole_size distance)
+    → (run < loss_size distance → run + (at + 1) < loss_size distance)
     → has_ended j.part ≡ false
     → j.pending ≡ []
     → ((more : List ℕ)
-    → (run < hole_size distance → run + at < hole_size distance)
-    → stream_gives distance number (run + at) false j more
-    ≡ stream_gives distance number run false j (take at bytes ++ more))
-    → stream_gives distance number (run + (at + 1)) false j rest
-    ≡ stream_gives distance number run false j (take (at + 1) bytes ++ rest)
-junk_passed distance number run at j bytes rest far within other room going idle before =
-    let not_last : (run + at) + 1 ≡ hole_size distance → ⊥ =
-    λ last. by_lt run (hole_size distance)
+    → (run < loss_size distance → run + at < loss_size distance)
+    → stream_output distance number (run + at) false j more
+    ≡ stream_output distance number run false j (take at bytes ++ more))
+    → stream_output distance number (run + (at + 1)) false j rest
+    ≡ stream_output distance number run false j (take (at + 1) bytes ++ rest)
+junk_skipped distance number run at j bytes rest far within other room going idle before =
+    let not_last : (run + at) + 1 ≡ loss_size distance → ⊥ =
+    λ last. by_lt run (loss_size distance)
     (λ lt. omega (arith, room lt, last)) (λ ge. omega (arith, ge, last)) in
-    let there : run < hole_size distance → run + at < hole_size distance =
+    let there : run < loss_size distance → run + at < loss_size distance =
     λ lt. omega (arith, room lt) in
     let sum : run + (at + 1) ≡ (run + at) + 1 = omega arith in
     let next : suc at ≡ at + 1 = omega arith in
-    ap (λ (n : ℕ). stream_gives distance number n false j rest) sum
+    ap (λ (n : ℕ). stream_output distance number n false j rest) sum
     ∙ junk_byte distance number (run + at) j (slice_index bytes at) rest far other not_last going
     idle
     ∙ before (slice_index bytes at ∷ rest) there
-    ∙ ap (stream_gives distance number run false j) (sym (take-one at bytes rest within)
+    ∙ ap (stream_output distance number run false j) (sym (take-one at bytes rest within)
     ∙ ap (λ (n : ℕ). take n bytes ++ rest) next)
   where
     by_lt : {P : Type 0} (m n : ℕ) → (m < n → P) → (n ≤ m → P) → P
@@ -278,10 +278,10 @@ pub drop-across : (n : ℕ) (xs ys : List ℕ)
 drop-across n xs ys = grind (arith, nat_tests, by_bool, drop-append-le, drop_all, drop-append-add)
 
 -- The bytes from the next item on, some of them buffered.
-ahead_held : (v : StreamValue) (bytes : List ℕ)
-    → v.lead ≤ length v.window.held
-    → bytes_ahead v bytes ≡ drop v.lead v.window.held ++ take v.window.left bytes
-ahead_held v bytes le = drop-append-le v.lead v.window.held (take v.window.left bytes) le
+ahead_buffered : (v : StreamValue) (bytes : List ℕ)
+    → v.lead ≤ length v.window.buffered
+    → bytes_ahead v bytes ≡ drop v.lead v.window.buffered ++ take v.window.left bytes
+ahead_buffered v bytes le = drop-append-le v.lead v.window.buffered (take v.window.left bytes) le
 
 -- A buffered byte.
 pub index-append : (i : ℕ) (xs ys : List ℕ)
@@ -292,54 +292,54 @@ index-append zero (x ∷ xs) ys lt = refl
 index-append (suc i) (x ∷ xs) ys lt = index-append i xs ys (omega arith)
 
 -- A byte after the end.
-pub index-behind : (i : ℕ) (xs : List ℕ) → length xs ≤ i → slice_index xs i ≡ 0
-index-behind i [] le = refl
-index-behind zero (x ∷ xs) le = absurd (omega arith)
-index-behind (suc i) (x ∷ xs) le = index-behind i xs (omega arith)
+pub index-following : (i : ℕ) (xs : List ℕ) → length xs ≤ i → slice_index xs i ≡ 0
+index-following i [] le = refl
+index-following zero (x ∷ xs) le = absurd (omega arith)
+index-following (suc i) (x ∷ xs) le = index-following i xs (omega arith)
 
 -- A buffered byte from the next item on.
 index-ahead : (v : StreamValue) (bytes : List ℕ) (i : ℕ)
-    → v.lead + i < length v.window.held
-    → slice_index (bytes_ahead v bytes) i ≡ slice_index (drop v.lead v.window.held) i
-index-ahead v bytes i h1 = grind (arith, nat_tests, ahead_held, index-append, length-drop)
+    → v.lead + i < length v.window.buffered
+    → slice_index (bytes_ahead v bytes) i ≡ slice_index (drop v.lead v.window.buffered) i
+index-ahead v bytes i h1 = grind (arith, nat_tests, ahead_buffered, index-append, length-drop)
 
 -- ---- `need`
 
 -- Bytes that were read are still to be examined.
 pub given_takes : (x y : Option (List ℕ)) (v : StreamValue) (w : WindowValue)
-    → TakesFront (held_and_left v.window) (held_and_left w) x y
-    → TakesFront (given_of v) (given_of (record v { window = w })) x y
+    → TakesPrefix (buffered_and_left v.window) (buffered_and_left w) x y
+    → TakesPrefix (output_of v) (output_of (record v { window = w })) x y
 given_takes x y v w (takes_bytes _ _ _ _ bytes consumed same) =
-    takes_bytes (given_of v) (given_of (record v { window = w })) x y bytes consumed
+    takes_bytes (output_of v) (output_of (record v { window = w })) x y bytes consumed
     (λ more. ap (λ (l : List ℕ).
-    stream_gives v.distance v.number v.run v.in_step v.joining (drop v.lead l)) (same more))
+    stream_output v.distance v.number v.run v.in_step v.joining (drop v.lead l)) (same more))
 
 -- A loss yields no output by itself.
-hole_gives : (j : JoiningValue) (more : List Note)
-    → given_later (handed_over (record j { has_break = true })) more ≡ []
-    → given_later (handed_over j) (Hole ∷ more) ≡ []
-unfolding given_later
-hole_gives j more h1 = grind (arith, nat_tests, by_bool)
+loss_gives : (j : JoiningValue) (more : List Note)
+    → later_output (delivered (record j { has_break = true })) more ≡ []
+    → later_output (delivered j) (Loss ∷ more) ≡ []
+unfolding later_output
+loss_gives j more h1 = grind (arith, nat_tests, by_bool)
 
 -- Out of step, so few bytes contain no packet, since none is followed by a second sync byte.
 skipped_give : (distance number run room : ℕ) (j : JoiningValue) (bytes : List ℕ)
     → length bytes ≤ distance
-    → given_later (handed_over j) (notes distance number run (items distance false room bytes)) ≡ []
+    → later_output (delivered j) (notes distance number run (items distance false room bytes)) ≡ []
 unfolding notes items
-skipped_give distance number run zero j bytes few = later_end (handed_over j)
+skipped_give distance number run zero j bytes few = later_end (delivered j)
 skipped_give distance number run (suc room) j bytes few =
     by_bool (nat_lt (length bytes) 188)
     (λ lt. let short : length bytes < 188 = grind (arith, nat_tests) in
-    ap (λ l. given_later (handed_over j) (notes distance number run l))
-    (items_end distance false (suc room) bytes short) ∙ later_end (handed_over j))
+    ap (λ l. later_output (delivered j) (notes distance number run l))
+    (items_end distance false (suc room) bytes short) ∙ later_end (delivered j))
     (λ many. let long : 188 ≤ length bytes = grind (arith, nat_tests) in
     let skips : begins_packet distance false bytes ≡ false =
-    rw (index-behind distance bytes few) (and_false (slice_index bytes 0 == 0x47)) in
+    rw (index-following distance bytes few) (and_false (slice_index bytes 0 == 0x47)) in
     let less : length (drop 1 bytes) ≤ distance = omega (arith, length-drop 1 bytes) in
-    ap (λ l. given_later (handed_over j) (notes distance number run l))
+    ap (λ l. later_output (delivered j) (notes distance number run l))
     (items_skipped distance false room bytes long skips)
-    ∙ by_bool (run + 1 == hole_size distance)
-    (λ yes. rw yes (hole_gives j _ (skipped_give distance number (run + 1) room
+    ∙ by_bool (run + 1 == loss_size distance)
+    (λ yes. rw yes (loss_gives j _ (skipped_give distance number (run + 1) room
     (record j { has_break = true }) (drop 1 bytes) less)))
     (λ no. rw no (skipped_give distance number (run + 1) room j (drop 1 bytes) less)))
   where
@@ -351,8 +351,8 @@ skipped_give distance number run (suc room) j bytes few =
 stream_short : (distance number run : ℕ) (in_step : Bool) (j : JoiningValue) (bytes : List ℕ)
     → length bytes < bytes_needed distance in_step
     → j.pending ≡ []
-    → stream_gives distance number run in_step j bytes ≡ []
-unfolding stream_gives
+    → stream_output distance number run in_step j bytes ≡ []
+unfolding stream_output
 stream_short distance number run in_step j bytes h1 h2 =
     grind (arith, nat_tests, stream_end, skipped_give)
 
@@ -366,58 +366,58 @@ needs_packet distance in_step h1 = grind (arith, nat_tests)
 pub cut_gives : (v : StreamValue)
     → 188 ≤ v.distance
     → v.joining.pending ≡ []
-    → length v.window.held < v.lead + bytes_needed v.distance v.in_step
-    → given_of v [] ≡ []
+    → length v.window.buffered < v.lead + bytes_needed v.distance v.in_step
+    → output_of v [] ≡ []
 cut_gives v h1 h2 h3 =
     grind (arith, nat_tests, stream_short, needs_packet, length-append, length-drop, length-take)
 
 -- If they are missing, nothing is left.
-pub need_end : (told : Option (List ℕ)) (v : StreamValue)
+pub need_end : (known_bytes : Option (List ℕ)) (v : StreamValue)
     → 188 ≤ v.distance
     → v.joining.pending ≡ []
-    → length v.window.held < v.lead + bytes_needed v.distance v.in_step
-    → IsAtEnd (left_to_take v.window told)
-    → IsAtEnd (still_given v told)
-need_end told v h1 h2 h3 h4 =
+    → length v.window.buffered < v.lead + bytes_needed v.distance v.in_step
+    → IsAtEnd (left_to_take v.window known_bytes)
+    → IsAtEnd (remaining_output v known_bytes)
+need_end known_bytes v h1 h2 h3 h4 =
     grind (arith, nat_tests, stream_short, needs_packet, length-append, length-drop)
 
 -- No byte is read after those that determine the next item, since fewer yield nothing.
-pub need_asks : {D : Type 0} (IsPull : D → ℕ → Option ℕ → D → Type 0) (lent : D → List ℕ)
+pub need_requests : {D : Type 0} (IsPull : D → ℕ → Option ℕ → D → Type 0) (borrowed : D → List ℕ)
     (remaining : D → Option (List ℕ)) (v : StreamValue) (w : WindowValue) (before after : D)
     (ok : Bool) (count : ℕ)
-    → AsksUpTo IsPull lent remaining count v.window before ok w after
+    → RequestsUpTo IsPull borrowed remaining count v.window before ok w after
     → count ≡ v.lead + bytes_needed v.distance v.in_step
     → 188 ≤ v.distance
     → v.joining.pending ≡ []
-    → Asks IsPull lent remaining (gives_some v) before ok
-    (gives_some (record v { window = w })) after
-need_asks IsPull lent remaining v w before after ok count asks is near idle =
-    asks.asks (λ bytes. nat_lt 0 (length
-    (stream_gives v.distance v.number v.run v.in_step v.joining (drop v.lead bytes))))
+    → Requests IsPull borrowed remaining (has_output v) before ok
+    (has_output (record v { window = w })) after
+need_requests IsPull borrowed remaining v w before after ok count requests is near idle =
+    requests.requests (λ bytes. nat_lt 0 (length
+    (stream_output v.distance v.number v.run v.in_step v.joining (drop v.lead bytes))))
     (λ bytes few. ap (λ (l : List ℕ). nat_lt 0 (length l))
     (stream_short v.distance v.number v.run v.in_step v.joining (drop v.lead bytes)
     (omega (arith, is, length-drop v.lead bytes, needs_packet v.distance v.in_step near)) idle))
 
-pub ruleset needing = (given_takes, cut_gives, need_end, need_asks)
+pub ruleset needing = (given_takes, cut_gives, need_end, need_requests)
 
 -- ---- `begins_packet`
 
 -- The needed bytes determine it, whatever follows.
 pub begins_known : (v : StreamValue) (bytes : List ℕ)
     → 188 ≤ v.distance
-    → v.lead + bytes_needed v.distance v.in_step ≤ length v.window.held
+    → v.lead + bytes_needed v.distance v.in_step ≤ length v.window.buffered
     → begins_packet v.distance v.in_step (bytes_ahead v bytes)
-    ≡ ((slice_index (drop v.lead v.window.held) 0 == 0x47)
-    && (v.in_step || (slice_index (drop v.lead v.window.held) v.distance == 0x47)))
+    ≡ ((slice_index (drop v.lead v.window.buffered) 0 == 0x47)
+    && (v.in_step || (slice_index (drop v.lead v.window.buffered) v.distance == 0x47)))
 begins_known v bytes h1 h2 = grind (arith, nat_tests, index-ahead, needs_packet, by_bool)
 
 -- ---- `advance`
 
 -- The bytes after skipping `count` of them.
 pub ahead_moved : (v w : StreamValue) (count : ℕ) (bytes : List ℕ)
-    → w.window.held ≡ drop (v.lead + count) v.window.held
+    → w.window.buffered ≡ drop (v.lead + count) v.window.buffered
     → w.window.left ≡ v.window.left
-    → w.lead ≡ (v.lead + count) - length v.window.held
+    → w.lead ≡ (v.lead + count) - length v.window.buffered
     → bytes_ahead w bytes ≡ drop count (bytes_ahead v bytes)
 ahead_moved v w count bytes h1 h2 h3 = grind (arith, nat_tests, drop-across, drop-drop)
 
@@ -427,44 +427,45 @@ pub ruleset advancing = (ahead_moved, length-drop)
 
 -- The bytes ahead begin with the buffered ones.
 take-ahead : (v : StreamValue) (bytes : List ℕ)
-    → v.lead + 188 ≤ length v.window.held
-    → take 188 (bytes_ahead v bytes) ≡ take 188 (drop v.lead v.window.held)
+    → v.lead + 188 ≤ length v.window.buffered
+    → take 188 (bytes_ahead v bytes) ≡ take 188 (drop v.lead v.window.buffered)
 take-ahead v bytes there =
-    ap (take 188) (ahead_held v bytes (omega arith))
-    ∙ take-append-le 188 (drop v.lead v.window.held) (take v.window.left bytes)
-    (omega (arith, length-drop v.lead v.window.held))
+    ap (take 188) (ahead_buffered v bytes (omega arith))
+    ∙ take-append-le 188 (drop v.lead v.window.buffered) (take v.window.left bytes)
+    (omega (arith, length-drop v.lead v.window.buffered))
 
 -- The bytes ahead contain at least a packet.
 long_ahead : (v : StreamValue) (bytes : List ℕ)
-    → v.lead + 188 ≤ length v.window.held
+    → v.lead + 188 ≤ length v.window.buffered
     → 188 ≤ length (bytes_ahead v bytes)
 long_ahead v bytes h1 = grind (arith, nat_tests, length-drop, length-append)
 
 -- The output still to come after a packet.
 pub packet_taken : (v w : StreamValue) (bytes : List ℕ)
     → 188 ≤ v.distance
-    → v.lead + 188 ≤ length v.window.held
+    → v.lead + 188 ≤ length v.window.buffered
     → has_ended v.joining.part ≡ false
     → v.joining.pending ≡ []
     → w.distance ≡ v.distance
     → w.number ≡ v.number
     → w.run ≡ 0
     → w.in_step ≡ true
-    → w.joining ≡ after_packet v.number (take 188 (drop v.lead v.window.held)) v.joining
+    → w.joining ≡ after_packet v.number (take 188 (drop v.lead v.window.buffered)) v.joining
     → bytes_ahead w bytes ≡ drop v.distance (bytes_ahead v bytes)
     → begins_packet v.distance v.in_step (bytes_ahead v bytes) ≡ true
-    → given_of w bytes ≡ given_of v bytes
+    → output_of w bytes ≡ output_of v bytes
 packet_taken v w bytes far there going idle distance number run step joining ahead begins =
     let same = ap (λ (p : List ℕ). after_packet v.number p v.joining) (take-ahead v bytes there) in
-    ap (λ (n : ℕ). stream_gives n w.number w.run w.in_step w.joining (bytes_ahead w bytes)) distance
-    ∙ ap (λ (n : ℕ). stream_gives v.distance n w.run w.in_step w.joining (bytes_ahead w bytes))
+    ap (λ (n : ℕ). stream_output n w.number w.run w.in_step w.joining (bytes_ahead w bytes))
+    distance
+    ∙ ap (λ (n : ℕ). stream_output v.distance n w.run w.in_step w.joining (bytes_ahead w bytes))
     number
-    ∙ ap (λ (n : ℕ). stream_gives v.distance v.number n w.in_step w.joining (bytes_ahead w bytes))
+    ∙ ap (λ (n : ℕ). stream_output v.distance v.number n w.in_step w.joining (bytes_ahead w bytes))
     run
-    ∙ ap (λ (b : Bool). stream_gives v.distance v.number 0 b w.joining (bytes_ahead w bytes)) step
-    ∙ ap (λ (j : JoiningValue). stream_gives v.distance v.number 0 true j (bytes_ahead w bytes))
+    ∙ ap (λ (b : Bool). stream_output v.distance v.number 0 b w.joining (bytes_ahead w bytes)) step
+    ∙ ap (λ (j : JoiningValue). stream_output v.distance v.number 0 true j (bytes_ahead w bytes))
     (joining ∙ sym same)
-    ∙ ap (stream_gives v.distance v.number 0 true
+    ∙ ap (stream_output v.distance v.number 0 true
     (after_packet v.number (take 188 (bytes_ahead v bytes)) v.joining)) ahead
     ∙ stream_packet v.distance v.number v.run v.in_step v.joining (bytes_ahead v bytes) far
     (long_ahead v bytes there) begins going idle
@@ -472,7 +473,7 @@ packet_taken v w bytes far there going idle distance number run step joining ahe
 -- The output still to come after a skipped byte.
 pub byte_skipped : (v w : StreamValue) (bytes : List ℕ)
     → 188 ≤ v.distance
-    → v.lead + 188 ≤ length v.window.held
+    → v.lead + 188 ≤ length v.window.buffered
     → has_ended v.joining.part ≡ false
     → v.joining.pending ≡ []
     → w.distance ≡ v.distance
@@ -482,7 +483,7 @@ pub byte_skipped : (v w : StreamValue) (bytes : List ℕ)
     → w.joining ≡ after_skipped v.distance v.run v.joining
     → bytes_ahead w bytes ≡ drop 1 (bytes_ahead v bytes)
     → begins_packet v.distance v.in_step (bytes_ahead v bytes) ≡ false
-    → given_of w bytes ≡ given_of v bytes
+    → output_of w bytes ≡ output_of v bytes
 byte_skipped v w bytes h1 h2 h3 h4 h5 h6 h7 h8 h9 h10 h11 =
     grind (arith, nat_tests, stream_skipped, long_ahead)
 
@@ -494,7 +495,7 @@ other_pid v p h1 = grind (arith, nat_tests)
 
 -- The output still to come after buffered bytes that contain no packet. For `skip_on`.
 pub junk_given : (v w : StreamValue) (count : ℕ) (bytes : List ℕ)
-    → count ≤ length v.window.held
+    → count ≤ length v.window.buffered
     → v.in_step ≡ false
     → v.lead ≡ 0
     → w.distance ≡ v.distance
@@ -502,166 +503,176 @@ pub junk_given : (v w : StreamValue) (count : ℕ) (bytes : List ℕ)
     → w.run ≡ v.run + count
     → w.in_step ≡ v.in_step
     → w.joining ≡ v.joining
-    → w.lead ≡ count - length v.window.held
-    → w.window.held ≡ drop count v.window.held
+    → w.lead ≡ count - length v.window.buffered
+    → w.window.buffered ≡ drop count v.window.buffered
     → w.window.left ≡ v.window.left
-    → ((rest : List ℕ) → stream_gives v.distance v.number (v.run + count) false v.joining rest
-    ≡ stream_gives v.distance v.number v.run false v.joining (take count v.window.held ++ rest))
-    → given_of w bytes ≡ given_of v bytes
+    → ((rest : List ℕ) → stream_output v.distance v.number (v.run + count) false v.joining rest
+    ≡ stream_output v.distance v.number v.run false v.joining (take count v.window.buffered ++
+    rest))
+    → output_of w bytes ≡ output_of v bytes
 junk_given v w count bytes h1 h2 h3 h4 h5 h6 h7 h8 h9 h10 h11 h12 =
     let none : w.lead ≡ 0 = omega (arith, h1, h9) in
-    let behind = take v.window.left bytes in
-    let all : v.window.held ++ behind ≡ take count v.window.held
-    ++ (drop count v.window.held ++ behind) =
-    ap (λ (l : List ℕ). l ++ behind) (sym (take-append-drop count v.window.held))
-    ∙ append_assoc (take count v.window.held) (drop count v.window.held) behind in
+    let following = take v.window.left bytes in
+    let all : v.window.buffered ++ following ≡ take count v.window.buffered
+    ++ (drop count v.window.buffered ++ following) =
+    ap (λ (l : List ℕ). l ++ following) (sym (take-append-drop count v.window.buffered))
+    ∙ append_assoc (take count v.window.buffered) (drop count v.window.buffered) following in
     rw (none, h3, h4, h5, h6, h7, h2, h8, h10, h11)
-    (h12 (drop count v.window.held ++ behind)
-    ∙ ap (stream_gives v.distance v.number v.run false v.joining) (sym all))
+    (h12 (drop count v.window.buffered ++ following)
+    ∙ ap (stream_output v.distance v.number v.run false v.joining) (sym all))
 
 pub ruleset packets = packet_taken
 
 -- A skipped byte may make a loss, but has no other effect.
 pub skipped_idle : (distance run : ℕ) (j : JoiningValue)
     → (after_skipped distance run j).pending ≡ j.pending
-skipped_idle distance run j = by_bool (run + 1 == hole_size distance)
+skipped_idle distance run j = by_bool (run + 1 == loss_size distance)
     (λ yes. rw yes refl) (λ no. rw no refl)
 
 pub skipped_going : (distance run : ℕ) (j : JoiningValue)
     → has_ended (after_skipped distance run j).part ≡ has_ended j.part
-skipped_going distance run j = by_bool (run + 1 == hole_size distance)
+skipped_going distance run j = by_bool (run + 1 == loss_size distance)
     (λ yes. rw yes refl) (λ no. rw no refl)
 
 pub ruleset skips = (byte_skipped, skipped_idle, skipped_going)
 
-pub ruleset junk = (junk_passed, junk_given)
+pub ruleset junk = (junk_skipped, junk_given)
 
 -- ---- `step` and `read_on`
 
 -- The output still to come after the next item.
-pub item_takes : (before told : Option (List ℕ)) (u v w : StreamValue) (begins : Bool)
-    → TakesFront (given_of u) (given_of v) before told
+pub item_takes : (before known_bytes : Option (List ℕ)) (u v w : StreamValue) (begins : Bool)
+    → TakesPrefix (output_of u) (output_of v) before known_bytes
     → ((bytes : List ℕ) → begins_packet v.distance v.in_step (bytes_ahead v bytes) ≡ begins)
     → ((bytes : List ℕ)
     → begins_packet v.distance v.in_step (bytes_ahead v bytes) ≡ begins
-    → given_of w bytes ≡ given_of v bytes)
-    → TakesFront (given_of u) (given_of w) before told
-item_takes before told u v w begins takes stands same =
-    takes_on (given_of u) (given_of v) (given_of w) before told takes
+    → output_of w bytes ≡ output_of v bytes)
+    → TakesPrefix (output_of u) (output_of w) before known_bytes
+item_takes before known_bytes u v w begins takes stands same =
+    takes_on (output_of u) (output_of v) (output_of w) before known_bytes takes
     (λ more. same more (stands more))
 
 -- Bytes read for the item are also needed for what follows.
-pub item_asks : {D : Type 0} (IsPull : D → ℕ → Option ℕ → D → Type 0) (lent : D → List ℕ)
+pub item_requests : {D : Type 0} (IsPull : D → ℕ → Option ℕ → D → Type 0) (borrowed : D → List ℕ)
     (remaining : D → Option (List ℕ)) (u v w : StreamValue) (before after : D) (begins : Bool)
-    → Asks IsPull lent remaining (gives_some u) before true (gives_some v) after
+    → Requests IsPull borrowed remaining (has_output u) before true (has_output v) after
     → ((bytes : List ℕ) → begins_packet v.distance v.in_step (bytes_ahead v bytes) ≡ begins)
     → ((bytes : List ℕ)
     → begins_packet v.distance v.in_step (bytes_ahead v bytes) ≡ begins
-    → given_of w bytes ≡ given_of v bytes)
-    → Asks IsPull lent remaining (gives_some u) before true (gives_some w) after
-item_asks IsPull lent remaining u v w before after begins h1 h2 h3 =
-    grind (arith, nat_tests, asked_behind)
+    → output_of w bytes ≡ output_of v bytes)
+    → Requests IsPull borrowed remaining (has_output u) before true (has_output w) after
+item_requests IsPull borrowed remaining u v w before after begins h1 h2 h3 =
+    grind (arith, nat_tests, requested_after)
 
 -- Nothing is left after `Ended`.
-pub none_where_ended : (told : Option (List ℕ)) (v : StreamValue)
+pub none_where_ended : (known_bytes : Option (List ℕ)) (v : StreamValue)
     → has_ended v.joining.part ≡ true
     → v.joining.pending ≡ []
-    → IsAtEnd (still_given v told)
-none_where_ended told v h1 h2 = grind (arith, nat_tests, stream_ended)
+    → IsAtEnd (remaining_output v known_bytes)
+none_where_ended known_bytes v h1 h2 = grind (arith, nat_tests, stream_ended)
 
-pub ruleset steps = (item_takes, item_asks, asks_on, takes_then)
+pub ruleset steps = (item_takes, item_requests, requests_on, takes_then)
 
-pub ruleset reads = (none_where_ended, asks_on, asks_none, takes_then, takes_none, takes_kept)
+pub ruleset reads = (
+  none_where_ended,
+  requests_on,
+  requests_none,
+  takes_then,
+  takes_none,
+  takes_kept,
+)
 
 -- ---- taking output
 
 -- The first bytes that are ready were returned.
-pub given_front : (v : StreamValue) (rest got bytes : List ℕ)
+pub given_prefix : (v : StreamValue) (rest got bytes : List ℕ)
     → v.joining.pending ≡ got ++ rest
-    → given_of v bytes
-    ≡ got ++ given_of (record v { joining = record v.joining { pending = rest } }) bytes
-unfolding stream_gives
-given_front v rest got bytes h1 = grind (arith, nat_tests, append_assoc)
+    → output_of v bytes
+    ≡ got ++ output_of (record v { joining = record v.joining { pending = rest } }) bytes
+unfolding stream_output
+given_prefix v rest got bytes h1 = grind (arith, nat_tests, append_assoc)
 
 -- They were consumed from the output still to come.
-pub front_consumed : (before told : Option (List ℕ)) (u v : StreamValue) (rest got : List ℕ)
-    → Keeps (still_given u before) (still_given v told)
+pub prefix_consumed : (before known_bytes : Option (List ℕ)) (u v : StreamValue) (rest got : List ℕ)
+    → Keeps (remaining_output u before) (remaining_output v known_bytes)
     → v.joining.pending ≡ got ++ rest
-    → Consumes (still_given u before)
-    (still_given (record v { joining = record v.joining { pending = rest } }) told) got
-front_consumed before told u v rest got h1 h2 = grind (arith, nat_tests, given_front)
+    → Consumes (remaining_output u before)
+    (remaining_output (record v { joining = record v.joining { pending = rest } }) known_bytes) got
+prefix_consumed before known_bytes u v rest got h1 h2 = grind (arith, nat_tests, given_prefix)
 
 -- ---- packets that are lent
 
 -- The output for bytes of which the first were consumed, with an empty buffer.
-given_behind : (v w : StreamValue) (taken bytes : List ℕ)
-    → v.window.held ≡ []
+output_after_taken : (v w : StreamValue) (taken bytes : List ℕ)
+    → v.window.buffered ≡ []
     → length taken ≤ v.window.left
-    → ((rest : List ℕ) → stream_gives w.distance w.number w.run w.in_step w.joining rest
-    ≡ stream_gives v.distance v.number v.run v.in_step v.joining (drop v.lead (taken ++ rest)))
+    → ((rest : List ℕ) → stream_output w.distance w.number w.run w.in_step w.joining rest
+    ≡ stream_output v.distance v.number v.run v.in_step v.joining (drop v.lead (taken ++ rest)))
     → w.lead ≡ 0
     → w.window ≡ record v.window { left = v.window.left - length taken }
-    → given_of w bytes ≡ given_of v (taken ++ bytes)
-given_behind v w taken bytes none few gives lead window =
+    → output_of w bytes ≡ output_of v (taken ++ bytes)
+output_after_taken v w taken bytes none few gives lead window =
     let left = v.window.left in
     let all : left ≡ length taken + (left - length taken) = omega arith in
-    ap (λ (n : ℕ). stream_gives w.distance w.number w.run w.in_step w.joining
-    (drop n (held_and_left w.window bytes))) lead
-    ∙ ap (λ (u : WindowValue). stream_gives w.distance w.number w.run w.in_step w.joining
-    (held_and_left u bytes)) window
-    ∙ ap (λ (l : List ℕ). stream_gives w.distance w.number w.run w.in_step w.joining
+    ap (λ (n : ℕ). stream_output w.distance w.number w.run w.in_step w.joining
+    (drop n (buffered_and_left w.window bytes))) lead
+    ∙ ap (λ (u : WindowValue). stream_output w.distance w.number w.run w.in_step w.joining
+    (buffered_and_left u bytes)) window
+    ∙ ap (λ (l : List ℕ). stream_output w.distance w.number w.run w.in_step w.joining
     (l ++ take (left - length taken) bytes)) none
     ∙ gives (take (left - length taken) bytes)
-    ∙ ap (λ (l : List ℕ). stream_gives v.distance v.number v.run v.in_step v.joining
+    ∙ ap (λ (l : List ℕ). stream_output v.distance v.number v.run v.in_step v.joining
     (drop v.lead l))
     (sym (take-append-add taken bytes (left - length taken))
     ∙ ap (λ (n : ℕ). take n (taken ++ bytes)) (sym all))
-    ∙ ap (λ (l : List ℕ). stream_gives v.distance v.number v.run v.in_step v.joining
+    ∙ ap (λ (l : List ℕ). stream_output v.distance v.number v.run v.in_step v.joining
     (drop v.lead (l ++ take left (taken ++ bytes)))) (sym none)
 
 -- The lent bytes are at the front of the remaining ones.
-pub lent_within : (lent all : List ℕ) (count : ℕ)
-    → take (length lent) all ≡ lent
-    → count ≤ length lent
+pub borrowed_within : (borrowed all : List ℕ) (count : ℕ)
+    → take (length borrowed) all ≡ borrowed
+    → count ≤ length borrowed
     → count ≤ length all
-lent_within lent all count h1 h2 = grind (arith, nat_tests, length-take)
+borrowed_within borrowed all count h1 h2 = grind (arith, nat_tests, length-take)
 
 -- Skipping lent bytes does not change the output still to come, if the bytes after them yield it.
-pub lent_passed : {D : Type 0} (IsPull : D → ℕ → Option ℕ → D → Type 0) (lent : D → List ℕ)
+pub borrowed_skipped : {D : Type 0} (IsPull : D → ℕ → Option ℕ → D → Type 0) (borrowed : D → List ℕ)
     (remaining : D → Option (List ℕ)) (v w : StreamValue) (before after : D) (next : List ℕ)
     (count : ℕ)
     → AreNext next (remaining before)
-    → take (length next) (lent before) ≡ next
+    → take (length next) (borrowed before) ≡ next
     → count ≤ length next
     → IsPull before count (Some count) after
-    → PassesOver (remaining before) count (remaining after)
-    → ((bytes : List ℕ) → given_of w bytes ≡ given_of v (take count next ++ bytes))
-    → TakesFront (given_of v) (given_of w) (remaining before) (remaining after)
-    × Asks IsPull lent remaining (gives_some v) before true (gives_some w) after
-lent_passed IsPull lent remaining v w before after next count are front fits pull passed gives =
+    → SkipsOver (remaining before) count (remaining after)
+    → ((bytes : List ℕ) → output_of w bytes ≡ output_of v (take count next ++ bytes))
+    → TakesPrefix (output_of v) (output_of w) (remaining before) (remaining after)
+    × Requests IsPull borrowed remaining (has_output v) before true (has_output w) after
+borrowed_skipped IsPull borrowed remaining v w before after next count are prefix fits pull skipped
+    gives =
     let taken = take count next in
     let long : length taken ≡ count = length-take-le count next fits in
-    let consumed = passed_lent (remaining before) (remaining after) next count are passed fits in (
-      takes_bytes (given_of v) (given_of w) (remaining before) (remaining after) taken consumed
+    let consumed = skipped_borrowed (remaining before) (remaining after) next count are skipped fits
+    in (
+      takes_bytes (output_of v) (output_of w) (remaining before) (remaining after) taken consumed
           (λ more. sym (gives more)),
-      asks_once (gives_some v) (gives_some w) before after count taken
-          (inl (lent_within next (lent before) count front fits))
+      requests_once (has_output v) (has_output w) before after count taken
+          (inl (borrowed_within next (borrowed before) count prefix fits))
           (rw long pull) consumed
-          (asked_behind taken (gives_some v) (gives_some w)
+          (requested_after taken (has_output v) (has_output w)
           (λ bytes. ap (λ (l : List ℕ). nat_lt 0 (length l)) (gives bytes))),
     )
 
 -- A packet of another PID.
-unit_passed : (distance number : ℕ) (j : JoiningValue) (unit rest : List ℕ)
+unit_skipped : (distance number : ℕ) (j : JoiningValue) (unit rest : List ℕ)
     → 188 ≤ distance
     → length unit ≡ distance
     → slice_index unit 0 ≡ 0x47
     → (pid unit ≡ number → ⊥)
     → has_ended j.part ≡ false
     → j.pending ≡ []
-    → stream_gives distance number 0 true j rest
-    ≡ stream_gives distance number 0 true j (unit ++ rest)
-unit_passed distance number j unit rest near long sync other going idle =
+    → stream_output distance number 0 true j rest
+    ≡ stream_output distance number 0 true j (unit ++ rest)
+unit_skipped distance number j unit rest near long sync other going idle =
     let all = unit ++ rest in
     let byte : (i : ℕ) → i < 188 → slice_index (take 188 all) i ≡ slice_index unit i =
     λ i lt. get_or-take 188 all i 0 lt ∙ index-append i unit rest (omega (arith, long)) in
@@ -673,10 +684,10 @@ unit_passed distance number j unit rest near long sync other going idle =
     ∙ ap (λ (n : ℕ). slice_index unit 1 % 0x20 * 0x100 + n) (byte 2 (omega arith)) in
     let none : (pid (take 188 all) == number) ≡ false =
     not_equal (pid (take 188 all)) number (λ e. other (sym same ∙ e)) in
-    let behind : drop distance all ≡ rest =
+    let following : drop distance all ≡ rest =
     ap (λ (n : ℕ). drop n all) (sym long) ∙ drop-append_seam unit rest in
-    ap (stream_gives distance number 0 true j) (sym behind)
-    ∙ ap (λ (v : JoiningValue). stream_gives distance number 0 true v (drop distance all))
+    ap (stream_output distance number 0 true j) (sym following)
+    ∙ ap (λ (v : JoiningValue). stream_output distance number 0 true v (drop distance all))
     (sym (ap (λ (b : Bool). if b then after_note j (note_of (take 188 all)) else j) none))
     ∙ stream_packet distance number 0 true j all near
     (omega (arith, long, length-append unit rest)) begins going idle
@@ -684,19 +695,19 @@ unit_passed distance number j unit rest near long sync other going idle =
     not_equal : (m n : ℕ) → (m ≡ n → ⊥) → (m == n) ≡ false
     not_equal m n differ = grind (arith, nat_tests)
 
--- One more packet of another PID at the front. For `place_behind_others`.
-pub other_passed : (distance number from at : ℕ) (j : JoiningValue) (bytes rest : List ℕ)
+-- One more packet of another PID at the front. For `place_after_others`.
+pub other_skipped : (distance number from at : ℕ) (j : JoiningValue) (bytes rest : List ℕ)
     → 188 ≤ distance
     → at + distance ≤ length bytes
     → slice_index (drop at bytes) 0 ≡ 0x47
     → (pid (drop at bytes) ≡ number → ⊥)
     → has_ended j.part ≡ false
     → j.pending ≡ []
-    → ((more : List ℕ) → stream_gives distance number 0 true j more
-    ≡ stream_gives distance number 0 true j (drop from (take at bytes ++ more)))
-    → stream_gives distance number 0 true j rest
-    ≡ stream_gives distance number 0 true j (drop from (take (at + distance) bytes ++ rest))
-other_passed distance number from at j bytes rest near within sync other going idle before =
+    → ((more : List ℕ) → stream_output distance number 0 true j more
+    ≡ stream_output distance number 0 true j (drop from (take at bytes ++ more)))
+    → stream_output distance number 0 true j rest
+    ≡ stream_output distance number 0 true j (drop from (take (at + distance) bytes ++ rest))
+other_skipped distance number from at j bytes rest near within sync other going idle before =
     let unit = take distance (drop at bytes) in
     let long : length unit ≡ distance =
     omega (arith, length-take distance (drop at bytes), length-drop at bytes) in
@@ -705,25 +716,26 @@ other_passed distance number from at j bytes rest near within sync other going i
     let same : pid unit ≡ pid (drop at bytes) =
     ap (λ (n : ℕ). n % 0x20 * 0x100 + slice_index unit 2) (byte 1 (omega arith))
     ∙ ap (λ (n : ℕ). slice_index (drop at bytes) 1 % 0x20 * 0x100 + n) (byte 2 (omega arith)) in
-    unit_passed distance number j unit rest near long (byte 0 (omega arith) ∙ sync)
+    unit_skipped distance number j unit rest near long (byte 0 (omega arith) ∙ sync)
     (λ e. other (sym same ∙ e)) going idle
     ∙ before (unit ++ rest)
-    ∙ ap (λ (l : List ℕ). stream_gives distance number 0 true j (drop from l))
+    ∙ ap (λ (l : List ℕ). stream_output distance number 0 true j (drop from l))
     (sym (append_assoc (take at bytes) unit rest)
     ∙ ap (λ (l : List ℕ). l ++ rest) (sym (take-add at distance bytes)))
 
 -- The output still to come after packets of other PIDs were skipped.
 pub others_given : (v w : StreamValue) (taken bytes : List ℕ) (count : ℕ)
     → length taken ≡ count
-    → v.window.held ≡ []
+    → v.window.buffered ≡ []
     → count ≤ v.window.left
     → v.in_step ≡ true
     → v.run ≡ 0
-    → ((rest : List ℕ) → stream_gives v.distance v.number 0 true v.joining rest
-    ≡ stream_gives v.distance v.number 0 true v.joining (drop v.lead (taken ++ rest)))
+    → ((rest : List ℕ) → stream_output v.distance v.number 0 true v.joining rest
+    ≡ stream_output v.distance v.number 0 true v.joining (drop v.lead (taken ++ rest)))
     → w ≡ record v { window = record v.window { left = v.window.left - count }; lead = 0 }
-    → given_of w bytes ≡ given_of v (taken ++ bytes)
-others_given v w taken bytes count h1 h2 h3 h4 h5 h6 h7 = grind (arith, nat_tests, given_behind)
+    → output_of w bytes ≡ output_of v (taken ++ bytes)
+others_given v w taken bytes count h1 h2 h3 h4 h5 h6 h7 = grind
+    (arith, nat_tests, output_after_taken)
 
 -- A packet of the PID.
 pub same_pid : (number : ℕ) (p : List ℕ) (j : JoiningValue)
@@ -739,8 +751,8 @@ unit_taken : (distance number : ℕ) (j : JoiningValue) (unit rest p : List ℕ)
     → slice_index p 0 ≡ 0x47
     → has_ended j.part ≡ false
     → j.pending ≡ []
-    → stream_gives distance number 0 true (after_packet number p j) rest
-    ≡ stream_gives distance number 0 true j (unit ++ rest)
+    → stream_output distance number 0 true (after_packet number p j) rest
+    ≡ stream_output distance number 0 true j (unit ++ rest)
 unit_taken distance number j unit rest p near size packet sync going idle =
     let heads : take 188 (unit ++ rest) ≡ p =
     take-append-le 188 unit rest (omega (arith, size)) ∙ sym packet in
@@ -748,66 +760,68 @@ unit_taken distance number j unit rest p near size packet sync going idle =
     ap (λ (n : ℕ). (n == 0x47) && true)
     (sym (get_or-take 188 (unit ++ rest) 0 0 (omega arith))
     ∙ ap (λ (l : List ℕ). slice_index l 0) heads ∙ sync) in
-    let behind : drop distance (unit ++ rest) ≡ rest =
+    let following : drop distance (unit ++ rest) ≡ rest =
     ap (λ (n : ℕ). drop n (unit ++ rest)) (sym size) ∙ drop-append_seam unit rest in
-    ap (stream_gives distance number 0 true (after_packet number p j)) (sym behind)
-    ∙ ap (λ (l : List ℕ). stream_gives distance number 0 true (after_packet number l j)
+    ap (stream_output distance number 0 true (after_packet number p j)) (sym following)
+    ∙ ap (λ (l : List ℕ). stream_output distance number 0 true (after_packet number l j)
     (drop distance (unit ++ rest))) (sym heads)
     ∙ stream_packet distance number 0 true j (unit ++ rest) near
     (omega (arith, size, length-append unit rest)) begins going idle
 
 -- The output still to come after lent packets of other PIDs and a packet of the PID.
-pub packet_given : (v w : StreamValue) (lent p bytes : List ℕ) (place count : ℕ)
+pub packet_given : (v w : StreamValue) (borrowed p bytes : List ℕ) (place count : ℕ)
     → count ≡ place + v.distance
-    → count ≤ length lent
-    → v.window.held ≡ []
+    → count ≤ length borrowed
+    → v.window.buffered ≡ []
     → count ≤ v.window.left
     → v.in_step ≡ true
     → v.run ≡ 0
     → 188 ≤ v.distance
-    → p ≡ take 188 (drop place lent)
+    → p ≡ take 188 (drop place borrowed)
     → slice_index p 0 ≡ 0x47
     → has_ended v.joining.part ≡ false
     → v.joining.pending ≡ []
-    → ((rest : List ℕ) → stream_gives v.distance v.number 0 true v.joining rest
-    ≡ stream_gives v.distance v.number 0 true v.joining (drop v.lead (take place lent ++ rest)))
+    → ((rest : List ℕ) → stream_output v.distance v.number 0 true v.joining rest
+    ≡ stream_output v.distance v.number 0 true v.joining
+    (drop v.lead (take place borrowed ++ rest)))
     → w ≡ record v {
       window = record v.window { left = v.window.left - count };
       lead = 0;
       joining = after_packet v.number p v.joining;
     }
-    → given_of w bytes ≡ given_of v (take count lent ++ bytes)
-packet_given v w lent p bytes place count sum fits none few step run near packet sync going idle
+    → output_of w bytes ≡ output_of v (take count borrowed ++ bytes)
+packet_given v w borrowed p bytes place count sum fits none few step run near packet sync going idle
     others is =
-    let long : length (take count lent) ≡ count = length-take-le count lent fits in
-    ap (λ (u : StreamValue). given_of u bytes) is
-    ∙ given_behind v (record v {
+    let long : length (take count borrowed) ≡ count = length-take-le count borrowed fits in
+    ap (λ (u : StreamValue). output_of u bytes) is
+    ∙ output_after_taken v (record v {
       window = record v.window { left = v.window.left - count };
       lead = 0;
       joining = after_packet v.number p v.joining;
-    }) (take count lent) bytes none (omega (arith, long)) gives refl
+    }) (take count borrowed) bytes none (omega (arith, long)) gives refl
     (ap (λ n. record v.window { left = v.window.left - n }) (sym long))
   where
     gives : (rest : List ℕ)
-        → stream_gives v.distance v.number v.run v.in_step (after_packet v.number p v.joining) rest
-        ≡ stream_gives v.distance v.number v.run v.in_step v.joining
-        (drop v.lead (take count lent ++ rest))
+        → stream_output v.distance v.number v.run v.in_step (after_packet v.number p v.joining) rest
+        ≡ stream_output v.distance v.number v.run v.in_step v.joining
+        (drop v.lead (take count borrowed ++ rest))
     gives rest =
-        let unit = take v.distance (drop place lent) in
+        let unit = take v.distance (drop place borrowed) in
         let size : length unit ≡ v.distance =
         omega
-        (arith, sum, fits, length-take v.distance (drop place lent), length-drop place lent) in
-        let parts : take count lent ≡ take place lent ++ unit =
-        ap (λ (n : ℕ). take n lent) sum ∙ take-add place v.distance lent in
-        let front : p ≡ take 188 unit =
-        packet ∙ sym (take-take 188 v.distance (drop place lent) near) in
+        (arith, sum, fits, length-take v.distance (drop place borrowed), length-drop place borrowed)
+        in
+        let parts : take count borrowed ≡ take place borrowed ++ unit =
+        ap (λ (n : ℕ). take n borrowed) sum ∙ take-add place v.distance borrowed in
+        let prefix : p ≡ take 188 unit =
+        packet ∙ sym (take-take 188 v.distance (drop place borrowed) near) in
         rw (step, run)
-        (unit_taken v.distance v.number v.joining unit rest p near size front sync going idle
+        (unit_taken v.distance v.number v.joining unit rest p near size prefix sync going idle
         ∙ others (unit ++ rest)
-        ∙ ap (λ (l : List ℕ). stream_gives v.distance v.number 0 true v.joining (drop v.lead l))
-        (sym (append_assoc (take place lent) unit rest)
+        ∙ ap (λ (l : List ℕ). stream_output v.distance v.number 0 true v.joining (drop v.lead l))
+        (sym (append_assoc (take place borrowed) unit rest)
         ∙ ap (λ (l : List ℕ). l ++ rest) (sym parts)))
 
-pub ruleset others = other_passed
+pub ruleset others = other_skipped
 
-pub ruleset skims = (asks_none, takes_none)
+pub ruleset skims = (requests_none, takes_none)

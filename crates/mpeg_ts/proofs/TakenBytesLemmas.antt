@@ -4,25 +4,27 @@ use Rattle.std.proofs.Common.{append_assoc}
 use Rattle.std.proofs.KnownBytes.{Consumes-kept, Consumes-nil, Consumes-trans}
 use Rattle.std.specs.Prelude.{option_map}
 use Rattle.std.specs.Io.KnownBytes.{Keeps}
-use Rattle.mpeg_ts.specs.TakenBytes.{TakesFront, takes_bytes}
+use Rattle.mpeg_ts.specs.TakenBytes.{TakesPrefix, takes_bytes}
 
 -- No bytes.
-pub takes_none : (old : List ℕ → List ℕ) (told : Option (List ℕ)) → TakesFront old old told told
-takes_none old told = takes_bytes old old told told [] (Consumes-nil told) (λ more. refl)
+pub takes_none : (old : List ℕ → List ℕ) (known_bytes : Option (List ℕ)) → TakesPrefix old old
+    known_bytes known_bytes
+takes_none old known_bytes = takes_bytes old old known_bytes known_bytes []
+    (Consumes-nil known_bytes) (λ more. refl)
 
 -- A call that failed.
 pub takes_failed : (old : List ℕ → List ℕ) (before after : Option (List ℕ))
     → Keeps before after
-    → TakesFront old old before after
+    → TakesPrefix old old before after
 takes_failed old before after keeps =
     takes_bytes old old before after []
     (Consumes-kept before before after [] (Consumes-nil before) keeps) (λ more. refl)
 
 -- Some bytes, then others.
 pub takes_then : (old between new : List ℕ → List ℕ) (before mid after : Option (List ℕ))
-    → TakesFront old between before mid
-    → TakesFront between new mid after
-    → TakesFront old new before after
+    → TakesPrefix old between before mid
+    → TakesPrefix between new mid after
+    → TakesPrefix old new before after
 takes_then old between new before mid after
     (takes_bytes _ _ _ _ first consumed same) (takes_bytes _ _ _ _ then left alike) =
     takes_bytes old new before after (first ++ then)
@@ -34,15 +36,15 @@ takes_then old between new before mid after
 
 -- Another step that does not change the output.
 pub takes_on : (old between new : List ℕ → List ℕ) (before after : Option (List ℕ))
-    → TakesFront old between before after
+    → TakesPrefix old between before after
     → ((more : List ℕ) → new more ≡ between more)
-    → TakesFront old new before after
+    → TakesPrefix old new before after
 takes_on old between new before after (takes_bytes _ _ _ _ bytes consumed same) alike =
     takes_bytes old new before after bytes consumed (λ more. same more ∙ sym (alike more))
 
 -- If the source's bytes are known, the output still to come is the same.
 pub takes_kept : (old new : List ℕ → List ℕ) (before after : Option (List ℕ))
-    → TakesFront old new before after
+    → TakesPrefix old new before after
     → Keeps (option_map old before) (option_map new after)
 takes_kept old new None after takes = tt
 takes_kept old new (Some xs) None (takes_bytes _ _ _ _ bytes consumed same) = absurd consumed

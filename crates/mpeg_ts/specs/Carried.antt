@@ -2,7 +2,7 @@
 -- gap marker where data is missing (own).
 use Rattle.std.specs.Prelude.{ℕ, ◌&&◌, Bool, true, false, List, [], ◌∷◌, ◌++◌, replicate}
 use Rattle.std.specs.Int.{bytes_high_first}
-use Rattle.ttx_pes.specs.PesPacket.{packet_start, packet_length}
+use Rattle.ttx_pes.specs.PesGrammar.{packet_start, packet_length}
 use Rattle.mpeg_ts.specs.GoodPackets.{good_packets}
 use Rattle.mpeg_ts.specs.PacketsInStep.{items_of}
 use Rattle.mpeg_ts.specs.Parts.{PartOutcome, Pes, Gap, Other, outcomes_of}
@@ -13,26 +13,26 @@ use Rattle.mpeg_ts.specs.Parts.{PartOutcome, Pes, Gap, Other, outcomes_of}
 --   0..3    packet_start_code_prefix, stream_id   00 00 01 BD
 --   4..5    PES_packet_length                     00 B2
 --   6..183                                        FF
-unfoldable pub mark : List ℕ
-mark = packet_start ++ (bytes_high_first 2 (packet_length 1) ++ replicate 178 0xFF)
+unfoldable pub gap_marker : List ℕ
+gap_marker = packet_start ++ (bytes_high_first 2 (packet_length 1) ++ replicate 178 0xFF)
 
 -- A gap marker, if there is one.
-abbrev pub mark_where : Bool → List ℕ
-mark_where true = mark
-mark_where false = []
+abbrev pub gap_marker_where : Bool → List ℕ
+gap_marker_where true = gap_marker
+gap_marker_where false = []
 
 -- The bytes of outcomes. `given`: a PES packet came before them; `gap`: there was a gap since then.
 -- One marker stands for all gaps between two PES packets, or after the last. There is none before
 -- the first, since a recording may begin anywhere.
-unfoldable pub with_marks : Bool → Bool → List PartOutcome → List ℕ
-with_marks given gap [] = mark_where (given && gap)
-with_marks given gap (Gap ∷ more) = with_marks given true more
-with_marks given gap (Pes bytes ∷ more) =
-    mark_where (given && gap) ++ (bytes ++ with_marks true false more)
-with_marks given gap (Other bytes ∷ more) = mark_where (given && gap) ++ bytes
+unfoldable pub with_gap_markers : Bool → Bool → List PartOutcome → List ℕ
+with_gap_markers given gap [] = gap_marker_where (given && gap)
+with_gap_markers given gap (Gap ∷ more) = with_gap_markers given true more
+with_gap_markers given gap (Pes bytes ∷ more) =
+    gap_marker_where (given && gap) ++ (bytes ++ with_gap_markers true false more)
+with_gap_markers given gap (Other bytes ∷ more) = gap_marker_where (given && gap) ++ bytes
 
 -- The bytes that the packets of the PID carry in a recording with this distance of packets.
 unfoldable pub carried : ℕ → ℕ → List ℕ → List ℕ
 carried number distance recording =
-    with_marks false false
+    with_gap_markers false false
     (outcomes_of (good_packets distance number (items_of distance recording)))

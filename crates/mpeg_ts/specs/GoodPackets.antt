@@ -14,12 +14,12 @@ use Rattle.mpeg_ts.specs.TransportPacket.{packet_header, payload}
 pub data Note : Type 0 where
   Valid : List ℕ → Note
   Wrong : Note
-  Hole : Note
+  Loss : Note
 
 -- The number of skipped bytes that counts as a loss: 15 packets, after which the counter may have
 -- its expected value again.
-abbrev pub hole_size : ℕ → ℕ
-hole_size distance = 15 * distance
+abbrev pub loss_size : ℕ → ℕ
+loss_size distance = 15 * distance
 
 -- Whether a packet of the PID is usable.
 abbrev pub note_of : List ℕ → Note
@@ -33,7 +33,7 @@ notes distance number run (Packet p ∷ items) =
     if pid p == number then note_of p ∷ notes distance number 0 items
     else notes distance number 0 items
 notes distance number run (Skipped ∷ items) =
-    if run + 1 == hole_size distance then Hole ∷ notes distance number (run + 1) items
+    if run + 1 == loss_size distance then Loss ∷ notes distance number (run + 1) items
     else notes distance number (run + 1) items
 
 -- ---- good packets
@@ -53,21 +53,21 @@ pub record GoodPacket : Type 0 where
 
 -- The last good packet (`None` if there was none yet), and what came since then: its repeat, an
 -- announced jump, an unusable packet, a loss.
-pub record Since : Type 0 where
+pub record PacketHistory : Type 0 where
   pub good : Option (List ℕ)
   pub has_repeat : Bool
   pub has_jump : Bool
   pub has_wrong : Bool
-  pub has_hole : Bool
+  pub has_loss : Bool
 
 -- Nothing came since this good packet.
-abbrev pub nothing_since : Option (List ℕ) → Since
-nothing_since good = record {
+abbrev pub empty_history : Option (List ℕ) → PacketHistory
+empty_history good = record {
   good = good;
   has_repeat = false;
   has_jump = false;
   has_wrong = false;
-  has_hole = false;
+  has_loss = false;
 }
 
 -- Two packets have the same bytes 0 to 3 and the same payload.
@@ -76,54 +76,54 @@ is_same p q = bytes_eq (packet_header p) (packet_header q) && bytes_eq (payload 
 
 -- A packet with a payload repeats a good packet: it is the same, and the first such packet since.
 -- No jump was announced between them, and it announces none unless the good one did.
-abbrev pub is_repeat_of : Option (List ℕ) → Since → List ℕ → Bool
-is_repeat_of None since p = false
-is_repeat_of (Some q) since p =
-    is_same q p && not since.has_repeat && not since.has_jump
+abbrev pub is_repeat_of : Option (List ℕ) → PacketHistory → List ℕ → Bool
+is_repeat_of None history p = false
+is_repeat_of (Some q) history p =
+    is_same q p && not history.has_repeat && not history.has_jump
     && (not (announces_jump p) || announces_jump q)
 
 -- It repeats the last good packet.
-abbrev pub is_repeat : Since → List ℕ → Bool
-is_repeat since p = is_repeat_of since.good since p
+abbrev pub is_repeat : PacketHistory → List ℕ → Bool
+is_repeat history p = is_repeat_of history.good history p
 
 -- The counter of q is that of p plus one.
 abbrev pub counts_on : List ℕ → List ℕ → Bool
 counts_on p q = counter q == (counter p + 1) % 0x10
 
 -- The link of a good packet to the one before, if there is one.
-abbrev pub link_from : Option (List ℕ) → Since → List ℕ → Link
-link_from None since p = First
-link_from (Some q) since p =
-    if since.has_wrong || since.has_hole then Break
-    else if since.has_jump || announces_jump p then Seam
+abbrev pub link_from : Option (List ℕ) → PacketHistory → List ℕ → Link
+link_from None history p = First
+link_from (Some q) history p =
+    if history.has_wrong || history.has_loss then Break
+    else if history.has_jump || announces_jump p then Seam
     else if counts_on q p then Follows
     else Break
 
 -- A good packet with its link.
-abbrev pub linked : Since → List ℕ → GoodPacket
-linked since p = record { link = link_from since.good since p; packet = p }
+abbrev pub linked : PacketHistory → List ℕ → GoodPacket
+linked history p = record { link = link_from history.good history p; packet = p }
 
 -- Good packets in order; and whether an unusable packet of the PID follows the last of them.
 pub record GoodPackets : Type 0 where
   pub packets : List GoodPacket
-  pub wrong_behind : Bool
+  pub wrong_after : Bool
 
 -- Puts a good packet in front.
 abbrev pub with_good : GoodPacket → GoodPackets → GoodPackets
-with_good g more = record { packets = g ∷ more.packets; wrong_behind = more.wrong_behind }
+with_good g more = record { packets = g ∷ more.packets; wrong_after = more.wrong_after }
 
 -- The good packets among events, after those since the last good one.
-unfoldable pub good_after : Since → List Note → GoodPackets
-good_after since [] = record { packets = []; wrong_behind = since.has_wrong }
-good_after since (Wrong ∷ notes) = good_after (record since { has_wrong = true }) notes
-good_after since (Hole ∷ notes) = good_after (record since { has_hole = true }) notes
-good_after since (Valid p ∷ notes) =
+unfoldable pub good_after : PacketHistory → List Note → GoodPackets
+good_after history [] = record { packets = []; wrong_after = history.has_wrong }
+good_after history (Wrong ∷ notes) = good_after (record history { has_wrong = true }) notes
+good_after history (Loss ∷ notes) = good_after (record history { has_loss = true }) notes
+good_after history (Valid p ∷ notes) =
     if not (has_payload p) then
-    good_after (record since { has_jump = since.has_jump || announces_jump p }) notes
-    else if is_repeat since p then good_after (record since { has_repeat = true }) notes
-    else with_good (linked since p) (good_after (nothing_since (Some p)) notes)
+    good_after (record history { has_jump = history.has_jump || announces_jump p }) notes
+    else if is_repeat history p then good_after (record history { has_repeat = true }) notes
+    else with_good (linked history p) (good_after (empty_history (Some p)) notes)
 
 -- The good packets of the PID in a recording with these items.
 abbrev pub good_packets : ℕ → ℕ → List Item → GoodPackets
 good_packets distance number items =
-    good_after (nothing_since None) (notes distance number 0 items)
+    good_after (empty_history None) (notes distance number 0 items)

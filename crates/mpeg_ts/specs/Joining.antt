@@ -4,11 +4,11 @@ use Rattle.std.specs.Prelude.{◌≡◌, ℕ, ◌+◌, ◌≤◌, ◌%◌, ◌==
 use Rattle.std.specs.Prelude.{nat_le, Bool, true, false}
 use Rattle.std.specs.Prelude.{if◌then◌else◌, List, [], ◌∷◌, ◌++◌, length, take, bytes_eq}
 use Rattle.std.specs.Prelude.{slice_index, ⊤, Result, Ok, Err}
-use Rattle.ttx_pes.specs.Pieces.{IsPiece}
+use Rattle.ttx_pes.specs.PesPackets.{IsPesPacket}
 use Rattle.ttx_pes.specs.Reading.{size_at}
 use Rattle.ttx_pes.specs.declared.fault.PesFault.{PesFault}
-use Rattle.mpeg_ts.specs.Carried.{mark, mark_where}
-use Rattle.mpeg_ts.specs.GoodPackets.{Note, Valid, Wrong, Hole, Link, First, Follows, Seam, Break}
+use Rattle.mpeg_ts.specs.Carried.{gap_marker, gap_marker_where}
+use Rattle.mpeg_ts.specs.GoodPackets.{Note, Valid, Wrong, Loss, Link, First, Follows, Seam, Break}
 use Rattle.mpeg_ts.specs.Parts.{is_break, is_unlinked}
 use Rattle.mpeg_ts.specs.TransportPacket.{announces_jump, begins, counter, has_payload}
 use Rattle.mpeg_ts.specs.TransportPacket.{packet_header}
@@ -19,10 +19,10 @@ use Rattle.mpeg_ts.specs.declared.joining.Given.{Given}
 use Rattle.mpeg_ts.specs.declared.joining.Given.TheVariants as given
 use Rattle.mpeg_ts.specs.declared.joining.Found.{Found}
 use Rattle.mpeg_ts.specs.declared.joining.Found.TheVariants as found
-use Rattle.mpeg_ts.specs.declared.waiting.Next.{Next}
-use Rattle.mpeg_ts.specs.declared.waiting.Next.TheVariants as next
-use Rattle.mpeg_ts.specs.declared.waiting.Waiting.{Waiting}
-use Rattle.mpeg_ts.specs.declared.waiting.Waiting.TheVariants as waiting
+use Rattle.mpeg_ts.specs.declared.pending_item.Next.{Next}
+use Rattle.mpeg_ts.specs.declared.pending_item.Next.TheVariants as next
+use Rattle.mpeg_ts.specs.declared.pending_item.PendingItem.{PendingItem}
+use Rattle.mpeg_ts.specs.declared.pending_item.PendingItem.TheVariants as pending_item
 
 -- The state: of the last good packet bytes 0 to 3, whether it announced a jump, and its payload
 -- (empty if there was none); whether since then its repeat came, a jump was announced, or data was
@@ -100,14 +100,14 @@ remembering v p = record v {
 }
 
 -- What was returned last, after a possible gap. Only the first gap after a PES packet has a marker.
-abbrev pub given_after : Bool → Given → Given
-given_after gap g = if gap && gave_packet g then given.Mark else g
+abbrev pub last_output_after : Bool → Given → Given
+last_output_after gap g = if gap && gave_packet g then given.GapMarker else g
 
 -- Only a gap marker is ready, if there is a gap directly after a PES packet.
 abbrev pub with_gap : Bool → JoiningValue → JoiningValue
 with_gap gap v = record v {
-  given = given_after gap v.given;
-  pending = mark_where (gap && gave_packet v.given);
+  given = last_output_after gap v.given;
+  pending = gap_marker_where (gap && gave_packet v.given);
 }
 
 -- The contents of `count` bytes, given the size of their PES packet.
@@ -127,8 +127,8 @@ settled_as found.Unfinished v = v
 settled_as (found.Other f) v = record v { part = Ended; pending = v.pending ++ v.bytes }
 settled_as (found.Whole size) v = record v {
   part = Complete;
-  given = if nat_lt size (length v.bytes) then given.Mark else given.Packet;
-  pending = v.pending ++ (take size v.bytes ++ mark_where (nat_lt size (length v.bytes)));
+  given = if nat_lt size (length v.bytes) then given.GapMarker else given.Packet;
+  pending = v.pending ++ (take size v.bytes ++ gap_marker_where (nat_lt size (length v.bytes)));
 }
 
 -- Appends bytes to an open part.
@@ -138,21 +138,21 @@ grown gap v more =
     (with_gap gap (record v { part = Open; bytes = v.bytes ++ more; last = more }))
 
 -- Keeps bytes that yield nothing.
-abbrev pub holding : Bool → JoiningValue → List ℕ → JoiningValue
-holding gap v more = with_gap gap (record v { bytes = more; last = more })
+abbrev pub with_buffered : Bool → JoiningValue → List ℕ → JoiningValue
+with_buffered gap v more = with_gap gap (record v { bytes = more; last = more })
 
 -- Starts a part with this payload, after a gap if data was lost or the part before is incomplete.
 abbrev pub begun : Bool → Bool → JoiningValue → List ℕ → JoiningValue
 begun breaks true v more =
     grown (breaks || not (is_complete v.part)) (record v { bytes = [] }) more
 begun breaks false v more =
-    holding (breaks || not (is_complete v.part)) (record v { part = Headless }) more
+    with_buffered (breaks || not (is_complete v.part)) (record v { part = Headless }) more
 
 -- Continues the part with this payload. After a complete PES packet, this is a gap.
 abbrev pub gone_on : PartState → JoiningValue → List ℕ → JoiningValue
 gone_on Open v more = grown false v more
-gone_on Complete v more = holding true v more
-gone_on _ v more = holding false v more
+gone_on Complete v more = with_buffered true v more
+gone_on _ v more = with_buffered false v more
 
 -- Takes a good packet with this link to the last one.
 abbrev pub after_good : Link → JoiningValue → List ℕ → JoiningValue
@@ -172,79 +172,81 @@ after_valid v p =
 abbrev pub after_note : JoiningValue → Note → JoiningValue
 after_note v (Valid p) = after_valid v p
 after_note v Wrong = with_gap true (record v { has_break = true })
-after_note v Hole = record v { has_break = true }
+after_note v Loss = record v { has_break = true }
 
 -- Everything that was ready was returned.
-abbrev pub handed_over : JoiningValue → JoiningValue
-handed_over v = record v { pending = [] }
+abbrev pub delivered : JoiningValue → JoiningValue
+delivered v = record v { pending = [] }
 
 -- The same, and all bytes are cleared.
 abbrev pub emptied : JoiningValue → JoiningValue
 emptied v = record v { last = []; bytes = []; pending = [] }
 
 -- The bytes that further events yield, after everything that was ready was returned.
-unfoldable pub given_later : JoiningValue → List Note → List ℕ
-given_later v [] = []
-given_later v (note ∷ more) =
+unfoldable pub later_output : JoiningValue → List Note → List ℕ
+later_output v [] = []
+later_output v (note ∷ more) =
     if has_ended v.part then []
-    else (after_note v note).pending ++ given_later (handed_over (after_note v note)) more
+    else (after_note v note).pending ++ later_output (delivered (after_note v note)) more
 
 -- ---- representation in the program
 
 -- A gap marker, if there is one, is ready.
-abbrev pub mark_alone : Bool → Waiting
-mark_alone true = waiting.Mark
-mark_alone false = waiting.Nothing
+abbrev pub gap_marker_alone : Bool → PendingItem
+gap_marker_alone true = pending_item.GapMarker
+gap_marker_alone false = pending_item.Nothing
 
 -- The bytes that are ready.
-abbrev pub waiting_bytes : Waiting → List ℕ → List ℕ
-waiting_bytes waiting.Nothing bytes = []
-waiting_bytes waiting.Mark bytes = mark
-waiting_bytes (waiting.Packet mark_before size mark_behind) bytes =
-    mark_where mark_before ++ (take size bytes ++ mark_where mark_behind)
-waiting_bytes (waiting.Rest mark_before fault) bytes = mark_where mark_before ++ bytes
+abbrev pub pending_item_bytes : PendingItem → List ℕ → List ℕ
+pending_item_bytes pending_item.Nothing bytes = []
+pending_item_bytes pending_item.GapMarker bytes = gap_marker
+pending_item_bytes (pending_item.Packet gap_marker_before size gap_marker_after) bytes =
+    gap_marker_where gap_marker_before ++ (take size bytes ++ gap_marker_where gap_marker_after)
+pending_item_bytes (pending_item.Rest gap_marker_before fault) bytes = gap_marker_where
+    gap_marker_before ++ bytes
 
 -- The bytes begin no packet, for this fault.
 abbrev pub IsRefused : List ℕ → PesFault → Type 0
 IsRefused bytes fault = (6 ≤ length bytes) × (size_at (take 6 bytes) ≡ Err fault)
 
 -- A packet is ready, or bytes that begin no packet, after which nothing follows.
-abbrev pub WaitsFor : Waiting → PartState → List ℕ → Type 0
-WaitsFor waiting.Nothing part bytes = ⊤
-WaitsFor waiting.Mark part bytes = ⊤
-WaitsFor (waiting.Packet mark_before size mark_behind) part bytes =
-    IsPiece (take size bytes) × (size ≤ length bytes)
-WaitsFor (waiting.Rest mark_before fault) part bytes =
+abbrev pub IsPendingFor : PendingItem → PartState → List ℕ → Type 0
+IsPendingFor pending_item.Nothing part bytes = ⊤
+IsPendingFor pending_item.GapMarker part bytes = ⊤
+IsPendingFor (pending_item.Packet gap_marker_before size gap_marker_after) part bytes =
+    IsPesPacket (take size bytes) × (size ≤ length bytes)
+IsPendingFor (pending_item.Rest gap_marker_before fault) part bytes =
     IsRefused bytes fault × (has_ended part ≡ true)
 
 -- The invariant of the state.
-pub record IsJoining (w : Waiting) (payload_size : ℕ) (part : PartState) (bytes : List ℕ) : Type 0
+pub record IsJoining (w : PendingItem) (payload_size : ℕ) (part : PartState) (bytes : List ℕ) : Type
+    0
   where
     pub last : payload_size ≤ length bytes
     pub room : part ≡ Open → length bytes ≤ 1655
-    pub waits : WaitsFor w part bytes
+    pub waits : IsPendingFor w part bytes
 
 -- The bytes of the item that was taken.
 abbrev pub taken_bytes : Next → List ℕ → List ℕ
 taken_bytes next.Nothing bytes = []
-taken_bytes next.Mark bytes = mark
+taken_bytes next.GapMarker bytes = gap_marker
 taken_bytes (next.Packet size) bytes = take size bytes
 taken_bytes (next.Rest fault) bytes = bytes
 
 -- They are part of the stored bytes.
 abbrev pub IsWithin : Next → List ℕ → Type 0
 IsWithin next.Nothing bytes = ⊤
-IsWithin next.Mark bytes = ⊤
+IsWithin next.GapMarker bytes = ⊤
 IsWithin (next.Packet size) bytes = size ≤ length bytes
 IsWithin (next.Rest fault) bytes = ⊤
 
 -- The next item was taken from what is ready. Bytes that begin no packet stay.
 abbrev pub TakesNext : JoiningValue → Next → JoiningValue → Type 0
 TakesNext old next.Nothing new = (old.pending ≡ []) × (new ≡ old)
-TakesNext old next.Mark new =
-    (old.pending ≡ mark ++ new.pending) × (new ≡ record old { pending = new.pending })
+TakesNext old next.GapMarker new =
+    (old.pending ≡ gap_marker ++ new.pending) × (new ≡ record old { pending = new.pending })
 TakesNext old (next.Packet size) new =
-    IsPiece (take size old.bytes)
+    IsPesPacket (take size old.bytes)
     × (size ≤ length old.bytes)
     × (old.pending ≡ take size old.bytes ++ new.pending)
     × (new ≡ record old { pending = new.pending })

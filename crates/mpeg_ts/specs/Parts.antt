@@ -104,16 +104,16 @@ outcome cut_off part =
 
 -- The recording may end within the part: it is the last one, and no unusable packet follows.
 abbrev pub may_be_cut_off : Bool → List Part → Bool
-may_be_cut_off wrong_behind [] = not wrong_behind
-may_be_cut_off wrong_behind (_ ∷ _) = false
+may_be_cut_off wrong_after [] = not wrong_after
+may_be_cut_off wrong_after (_ ∷ _) = false
 
 -- The outcomes of parts. Lost data is a gap, before a part and after the last one.
 unfoldable pub outcomes : Bool → List Part → List PartOutcome
-outcomes wrong_behind [] = gap_where wrong_behind
-outcomes wrong_behind (part ∷ more) =
+outcomes wrong_after [] = gap_where wrong_after
+outcomes wrong_after (part ∷ more) =
     gap_where part.after_break
-    ++ (outcome (may_be_cut_off wrong_behind more) part ++ outcomes wrong_behind more)
+    ++ (outcome (may_be_cut_off wrong_after more) part ++ outcomes wrong_after more)
 
 -- The outcomes of good packets.
 abbrev pub outcomes_of : GoodPackets → List PartOutcome
-outcomes_of good = outcomes good.wrong_behind (parts good.packets)
+outcomes_of good = outcomes good.wrong_after (parts good.packets)

@@ -24,5 +24,5 @@ pub record IsAtRest (v : StreamValue) : Type 0 where
 
 -- The bytes that are left: none after `Rest`.
 abbrev pub left_of : Bool → Option (List ℕ) → Option (List ℕ)
-left_of false told = told
-left_of true told = option_map (λ bytes. []) told
+left_of false known_bytes = known_bytes
+left_of true known_bytes = option_map (λ bytes. []) known_bytes

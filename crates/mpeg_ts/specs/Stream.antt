@@ -1,13 +1,13 @@
 -- The state of reading a recording for one PID, and the bytes still to be returned.
 use Rattle.std.specs.Prelude.{◌≡◌, ℕ, ◌+◌, ◌-◌, ◌^◌, ◌≤◌, ◌==◌, Bool, true, false, if◌then◌else◌}
 use Rattle.std.specs.Prelude.{List, [], ◌++◌, length, drop, nat_lt, slice_index, Option, option_map}
-use Rattle.mpeg_ts.specs.GoodPackets.{Hole, hole_size, note_of, notes}
-use Rattle.mpeg_ts.specs.Joining.{JoiningValue, after_note, given_later, handed_over}
+use Rattle.mpeg_ts.specs.GoodPackets.{Loss, loss_size, note_of, notes}
+use Rattle.mpeg_ts.specs.Joining.{JoiningValue, after_note, later_output, delivered}
 use Rattle.mpeg_ts.specs.Joining.{nothing_joined}
 use Rattle.mpeg_ts.specs.PacketsInStep.{items, lead_size, most_bytes}
 use Rattle.mpeg_ts.specs.Pid.{greatest_pid}
 use Rattle.mpeg_ts.specs.TransportPacket.{pid, sync_byte}
-use Rattle.mpeg_ts.specs.Window.{WindowValue, held_and_left}
+use Rattle.mpeg_ts.specs.Window.{WindowValue, buffered_and_left}
 
 -- The PID and the distance of packets; the buffered bytes; how many bytes are skipped before the
 -- next item; whether reading is in step; how many bytes were skipped in a row; and the state of
@@ -26,7 +26,7 @@ abbrev pub start_of_stream : ℕ → ℕ → StreamValue
 start_of_stream number distance = record {
   number = number;
   distance = distance;
-  window = record { held = []; left = most_bytes };
+  window = record { buffered = []; left = most_bytes };
   lead = lead_size distance;
   in_step = true;
   run = 0;
@@ -34,28 +34,28 @@ start_of_stream number distance = record {
 }
 
 -- The bytes that are ready, and those that the bytes from the next item on yield.
-unfoldable pub stream_gives : ℕ → ℕ → ℕ → Bool → JoiningValue → List ℕ → List ℕ
-stream_gives distance number run in_step joining bytes =
+unfoldable pub stream_output : ℕ → ℕ → ℕ → Bool → JoiningValue → List ℕ → List ℕ
+stream_output distance number run in_step joining bytes =
     joining.pending
-    ++ given_later (handed_over joining)
+    ++ later_output (delivered joining)
     (notes distance number run (items distance in_step (length bytes) bytes))
 
 -- The bytes from the next item on, if the source has these bytes left.
 abbrev pub bytes_ahead : StreamValue → List ℕ → List ℕ
-bytes_ahead v bytes = drop v.lead (held_and_left v.window bytes)
+bytes_ahead v bytes = drop v.lead (buffered_and_left v.window bytes)
 
 -- The bytes still to be returned, if the source has these bytes left.
-abbrev pub given_of : StreamValue → List ℕ → List ℕ
-given_of v bytes =
-    stream_gives v.distance v.number v.run v.in_step v.joining (bytes_ahead v bytes)
+abbrev pub output_of : StreamValue → List ℕ → List ℕ
+output_of v bytes =
+    stream_output v.distance v.number v.run v.in_step v.joining (bytes_ahead v bytes)
 
 -- The same, if the source's bytes are known.
-abbrev pub still_given : StreamValue → Option (List ℕ) → Option (List ℕ)
-still_given v told = option_map (given_of v) told
+abbrev pub remaining_output : StreamValue → Option (List ℕ) → Option (List ℕ)
+remaining_output v known_bytes = option_map (output_of v) known_bytes
 
 -- Bytes from the source yield some output.
-abbrev pub gives_some : StreamValue → List ℕ → Bool
-gives_some v bytes = nat_lt 0 (length (given_of v bytes))
+abbrev pub has_output : StreamValue → List ℕ → Bool
+has_output v bytes = nat_lt 0 (length (output_of v bytes))
 
 -- Some output is ready.
 abbrev pub is_some_ready : StreamValue → Bool
@@ -63,7 +63,7 @@ is_some_ready v = nat_lt 0 (length v.joining.pending)
 
 -- The maximum number of bytes from the next item on.
 abbrev pub bytes_at_most : StreamValue → ℕ
-bytes_at_most v = (length v.window.held + v.window.left) - v.lead
+bytes_at_most v = (length v.window.buffered + v.window.left) - v.lead
 
 -- The state of reassembly after a packet.
 abbrev pub after_packet : ℕ → List ℕ → JoiningValue → JoiningValue
@@ -71,7 +71,7 @@ after_packet number p j = if pid p == number then after_note j (note_of p) else 
 
 -- The state of reassembly after a skipped byte, with `run` skipped bytes before it.
 abbrev pub after_skipped : ℕ → ℕ → JoiningValue → JoiningValue
-after_skipped distance run j = if run + 1 == hole_size distance then after_note j Hole else j
+after_skipped distance run j = if run + 1 == loss_size distance then after_note j Loss else j
 
 -- The bytes are a packet of the PID.
 abbrev pub BeginsPacket : ℕ → List ℕ → Type 0

@@ -1,7 +1,7 @@
 -- The buffered bytes of a recording that are examined next.
 use Rattle.std.specs.Prelude.{◌≡◌, ℕ, ◌<◌, Bool, false, List, ◌++◌, length, take}
 use Rattle.std.specs.Prelude.{Option, option_map}
-use Rattle.sub_io.specs.Asking.{Asks}
+use Rattle.sub_io.specs.Asking.{Requests}
 
 -- Size of the buffer in bytes.
 abbrev pub window_size : ℕ
@@ -9,27 +9,27 @@ window_size = 205
 
 -- The buffered bytes, and how many more may be read.
 pub record WindowValue : Type 0 where
-  pub held : List ℕ
+  pub buffered : List ℕ
   pub left : ℕ
 
 -- The buffered bytes, and those that may still be read, if the source has these bytes left.
-abbrev pub held_and_left : WindowValue → List ℕ → List ℕ
-held_and_left w bytes = w.held ++ take w.left bytes
+abbrev pub buffered_and_left : WindowValue → List ℕ → List ℕ
+buffered_and_left w bytes = w.buffered ++ take w.left bytes
 
 -- The known bytes that may still be read.
 abbrev pub left_to_take : WindowValue → Option (List ℕ) → Option (List ℕ)
-left_to_take w told = option_map (take w.left) told
+left_to_take w known_bytes = option_map (take w.left) known_bytes
 
 -- At most `count` bytes from the first buffered one on are read, for every question that fewer
 -- bytes cannot answer.
-pub record AsksUpTo
-    {D : Type 0} (IsPull : D → ℕ → Option ℕ → D → Type 0) (lent : D → List ℕ)
+pub record RequestsUpTo
+    {D : Type 0} (IsPull : D → ℕ → Option ℕ → D → Type 0) (borrowed : D → List ℕ)
     (remaining : D → Option (List ℕ))
     (count : ℕ) (old : WindowValue) (before : D) (ok : Bool) (new : WindowValue) (after : D)
     : Type 0 where
-  pub asks :
+  pub requests :
       (is_enough : List ℕ → Bool)
       → ((bytes : List ℕ) → length bytes < count → is_enough bytes ≡ false)
-      → Asks IsPull lent remaining
-      (λ bytes. is_enough (held_and_left old bytes)) before ok
-      (λ bytes. is_enough (held_and_left new bytes)) after
+      → Requests IsPull borrowed remaining
+      (λ bytes. is_enough (buffered_and_left old bytes)) before ok
+      (λ bytes. is_enough (buffered_and_left new bytes)) after

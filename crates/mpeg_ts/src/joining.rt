@@ -1,20 +1,22 @@
 //! Reassembles the PES packets of a PID from its transport packets.
 ghost use Rattle.std.specs.Prelude.{◌≡◌, ◌≤◌, ◌↔◌, length, []};
 ghost use Rattle.std.specs.Prelude.{◌&&◌, false, true};
-ghost use Rattle.mpeg_ts.specs.GoodPackets.{Wrong, Hole, note_of};
+ghost use Rattle.mpeg_ts.specs.GoodPackets.{Wrong, Loss, note_of};
 ghost use Rattle.mpeg_ts.specs.Joining.{IsWithin, TakesFirst, TakesNext, after_note, after_valid};
-ghost use Rattle.mpeg_ts.specs.Joining.{begun, emptied, gave_packet, given_after, gone_on, grown};
-ghost use Rattle.mpeg_ts.specs.Joining.{has_ended, holding, is_complete, link_after, mark_alone};
+ghost use Rattle.mpeg_ts.specs.Joining.{begun, emptied, gave_packet, last_output_after, gone_on};
+ghost use Rattle.mpeg_ts.specs.Joining.{grown};
+ghost use Rattle.mpeg_ts.specs.Joining.{has_ended, with_buffered, is_complete, link_after};
+ghost use Rattle.mpeg_ts.specs.Joining.{gap_marker_alone};
 ghost use Rattle.mpeg_ts.specs.Joining.{nothing_joined, remembering, repeats, taken_bytes};
 ghost use Rattle.mpeg_ts.specs.Parts.{is_break, is_seam, is_unlinked};
 ghost use Rattle.mpeg_ts.specs.TransportPacket.{has_payload, is_wrong, payload};
 
-use crate::mark::mark_bytes;
+use crate::gap_marker::gap_marker_bytes;
 use crate::part_bytes::{PartBytes, find_packet};
+use crate::pending_item::{Next, PendingItem, gap_marker_alone};
 use crate::transport_packet::{
     PACKET, announces_jump, begins, counter_of, has_payload, is_wrong, payload_of,
 };
-use crate::waiting::{Next, Waiting, mark_alone};
 use std::marker::Model;
 use ttx_pes::PesFault;
 
@@ -41,7 +43,7 @@ pub(crate) enum Given {
     /// A PES packet.
     Packet,
     /// A gap marker after a PES packet.
-    Mark,
+    GapMarker,
 }
 
 /// The contents of a part's bytes.
@@ -74,12 +76,12 @@ pub struct Joining {
     has_break: bool,
     part: PartState,
     given: Given,
-    waiting: Waiting,
+    pending_item: PendingItem,
 }
 
 impl Model for Joining {
     ghost use Rattle.std.specs.Prelude.{◌-◌, drop, length};
-    ghost use Rattle.mpeg_ts.specs.Joining.{JoiningValue, IsJoining, waiting_bytes};
+    ghost use Rattle.mpeg_ts.specs.Joining.{JoiningValue, IsJoining, pending_item_bytes};
 
     ghost Value = { JoiningValue };
 
@@ -93,10 +95,10 @@ impl Model for Joining {
       part = j.part;
       bytes = j.bytes;
       given = j.given;
-      pending = waiting_bytes j.waiting j.bytes;
+      pending = pending_item_bytes j.pending_item j.bytes;
     } };
 
-    ghost invariant = { λ j. IsJoining j.waiting j.payload_size j.part j.bytes };
+    ghost invariant = { λ j. IsJoining j.pending_item j.payload_size j.part j.bytes };
 }
 
 impl Joining {
@@ -114,7 +116,7 @@ impl Joining {
             has_break: false,
             part: PartState::Headless,
             given: Given::Nothing,
-            waiting: Waiting::Nothing,
+            pending_item: PendingItem::Nothing,
         }
     }
 
@@ -124,8 +126,8 @@ impl Joining {
     pub fn is_idle(&self) -> bool
         ensures { (result ≡ true) ↔ (self.now.pending ≡ []) }
     {
-        match self.waiting {
-            Waiting::Nothing => true,
+        match self.pending_item {
+            PendingItem::Nothing => true,
             _ => false,
         }
     }
@@ -148,12 +150,12 @@ impl Joining {
         ensures { self.new ≡ after_note self.old Wrong }
     {
         self.has_break = true;
-        self.waiting = mark_alone(mark_gap(true, &mut self.given));
+        self.pending_item = gap_marker_alone(put_gap_marker(true, &mut self.given));
     }
 
     /// Records that so many bytes were skipped in a row that packets may be missing.
-    pub fn note_hole(&mut self)
-        ensures { self.new ≡ after_note self.old Hole }
+    pub fn note_loss(&mut self)
+        ensures { self.new ≡ after_note self.old Loss }
     {
         self.has_break = true;
     }
@@ -251,7 +253,7 @@ impl Joining {
 
     /// Returns whether a jump of the counter was announced between the last good packet and this
     /// one (discontinuity_indicator), and no data is known to be lost.
-    pub fn is_behind_seam(&self, packet: &[u8; PACKET]) -> bool
+    pub fn is_after_seam(&self, packet: &[u8; PACKET]) -> bool
         ensures { result ≡ is_seam (link_after self.now self.now.last packet.now) }
     {
         if self.last_payload().is_empty() || self.has_break {
@@ -296,7 +298,7 @@ impl Joining {
             self.grow(gap, payload);
         } else {
             self.part = PartState::Headless;
-            self.hold(gap, payload);
+            self.buffer_payload(gap, payload);
         }
     }
 
@@ -310,8 +312,8 @@ impl Joining {
     {
         match &self.part {
             PartState::Open => self.grow(false, payload),
-            PartState::Complete => self.hold(true, payload),
-            _ => self.hold(false, payload),
+            PartState::Complete => self.buffer_payload(true, payload),
+            _ => self.buffer_payload(false, payload),
         }
     }
 
@@ -329,15 +331,15 @@ impl Joining {
     // Keeps only this payload.
     #[tactic(auto, using(crate::proofs::ReadyLemmas::growing))]
     #[inline(never)]
-    fn hold(&mut self, gap: bool, payload: &[u8])
+    fn buffer_payload(&mut self, gap: bool, payload: &[u8])
         requires idle { self.old.pending ≡ [] }
         requires most { length payload.now ≤ 184 }
-        ensures { self.new ≡ holding gap self.old payload.now }
+        ensures { self.new ≡ with_buffered gap self.old payload.now }
     {
         self.clear();
         self.bytes.add(payload);
         self.payload_size = payload.len();
-        self.waiting = mark_alone(mark_gap(gap, &mut self.given));
+        self.pending_item = gap_marker_alone(put_gap_marker(gap, &mut self.given));
     }
 
     // Appends this payload to an open part. If its PES packet is complete, it becomes ready.
@@ -349,28 +351,31 @@ impl Joining {
         requires most { length payload.now ≤ 184 }
         ensures { self.new ≡ grown gap self.old payload.now }
     {
-        let mark_before = mark_gap(gap, &mut self.given);
+        let gap_marker_before = put_gap_marker(gap, &mut self.given);
         self.bytes.add(payload);
         self.payload_size = payload.len();
         match find_packet(self.bytes.as_slice()) {
             Found::Unfinished => {
                 self.part = PartState::Open;
-                self.waiting = mark_alone(mark_before);
+                self.pending_item = gap_marker_alone(gap_marker_before);
             }
             Found::Other(fault) => {
                 self.part = PartState::Ended;
-                self.waiting = Waiting::Rest { mark_before, fault };
+                self.pending_item = PendingItem::Rest {
+                    gap_marker_before,
+                    fault,
+                };
             }
             Found::Whole(size) => {
-                let mark_behind = size < self.bytes.as_slice().len();
+                let gap_marker_after = size < self.bytes.as_slice().len();
                 self.part = PartState::Complete;
-                self.waiting = Waiting::Packet {
-                    mark_before,
+                self.pending_item = PendingItem::Packet {
+                    gap_marker_before,
                     size,
-                    mark_behind,
+                    gap_marker_after,
                 };
-                self.given = if mark_behind {
-                    Given::Mark
+                self.given = if gap_marker_after {
+                    Given::GapMarker
                 } else {
                     Given::Packet
                 };
@@ -386,35 +391,38 @@ impl Joining {
         ensures next { TakesNext self.old result self.new }
         ensures within { IsWithin result self.new.bytes }
     {
-        match self.waiting {
-            Waiting::Nothing => Next::Nothing,
-            Waiting::Mark => {
-                self.waiting = Waiting::Nothing;
-                Next::Mark
+        match self.pending_item {
+            PendingItem::Nothing => Next::Nothing,
+            PendingItem::GapMarker => {
+                self.pending_item = PendingItem::Nothing;
+                Next::GapMarker
             }
-            Waiting::Packet {
-                mark_before,
+            PendingItem::Packet {
+                gap_marker_before,
                 size,
-                mark_behind,
+                gap_marker_after,
             } => {
-                if mark_before {
-                    self.waiting = Waiting::Packet {
-                        mark_before: false,
+                if gap_marker_before {
+                    self.pending_item = PendingItem::Packet {
+                        gap_marker_before: false,
                         size,
-                        mark_behind,
+                        gap_marker_after,
                     };
-                    return Next::Mark;
+                    return Next::GapMarker;
                 }
-                self.waiting = mark_alone(mark_behind);
+                self.pending_item = gap_marker_alone(gap_marker_after);
                 Next::Packet(size)
             }
-            Waiting::Rest { mark_before, fault } => {
-                if mark_before {
-                    self.waiting = Waiting::Rest {
-                        mark_before: false,
+            PendingItem::Rest {
+                gap_marker_before,
+                fault,
+            } => {
+                if gap_marker_before {
+                    self.pending_item = PendingItem::Rest {
+                        gap_marker_before: false,
                         fault,
                     };
-                    return Next::Mark;
+                    return Next::GapMarker;
                 }
                 Next::Rest(fault)
             }
@@ -432,7 +440,7 @@ impl Joining {
                 let (packet, _) = self.bytes.as_slice().split_at(size);
                 packet
             }
-            Next::Mark => mark_bytes().as_slice(),
+            Next::GapMarker => gap_marker_bytes().as_slice(),
             Next::Rest(_) => self.bytes.as_slice(),
             Next::Nothing => &[],
         }
@@ -448,10 +456,10 @@ impl Joining {
 
     // Clears all bytes, since everything that was ready was returned.
     #[tactic(auto, using(crate::proofs::ReadyLemmas::idling))]
-    pub(crate) fn hand_over(&mut self)
+    pub(crate) fn deliver(&mut self)
         ensures { self.new ≡ emptied self.old }
     {
-        self.waiting = Waiting::Nothing;
+        self.pending_item = PendingItem::Nothing;
         self.clear();
     }
 
@@ -463,7 +471,7 @@ impl Joining {
     {
         let next = self.take_next();
         match next {
-            Next::Rest(_) => self.waiting = Waiting::Nothing,
+            Next::Rest(_) => self.pending_item = PendingItem::Nothing,
             _ => {}
         }
         next
@@ -472,8 +480,8 @@ impl Joining {
 
 // Returns whether a gap needs a marker: only the first gap after a PES packet does.
 #[inline(always)]
-fn mark_gap(gap: bool, given: &mut Given) -> bool
-    ensures given { given.new ≡ given_after gap given.old }
+fn put_gap_marker(gap: bool, given: &mut Given) -> bool
+    ensures given { given.new ≡ last_output_after gap given.old }
     ensures due { result ≡ (gap && gave_packet given.old) }
 {
     if !gap {
@@ -481,7 +489,7 @@ fn mark_gap(gap: bool, given: &mut Given) -> bool
     }
     match &*given {
         Given::Packet => {
-            *given = Given::Mark;
+            *given = Given::GapMarker;
             true
         }
         _ => false,

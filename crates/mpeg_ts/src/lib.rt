@@ -7,35 +7,35 @@
 //!
 //! ```text
 //! let pid = Pid::new(0x101).ok_or(..)?;
-//! let mut pieces = RecordingPieces::new(recording, pid, PacketSize::Plain);
+//! let mut pieces = RecordingPesPackets::new(recording, pid, PacketSize::Plain);
 //! while reader.next(&mut pieces)? != Compared::End {
 //!     ..
 //! }
 //! ```
 #![tactic(auto)]
 
+mod gap_marker;
 mod joining;
 mod laws;
-mod mark;
 mod packet_size;
 mod part_bytes;
 mod passing;
+mod pending_item;
 mod pid;
-mod recording_pieces;
+mod recording_packets;
 mod stream;
 mod survey_options;
 mod transport_packet;
-mod waiting;
 mod window;
 
 pub use joining::Joining;
 pub use laws::{law_of_calls, law_of_failed_read};
 pub use packet_size::PacketSize;
+pub use pending_item::Next;
 pub use pid::Pid;
-pub use recording_pieces::RecordingPieces;
+pub use recording_packets::RecordingPesPackets;
 pub use survey_options::SurveyOptions;
 pub use transport_packet::{
     PACKET, SYNC_BYTE, announces_jump, begins, counter_of, has_adaptation, has_payload, is_wrong,
     payload_of, pid_of,
 };
-pub use waiting::Next;

@@ -1,7 +1,7 @@
 //! The bytes of a part.
 ghost use Rattle.std.specs.Prelude.{◌≡◌, ℕ, ◌+◌, ◌≤◌, [], ◌++◌, length, take};
 ghost use Rattle.sub_io.specs.Reading.{AreBytes};
-ghost use Rattle.ttx_pes.specs.Pieces.{IsPiece};
+ghost use Rattle.ttx_pes.specs.PesPackets.{IsPesPacket};
 ghost use Rattle.ttx_pes.specs.declared.fault.PesFault.{PesFault};
 ghost use Rattle.mpeg_ts.specs.Joining.{IsRefused, found_in};
 ghost use Rattle.mpeg_ts.specs.declared.joining.Found.TheVariants.{Other, Unfinished, Whole};
@@ -11,12 +11,12 @@ use std::marker::Model;
 use ttx_pes::size_of;
 
 // Buffer size: an incomplete PES packet and one more payload.
-const ROOM: usize = 1840;
+const BUFFER_SIZE: usize = 1840;
 
 /// The bytes of a part, which can be cleared at no cost.
 #[derive(Drop)]
 pub(crate) struct PartBytes {
-    room: [u8; ROOM],
+    room: [u8; BUFFER_SIZE],
     len: usize,
 }
 
@@ -36,7 +36,7 @@ impl PartBytes {
         ensures { result ≡ [] }
     {
         PartBytes {
-            room: [0; ROOM],
+            room: [0; BUFFER_SIZE],
             len: 0,
         }
     }
@@ -79,16 +79,16 @@ pub(crate) fn find_packet(bytes: &[u8]) -> Found
     ensures found { found_in bytes.now ≡ result }
     ensures open { result ≡ Unfinished → length bytes.now ≤ 1655 }
     ensures packet { (size : ℕ) → result ≡ Whole size
-        → IsPiece (take size bytes.now) × (size ≤ length bytes.now) }
+        → IsPesPacket (take size bytes.now) × (size ≤ length bytes.now) }
     ensures other { (fault : PesFault) → result ≡ Other fault → IsRefused bytes.now fault }
 {
-    found_at_front(bytes)
+    found_at_start(bytes)
 }
 
 // The same, from its size.
 #[tactic(auto, unfolding(crate::specs::Joining::found_in))]
 #[inline(always)]
-fn found_at_front(bytes: &[u8]) -> Found
+fn found_at_start(bytes: &[u8]) -> Found
     ensures found { found_in bytes.now ≡ result }
     ensures open { result ≡ Unfinished → length bytes.now ≤ 1655 }
     ensures fit { AreBytes bytes.now }

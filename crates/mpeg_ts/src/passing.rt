@@ -1,9 +1,9 @@
 //! Skips bytes without copying them: packets of other PIDs, and bytes that belong to no packet.
 ghost use Rattle.std.specs.Prelude.{◌≡◌, ◌+◌, ◌<◌, ◌≤◌, List, ℕ, [], ◌++◌, drop, take, length};
 ghost use Rattle.std.specs.Prelude.{false, true};
-ghost use Rattle.mpeg_ts.specs.GoodPackets.{hole_size};
+ghost use Rattle.mpeg_ts.specs.GoodPackets.{loss_size};
 ghost use Rattle.mpeg_ts.specs.Joining.{JoiningValue, has_ended};
-ghost use Rattle.mpeg_ts.specs.Stream.{BeginsPacket, stream_gives};
+ghost use Rattle.mpeg_ts.specs.Stream.{BeginsPacket, stream_output};
 ghost use Rattle.mpeg_ts.specs.TransportPacket.{pid};
 
 use crate::transport_packet::{PACKET, SYNC_BYTE, pid_of};
@@ -25,7 +25,7 @@ pub(crate) fn packet_in(bytes: &[u8], place: usize) -> &[u8; PACKET]
 // registers.
 #[inline(never)]
 #[tactic(auto, using(crate::proofs::StreamLemmas::others))]
-pub(crate) fn place_behind_others(bytes: &[u8], from: usize, distance: usize, number: u16) -> usize
+pub(crate) fn place_after_others(bytes: &[u8], from: usize, distance: usize, number: u16) -> usize
     requires from { from ≤ length bytes.now }
     requires near { 188 ≤ distance }
     ensures from { from ≤ result }
@@ -33,8 +33,8 @@ pub(crate) fn place_behind_others(bytes: &[u8], from: usize, distance: usize, nu
     ensures gives { (rest : List ℕ) (joining : JoiningValue)
         → has_ended joining.part ≡ false
         → joining.pending ≡ []
-        → stream_gives distance number 0 true joining rest
-        ≡ stream_gives distance number 0 true joining (drop from (take result bytes.now ++ rest)) }
+        → stream_output distance number 0 true joining rest
+        ≡ stream_output distance number 0 true joining (drop from (take result bytes.now ++ rest)) }
 {
     if bytes.len() < distance {
         return from;
@@ -74,11 +74,11 @@ pub(crate) fn junk_size(bytes: &[u8]) -> usize
     ensures within { result ≤ length bytes.now }
     ensures gives { (distance number run : ℕ) (joining : JoiningValue) (rest : List ℕ)
         → 188 ≤ distance
-        → (run < hole_size distance → run + result < hole_size distance)
+        → (run < loss_size distance → run + result < loss_size distance)
         → has_ended joining.part ≡ false
         → joining.pending ≡ []
-        → stream_gives distance number (run + result) false joining rest
-        ≡ stream_gives distance number run false joining (take result bytes.now ++ rest) }
+        → stream_output distance number (run + result) false joining rest
+        ≡ stream_output distance number run false joining (take result bytes.now ++ rest) }
 {
     let mut at = 0;
     while at < bytes.len() {

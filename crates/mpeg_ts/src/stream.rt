@@ -3,20 +3,20 @@ ghost use Rattle.std.specs.Prelude.{◌≡◌, ◌+◌, ◌-◌, ◌^◌, ◌<�
 ghost use Rattle.std.specs.Prelude.{◌≢◌, take, length};
 ghost use Rattle.std.specs.Prelude.{Ok, false, is_ok, true};
 ghost use Rattle.std.specs.Io.KnownBytes.{IsAtEnd, Keeps};
-ghost use Rattle.sub_io.specs.Asking.{Asks};
+ghost use Rattle.sub_io.specs.Asking.{Requests};
 ghost use Rattle.sub_io.specs.Device.{CanFail, CountsFailure};
-ghost use Rattle.mpeg_ts.specs.GoodPackets.{hole_size};
+ghost use Rattle.mpeg_ts.specs.GoodPackets.{loss_size};
 ghost use Rattle.mpeg_ts.specs.Joining.{IsWithin, TakesNext, emptied, has_ended, taken_bytes};
 ghost use Rattle.mpeg_ts.specs.PacketSize.{bytes_of};
 ghost use Rattle.mpeg_ts.specs.PacketsInStep.{begins_packet, bytes_needed, lead_size};
 ghost use Rattle.mpeg_ts.specs.Stream.{after_packet, after_skipped, bytes_ahead, bytes_at_most};
-ghost use Rattle.mpeg_ts.specs.Stream.{given_of, gives_some, start_of_stream, still_given};
-ghost use Rattle.mpeg_ts.specs.TakenBytes.{TakesFront};
+ghost use Rattle.mpeg_ts.specs.Stream.{output_of, has_output, start_of_stream, remaining_output};
+ghost use Rattle.mpeg_ts.specs.TakenBytes.{TakesPrefix};
 
 use crate::joining::Joining;
-use crate::passing::{begins_unit, junk_size, packet_in, place_behind_others};
+use crate::passing::{begins_unit, junk_size, packet_in, place_after_others};
+use crate::pending_item::Next;
 use crate::transport_packet::{PACKET, SYNC_BYTE, pid_of};
-use crate::waiting::Next;
 use crate::window::Window;
 use crate::{PacketSize, Pid};
 use std::marker::Model;
@@ -56,7 +56,7 @@ impl Model for Stream {
     } };
 
     ghost invariant = { λ s. IsStream s.number
-        s.distance s.lead s.run (length s.window.held + s.window.left) s.in_step };
+        s.distance s.lead s.run (length s.window.buffered + s.window.left) s.in_step };
 }
 
 // Returns how many bytes precede the first packet.
@@ -71,10 +71,10 @@ fn lead_of(packet_size: PacketSize) -> usize
 
 // Returns the packet at a place of the buffered bytes.
 fn packet_at(window: &Window, place: usize) -> &[u8; PACKET]
-    requires { place + 188 ≤ length window.now.held }
-    ensures { result.now ≡ take 188 (drop place window.now.held) }
+    requires { place + 188 ≤ length window.now.buffered }
+    ensures { result.now ≡ take 188 (drop place window.now.buffered) }
 {
-    packet_in(window.held(), place)
+    packet_in(window.buffered(), place)
 }
 
 impl Stream {
@@ -100,19 +100,19 @@ impl Stream {
     fn need<S: Source>(&mut self, source: &mut S) -> Result<bool, Failed>
         requires count { CanFail (S.failure_count source.old) }
         requires idle { self.old.joining.pending ≡ [] }
-        ensures takes { TakesFront (given_of self.old) (given_of self.new)
+        ensures takes { TakesPrefix (output_of self.old) (output_of self.new)
             (S.remaining source.old) (S.remaining source.new) }
-        ensures cut { is_ok result ≡ false → given_of self.new [] ≡ [] }
+        ensures cut { is_ok result ≡ false → output_of self.new [] ≡ [] }
         ensures there { result ≡ Ok true → self.new.lead
-            + bytes_needed self.new.distance self.new.in_step ≤ length self.new.window.held }
-        ensures packet { result ≡ Ok true → self.new.lead + 188 ≤ length self.new.window.held }
+            + bytes_needed self.new.distance self.new.in_step ≤ length self.new.window.buffered }
+        ensures packet { result ≡ Ok true → self.new.lead + 188 ≤ length self.new.window.buffered }
         ensures end { result ≡ Ok false
-            → IsAtEnd (still_given self.new (S.remaining source.new)) }
+            → IsAtEnd (remaining_output self.new (S.remaining source.new)) }
         ensures same { self.new ≡ record self.old { window = self.new.window } }
-        ensures sum { length self.new.window.held + self.new.window.left
-            ≡ length self.old.window.held + self.old.window.left }
-        ensures asks { Asks S.is_pull S.lent S.remaining
-            (gives_some self.old) source.old (is_ok result) (gives_some self.new) source.new }
+        ensures sum { length self.new.window.buffered + self.new.window.left
+            ≡ length self.old.window.buffered + self.old.window.left }
+        ensures requests { Requests S.is_pull S.borrowed S.remaining
+            (has_output self.old) source.old (is_ok result) (has_output self.new) source.new }
         ensures count { CountsFailure
             (S.failure_count source.old) result (S.failure_count source.new) }
     {
@@ -133,10 +133,10 @@ impl Stream {
 
     // Returns the buffered bytes from the next item on.
     fn ahead(&self) -> &[u8]
-        requires { self.now.lead ≤ length self.now.window.held }
-        ensures { result.now ≡ drop self.now.lead self.now.window.held }
+        requires { self.now.lead ≤ length self.now.window.buffered }
+        ensures { result.now ≡ drop self.now.lead self.now.window.buffered }
     {
-        let (_, ahead) = self.window.held().split_at(self.lead);
+        let (_, ahead) = self.window.buffered().split_at(self.lead);
         ahead
     }
 
@@ -144,7 +144,7 @@ impl Stream {
     #[tactic(auto, using(crate::proofs::StreamLemmas::begins_known))]
     fn begins_packet(&self) -> bool
         requires { self.now.lead + bytes_needed self.now.distance self.now.in_step
-            ≤ length self.now.window.held }
+            ≤ length self.now.window.buffered }
         ensures { (bytes : List ℕ) → begins_packet self.now.distance self.now.in_step
             (bytes_ahead self.now bytes) ≡ result }
     {
@@ -155,7 +155,7 @@ impl Stream {
     // Skips bytes from the next item on.
     #[tactic(auto, using(crate::proofs::StreamLemmas::advancing))]
     fn advance(&mut self, count: usize)
-        requires there { self.old.lead + 188 ≤ length self.old.window.held }
+        requires there { self.old.lead + 188 ≤ length self.old.window.buffered }
         requires some { 1 ≤ count }
         requires most { count ≤ 204 }
         requires few { self.old.in_step ≡ false → count ≤ 188 }
@@ -164,10 +164,10 @@ impl Stream {
         ensures same { self.new
             ≡ record self.old { window = self.new.window; lead = self.new.lead } }
         ensures lead { self.new.lead
-            ≡ (self.old.lead + count) - length self.old.window.held }
+            ≡ (self.old.lead + count) - length self.old.window.buffered }
         ensures fewer { bytes_at_most self.new < bytes_at_most self.old }
         ensures counted { self.new.run
-            + (length self.new.window.held + self.new.window.left) + 1 ≤ 2 ^ 48 }
+            + (length self.new.window.buffered + self.new.window.left) + 1 ≤ 2 ^ 48 }
     {
         let count = self.lead + count;
         self.lead = self.window.advance(count);
@@ -176,12 +176,12 @@ impl Stream {
     // Takes the packet that comes next.
     #[tactic(auto, using(crate::proofs::StreamLemmas::packets))]
     fn take_packet(&mut self)
-        requires there { self.old.lead + 188 ≤ length self.old.window.held }
+        requires there { self.old.lead + 188 ≤ length self.old.window.buffered }
         requires idle { self.old.joining.pending ≡ [] }
         requires going { has_ended self.old.joining.part ≡ false }
         ensures gives { (bytes : List ℕ)
             → begins_packet self.old.distance self.old.in_step (bytes_ahead self.old bytes) ≡ true
-            → given_of self.new bytes ≡ given_of self.old bytes }
+            → output_of self.new bytes ≡ output_of self.old bytes }
         ensures fewer { bytes_at_most self.new < bytes_at_most self.old }
     {
         self.in_step = true;
@@ -193,11 +193,11 @@ impl Stream {
 
     // Reassembles from the packet that comes next, if it is one of the PID.
     fn join_packet(&mut self)
-        requires there { self.old.lead + 188 ≤ length self.old.window.held }
+        requires there { self.old.lead + 188 ≤ length self.old.window.buffered }
         requires idle { self.old.joining.pending ≡ [] }
         ensures { self.new ≡ record self.old {
           joining = after_packet self.old.number
-              (take 188 (drop self.old.lead self.old.window.held)) self.old.joining;
+              (take 188 (drop self.old.lead self.old.window.buffered)) self.old.joining;
         } }
     {
         let packet = *packet_at(&self.window, self.lead);
@@ -221,12 +221,12 @@ impl Stream {
     // Skips a byte.
     #[tactic(auto, using(crate::proofs::StreamLemmas::skips))]
     fn skip(&mut self)
-        requires there { self.old.lead + 188 ≤ length self.old.window.held }
+        requires there { self.old.lead + 188 ≤ length self.old.window.buffered }
         requires idle { self.old.joining.pending ≡ [] }
         requires going { has_ended self.old.joining.part ≡ false }
         ensures gives { (bytes : List ℕ)
             → begins_packet self.old.distance self.old.in_step (bytes_ahead self.old bytes) ≡ false
-            → given_of self.new bytes ≡ given_of self.old bytes }
+            → output_of self.new bytes ≡ output_of self.old bytes }
         ensures idle { self.new.joining.pending ≡ [] }
         ensures going { has_ended self.new.joining.part ≡ false }
         ensures out { self.new.in_step ≡ false }
@@ -240,13 +240,13 @@ impl Stream {
 
     // Returns whether `count` of the buffered bytes may reach the number that makes skipped bytes a
     // loss.
-    fn may_end_hole(&self, count: usize) -> bool
-        requires { count ≤ length self.now.window.held }
-        ensures { result ≡ false → self.now.run < hole_size self.now.distance
-            → self.now.run + count < hole_size self.now.distance }
+    fn may_end_loss(&self, count: usize) -> bool
+        requires { count ≤ length self.now.window.buffered }
+        ensures { result ≡ false → self.now.run < loss_size self.now.distance
+            → self.now.run + count < loss_size self.now.distance }
     {
-        let hole = 15 * self.distance as u64;
-        self.run < hole && hole <= self.run + count as u64
+        let loss = 15 * self.distance as u64;
+        self.run < loss && loss <= self.run + count as u64
     }
 
     // Skips the buffered bytes up to the next sync byte. The byte that may make them a loss is left
@@ -257,11 +257,11 @@ impl Stream {
         requires idle { self.old.joining.pending ≡ [] }
         requires going { has_ended self.old.joining.part ≡ false }
         requires out { self.old.in_step ≡ false }
-        ensures gives { (bytes : List ℕ) → given_of self.new bytes ≡ given_of self.old bytes }
+        ensures gives { (bytes : List ℕ) → output_of self.new bytes ≡ output_of self.old bytes }
         ensures most { bytes_at_most self.new ≤ bytes_at_most self.old }
     {
-        let count = junk_size(self.window.held());
-        if count == 0 || self.may_end_hole(count) {
+        let count = junk_size(self.window.buffered());
+        if count == 0 || self.may_end_loss(count) {
             return;
         }
         self.lead = self.window.advance(count);
@@ -275,7 +275,7 @@ impl Stream {
         } }
     {
         if self.run + 1 == 15 * self.distance as u64 {
-            self.joining.note_hole();
+            self.joining.note_loss();
         }
     }
 
@@ -286,14 +286,14 @@ impl Stream {
         requires count { CanFail (S.failure_count source.old) }
         requires idle { self.old.joining.pending ≡ [] }
         requires going { has_ended self.old.joining.part ≡ false }
-        ensures takes { TakesFront (given_of self.old) (given_of self.new)
+        ensures takes { TakesPrefix (output_of self.old) (output_of self.new)
             (S.remaining source.old) (S.remaining source.new) }
-        ensures cut { is_ok result ≡ false → given_of self.new [] ≡ [] }
+        ensures cut { is_ok result ≡ false → output_of self.new [] ≡ [] }
         ensures end { result ≡ Ok false
-            → IsAtEnd (still_given self.new (S.remaining source.new)) }
+            → IsAtEnd (remaining_output self.new (S.remaining source.new)) }
         ensures fewer { result ≡ Ok true → bytes_at_most self.new < bytes_at_most self.old }
-        ensures asks { Asks S.is_pull S.lent S.remaining
-            (gives_some self.old) source.old (is_ok result) (gives_some self.new) source.new }
+        ensures requests { Requests S.is_pull S.borrowed S.remaining
+            (has_output self.old) source.old (is_ok result) (has_output self.new) source.new }
         ensures count { CountsFailure
             (S.failure_count source.old) result (S.failure_count source.new) }
     {
@@ -314,14 +314,14 @@ impl Stream {
     // buffer. Returns whether it did either.
     #[inline(always)]
     #[tactic(auto, using(crate::proofs::StreamLemmas::skims))]
-    fn take_lent<S: Source>(&mut self, source: &mut S) -> bool
+    fn take_borrowed<S: Source>(&mut self, source: &mut S) -> bool
         requires count { CanFail (S.failure_count source.old) }
         requires idle { self.old.joining.pending ≡ [] }
         requires going { has_ended self.old.joining.part ≡ false }
-        ensures kept { TakesFront (given_of self.old) (given_of self.new)
+        ensures kept { TakesPrefix (output_of self.old) (output_of self.new)
             (S.remaining source.old) (S.remaining source.new)
-            × Asks S.is_pull S.lent S.remaining
-            (gives_some self.old) source.old true (gives_some self.new) source.new }
+            × Requests S.is_pull S.borrowed S.remaining
+            (has_output self.old) source.old true (has_output self.new) source.new }
         ensures fewer { result ≡ true → bytes_at_most self.new < bytes_at_most self.old }
         ensures none { result ≡ false → (self.new ≡ self.old) × (source.new ≡ source.old) }
         ensures count { S.failure_count source.new ≡ S.failure_count source.old }
@@ -329,23 +329,23 @@ impl Stream {
         if !self.in_step || self.window.len() > 0 {
             return false;
         }
-        let lent = source.held();
-        if lent.len() < self.lead || self.window.left() < lent.len() as u64 {
+        let borrowed = source.buffered();
+        if borrowed.len() < self.lead || self.window.left() < borrowed.len() as u64 {
             return false;
         }
-        let place = place_behind_others(lent, self.lead, self.distance, self.number);
-        if !begins_unit(lent, place, self.distance, self.number) {
-            if place <= self.lead || !source.pass(place) {
+        let place = place_after_others(borrowed, self.lead, self.distance, self.number);
+        if !begins_unit(borrowed, place, self.distance, self.number) {
+            if place <= self.lead || !source.skip_bytes(place) {
                 return false;
             }
-            self.window.pass(place as u64);
+            self.window.skip_bytes(place as u64);
             self.lead = 0;
             return true;
         }
-        self.joining.take_packet(packet_in(lent, place));
+        self.joining.take_packet(packet_in(borrowed, place));
         let count = place + self.distance;
-        source.pass(count);
-        self.window.pass(count as u64);
+        source.skip_bytes(count);
+        self.window.skip_bytes(count as u64);
         self.lead = 0;
         true
     }
@@ -366,16 +366,16 @@ impl Stream {
     #[tactic(auto, using(crate::proofs::StreamLemmas::reads))]
     pub(crate) fn read_on<S: Source>(&mut self, source: &mut S) -> Result<(), Failed>
         requires { CanFail (S.failure_count source.old) }
-        ensures takes { TakesFront (given_of self.old) (given_of self.new)
+        ensures takes { TakesPrefix (output_of self.old) (output_of self.new)
             (S.remaining source.old) (S.remaining source.new) }
-        ensures cut { is_ok result ≡ false → given_of self.new [] ≡ [] }
-        ensures keeps { Keeps (still_given self.old (S.remaining source.old))
-            (still_given self.new (S.remaining source.new)) }
+        ensures cut { is_ok result ≡ false → output_of self.new [] ≡ [] }
+        ensures keeps { Keeps (remaining_output self.old (S.remaining source.old))
+            (remaining_output self.new (S.remaining source.new)) }
         ensures ready { self.old.joining.pending ≢ [] → result ≡ Ok tt }
         ensures end { result ≡ Ok tt → self.new.joining.pending ≡ []
-            → IsAtEnd (still_given self.new (S.remaining source.new)) }
-        ensures asks { Asks S.is_pull S.lent S.remaining
-            (gives_some self.old) source.old (is_ok result) (gives_some self.new) source.new }
+            → IsAtEnd (remaining_output self.new (S.remaining source.new)) }
+        ensures requests { Requests S.is_pull S.borrowed S.remaining
+            (has_output self.old) source.old (is_ok result) (has_output self.new) source.new }
         ensures count { CountsFailure
             (S.failure_count source.old) result (S.failure_count source.new) }
     {
@@ -390,18 +390,18 @@ impl Stream {
     #[tactic(auto, using(crate::proofs::StreamLemmas::reads))]
     fn read_more<S: Source>(&mut self, source: &mut S) -> Result<(), Failed>
         requires { CanFail (S.failure_count source.old) }
-        ensures takes { TakesFront (given_of self.old) (given_of self.new)
+        ensures takes { TakesPrefix (output_of self.old) (output_of self.new)
             (S.remaining source.old) (S.remaining source.new) }
-        ensures cut { is_ok result ≡ false → given_of self.new [] ≡ [] }
+        ensures cut { is_ok result ≡ false → output_of self.new [] ≡ [] }
         ensures end { result ≡ Ok tt → self.new.joining.pending ≡ []
-            → IsAtEnd (still_given self.new (S.remaining source.new)) }
-        ensures asks { Asks S.is_pull S.lent S.remaining
-            (gives_some self.old) source.old (is_ok result) (gives_some self.new) source.new }
+            → IsAtEnd (remaining_output self.new (S.remaining source.new)) }
+        ensures requests { Requests S.is_pull S.borrowed S.remaining
+            (has_output self.old) source.old (is_ok result) (has_output self.new) source.new }
         ensures count { CountsFailure
             (S.failure_count source.old) result (S.failure_count source.new) }
     {
         while self.wants_more() {
-            if !self.take_lent(source) && !self.step(source)? {
+            if !self.take_borrowed(source) && !self.step(source)? {
                 return Ok(());
             }
         }
@@ -435,10 +435,10 @@ impl Stream {
     }
 
     // Clears all bytes, since everything that was ready was returned.
-    pub(crate) fn hand_over(&mut self)
+    pub(crate) fn deliver(&mut self)
         ensures { self.new ≡ record self.old { joining = emptied self.old.joining } }
     {
-        self.joining.hand_over();
+        self.joining.deliver();
     }
 
     // Returns the bytes of the item that was taken.

@@ -3,8 +3,8 @@ ghost use Rattle.std.specs.Prelude.{◌≡◌, ◌+◌, ◌-◌, ◌<◌, ◌≤
 ghost use Rattle.std.specs.Prelude.{false, is_ok, true};
 ghost use Rattle.std.specs.Io.KnownBytes.{IsAtEnd};
 ghost use Rattle.sub_io.specs.Device.{CanFail, CountsFailure};
-ghost use Rattle.mpeg_ts.specs.TakenBytes.{TakesFront};
-ghost use Rattle.mpeg_ts.specs.Window.{AsksUpTo, held_and_left, left_to_take, window_size};
+ghost use Rattle.mpeg_ts.specs.TakenBytes.{TakesPrefix};
+ghost use Rattle.mpeg_ts.specs.Window.{RequestsUpTo, buffered_and_left, left_to_take, window_size};
 
 use arrayvec::ArrayVec;
 use std::marker::Model;
@@ -26,13 +26,13 @@ impl Model for Window {
 
     ghost Value = { WindowValue };
 
-    ghost view = { λ w. record { held = w.bytes.items; left = w.left } };
+    ghost view = { λ w. record { buffered = w.bytes.items; left = w.left } };
 }
 
 impl Window {
     // Creates an empty buffer. `left` bytes may be read.
     pub(crate) fn new(left: u64) -> Self
-        ensures { result ≡ record { held = []; left = left } }
+        ensures { result ≡ record { buffered = []; left = left } }
     {
         Window {
             bytes: ArrayVec::new(),
@@ -42,8 +42,8 @@ impl Window {
 
     // Returns the buffered bytes.
     #[inline(always)]
-    pub(crate) fn held(&self) -> &[u8]
-        ensures held { result.now ≡ self.now.held }
+    pub(crate) fn buffered(&self) -> &[u8]
+        ensures buffered { result.now ≡ self.now.buffered }
         ensures most { length result.now ≤ window_size }
     {
         self.bytes.as_slice()
@@ -52,7 +52,7 @@ impl Window {
     // Returns the number of buffered bytes.
     #[inline(always)]
     pub(crate) fn len(&self) -> usize
-        ensures { result ≡ length self.now.held }
+        ensures { result ≡ length self.now.buffered }
     {
         self.bytes.len()
     }
@@ -67,7 +67,7 @@ impl Window {
 
     // Counts bytes that were read and skipped elsewhere.
     #[inline(always)]
-    pub(crate) fn pass(&mut self, count: u64)
+    pub(crate) fn skip_bytes(&mut self, count: u64)
         requires { count ≤ self.old.left }
         ensures { self.new ≡ record self.old { left = self.old.left - count } }
     {
@@ -75,10 +75,10 @@ impl Window {
     }
 
     // Returns how many bytes may be pulled to have `count` bytes.
-    fn room_for(&self, count: usize) -> usize
-        requires few { length self.now.held < count }
+    fn free_space(&self, count: usize) -> usize
+        requires few { length self.now.buffered < count }
         requires room { count ≤ window_size }
-        ensures fits { length self.now.held + result ≤ count }
+        ensures fits { length self.now.buffered + result ≤ count }
         ensures left { result ≤ self.now.left }
         ensures some { 0 < self.now.left → 0 < result }
     {
@@ -94,24 +94,25 @@ impl Window {
     #[tactic(auto, using(crate::proofs::WindowLemmas::pulling))]
     fn pull<S: Source>(&mut self, source: &mut S, room: usize) -> Result<usize, Failed>
         requires count { CanFail (S.failure_count source.old) }
-        requires room { length self.old.held + room ≤ window_size }
+        requires room { length self.old.buffered + room ≤ window_size }
         requires left { room ≤ self.old.left }
-        ensures takes { TakesFront (held_and_left self.old) (held_and_left self.new)
+        ensures takes { TakesPrefix (buffered_and_left self.old) (buffered_and_left self.new)
             (S.remaining source.old) (S.remaining source.new) }
-        ensures more { IfOk result (λ n. length self.new.held ≡ length self.old.held + n) }
+        ensures more { IfOk result (λ n. length self.new.buffered ≡ length self.old.buffered + n) }
         ensures left { IfOk result (λ n. self.new.left + n ≡ self.old.left) }
         ensures bound { IfOk result (λ n. n ≤ room) }
         ensures end { result ≡ Ok 0 → 0 < room → IsAtEnd (S.remaining source.new) }
         ensures err { IsErr result → self.new ≡ self.old }
-        ensures asks { AsksUpTo S.is_pull S.lent S.remaining (length self.old.held + room)
+        ensures requests { RequestsUpTo S.is_pull S.borrowed S.remaining (length self.old.buffered +
+            room)
             self.old source.old (is_ok result) self.new source.new }
         ensures count { CountsFailure
             (S.failure_count source.old) result (S.failure_count source.new) }
     {
         let mut bytes = [0; WINDOW];
-        let (front, _) = bytes.split_at_mut(room);
-        let n = source.pull(front)?;
-        let (given, _) = front.split_at(n);
+        let (prefix, _) = bytes.split_at_mut(room);
+        let n = source.pull(prefix)?;
+        let (given, _) = prefix.split_at(n);
         self.bytes.try_extend_from_slice(given).unwrap();
         self.left -= n as u64;
         Ok(n)
@@ -126,24 +127,24 @@ impl Window {
     ) -> Result<bool, Failed>
         requires count { CanFail (S.failure_count source.old) }
         requires room { count ≤ window_size }
-        ensures takes { TakesFront (held_and_left self.old) (held_and_left self.new)
+        ensures takes { TakesPrefix (buffered_and_left self.old) (buffered_and_left self.new)
             (S.remaining source.old) (S.remaining source.new) }
-        ensures there { result ≡ Ok true → count ≤ length self.new.held }
-        ensures cut { is_ok result ≡ false → length self.new.held < count }
-        ensures few { result ≡ Ok false → length self.new.held < count }
+        ensures there { result ≡ Ok true → count ≤ length self.new.buffered }
+        ensures cut { is_ok result ≡ false → length self.new.buffered < count }
+        ensures few { result ≡ Ok false → length self.new.buffered < count }
         ensures end { result ≡ Ok false
             → IsAtEnd (left_to_take self.new (S.remaining source.new)) }
-        ensures sum { length self.new.held + self.new.left
-            ≡ length self.old.held + self.old.left }
-        ensures grows { length self.old.held ≤ length self.new.held }
-        ensures asks { AsksUpTo S.is_pull S.lent S.remaining count
+        ensures sum { length self.new.buffered + self.new.left
+            ≡ length self.old.buffered + self.old.left }
+        ensures grows { length self.old.buffered ≤ length self.new.buffered }
+        ensures requests { RequestsUpTo S.is_pull S.borrowed S.remaining count
             self.old source.old (is_ok result) self.new source.new }
         ensures count { CountsFailure
             (S.failure_count source.old) result (S.failure_count source.new) }
     {
-        let mut have = self.held().len();
+        let mut have = self.buffered().len();
         while have < count {
-            let room = self.room_for(count);
+            let room = self.free_space(count);
             let n = self.pull(source, room)?;
             if n == 0 {
                 return Ok(false);
@@ -155,9 +156,9 @@ impl Window {
 
     // Skips bytes, and returns how many of them are not read yet.
     pub(crate) fn advance(&mut self, count: usize) -> usize
-        ensures held { self.new.held ≡ drop count self.old.held }
+        ensures buffered { self.new.buffered ≡ drop count self.old.buffered }
         ensures left { self.new.left ≡ self.old.left }
-        ensures rest { result ≡ count - length self.old.held }
+        ensures rest { result ≡ count - length self.old.buffered }
     {
         let have = self.bytes.len();
         if have <= count {
@@ -165,11 +166,11 @@ impl Window {
             return count - have;
         }
         let mut bytes = [0; WINDOW];
-        let (front, _) = bytes.split_at_mut(have - count);
-        let (_, behind) = self.bytes.as_slice().split_at(count);
-        front.copy_from_slice(behind);
+        let (prefix, _) = bytes.split_at_mut(have - count);
+        let (_, following) = self.bytes.as_slice().split_at(count);
+        prefix.copy_from_slice(following);
         self.bytes.clear();
-        self.bytes.try_extend_from_slice(front).unwrap();
+        self.bytes.try_extend_from_slice(prefix).unwrap();
         0
     }
 }

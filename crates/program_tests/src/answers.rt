@@ -1,62 +1,74 @@
 //! Asserts what the program answers with devices in memory.
 ghost use Rattle.sub_io.specs.Device.{CanFail};
 
-use answer_fixtures::{fills, prints, prints_of, tells};
+use answer_fixtures::{fills, prints, prints_of, reports};
 use std::alloc::Global;
 use std::process::Abort;
 use sub_io::Source;
 
-fn assert_right(rt: &impl Abort, is_right: bool, words: &[&str]) {
-    assert!(rt; is_right, "{words:?}");
+fn assert_right(rt: &impl Abort, is_right: bool, arguments: &[&str]) {
+    assert!(rt; is_right, "{arguments:?}");
 }
 
 /// Asserts the output of a command for two sources, in two parts, and the status that the last line
 /// implies.
 pub fn assert_prints<'a, S: Source, T: Source>(
     rt: &(impl Abort + Alloc<A = Global>),
-    words: &'a [&'a str],
+    arguments: &'a [&'a str],
     first: &mut S,
     second: &mut T,
-    front: &[u8],
+    prefix: &[u8],
     end: &[u8],
 )
     requires first { CanFail (S.failure_count first.old) }
     requires second { CanFail (T.failure_count second.old) }
 {
-    let is_right = prints(rt.alloc(), words, first, second, front, end);
-    assert_right(rt, is_right, words);
+    let is_right = prints(rt.alloc(), arguments, first, second, prefix, end);
+    assert_right(rt, is_right, arguments);
 }
 
 /// Asserts the output for one file in memory, in two parts, and the status.
 pub fn assert_prints_of<'a>(
     rt: &(impl Abort + Alloc<A = Global>),
-    words: &'a [&'a str],
+    arguments: &'a [&'a str],
     file: &[u8],
-    front: &[u8],
+    prefix: &[u8],
     end: &[u8],
 ) {
-    assert_right(rt, prints_of(rt.alloc(), words, file, front, end), words);
+    assert_right(
+        rt,
+        prints_of(rt.alloc(), arguments, file, prefix, end),
+        arguments,
+    );
 }
 
 /// Asserts the output of a command for two files in memory, and the status that it implies. For a
 /// check, also that with `--all` it is the first line that is not about trusted frames.
-pub fn assert_tells<'a>(
+pub fn assert_reports<'a>(
     rt: &(impl Abort + Alloc<A = Global>),
-    words: &'a [&'a str],
+    arguments: &'a [&'a str],
     first: &[u8],
     second: &[u8],
     want: &str,
 ) {
-    assert_right(rt, tells(rt.alloc(), words, first, second, want), words);
+    assert_right(
+        rt,
+        reports(rt.alloc(), arguments, first, second, want),
+        arguments,
+    );
 }
 
 /// Asserts that each output with less room than a text gets the beginning of it.
 pub fn assert_fills<'a>(
     rt: &(impl Abort + Alloc<A = Global>),
-    words: &'a [&'a str],
+    arguments: &'a [&'a str],
     read: (&[u8], &[u8]),
     written: &[u8],
     text: &[u8],
 ) {
-    assert_right(rt, fills(rt.alloc(), words, read, written, text), words);
+    assert_right(
+        rt,
+        fills(rt.alloc(), arguments, read, written, text),
+        arguments,
+    );
 }

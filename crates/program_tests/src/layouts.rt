@@ -2,8 +2,8 @@
 //! it refuses, and texts that are no layout.
 ghost use Rattle.sub_io.specs.Device.{CanFail};
 
-use crate::answers::assert_tells;
-use answer_fixtures::{ACCEPTED, answer_words};
+use crate::answers::assert_reports;
+use answer_fixtures::{ACCEPTED, answer_arguments};
 use fixtures::{HEAD, block, file_of};
 use std::alloc::Global;
 use std::process::Abort;
@@ -82,17 +82,17 @@ fn assert_sends(rt: &impl Abort, case: usize, pes: &[u8], unit: usize, row: &[u8
 // Writes the schedule of a file, and asserts that it is written.
 fn assert_schedules<'a>(
     rt: &(impl Abort + Alloc<A = Global>),
-    words: &'a [&'a str],
+    arguments: &'a [&'a str],
     stl: &[u8],
     file: &mut MemSink,
 )
     requires { CanFail file.old.failure_count }
 {
-    let mut room = [0; 64];
-    let mut out = MemSink::new(&mut room);
+    let mut buffer = [0; 64];
+    let mut out = MemSink::new(&mut buffer);
     let (mut stl, mut none) = (MemSource::new(stl), MemSource::new(&[]));
-    let status = answer_words(rt.alloc(), words, &mut stl, &mut none, file, &mut out);
-    assert!(rt; status == Status::Done, "{words:?}");
+    let status = answer_arguments(rt.alloc(), arguments, &mut stl, &mut none, file, &mut out);
+    assert!(rt; status == Status::Done, "{arguments:?}");
 }
 
 // Asserts the schedule of a file and its check with these options.
@@ -106,14 +106,14 @@ fn assert_answers<'a>(
 ) {
     if rows.len() == 1 && rows[0].len() > 1 && rows[0][0] > 24 {
         let want = std::str::from_utf8(rows[0]).expect(rt, "a line");
-        assert_tells(rt, schedule, stl, &[], want);
-        assert_tells(rt, check, stl, &[], want);
+        assert_reports(rt, schedule, stl, &[], want);
+        assert_reports(rt, check, stl, &[], want);
         return;
     }
-    let mut room = [0; 2000];
-    let mut file = MemSink::new(&mut room);
+    let mut buffer = [0; 2000];
+    let mut file = MemSink::new(&mut buffer);
     assert_schedules(rt, schedule, stl, &mut file);
-    assert_tells(rt, check, stl, file.written(), ACCEPTED);
+    assert_reports(rt, check, stl, file.written(), ACCEPTED);
     for (unit, row) in rows.iter().enumerate() {
         assert_sends(rt, number, file.written(), unit + 1, *row);
     }
@@ -227,6 +227,6 @@ const REFUSED: [&[&str]; 5] = [
 fn refuses_texts_that_are_no_layout(rt: HostRuntime) {
     for row in &REFUSED {
         assert!(rt; row.len() > 1);
-        assert_tells(&rt, &row[1..], &[], &[], row[0]);
+        assert_reports(&rt, &row[1..], &[], &[], row[0]);
     }
 }

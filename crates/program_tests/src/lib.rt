@@ -7,6 +7,8 @@
 #[cfg(test)]
 mod answers;
 #[cfg(test)]
+mod arguments;
+#[cfg(test)]
 mod asserting;
 #[cfg(test)]
 mod layouts;
@@ -24,7 +26,5 @@ mod refused_memory;
 mod schedule;
 #[cfg(test)]
 mod show;
-#[cfg(test)]
-mod words;
 #[cfg(test)]
 mod writing;

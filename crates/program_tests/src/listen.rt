@@ -37,12 +37,12 @@ fn assert_hears<'x>(
     options: &[&'x str],
     want: &str,
 ) {
-    let mut words = ["a"; 16];
+    let mut arguments = ["a"; 16];
     assert!(rt; options.len() <= 11);
-    words[..5].copy_from_slice(&["subttx", "listen", "a", "--at", at]);
-    words[5..5 + options.len()].copy_from_slice(options);
-    let words = &words[..5 + options.len()];
-    assert_prints_of(rt, words, pes, &[], want.as_bytes());
+    arguments[..5].copy_from_slice(&["subttx", "listen", "a", "--at", at]);
+    arguments[5..5 + options.len()].copy_from_slice(options);
+    let arguments = &arguments[..5 + options.len()];
+    assert_prints_of(rt, arguments, pes, &[], want.as_bytes());
 }
 
 // Asserts the output of a receiver for `Hi`, repeated every 25 frames.
@@ -53,12 +53,12 @@ fn assert_hears_by<'x>(
     options: &[&'x str],
     want: &str,
 ) {
-    let mut words = ["a"; 16];
+    let mut arguments = ["a"; 16];
     assert!(rt; options.len() <= 9);
-    words[..7].copy_from_slice(&["subttx", "listen", "a", "--at", at, "--receiver", receiver]);
-    words[7..7 + options.len()].copy_from_slice(options);
-    let words = &words[..7 + options.len()];
-    assert_prints_of(rt, words, &every_second(), &[], want.as_bytes());
+    arguments[..7].copy_from_slice(&["subttx", "listen", "a", "--at", at, "--receiver", receiver]);
+    arguments[7..7 + options.len()].copy_from_slice(options);
+    let arguments = &arguments[..7 + options.len()];
+    assert_prints_of(rt, arguments, &every_second(), &[], want.as_bytes());
 }
 
 // Asserts the output of both receivers for `Hi`, repeated every 25 frames.
@@ -102,7 +102,7 @@ fn shows_what_a_receiver_got_where_packets_were_lost(rt: HostRuntime) {
 }
 
 #[test]
-fn counts_packets_over_the_whole_file(rt: HostRuntime) {
+fn counts_packets_over_the_entire_file(rt: HostRuntime) {
     assert_both_hear(&rt, "10:00:01:00", &["--flip", "4:21:1"], HIT);
     assert_both_hear(&rt, "10:00:01:00", &["--lose", "4"], BLANK);
     assert_both_hear(
@@ -112,8 +112,8 @@ fn counts_packets_over_the_whole_file(rt: HostRuntime) {
         HIT,
     );
     // a packet that is skipped, comes after the time, or does not exist
-    let passed_over = ["--skip", "3", "--flip", "1:21:1", "--lose", "0,1"];
-    assert_both_hear(&rt, "10:00:01:00", &passed_over, HI);
+    let skipped_over = ["--skip", "3", "--flip", "1:21:1", "--lose", "0,1"];
+    assert_both_hear(&rt, "10:00:01:00", &skipped_over, HI);
     let later = ["--flip", "4:21:1", "--lose", "3,4"];
     assert_both_hear(&rt, "10:00:00:10", &later, HI);
     let not_there = ["--flip", "9999999999:41:8", "--lose", "9999999999"];
@@ -169,7 +169,7 @@ fn assert_shows_hit(
 // Asserts what a receiver shows of the first page transmission with these flips.
 fn assert_shows(rt: &(impl Abort + Alloc<A = Global>), receiver: &str, flips: &str, want: &[u8]) {
     let at = "10:00:00:10";
-    let words = [
+    let arguments = [
         "subttx",
         "listen",
         "a",
@@ -180,7 +180,7 @@ fn assert_shows(rt: &(impl Abort + Alloc<A = Global>), receiver: &str, flips: &s
         "--flip",
         flips,
     ];
-    assert_prints_of(rt, &words, &schedule_of_hi(), &[], want);
+    assert_prints_of(rt, &arguments, &schedule_of_hi(), &[], want);
 }
 
 #[test]
@@ -198,9 +198,9 @@ fn shows_a_space_where_a_byte_was_hit(rt: HostRuntime) -> Result<(), Fail> {
 // A row comes twice, and a bit of its second packet is received wrong: the cell is as it was, or a
 // space.
 #[test]
-fn keeps_or_blanks_a_cell_as_it_was_asked(rt: HostRuntime) {
-    let mut room = [0; 184];
-    let mut pes = MemSink::new(&mut room);
+fn keeps_or_blanks_a_cell_as_requested(rt: HostRuntime) {
+    let mut buffer = [0; 184];
+    let mut pes = MemSink::new(&mut buffer);
     push_pes(&mut pes, TEN, &[HEADER, ROW, ROW]);
     let opened = "heard yes\nopen yes\nrow 22 |                ...Hi..                 |\n";
     let hit = "heard yes\nopen yes\nrow 22 |                ... i..                 |\n";
@@ -213,10 +213,10 @@ fn keeps_or_blanks_a_cell_as_it_was_asked(rt: HostRuntime) {
 // Three PES packets with the same data field. The second one has a flip, so the third is processed
 // again.
 #[test]
-fn hears_a_sending_anew_after_one_with_a_flip(rt: HostRuntime) {
+fn hears_a_page_transmission_again_after_one_with_a_flip(rt: HostRuntime) {
     let sent = [HEADER, ROW, CLOSING];
-    let mut room = [0; 552];
-    let mut pes = MemSink::new(&mut room);
+    let mut buffer = [0; 552];
+    let mut pes = MemSink::new(&mut buffer);
     push_pes(&mut pes, TEN, &sent);
     push_pes(&mut pes, TEN + 1, &sent);
     push_pes(&mut pes, TEN + 2, &sent);
@@ -257,8 +257,8 @@ const SENDINGS: [[&[&str]; 3]; 16] = [
 
 // Asserts the output for a row of the table.
 fn assert_hears_row(rt: &(impl Abort + Alloc<A = Global>), row: &[&[&str]; 3]) {
-    let mut room = [0; 920];
-    let mut pes = MemSink::new(&mut room);
+    let mut buffer = [0; 920];
+    let mut pes = MemSink::new(&mut buffer);
     push_spelled(&mut pes, row[0]);
     assert!(rt; row[1].len() >= 1 && row[2].len() == 1);
     let (at, options) = row[1].split_at(1);
@@ -288,14 +288,14 @@ const REPEATS: [[&[&str]; 3]; 7] = [
 ];
 
 #[test]
-fn begins_anew_or_keeps_as_it_was_asked(rt: HostRuntime) {
+fn erases_or_keeps_as_requested(rt: HostRuntime) {
     for row in &REPEATS {
         assert_hears_row(&rt, row);
     }
 }
 
 #[test]
-fn tells_faults_of_a_file_as_far_as_it_is_read(rt: HostRuntime) {
+fn reports_faults_of_a_file_as_far_as_it_is_read(rt: HostRuntime) {
     let twice = every_second_twice();
     let order = "refused 62 Order pes 3\n";
     assert_hears(&rt, &twice, "10:00:02:00", &[], order);
@@ -315,7 +315,7 @@ fn assert_hears_cut(rt: &(impl Abort + Alloc<A = Global>), len: usize, at: &str,
 }
 
 #[test]
-fn tells_a_cut_after_the_time(rt: HostRuntime) {
+fn reports_a_cut_after_the_time(rt: HostRuntime) {
     // the PES packet after the time, and one that is not reached
     assert_hears_cut(&rt, 194, "10:00:00:10", "refused 30 Truncated pes 1\n");
     assert_hears_cut(&rt, 194, "09:00:00:00", NOTHING);
@@ -324,11 +324,11 @@ fn tells_a_cut_after_the_time(rt: HostRuntime) {
 #[test]
 fn calls_no_device_after_its_failure_or_the_time(rt: HostRuntime) {
     let pes = schedule_of_hi();
-    let words = ["subttx", "listen", "a", "--at", "10:00:00:10"];
+    let arguments = ["subttx", "listen", "a", "--at", "10:00:00:10"];
     let want = HI.as_bytes();
-    assert_fills(&rt, &words, (&pes, &[]), &[], want);
+    assert_fills(&rt, &arguments, (&pes, &[]), &[], want);
     // The call that fails would give the PES packet after the second one.
     let mut source = FailAt::new(MemSource::new(&pes), 2);
     let mut none = MemSource::new(&[]);
-    assert_prints(&rt, &words, &mut source, &mut none, &[], want);
+    assert_prints(&rt, &arguments, &mut source, &mut none, &[], want);
 }

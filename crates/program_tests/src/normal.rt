@@ -1,6 +1,6 @@
 //! `normal`: the output for subtitle files, complete and refused.
 use crate::answers::{assert_prints, assert_prints_of};
-use answer_fixtures::answer_words;
+use answer_fixtures::answer_arguments;
 use fixtures::{Drip, Endless, HEAD, block, commented, file_of_two, gsi, normal_form};
 use std::alloc::Global;
 use std::process::Abort;
@@ -52,9 +52,9 @@ fn assert_answers(
     written: usize,
 ) {
     let (mut input, mut none) = (MemSource::new(input), MemSource::new(&[]));
-    let (mut room, mut text) = ([0; 1536], [0; 64]);
-    let (mut file, mut out) = (MemSink::new(&mut room), MemSink::new(&mut text));
-    let status = answer_words(
+    let (mut buffer, mut text) = ([0; 1536], [0; 64]);
+    let (mut file, mut out) = (MemSink::new(&mut buffer), MemSink::new(&mut text));
+    let status = answer_arguments(
         rt.alloc(),
         &NORMAL,
         &mut input,
@@ -117,7 +117,7 @@ fn assert_fails(rt: &(impl Abort + Alloc<A = Global>), byte: u64, line: &[u8]) {
 }
 
 #[test]
-fn tells_a_failed_read_before_any_refusal(rt: HostRuntime) {
+fn reports_a_failed_read_before_any_refusal(rt: HostRuntime) {
     assert_fails(&rt, 0, b"fault 26 Read block 0\n");
     assert_fails(&rt, 1023, b"fault 26 Read block 0\n");
     assert_fails(&rt, 1024, b"fault 26 Read block 1\n");

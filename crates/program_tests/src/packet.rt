@@ -7,9 +7,9 @@ use ttx_packet::ham;
 
 // Asserts the text for a packet of these digits, also if there is less room for it.
 fn assert_shows(rt: &(impl Abort + Alloc<A = Global>), digits: &str, text: &str) {
-    let words = ["subttx", "packet", digits];
-    assert_prints_of(rt, &words, &[], &[], text.as_bytes());
-    assert_fills(rt, &words, (&[], &[]), &[], text.as_bytes());
+    let arguments = ["subttx", "packet", digits];
+    assert_prints_of(rt, &arguments, &[], &[], text.as_bytes());
+    assert_fills(rt, &arguments, (&[], &[]), &[], text.as_bytes());
 }
 
 #[rattlefmt::skip]
@@ -96,8 +96,8 @@ fn assert_shows_number(
     let want = format!(in rt.alloc(); "magazine {shown} packet {number}\n{text}")?;
     let codes = "c1c1c1c1c1c1c1c1c1c1c1c1c1c1c1c1c1c1c1c1c1c1c1c1c1c1c1c1c1c1c1c1c1c1c1c1c1c1c1c1";
     let digits = format!(in rt.alloc(); "{first:02x}{second:02x}{codes}")?;
-    let words = ["subttx", "packet", digits.as_str()];
-    assert_prints_of(rt, &words, &[], &[], want.as_bytes());
+    let arguments = ["subttx", "packet", digits.as_str()];
+    assert_prints_of(rt, &arguments, &[], &[], want.as_bytes());
     Ok(())
 }
 

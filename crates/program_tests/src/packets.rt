@@ -37,7 +37,7 @@ fn assert_lists(
 }
 
 #[test]
-fn lists_the_whole_pes_packets_of_a_cut_file(rt: HostRuntime) {
+fn lists_the_complete_pes_packets_of_a_cut_file(rt: HostRuntime) {
     let (first, _) = LINES.split_at(360);
     assert_lists(&rt, (0, 1), b"", b"0 pes\n");
     assert_lists(&rt, (1, 184), b"", b"refused 30 Truncated pes 0\n");
@@ -47,7 +47,7 @@ fn lists_the_whole_pes_packets_of_a_cut_file(rt: HostRuntime) {
 }
 
 #[test]
-fn tells_a_fault_after_the_lines_before_it(rt: HostRuntime) {
+fn reports_a_fault_after_the_lines_before_it(rt: HostRuntime) {
     let start = b"refused 31 Start pes 0\n";
     assert_prints_of(&rt, &PACKETS, b"RIFF....", &[], start);
     // The first call gives the first PES packet.

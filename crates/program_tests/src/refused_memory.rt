@@ -25,7 +25,7 @@ fn assert_reads(
 }
 
 #[test]
-fn tells_each_growth_that_is_refused(rt: HostRuntime) -> Result<(), Fail> {
+fn reports_each_growth_that_is_refused(rt: HostRuntime) -> Result<(), Fail> {
     // It is read in parts into a vector whose room doubles: 131,072 and then 262,144 bytes at the
     // end.
     let input = vec![in rt.alloc(); 0x20; 153_600]?;
@@ -63,7 +63,7 @@ fn refuses_lost(rt: &(impl Abort + Alloc<A = Global>), size: usize) -> Result<bo
 }
 
 #[test]
-fn tells_each_growth_of_lists_that_is_refused(rt: HostRuntime) -> Result<(), Fail> {
+fn reports_each_growth_of_lists_that_is_refused(rt: HostRuntime) -> Result<(), Fail> {
     let mut refused = 0usize;
     for size in 0..64usize {
         refused = refused.saturating_add(usize::from(refuses_flips(&rt, size * 32)?));

@@ -1,9 +1,9 @@
 //! `schedule`: what is written and printed for subtitle files, and that `check` accepts it.
 ghost use Rattle.sub_io.specs.Device.{CanFail};
 
-use crate::answers::assert_tells;
+use crate::answers::assert_reports;
 use crate::asserting::assert_same_in;
-use answer_fixtures::{ACCEPTED, CHECK, SCHEDULE, answer_words};
+use answer_fixtures::{ACCEPTED, CHECK, SCHEDULE, answer_arguments};
 use fixtures::{
     HEAD, HI, TEN, TWO_ROWS, block, file_of, file_of_hi, file_of_two, gsi, head, schedule_of_hi,
 };
@@ -17,37 +17,37 @@ use sub_io::{MemSink, MemSource, Sink};
 // this repeat bound.
 fn assert_schedules<'a>(
     rt: &(impl Abort + Alloc<A = Global>),
-    words: &'a [&'a str],
+    arguments: &'a [&'a str],
     stl: &[u8],
     (len, line): (usize, &str),
     every: &str,
     want: &str,
 ) {
-    let mut room = [0; 40_000];
-    let mut file = MemSink::new(&mut room);
-    write_schedule(rt, words, stl, line, &mut file);
+    let mut buffer = [0; 40_000];
+    let mut file = MemSink::new(&mut buffer);
+    write_schedule(rt, arguments, stl, line, &mut file);
     assert_same_in(rt, &file.written().len(), &len, &want);
     let check = ["subttx", "check", "a", "b", "--every", every];
-    assert_tells(rt, &check, stl, file.written(), want);
+    assert_reports(rt, &check, stl, file.written(), want);
 }
 
 // Writes a schedule to a file, and asserts the line.
 fn write_schedule<'a>(
     rt: &(impl Abort + Alloc<A = Global>),
-    words: &'a [&'a str],
+    arguments: &'a [&'a str],
     stl: &[u8],
     line: &str,
     file: &mut MemSink,
 )
     requires { CanFail file.old.failure_count }
 {
-    let mut room = [0; 64];
-    let mut out = MemSink::new(&mut room);
+    let mut buffer = [0; 64];
+    let mut out = MemSink::new(&mut buffer);
     let (mut stl, mut none) = (MemSource::new(stl), MemSource::new(&[]));
-    let status = answer_words(rt.alloc(), words, &mut stl, &mut none, file, &mut out);
+    let status = answer_arguments(rt.alloc(), arguments, &mut stl, &mut none, file, &mut out);
     assert!(rt;
         status == Status::Done && out.written() == line.as_bytes(),
-        "{words:?}"
+        "{arguments:?}"
     );
 }
 
@@ -57,14 +57,14 @@ const WRITTEN: &str = "written 2 transmissions\n";
 fn schedules_one_subtitle(rt: HostRuntime) {
     let hi = file_of_hi();
     assert_schedules(&rt, &SCHEDULE, &hi, (368, WRITTEN), "250", ACCEPTED);
-    let words = ["subttx", "schedule", "a", "b", "--every", "25"];
+    let arguments = ["subttx", "schedule", "a", "b", "--every", "25"];
     let three = (552, "written 3 transmissions\n");
     let accepted = "accepted 51 frames 3 transmissions\n";
-    assert_schedules(&rt, &words, &hi, three, "25", accepted);
-    let words = ["subttx", "schedule", "a", "b", "--every", "1", "--serial"];
+    assert_schedules(&rt, &arguments, &hi, three, "25", accepted);
+    let arguments = ["subttx", "schedule", "a", "b", "--every", "1", "--serial"];
     let each = (9384, "written 51 transmissions\n");
     let accepted = "accepted 51 frames 51 transmissions\n";
-    assert_schedules(&rt, &words, &hi, each, "1", accepted);
+    assert_schedules(&rt, &arguments, &hi, each, "1", accepted);
 }
 
 #[test]
@@ -73,7 +73,7 @@ fn schedules_the_subtitles_that_start_in_a_part_of_the_day(rt: HostRuntime) {
     let until = ["subttx", "schedule", "a", "b", "--to", "10:00:00:01"];
     assert_schedules(&rt, &until, &hi, (368, WRITTEN), "250", ACCEPTED);
     let since = ["subttx", "schedule", "a", "b", "--from", "10:00:00:01"];
-    assert_tells(&rt, &since, &hi, &[], "refused 82 NoSubtitles\n");
+    assert_reports(&rt, &since, &hi, &[], "refused 82 NoSubtitles\n");
 }
 
 // Asserts the length of the schedule of one subtitle with this row and text.
@@ -132,8 +132,8 @@ fn schedules_2000_subtitles(rt: HostRuntime) -> Result<(), Fail> {
 
 // Asserts the line of a schedule and of a check for a file of two blocks.
 fn assert_refuses(rt: &(impl Abort + Alloc<A = Global>), file: &[u8; 1280], want: &str) {
-    assert_tells(rt, &SCHEDULE, file, &[], want);
-    assert_tells(rt, &CHECK, file, &[], want);
+    assert_reports(rt, &SCHEDULE, file, &[], want);
+    assert_reports(rt, &CHECK, file, &[], want);
 }
 
 #[test]
@@ -144,7 +144,7 @@ fn refuses_files(rt: HostRuntime) {
     let mut open = hi_and(&rt, &HI);
     open[1155] = 0x00; // EBN
     assert_refuses(&rt, &open, "refused 24 Unfinished block 2\n");
-    assert_tells(&rt, &SCHEDULE, &gsi(), &[], "refused 82 NoSubtitles\n");
+    assert_reports(&rt, &SCHEDULE, &gsi(), &[], "refused 82 NoSubtitles\n");
 }
 
 #[test]
@@ -178,15 +178,15 @@ fn refuses_texts(rt: HostRuntime) {
 // Schedules `Hi` with an option, and asserts byte 9 of its headers of the page, as it is carried.
 fn assert_schedules_by(rt: &(impl Abort + Alloc<A = Global>), option: &str, byte: u8) {
     let hi = file_of_hi();
-    let mut room = [0; 400];
-    let mut file = MemSink::new(&mut room);
-    let words = ["subttx", "schedule", "a", "b", "--option", option];
-    write_schedule(rt, &words, &hi, WRITTEN, &mut file);
+    let mut buffer = [0; 400];
+    let mut file = MemSink::new(&mut buffer);
+    let arguments = ["subttx", "schedule", "a", "b", "--option", option];
+    write_schedule(rt, &arguments, &hi, WRITTEN, &mut file);
     let mut want = schedule_of_hi();
     (want[59], want[243]) = (byte, byte);
     assert!(rt; file.written() == &want[..], "{option}");
-    let words = ["subttx", "check", "a", "b", "--option", option];
-    assert_tells(rt, &words, &hi, file.written(), ACCEPTED);
+    let arguments = ["subttx", "check", "a", "b", "--option", option];
+    assert_reports(rt, &arguments, &hi, file.written(), ACCEPTED);
 }
 
 #[test]

@@ -3,7 +3,7 @@ ghost use Rattle.sub_io.specs.Device.{CanFail};
 
 use crate::answers::assert_fills;
 use crate::normal::NORMAL;
-use answer_fixtures::{SCHEDULE, answer_words};
+use answer_fixtures::{SCHEDULE, answer_arguments};
 use fixtures::{Watched, commented, file_of_hi, normal_form, schedule_of_hi};
 use std::alloc::Global;
 use std::process::Abort;
@@ -13,7 +13,7 @@ use sub_io::{Close, FailAt, MemSink, MemSource, Sink};
 // Asserts the line that is printed when a file is written, and the status.
 fn assert_writes<'a, F: Close>(
     rt: &(impl Abort + Alloc<A = Global>),
-    words: &'a [&'a str],
+    arguments: &'a [&'a str],
     input: &[u8],
     file: &mut F,
     line: &[u8],
@@ -21,78 +21,78 @@ fn assert_writes<'a, F: Close>(
 )
     requires { CanFail (F.failure_count file.old) }
 {
-    let mut room = [0; 64];
-    let mut out = MemSink::new(&mut room);
+    let mut buffer = [0; 64];
+    let mut out = MemSink::new(&mut buffer);
     let (mut input, mut none) = (MemSource::new(input), MemSource::new(&[]));
-    let status = answer_words(rt.alloc(), words, &mut input, &mut none, file, &mut out);
-    assert!(rt; status == want && out.written() == line, "{words:?}");
+    let status = answer_arguments(rt.alloc(), arguments, &mut input, &mut none, file, &mut out);
+    assert!(rt; status == want && out.written() == line, "{arguments:?}");
 }
 
 // Asserts that a file with less room gets the beginning of the output, and is not used after the
 // call that fails.
 fn assert_cuts<'a>(
     rt: &(impl Abort + Alloc<A = Global>),
-    words: &'a [&'a str],
+    arguments: &'a [&'a str],
     input: &[u8],
     written: &[u8],
     fault: &[u8],
 ) {
-    let mut room = [0; 1280];
-    assert!(rt; written.len() <= room.len());
-    let mut file = Watched::new(MemSink::new(&mut room[..written.len()]));
-    assert_writes(rt, words, input, &mut file, fault, Status::Fault);
+    let mut buffer = [0; 1280];
+    assert!(rt; written.len() <= buffer.len());
+    let mut file = Watched::new(MemSink::new(&mut buffer[..written.len()]));
+    assert_writes(rt, arguments, input, &mut file, fault, Status::Fault);
     assert!(rt;
         file.inner.written() == written && file.late_calls == 0,
-        "{words:?}"
+        "{arguments:?}"
     );
 }
 
 // Asserts that a file is not used after the call with this number, which fails.
 fn assert_stops<'a>(
     rt: &(impl Abort + Alloc<A = Global>),
-    words: &'a [&'a str],
+    arguments: &'a [&'a str],
     input: &[u8],
     call: u64,
     fault: &[u8],
 ) {
-    let mut room = [0; 1280];
-    let mut file = Watched::new(FailAt::new(MemSink::new(&mut room), call));
-    assert_writes(rt, words, input, &mut file, fault, Status::Fault);
-    assert!(rt; file.late_calls == 0, "{words:?}, call {call}");
+    let mut buffer = [0; 1280];
+    let mut file = Watched::new(FailAt::new(MemSink::new(&mut buffer), call));
+    assert_writes(rt, arguments, input, &mut file, fault, Status::Fault);
+    assert!(rt; file.late_calls == 0, "{arguments:?}, call {call}");
 }
 
 // Asserts that a file is complete, and the line, also to an output with less room.
-fn assert_writes_whole<'a>(
+fn assert_writes_all<'a>(
     rt: &(impl Abort + Alloc<A = Global>),
-    words: &'a [&'a str],
+    arguments: &'a [&'a str],
     input: &[u8],
     written: &[u8],
     line: &[u8],
 ) {
-    let mut room = [0; 1280];
-    let mut file = MemSink::new(&mut room);
-    assert_writes(rt, words, input, &mut file, line, Status::Done);
-    assert!(rt; file.written() == written, "{words:?}");
-    assert_fills(rt, words, (input, &[]), written, line);
+    let mut buffer = [0; 1280];
+    let mut file = MemSink::new(&mut buffer);
+    assert_writes(rt, arguments, input, &mut file, line, Status::Done);
+    assert!(rt; file.written() == written, "{arguments:?}");
+    assert_fills(rt, arguments, (input, &[]), written, line);
 }
 
 // Asserts what is written and printed if the file has less room, if one of its three calls fails,
 // and if none does.
 fn assert_devices<'a>(
     rt: &(impl Abort + Alloc<A = Global>),
-    words: &'a [&'a str],
+    arguments: &'a [&'a str],
     input: &[u8],
     written: &[u8],
     line: &[u8],
     fault: &[u8],
 ) {
     for len in 0..written.len() {
-        assert_cuts(rt, words, input, &written[..len], fault);
+        assert_cuts(rt, arguments, input, &written[..len], fault);
     }
     for call in 0..3 {
-        assert_stops(rt, words, input, call, fault);
+        assert_stops(rt, arguments, input, call, fault);
     }
-    assert_writes_whole(rt, words, input, written, line);
+    assert_writes_all(rt, arguments, input, written, line);
 }
 
 #[test]

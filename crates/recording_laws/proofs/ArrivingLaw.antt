@@ -4,51 +4,54 @@ use Rattle.std.proofs.Common.{◌≡◌, ℕ, inl, inr, Bool, true, false, ◌||
 use Rattle.std.proofs.Common.{length, refl, sym, ap, ◌∙◌}
 use Rattle.std.specs.List.{concat}
 use Rattle.std.proofs.lemmas.List.{append-nil}
-use Rattle.mpeg_ts.specs.Carried.{carried, mark_where}
+use Rattle.mpeg_ts.specs.Carried.{carried, gap_marker_where}
 use Rattle.recording_laws.specs.Laws.{LawOfLosses, LawOfNeighbours}
 use Rattle.recording_laws.specs.Losses.{Fated, arriving, IsLossy}
 use Rattle.recording_laws.specs.Multiplex.{SentPes, Multiplex}
 use Rattle.recording_laws.proofs.LeadsLemmas.{Leads, leads-gone, leads-there, leads-ungiven}
-use Rattle.recording_laws.proofs.PieceLemmas.{concat-marks, marks_where, one-way, sent_bytes}
+use Rattle.recording_laws.proofs.PesPacketLemmas.{concat-gap_markers, gap_markers_where, one-way}
+use Rattle.recording_laws.proofs.PesPacketLemmas.{sent_bytes}
 use Rattle.recording_laws.proofs.ReadingLaw.{law_of_reading}
 use Rattle.recording_laws.proofs.OpenPartLemmas.{Gives}
-use Rattle.recording_laws.proofs.ReadingLemmas.{After, Held, Marked, Nothing, Reads, is_gap}
-use Rattle.recording_laws.proofs.ReadingLemmas.{is_held}
+use Rattle.recording_laws.proofs.ReadingLemmas.{After, Previous, Marked, Nothing, Reads, is_gap}
+use Rattle.recording_laws.proofs.ReadingLemmas.{has_previous}
 use Rattle.recording_laws.proofs.ReadingLemmas.{Located, located, sent-next, skip}
 use Rattle.std.specs.Bool.{⊤}
 
 -- A skipped PES packet is a gap.
-skip-gap : (held : Held) (s : SentPes Fated)
-    → (is_held (skip held s) ≡ is_held held) × (is_gap (skip held s) ≡ true)
+skip-gap : (previous : Previous) (s : SentPes Fated)
+    → (has_previous (skip previous s) ≡ has_previous previous) × (is_gap (skip previous s) ≡ true)
 skip-gap Nothing s = (refl, refl)
 skip-gap Marked s = (refl, refl)
 skip-gap (After x t between skipped) s = (refl, refl)
 
 -- Gap markers alone.
-concat-alone : (marked : Bool) → concat (marks_where marked) ≡ mark_where marked
-concat-alone true = append-nil (mark_where true)
+concat-alone : (marked : Bool) → concat (gap_markers_where marked) ≡ gap_marker_where marked
+concat-alone true = append-nil (gap_marker_where true)
 concat-alone false = refl
 
 -- If few packets are missing, the PES packets that are read are those that arrive.
-reads-lead : (held : Held) (sent : List (SentPes Fated)) (pieces : List (List ℕ))
-    → Reads true held sent pieces
-    → Leads (is_held held) (is_gap held) sent (concat pieces)
+reads-lead : (previous : Previous) (sent : List (SentPes Fated)) (pes_packets : List (List ℕ))
+    → Reads true previous sent pes_packets
+    → Leads (has_previous previous) (is_gap previous) sent (concat pes_packets)
 unfolding arriving
-reads-lead held [] pieces reads = record {
+reads-lead previous [] pes_packets reads = record {
   is_marked = reads.0;
   after_one = λ e. ap (λ (b : Bool). b || false) (reads.2 e);
   bytes_are = ap concat reads.1 ∙ concat-alone reads.0;
 }
-reads-lead held (s ∷ more) pieces reads = elim reads [
+reads-lead previous (s ∷ more) pes_packets reads = elim reads [
   | inl later ↦
-      let skipped = skip-gap held s in
-      leads-gone (is_held held) (is_gap held) s more (concat pieces) (later.0 refl)
-      (rw (skipped.0, skipped.1) at (reads-lead (skip held s) more pieces later.1))
+      let skipped = skip-gap previous s in
+      leads-gone (has_previous previous) (is_gap previous) s more (concat pes_packets)
+      (later.0 refl)
+      (rw (skipped.0, skipped.1) at (reads-lead (skip previous s) more pes_packets later.1))
   | inr here ↦
       let all = here.7 refl in
-      leads-there (is_held held) (is_gap held) s more (concat pieces) (concat here.2) all.0
+      leads-there (has_previous previous) (is_gap previous) s more (concat pes_packets)
+      (concat here.2) all.0
       (ap concat here.3
-      ∙ concat-marks here.0 here.1 here.2
+      ∙ concat-gap_markers here.0 here.1 here.2
       ∙ cc (here.8 refl, all.1))
       (reads-lead (After here.1 s (length s.others) false) more here.2 here.6)
 ]
@@ -70,33 +73,34 @@ law_of_losses number distance m recording h = record {
     gives : Gives true Nothing m.sent (carried number distance recording)
     gives = given-few number distance m recording h
 
-    leads : Leads false false m.sent (concat gives.pieces)
+    leads : Leads false false m.sent (concat gives.pes_packets)
     leads =
-        leads-ungiven true false m.sent (concat gives.pieces)
-        (reads-lead Nothing m.sent gives.pieces gives.reads)
+        leads-ungiven true false m.sent (concat gives.pes_packets)
+        (reads-lead Nothing m.sent gives.pes_packets gives.reads)
 
 pub law_of_neighbours : LawOfNeighbours
-law_of_neighbours number distance m recording before [] behind h each joined none =
+law_of_neighbours number distance m recording before [] following h each joined none =
     ([], sent_bytes m.sent, refl)
-law_of_neighbours number distance m recording before (x ∷ run) behind h each joined none =
+law_of_neighbours number distance m recording before (x ∷ run) following h each joined none =
     (found.earlier, next.0, found.sent_are ∙ ap (λ (l : List (List ℕ)). found.earlier ++ l) rest)
   where
     gives : Gives true Nothing m.sent (carried number distance recording)
     gives = given-few number distance m recording h
 
-    same : gives.pieces ≡ before ++ (x ∷ (run ++ behind))
+    same : gives.pes_packets ≡ before ++ (x ∷ (run ++ following))
     same =
-        one-way gives.pieces (before ++ (x ∷ (run ++ behind))) gives.each each
+        one-way gives.pes_packets (before ++ (x ∷ (run ++ following))) gives.each each
         (sym gives.joined ∙ joined)
 
-    found : Located true (λ sent. ⊤) (λ s more far. tt) x (run ++ behind) m.sent
+    found : Located true (λ sent. ⊤) (λ s more far. tt) x (run ++ following) m.sent
     found =
-        located true (λ sent. ⊤) (λ s more far. tt) Nothing m.sent gives.pieces before
-        (run ++ behind) x gives.reads same none.0 tt
+        located true (λ sent. ⊤) (λ s more far. tt) Nothing m.sent gives.pes_packets before
+        (run ++ following) x gives.reads same none.0 tt
 
     next : (later : List (List ℕ)) × (sent_bytes found.later ≡ run ++ later)
     next =
-        sent-next x found.here (length found.here.others) found.later (run ++ behind) run behind
+        sent-next x found.here (length found.here.others) found.later (run ++ following) run
+        following
         found.reads refl none.1
 
     rest : found.here.bytes ∷ sent_bytes found.later ≡ x ∷ (run ++ next.0)

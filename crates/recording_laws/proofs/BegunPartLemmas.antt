@@ -1,5 +1,5 @@
 -- The result of a part that begins like a PES packet, whatever was joined to its first packet. Main
--- lemma: closes-front.
+-- lemma: closes-prefix.
 use Rattle.std.proofs.Common.{◌≡◌, ℕ, ◌≤◌, ◌⊎◌, inl, inr, Bool, true, false, not, ◌&&◌, ◌||◌, List}
 use Rattle.std.proofs.Common.{[], ◌∷◌, ◌++◌, length, take, drop, Ok, sym, ap, ◌∙◌, arith, nat_le}
 use Rattle.std.proofs.Common.{nat_lt, length-take}
@@ -8,16 +8,16 @@ use Rattle.std.proofs.lemmas.Bool.{cases_Bool}
 use Rattle.std.proofs.lemmas.Bool.Decides.{nat_tests}
 use Rattle.std.proofs.lemmas.List.{take-append-drop, take-append-le}
 use Rattle.std.proofs.Math.Seq.{take-length}
-use Rattle.ttx_pes.specs.PesPacket.{packet_length, packet_start}
-use Rattle.ttx_pes.specs.Pieces.{IsPiece}
+use Rattle.ttx_pes.specs.PesGrammar.{packet_length, packet_start}
+use Rattle.ttx_pes.specs.PesPackets.{IsPesPacket}
 use Rattle.ttx_pes.specs.Reading.{size_at}
-use Rattle.mpeg_ts.specs.Carried.{mark_where}
+use Rattle.mpeg_ts.specs.Carried.{gap_marker_where}
 use Rattle.mpeg_ts.specs.Parts.{Part, Pes, gap_where, outcome, part_bytes}
 use Rattle.recording_laws.specs.Losses.{Fated}
 use Rattle.recording_laws.specs.Multiplex.{SentPes}
 use Rattle.recording_laws.specs.Pace.{up_to_pts}
-use Rattle.recording_laws.proofs.ClosedPartLemmas.{Closes, closes-broken, closes-piece}
-use Rattle.recording_laws.proofs.PartLemmas.{piece-long, piece-size}
+use Rattle.recording_laws.proofs.ClosedPartLemmas.{Closes, closes-broken, closes-pes_packet}
+use Rattle.recording_laws.proofs.PartLemmas.{pes_packet-long, pes_packet-size}
 
 -- ---- bytes with the same beginning
 
@@ -26,8 +26,8 @@ take-less n m l h =
     sym (take-append-le n (take m l) (drop m l) h) ∙ ap (take n) (take-append-drop m l)
 
 -- It is long enough.
-front-long : (n m : ℕ) (l : List ℕ) → n ≤ m → m ≤ length l → n ≤ length (take m l)
-front-long n m l less long = omega (arith, length-take m l)
+prefix-long : (n m : ℕ) (l : List ℕ) → n ≤ m → m ≤ length l → n ≤ length (take m l)
+prefix-long n m l less long = omega (arith, length-take m l)
 
 -- Bytes that agree up to a PTS agree in the first six.
 pub same-six : (a b : List ℕ)
@@ -36,25 +36,26 @@ pub same-six : (a b : List ℕ)
     → up_to_pts a ≡ up_to_pts b
     → take 6 a ≡ take 6 b
 same-six a b long_a long_b same =
-    sym (take-less 6 14 a (front-long 6 14 a (omega arith) long_a))
+    sym (take-less 6 14 a (prefix-long 6 14 a (omega arith) long_a))
     ∙ ap (take 6) same
-    ∙ take-less 6 14 b (front-long 6 14 b (omega arith) long_b)
+    ∙ take-less 6 14 b (prefix-long 6 14 b (omega arith) long_b)
 
 -- The first six bytes of a PES packet.
-piece-six : (b : List ℕ) (h : IsPiece b)
+pes_packet-six : (b : List ℕ) (h : IsPesPacket b)
     → take 6 b ≡ packet_start ++ bytes_high_first 2 (packet_length h.n)
-piece-six b h = ap (take 6) h.bytes
+pes_packet-six b h = ap (take 6) h.bytes
 
 -- Bytes with these, as long as the PES packet, are one.
-piece-as : (b x : List ℕ)
-    → IsPiece b
+pes_packet-as : (b x : List ℕ)
+    → IsPesPacket b
     → take 6 x ≡ take 6 b
     → length x ≡ length b
-    → IsPiece x
-piece-as b x h six long = record {
+    → IsPesPacket x
+pes_packet-as b x h six long = record {
   n = h.n;
   body = drop 6 x;
-  bytes = sym (take-append-drop 6 x) ∙ ap (λ (l : List ℕ). l ++ drop 6 x) (six ∙ piece-six b h);
+  bytes = sym (take-append-drop 6 x) ∙ ap (λ (l : List ℕ). l ++ drop 6 x)
+      (six ∙ pes_packet-six b h);
   size = h.size;
   long = long ∙ h.long;
 }
@@ -62,11 +63,11 @@ piece-as b x h six long = record {
 -- ---- parts that begin like a PES packet
 
 -- The part begins like the PES packet, up to its PTS.
-pub record IsFront (part : Part) (s : SentPes Fated) : Type 0 where
+pub record IsPrefix (part : Part) (s : SentPes Fated) : Type 0 where
   pub begins : part.begins ≡ true
   pub long : 14 ≤ length (part_bytes part)
   pub same : up_to_pts (part_bytes part) ≡ up_to_pts s.bytes
-  pub is_piece : IsPiece s.bytes
+  pub is_pes_packet : IsPesPacket s.bytes
 
 -- The bytes that it may give.
 abbrev pub given_bytes : Part → SentPes Fated → List ℕ
@@ -77,48 +78,48 @@ abbrev pub is_longer : Part → SentPes Fated → Bool
 is_longer part s = nat_lt (length s.bytes) (length (part_bytes part))
 
 -- Its size is known.
-front-size : (part : Part) (s : SentPes Fated)
-    → IsFront part s
+prefix-size : (part : Part) (s : SentPes Fated)
+    → IsPrefix part s
     → size_at (take 6 (part_bytes part)) ≡ Ok (length s.bytes)
-front-size part s h =
-    let long = piece-long s.bytes h.is_piece in
+prefix-size part s h =
+    let long = pes_packet-long s.bytes h.is_pes_packet in
     ap size_at (same-six (part_bytes part) s.bytes h.long (omega (arith, long)) h.same)
-    ∙ piece-size s.bytes h.is_piece
+    ∙ pes_packet-size s.bytes h.is_pes_packet
 
 -- If all of it is there, it gives a PES packet.
-outcome-front : (cut_off : Bool) (part : Part) (s : SentPes Fated)
-    → IsFront part s
+outcome-prefix : (cut_off : Bool) (part : Part) (s : SentPes Fated)
+    → IsPrefix part s
     → nat_le (length s.bytes) (length (part_bytes part)) ≡ true
     → outcome cut_off part ≡ Pes (given_bytes part s) ∷ gap_where (is_longer part s)
 unfolding outcome
-outcome-front cut_off part s h enough =
-    let size = front-size part s h in
+outcome-prefix cut_off part s h enough =
+    let size = prefix-size part s h in
     let six : nat_le 6 (length (part_bytes part)) ≡ true =
     let long = h.long in grind (arith, nat_tests) in
     rw (h.begins, six, size, enough)
 
 -- Otherwise it is incomplete.
 outcome-short : (cut_off : Bool) (part : Part) (s : SentPes Fated)
-    → IsFront part s
+    → IsPrefix part s
     → nat_le (length s.bytes) (length (part_bytes part)) ≡ false
     → outcome cut_off part ≡ gap_where (not cut_off)
 unfolding outcome
 outcome-short cut_off part s h short =
-    let size = front-size part s h in
+    let size = prefix-size part s h in
     let six : nat_le 6 (length (part_bytes part)) ≡ true =
     let long = h.long in grind (arith, nat_tests) in
     rw (h.begins, six, size, short)
 
 -- The result begins like the PES packet.
-given-front : (part : Part) (s : SentPes Fated)
-    → IsFront part s
+given-prefix : (part : Part) (s : SentPes Fated)
+    → IsPrefix part s
     → nat_le (length s.bytes) (length (part_bytes part)) ≡ true
     → length (given_bytes part s) ≡ length s.bytes
     × up_to_pts (given_bytes part s) ≡ up_to_pts s.bytes
-given-front part s h enough = (long, front)
+given-prefix part s h enough = (long, prefix)
   where
     size : 184 ≤ length s.bytes
-    size = piece-long s.bytes h.is_piece
+    size = pes_packet-long s.bytes h.is_pes_packet
 
     all : length s.bytes ≤ length (part_bytes part)
     all = grind (arith, nat_tests)
@@ -126,21 +127,21 @@ given-front part s h enough = (long, front)
     long : length (given_bytes part s) ≡ length s.bytes
     long = omega (arith, all, length-take (length s.bytes) (part_bytes part))
 
-    front : up_to_pts (given_bytes part s) ≡ up_to_pts s.bytes
-    front =
+    prefix : up_to_pts (given_bytes part s) ≡ up_to_pts s.bytes
+    prefix =
         take-less 14 (length s.bytes) (part_bytes part) (omega (arith, size, long))
         ∙ h.same
 
 -- It is a PES packet.
-given-piece : (part : Part) (s : SentPes Fated)
-    → IsFront part s
+given-pes_packet : (part : Part) (s : SentPes Fated)
+    → IsPrefix part s
     → nat_le (length s.bytes) (length (part_bytes part)) ≡ true
-    → IsPiece (given_bytes part s)
-given-piece part s h enough =
-    let is = given-front part s h enough in
-    let size = piece-long s.bytes h.is_piece in
+    → IsPesPacket (given_bytes part s)
+given-pes_packet part s h enough =
+    let is = given-prefix part s h enough in
+    let size = pes_packet-long s.bytes h.is_pes_packet in
     let same = is.0 in
-    piece-as s.bytes (given_bytes part s) h.is_piece
+    pes_packet-as s.bytes (given_bytes part s) h.is_pes_packet
     (same-six (given_bytes part s) s.bytes (omega (arith, size, same)) (omega (arith, size)) is.1)
     is.0
 
@@ -149,31 +150,32 @@ given-piece part s h enough =
 -- It gives a PES packet that begins like this one, and equals it if the part has no other bytes; or
 -- nothing, and there is a gap.
 pub record ClosesGiven (part : Part) (given gap : Bool) (s : SentPes Fated) : Type 0 where
-  pub piece : List ℕ
+  pub pes_packet : List ℕ
   pub longer : Bool
-  pub is_piece : IsPiece piece
-  pub front : up_to_pts piece ≡ up_to_pts s.bytes
-  pub as_sent : part_bytes part ≡ s.bytes → piece ≡ s.bytes
+  pub is_pes_packet : IsPesPacket pes_packet
+  pub prefix : up_to_pts pes_packet ≡ up_to_pts s.bytes
+  pub as_sent : part_bytes part ≡ s.bytes → pes_packet ≡ s.bytes
   pub closes :
-      Closes part given gap (mark_where (given && (gap || part.after_break)) ++ piece) true longer
+      Closes part given gap (gap_marker_where (given && (gap || part.after_break)) ++ pes_packet)
+      true longer
 
 -- One of the two.
-pub closes-front : (part : Part) (given gap : Bool) (s : SentPes Fated)
-    → IsFront part s
+pub closes-prefix : (part : Part) (given gap : Bool) (s : SentPes Fated)
+    → IsPrefix part s
     → ClosesGiven part given gap s ⊎ Closes part given gap [] given true
-closes-front part given gap s h =
+closes-prefix part given gap s h =
     elim (cases_Bool (nat_le (length s.bytes) (length (part_bytes part)))) [
       | inl enough ↦
           inl
           (record {
-            piece = given_bytes part s;
+            pes_packet = given_bytes part s;
             longer = is_longer part s;
-            is_piece = given-piece part s h enough;
-            front = (given-front part s h enough).1;
+            is_pes_packet = given-pes_packet part s h enough;
+            prefix = (given-prefix part s h enough).1;
             as_sent = λ e. ap (take (length s.bytes)) e ∙ take-length s.bytes;
             closes =
-                closes-piece part given gap (given_bytes part s) (is_longer part s)
-                (λ cut_off. outcome-front cut_off part s h enough);
+                closes-pes_packet part given gap (given_bytes part s) (is_longer part s)
+                (λ cut_off. outcome-prefix cut_off part s h enough);
           })
       | inr short ↦
           inr

@@ -7,8 +7,8 @@ use Rattle.std.specs.List.{AllByRecursion, concat, flat_map, list_any}
 use Rattle.std.proofs.lemmas.Bool.Decides.{nat_tests}
 use Rattle.std.proofs.lemmas.Grind.{flat_map-append}
 use Rattle.std.proofs.lemmas.List.Folds.{concat-append}
-use Rattle.mpeg_ts.specs.Carried.{carried, with_marks}
-use Rattle.mpeg_ts.specs.GoodPackets.{GoodPackets, Note, good_after, nothing_since}
+use Rattle.mpeg_ts.specs.Carried.{carried, with_gap_markers}
+use Rattle.mpeg_ts.specs.GoodPackets.{GoodPackets, Note, good_after, empty_history}
 use Rattle.mpeg_ts.specs.Parts.{outcomes_of}
 use Rattle.mpeg_ts.specs.TransportPacket.{counter, payload}
 use Rattle.recording_laws.specs.Losses.{AreLosses, Fate, Fated, IsFate, IsSpoiled, any_wrong}
@@ -21,10 +21,10 @@ use Rattle.recording_laws.specs.Multiplex.{IsSentPes, Multiplex, SentPes, announ
 use Rattle.recording_laws.specs.Multiplex.{items_of_carrier, items_of_multiplex, packet_in}
 use Rattle.recording_laws.specs.Multiplex.{carriers_of_pes}
 use Rattle.recording_laws.proofs.LeftLemmas.{AreRising, IsSomeLeft, carried-no_jump}
-use Rattle.ttx_pes.specs.Pieces.{IsPiece}
+use Rattle.ttx_pes.specs.PesPackets.{IsPesPacket}
 use Rattle.recording_laws.proofs.LeftNoteLemmas.{IsLeft, IsLeftCarrier, good-quiets-left}
 use Rattle.recording_laws.proofs.LeftNoteLemmas.{heard_left}
-use Rattle.recording_laws.proofs.LeftNoteLemmas.{since_loss}
+use Rattle.recording_laws.proofs.LeftNoteLemmas.{history_after_loss}
 use Rattle.recording_laws.proofs.RecordingLemmas.{noted, notes-units}
 
 -- ---- the recording
@@ -96,7 +96,7 @@ notes-left distance number (f ∷ fs) =
 
 -- What is left of a PES packet, whether it arrives or not.
 pub record IsLeftPes (distance number : ℕ) (s : SentPes Fated) : Type 0 where
-  pub is_piece : IsPiece s.bytes
+  pub is_pes_packet : IsPesPacket s.bytes
   pub first : IsLeftCarrier distance number true s.first
   pub others : AllByRecursion (IsLeftCarrier distance number false) s.others
   pub joined :
@@ -164,13 +164,13 @@ module _ (distance number : ℕ) where
   left-pes [] is each = tt
   left-pes (s ∷ more) is each =
       let rest = flat_map items_of_carrier (carriers_of more) in
-      let behind = all-second (items_of_carrier s.first)
+      let following = all-second (items_of_carrier s.first)
       (flat_map items_of_carrier (s.others ++ carriers_of more)) each in
       let others = left-carriers s.others rest is.0.others
       (subst (AllByRecursion (IsLeft distance number))
-      (flat_map-append items_of_carrier s.others (carriers_of more)) behind) in (
+      (flat_map-append items_of_carrier s.others (carriers_of more)) following) in (
         record {
-          is_piece = is.0.is_piece;
+          is_pes_packet = is.0.is_pes_packet;
           first =
               left-carrier true s.first is.0.first
               (all-first (items_of_carrier s.first)
@@ -313,23 +313,23 @@ module _ (distance number : ℕ) (m : Multiplex Fated) (recording : List ℕ) wh
   -- What is carried follows from the carriers.
   pub carried-left : AreLosses number distance m recording
       → carried number distance recording
-      ≡ with_marks false false
+      ≡ with_gap_markers false false
       (outcomes_of
-      (good_after (since_loss None false (any_wrong m.lead))
+      (good_after (history_after_loss None false (any_wrong m.lead))
       (flat_map (heard_left distance number) (flat_map items_of_carrier (carriers_of m.sent)))))
   unfolding carried
   carried-left h =
       ap
       (λ (ns : List Note).
-      with_marks false false (outcomes_of (good_after (nothing_since None) ns)))
+      with_gap_markers false false (outcomes_of (good_after (empty_history None) ns)))
       (notes-units distance number (units_left (items_of_multiplex m)) recording
       (left-recording h)
       ∙ notes-left distance number (items_of_multiplex m)
-      ∙ flat_map-append (heard_left distance number) m.lead behind)
-      ∙ ap (λ (good : GoodPackets). with_marks false false (outcomes_of good))
+      ∙ flat_map-append (heard_left distance number) m.lead following)
+      ∙ ap (λ (good : GoodPackets). with_gap_markers false false (outcomes_of good))
       (good-quiets-left distance number None false false m.lead
-      (flat_map (heard_left distance number) behind)
-      (all-first distance number m.lead behind (all-units h)) h.is_multiplex.lead)
+      (flat_map (heard_left distance number) following)
+      (all-first distance number m.lead following (all-units h)) h.is_multiplex.lead)
     where
-      behind : List Fated
-      behind = flat_map items_of_carrier (carriers_of m.sent)
+      following : List Fated
+      following = flat_map items_of_carrier (carriers_of m.sent)

@@ -8,58 +8,61 @@ use Rattle.std.proofs.lemmas.Bool.Decides.{nat_tests}
 use Rattle.std.proofs.lemmas.Grind.{flat_map-append}
 use Rattle.std.proofs.lemmas.List.{append-nil, get_or-take}
 use Rattle.std.proofs.lemmas.Slice.Eq.{bytes_eq-Decides}
-use Rattle.mpeg_ts.specs.GoodPackets.{Note, Since, nothing_since, good_after, linked, is_repeat}
+use Rattle.mpeg_ts.specs.GoodPackets.{Note, PacketHistory, empty_history, good_after, linked}
+use Rattle.mpeg_ts.specs.GoodPackets.{is_repeat}
 use Rattle.mpeg_ts.specs.GoodPackets.{is_same, counts_on, with_good, GoodPacket, Follows, link_from}
 use Rattle.mpeg_ts.specs.Parts.{is_break}
 use Rattle.mpeg_ts.specs.TransportPacket.{counter, begins}
 use Rattle.recording_laws.specs.Multiplex.{Carrier, IsCarrier, IsRepetition, IsNextCarrier}
-use Rattle.recording_laws.specs.Multiplex.{is_quiet}
+use Rattle.recording_laws.specs.Multiplex.{is_irrelevant}
 use Rattle.recording_laws.specs.Multiplex.{carries, announces, items_of_carrier, AreNextCarriers}
 use Rattle.recording_laws.proofs.RecordingLemmas.{noted}
 
 -- The state after a packet without payload.
-abbrev pub since_quiet : Since → Bool → Since
-since_quiet since jump = record since { has_jump = since.has_jump || jump }
+abbrev pub history_after_irrelevant : PacketHistory → Bool → PacketHistory
+history_after_irrelevant history jump = record history { has_jump = history.has_jump || jump }
 
 -- Nothing is announced.
-since_quiet-none : (since : Since) → since_quiet since false ≡ since
-since_quiet-none since = grind (arith, nat_tests)
+history_after_irrelevant-none : (history : PacketHistory) → history_after_irrelevant history false ≡
+    history
+history_after_irrelevant-none history = grind (arith, nat_tests)
 
 -- Two announcements count as one.
-since_quiet-twice : (since : Since) (a b : Bool)
-    → since_quiet (since_quiet since a) b ≡ since_quiet since (a || b)
-since_quiet-twice since a b = grind (arith, nat_tests)
+history_after_irrelevant-twice : (history : PacketHistory) (a b : Bool)
+    → history_after_irrelevant (history_after_irrelevant history a) b ≡ history_after_irrelevant
+    history (a || b)
+history_after_irrelevant-twice history a b = grind (arith, nat_tests)
 
 -- A packet without payload.
-pub good-quiet : (number : ℕ) (since : Since) (p : List ℕ) (ns : List Note)
-    → is_quiet number p ≡ true
-    → good_after since (noted number p ++ ns)
-    ≡ good_after (since_quiet since (announces number p)) ns
+pub good-irrelevant : (number : ℕ) (history : PacketHistory) (p : List ℕ) (ns : List Note)
+    → is_irrelevant number p ≡ true
+    → good_after history (noted number p ++ ns)
+    ≡ good_after (history_after_irrelevant history (announces number p)) ns
 unfolding good_after
-good-quiet number since p ns h1 = grind (arith, nat_tests, since_quiet-none)
+good-irrelevant number history p ns h1 = grind (arith, nat_tests, history_after_irrelevant-none)
 
 -- A packet with a payload that is no repeat.
-pub good-packet : (number : ℕ) (since : Since) (p : List ℕ) (ns : List Note)
+pub good-packet : (number : ℕ) (history : PacketHistory) (p : List ℕ) (ns : List Note)
     → carries number p ≡ true
-    → is_repeat since p ≡ false
-    → good_after since (noted number p ++ ns)
-    ≡ with_good (linked since p) (good_after (nothing_since (Some p)) ns)
+    → is_repeat history p ≡ false
+    → good_after history (noted number p ++ ns)
+    ≡ with_good (linked history p) (good_after (empty_history (Some p)) ns)
 unfolding good_after
-good-packet number since p ns carried fresh = grind (arith, nat_tests)
+good-packet number history p ns carried fresh = grind (arith, nat_tests)
 
 -- A repeat.
-pub good-repeat : (number : ℕ) (since : Since) (p : List ℕ) (ns : List Note)
+pub good-repeat : (number : ℕ) (history : PacketHistory) (p : List ℕ) (ns : List Note)
     → carries number p ≡ true
-    → is_repeat since p ≡ true
-    → good_after since (noted number p ++ ns)
-    ≡ good_after (record since { has_repeat = true }) ns
+    → is_repeat history p ≡ true
+    → good_after history (noted number p ++ ns)
+    ≡ good_after (record history { has_repeat = true }) ns
 unfolding good_after
-good-repeat number since p ns carried again = grind (arith, nat_tests)
+good-repeat number history p ns carried again = grind (arith, nat_tests)
 
 -- A packet that was sent again is the repeat of the packet before it.
 pub is_repeat-again : (number : ℕ) (p q : List ℕ)
     → IsRepetition number p q
-    → is_repeat (nothing_since (Some p)) q ≡ true
+    → is_repeat (empty_history (Some p)) q ≡ true
 is_repeat-again number p q h = grind (arith, nat_tests, h.same, h.jump)
 
 -- Equal packets have the same counter.
@@ -80,66 +83,68 @@ module _ {A : Type 0} (packet_of : A → List ℕ) (number : ℕ) where
   heard x = noted number (packet_of x)
 
   -- The state after a carrier without losses.
-  abbrev pub since_carrier : Carrier A → Since
-  since_carrier c = record {
+  abbrev pub history_after_carrier : Carrier A → PacketHistory
+  history_after_carrier c = record {
     good = Some (packet_of c.packet);
     has_repeat = is_some c.again;
     has_jump = list_any (λ x. announces number (packet_of x)) c.after;
     has_wrong = false;
-    has_hole = false;
+    has_loss = false;
   }
 
   -- Items without payload.
-  pub good-quiets : (since : Since) (xs : List A) (ns : List Note)
-      → AllByRecursion (λ x. is_quiet number (packet_of x) ≡ true) xs
-      → good_after since (flat_map heard xs ++ ns)
-      ≡ good_after (since_quiet since (list_any (λ x. announces number (packet_of x)) xs)) ns
-  good-quiets since [] ns quiet =
-      ap (λ (s : Since). good_after s ns) (sym (since_quiet-none since))
-  good-quiets since (x ∷ xs) ns quiet =
+  pub good-quiets : (history : PacketHistory) (xs : List A) (ns : List Note)
+      → AllByRecursion (λ x. is_irrelevant number (packet_of x) ≡ true) xs
+      → good_after history (flat_map heard xs ++ ns)
+      ≡ good_after (history_after_irrelevant history (list_any (λ x. announces number (packet_of x))
+      xs)) ns
+  good-quiets history [] ns irrelevant =
+      ap (λ (s : PacketHistory). good_after s ns) (sym (history_after_irrelevant-none history))
+  good-quiets history (x ∷ xs) ns irrelevant =
       let p = packet_of x in
       let one = announces number p in
       let others = list_any (λ y. announces number (packet_of y)) xs in
-      ap (good_after since) (append_assoc (heard x) (flat_map heard xs) ns)
-      ∙ good-quiet number since p (flat_map heard xs ++ ns) quiet.0
-      ∙ good-quiets (since_quiet since one) xs ns quiet.1
-      ∙ ap (λ (s : Since). good_after s ns) (since_quiet-twice since one others)
+      ap (good_after history) (append_assoc (heard x) (flat_map heard xs) ns)
+      ∙ good-irrelevant number history p (flat_map heard xs ++ ns) irrelevant.0
+      ∙ good-quiets (history_after_irrelevant history one) xs ns irrelevant.1
+      ∙ ap (λ (s : PacketHistory). good_after s ns) (history_after_irrelevant-twice history one
+      others)
 
   -- Items without payload that announce nothing.
-  pub good-silent : (since : Since) (xs : List A) (ns : List Note)
-      → AllByRecursion (λ x. is_quiet number (packet_of x) ≡ true) xs
+  pub good-silent : (history : PacketHistory) (xs : List A) (ns : List Note)
+      → AllByRecursion (λ x. is_irrelevant number (packet_of x) ≡ true) xs
       → AllByRecursion (λ x. announces number (packet_of x) ≡ false) xs
-      → good_after since (flat_map heard xs ++ ns) ≡ good_after since ns
-  good-silent since [] ns quiet none = refl
-  good-silent since (x ∷ xs) ns quiet none =
+      → good_after history (flat_map heard xs ++ ns) ≡ good_after history ns
+  good-silent history [] ns irrelevant none = refl
+  good-silent history (x ∷ xs) ns irrelevant none =
       let p = packet_of x in
-      let same : since_quiet since (announces number p) ≡ since =
-      rw none.0 (since_quiet-none since) in
-      ap (good_after since) (append_assoc (heard x) (flat_map heard xs) ns)
-      ∙ good-quiet number since p (flat_map heard xs ++ ns) quiet.0
-      ∙ ap (λ (s : Since). good_after s (flat_map heard xs ++ ns)) same
-      ∙ good-silent since xs ns quiet.1 none.1
+      let same : history_after_irrelevant history (announces number p) ≡ history =
+      rw none.0 (history_after_irrelevant-none history) in
+      ap (good_after history) (append_assoc (heard x) (flat_map heard xs) ns)
+      ∙ good-irrelevant number history p (flat_map heard xs ++ ns) irrelevant.0
+      ∙ ap (λ (s : PacketHistory). good_after s (flat_map heard xs ++ ns)) same
+      ∙ good-silent history xs ns irrelevant.1 none.1
 
   -- The repeat of a packet, if it has one.
   good-again : (p : List ℕ) (again : Option A) (ns : List Note)
       → AllByRecursion (λ x. IsRepetition number p (packet_of x)) (option_to_list again)
-      → good_after (nothing_since (Some p)) (flat_map heard (option_to_list again) ++ ns)
-      ≡ good_after (record (nothing_since (Some p)) { has_repeat = is_some again }) ns
+      → good_after (empty_history (Some p)) (flat_map heard (option_to_list again) ++ ns)
+      ≡ good_after (record (empty_history (Some p)) { has_repeat = is_some again }) ns
   good-again p again ns h1 = grind (arith, nat_tests, append-nil, good-repeat, is_repeat-again)
 
   -- A carrier, whatever follows it.
-  pub good-carrier : (since : Since) (c : Carrier A) (ns : List Note) (first : Bool)
+  pub good-carrier : (history : PacketHistory) (c : Carrier A) (ns : List Note) (first : Bool)
       → IsCarrier packet_of number first c
-      → is_repeat since (packet_of c.packet) ≡ false
-      → good_after since (flat_map heard (items_of_carrier c) ++ ns)
-      ≡ with_good (linked since (packet_of c.packet)) (good_after (since_carrier c) ns)
-  good-carrier since c ns first h fresh =
-      ap (good_after since) split
-      ∙ good-packet number since p (before ++ (again ++ (after ++ ns))) h.carries fresh
-      ∙ ap (with_good (linked since p)) (
-      good-silent (nothing_since (Some p)) c.before (again ++ (after ++ ns)) h.before h.no_jump
+      → is_repeat history (packet_of c.packet) ≡ false
+      → good_after history (flat_map heard (items_of_carrier c) ++ ns)
+      ≡ with_good (linked history (packet_of c.packet)) (good_after (history_after_carrier c) ns)
+  good-carrier history c ns first h fresh =
+      ap (good_after history) split
+      ∙ good-packet number history p (before ++ (again ++ (after ++ ns))) h.carries fresh
+      ∙ ap (with_good (linked history p)) (
+      good-silent (empty_history (Some p)) c.before (again ++ (after ++ ns)) h.before h.no_jump
       ∙ good-again p c.again (after ++ ns) h.again
-      ∙ good-quiets (record (nothing_since (Some p)) { has_repeat = is_some c.again }) c.after ns
+      ∙ good-quiets (record (empty_history (Some p)) { has_repeat = is_some c.again }) c.after ns
       h.after
       )
     where
@@ -162,7 +167,7 @@ module _ {A : Type 0} (packet_of : A → List ℕ) (number : ℕ) where
   -- A carrier that may follow another is no repeat of it,
   pub next-fresh : (c d : Carrier A)
       → IsNextCarrier packet_of number c d
-      → is_repeat (since_carrier c) (packet_of d.packet) ≡ false
+      → is_repeat (history_after_carrier c) (packet_of d.packet) ≡ false
   next-fresh c d h =
       let differs = not-same (packet_of c.packet) (packet_of d.packet) in
       elim h.counter [
@@ -173,7 +178,8 @@ module _ {A : Type 0} (packet_of : A → List ℕ) (number : ℕ) where
   -- nothing is lost between them,
   pub next-unbroken : (c d : Carrier A)
       → IsNextCarrier packet_of number c d
-      → is_break (link_from (Some (packet_of c.packet)) (since_carrier c) (packet_of d.packet))
+      → is_break (link_from (Some (packet_of c.packet)) (history_after_carrier c)
+      (packet_of d.packet))
       ≡ false
   next-unbroken c d h1 = grind (arith, nat_tests)
 
@@ -181,13 +187,15 @@ module _ {A : Type 0} (packet_of : A → List ℕ) (number : ℕ) where
   pub next-follows : (c d : Carrier A)
       → IsNextCarrier packet_of number c d
       → begins (packet_of d.packet) ≡ false
-      → link_from (Some (packet_of c.packet)) (since_carrier c) (packet_of d.packet) ≡ Follows
+      → link_from (Some (packet_of c.packet)) (history_after_carrier c) (packet_of d.packet) ≡
+      Follows
   next-follows c d h1 h2 = grind (arith, nat_tests)
 
   -- The good packets of carriers.
-  abbrev pub goods : Since → List (Carrier A) → List GoodPacket
-  goods since [] = []
-  goods since (c ∷ more) = linked since (packet_of c.packet) ∷ goods (since_carrier c) more
+  abbrev pub goods : PacketHistory → List (Carrier A) → List GoodPacket
+  goods history [] = []
+  goods history (c ∷ more) = linked history (packet_of c.packet) ∷ goods (history_after_carrier c)
+      more
 
   -- A carrier, whether a PES packet begins with it or not.
   abbrev pub IsSomeCarrier : Carrier A → Type 0
@@ -197,14 +205,15 @@ module _ {A : Type 0} (packet_of : A → List ℕ) (number : ℕ) where
   pub good-carriers : (c : Carrier A) (more : List (Carrier A))
       → AllByRecursion IsSomeCarrier more
       → AreNextCarriers packet_of number c more
-      → good_after (since_carrier c) (flat_map heard (flat_map items_of_carrier more))
-      ≡ record { packets = goods (since_carrier c) more; wrong_behind = false }
+      → good_after (history_after_carrier c) (flat_map heard (flat_map items_of_carrier more))
+      ≡ record { packets = goods (history_after_carrier c) more; wrong_after = false }
   unfolding good_after
   good-carriers c [] each next = refl
   good-carriers c (d ∷ more) each next =
-      ap (good_after (since_carrier c))
+      ap (good_after (history_after_carrier c))
       (flat_map-append heard (items_of_carrier d) (flat_map items_of_carrier more))
-      ∙ good-carrier (since_carrier c) d (flat_map heard (flat_map items_of_carrier more)) each.0.0
+      ∙ good-carrier (history_after_carrier c) d (flat_map heard (flat_map items_of_carrier more))
+      each.0.0
       each.0.1 (next-fresh c d next.0)
-      ∙ ap (with_good (linked (since_carrier c) (packet_of d.packet)))
+      ∙ ap (with_good (linked (history_after_carrier c) (packet_of d.packet)))
       (good-carriers d more each.1 next.1)

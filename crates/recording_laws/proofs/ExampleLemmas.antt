@@ -3,7 +3,7 @@ use Rattle.std.proofs.Common.{◌≡◌, ◌≤◌, ℕ, true, List, [], ◌∷�
 use Rattle.std.proofs.Common.{le_refl}
 use Rattle.std.proofs.lemmas.Bool.{true≢false}
 use Rattle.std.proofs.lemmas.Bool.Decides.{nat_tests}
-use Rattle.ttx_pes.specs.Pieces.{IsPiece}
+use Rattle.ttx_pes.specs.PesPackets.{IsPesPacket}
 use Rattle.mpeg_ts.specs.PacketsInStep.{most_bytes}
 use Rattle.mpeg_ts.specs.TransportPacket.{begins, payload}
 use Rattle.recording_laws.specs.Examples.{ExampleOfLosses, ExampleOfMultiplex, fated, null_packet}
@@ -12,18 +12,18 @@ use Rattle.recording_laws.specs.Examples.{wrong_packet_with}
 use Rattle.recording_laws.specs.Losses.{Kept, LeftOut, MadeWrong, arriving, sent_packet}
 use Rattle.recording_laws.specs.Multiplex.{IsRecordedUnit, IsSentPes, carries, packet_in}
 
-is_piece : (filler : ℕ) → IsPiece (pes_of filler)
-is_piece filler = grind (arith, nat_tests)
+is_pes_packet : (filler : ℕ) → IsPesPacket (pes_of filler)
+is_pes_packet filler = grind (arith, nat_tests)
 
 -- It is sent in one packet, as can be computed.
-sent_whole :
+sent_complete :
     {A : Type 0} (packet_of : A → List ℕ) (item : A) (filler : ℕ)
     → carries 257 (packet_of item) ≡ true
     → begins (packet_of item) ≡ true
     → payload (packet_of item) ++ [] ≡ pes_of filler
     → IsSentPes packet_of 257 (sent_in item (pes_of filler))
-sent_whole packet_of item filler carried begun joined = record {
-  is_piece = is_piece filler;
+sent_complete packet_of item filler carried begun joined = record {
+  is_pes_packet = is_pes_packet filler;
   first = record {
     carries = carried;
     begins = begun;
@@ -60,8 +60,8 @@ example_of_multiplex = record {
   is_multiplex = record {
     lead = (refl, tt);
     sent = (
-      sent_whole (packet_in 188) (packet_with 0x10 (pes_of 0x20)) 0x20 refl refl refl,
-      (sent_whole (packet_in 188) (packet_with 0x11 (pes_of 0x21)) 0x21 refl refl refl, tt),
+      sent_complete (packet_in 188) (packet_with 0x10 (pes_of 0x20)) 0x20 refl refl refl,
+      (sent_complete (packet_in 188) (packet_with 0x11 (pes_of 0x21)) 0x21 refl refl refl, tt),
     );
     linked = (record { counter = inl refl; within = λ other. absurd (true≢false other) }, tt);
   };
@@ -93,12 +93,13 @@ example_of_losses = record {
       is_multiplex = record {
         lead = (refl, tt);
         sent = (
-          sent_whole (sent_packet 188) (fated 0x10 0x20 Kept) 0x20 refl refl refl,
+          sent_complete (sent_packet 188) (fated 0x10 0x20 Kept) 0x20 refl refl refl,
           (
-            sent_whole (sent_packet 188) (fated 0x11 0x21 LeftOut) 0x21 refl refl refl,
+            sent_complete (sent_packet 188) (fated 0x11 0x21 LeftOut) 0x21 refl refl refl,
             (
-              sent_whole (sent_packet 188) (fated 0x12 0x22 (MadeWrong wrong)) 0x22 refl refl refl,
-              (sent_whole (sent_packet 188) (fated 0x13 0x23 Kept) 0x23 refl refl refl, tt),
+              sent_complete (sent_packet 188) (fated 0x12 0x22 (MadeWrong wrong)) 0x22 refl refl
+                  refl,
+              (sent_complete (sent_packet 188) (fated 0x13 0x23 Kept) 0x23 refl refl refl, tt),
             ),
           ),
         );

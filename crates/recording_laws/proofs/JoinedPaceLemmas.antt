@@ -4,7 +4,7 @@ use Rattle.std.proofs.Common.{◌≡◌, ℕ, suc, ◌+◌, ◌-◌, ◌≤◌, 
 use Rattle.std.proofs.Common.{[], ◌∷◌, ◌++◌, length, refl, sym, ap, ◌∙◌, subst, arith, cond}
 use Rattle.std.proofs.Common.{length-append, slice_index}
 use Rattle.sub_rules.specs.FrameRules.{end_frame}
-use Rattle.sub_rules.specs.Pieces.{goes_on_with, joined, joined_after, sent_after, with_packets}
+use Rattle.sub_rules.specs.PesPackets.{goes_on_with, joined, joined_after, sent_after, with_packets}
 use Rattle.sub_rules.specs.Transmission.{SentFrame, Transmission}
 use Rattle.sub_rules.proofs.JoinedLemmas.{with_packets-frames}
 use Rattle.recording_laws.proofs.PacedFrameLemmas.{AreNear, AreNearFrom, numbers}

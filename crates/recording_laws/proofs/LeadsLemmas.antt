@@ -3,8 +3,8 @@ use Rattle.std.proofs.lemmas.Bool.Decides.{nat_tests}
 use Rattle.std.proofs.Common.{arith, ◌≡◌, ℕ, Bool, true, false, ◌&&◌, ◌||◌, List, [], ◌∷◌, ◌++◌}
 use Rattle.std.proofs.Common.{append_assoc}
 use Rattle.std.specs.List.{list_any}
-use Rattle.mpeg_ts.specs.Carried.{mark_where}
-use Rattle.recording_laws.specs.Losses.{Fated, any_wrong, arrives, arriving, is_wrong_behind}
+use Rattle.mpeg_ts.specs.Carried.{gap_marker_where}
+use Rattle.recording_laws.specs.Losses.{Fated, any_wrong, arrives, arriving, is_wrong_after}
 use Rattle.recording_laws.specs.Losses.{units_before}
 use Rattle.recording_laws.specs.Multiplex.{SentPes}
 use Rattle.recording_laws.proofs.LeftNoteLemmas.{or-true}
@@ -13,7 +13,7 @@ use Rattle.recording_laws.proofs.LeftNoteLemmas.{or-true}
 pub record Leads (given gap : Bool) (sent : List (SentPes Fated)) (bytes : List ℕ) : Type 0 where
   pub is_marked : Bool
   pub after_one : is_marked ≡ true → (given || list_any arrives sent) ≡ true
-  pub bytes_are : bytes ≡ arriving given gap sent ++ mark_where is_marked
+  pub bytes_are : bytes ≡ arriving given gap sent ++ gap_marker_where is_marked
 
 -- A PES packet that does not arrive.
 pub leads-gone : (given gap : Bool) (s : SentPes Fated) (more : List (SentPes Fated))
@@ -28,8 +28,9 @@ leads-gone given gap s more bytes h1 h2 = grind (arith, nat_tests)
 pub leads-there : (given gap : Bool) (s : SentPes Fated) (more : List (SentPes Fated))
     (bytes inner : List ℕ)
     → arrives s ≡ true
-    → bytes ≡ mark_where (given && (gap || any_wrong (units_before s.first))) ++ (s.bytes ++ inner)
-    → Leads true (is_wrong_behind s) more inner
+    → bytes ≡ gap_marker_where (given && (gap || any_wrong (units_before s.first))) ++
+    (s.bytes ++ inner)
+    → Leads true (is_wrong_after s) more inner
     → Leads given gap (s ∷ more) bytes
 unfolding arriving
 leads-there given gap s more bytes inner h1 h2 h3 =

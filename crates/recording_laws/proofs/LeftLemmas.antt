@@ -14,12 +14,12 @@ use Rattle.mpeg_ts.specs.GoodPackets.{is_same, linked}
 use Rattle.mpeg_ts.specs.Parts.{is_break, is_unlinked}
 use Rattle.mpeg_ts.specs.PacketsInStep.{lead_size}
 use Rattle.mpeg_ts.specs.TransportPacket.{announces_jump, begins, counter, payload}
-use Rattle.recording_laws.specs.Losses.{Fated, are_few_gone, is_there, sent_packet}
+use Rattle.recording_laws.specs.Losses.{Fated, are_few_lost, is_recorded, sent_packet}
 use Rattle.recording_laws.specs.Multiplex.{Carrier, IsRecordedUnit, IsRepetition, announces}
 use Rattle.recording_laws.specs.Multiplex.{carries}
 use Rattle.recording_laws.specs.Multiplex.{packet_in}
 use Rattle.recording_laws.proofs.CarrierLemmas.{counter-same}
-use Rattle.recording_laws.proofs.LeftNoteLemmas.{IsLeft, IsLeftCarrier, copy_of, since_loss}
+use Rattle.recording_laws.proofs.LeftNoteLemmas.{IsLeft, IsLeftCarrier, copy_of, history_after_loss}
 
 -- ---- copies
 
@@ -85,12 +85,12 @@ counter-later : (i n a b : ℕ)
 counter-later i n a b first second some small = grind (arith, nat_tests)
 
 -- Whether a packet continues another, given how many carriers are missing between them.
-counts_on-by_gone : (i n : ℕ) (g h : List ℕ)
+counts_on-by_lost : (i n : ℕ) (g h : List ℕ)
     → counter g ≡ i % 16
     → counter h ≡ (i + 1 + n) % 16
     → n < 15
     → counts_on g h ≡ not (nat_lt 0 n)
-counts_on-by_gone i n g h h1 h2 h3 = grind (arith, nat_tests, counter-later, counter-next)
+counts_on-by_lost i n g h h1 h2 h3 = grind (arith, nat_tests, counter-later, counter-next)
 
 -- The counter of a good packet's carrier, if there is one.
 abbrev pub IsCounter : Option (List ℕ) → ℕ → Type 0
@@ -102,7 +102,7 @@ pub fresh-later : (good : Option (List ℕ)) (again wrong : Bool) (h : List ℕ)
     → IsCounter good i
     → counter h ≡ (i + 1 + n) % 16
     → n < 15
-    → is_repeat (since_loss good again wrong) h ≡ false
+    → is_repeat (history_after_loss good again wrong) h ≡ false
 fresh-later good again wrong h i n h1 h2 h3 = grind (arith, nat_tests, counter-far, counter-same)
 
 -- ---- links
@@ -119,7 +119,7 @@ good_left good wrong h = record { link = link_left good wrong h; packet = h }
 -- That is its link.
 pub linked-left : (good : Option (List ℕ)) (again wrong : Bool) (h : List ℕ)
     → announces_jump h ≡ false
-    → linked (since_loss good again wrong) h ≡ good_left good wrong h
+    → linked (history_after_loss good again wrong) h ≡ good_left good wrong h
 linked-left good again wrong h h1 = grind (arith, nat_tests)
 
 -- Something is lost if a unit was damaged or a carrier is missing.
@@ -128,7 +128,7 @@ pub break-left : (i n : ℕ) (g h : List ℕ) (wrong : Bool)
     → counter h ≡ (i + 1 + n) % 16
     → n < 15
     → is_break (link_left (Some g) wrong h) ≡ (wrong || nat_lt 0 n)
-break-left i n g h wrong h1 h2 h3 = grind (arith, nat_tests, counts_on-by_gone)
+break-left i n g h wrong h1 h2 h3 = grind (arith, nat_tests, counts_on-by_lost)
 
 -- After a good packet a link cuts if something is lost.
 pub cut-left : (g h : List ℕ) (wrong : Bool)
@@ -137,16 +137,16 @@ cut-left g h wrong = grind (arith, nat_tests)
 
 -- If a carrier is there, none is missing.
 pub few-there : (n : ℕ) (c : Carrier Fated) (cs : List (Carrier Fated))
-    → is_there c ≡ true
-    → are_few_gone n (c ∷ cs) ≡ true
-    → are_few_gone 0 cs ≡ true
+    → is_recorded c ≡ true
+    → are_few_lost n (c ∷ cs) ≡ true
+    → are_few_lost 0 cs ≡ true
 few-there n c cs there few = rw there at few
 
 -- If it is missing, there is one more.
 pub few-gone : (n : ℕ) (c : Carrier Fated) (cs : List (Carrier Fated))
-    → is_there c ≡ false
-    → are_few_gone n (c ∷ cs) ≡ true
-    → (n + 1 < 15) × (are_few_gone (n + 1) cs ≡ true)
+    → is_recorded c ≡ false
+    → are_few_lost n (c ∷ cs) ≡ true
+    → (n + 1 < 15) × (are_few_lost (n + 1) cs ≡ true)
 few-gone n c cs gone few = (grind (arith, nat_tests), grind (arith, nat_tests))
 
 module _ (distance number : ℕ) where

@@ -8,24 +8,25 @@ use Rattle.std.proofs.lemmas.Bool.Decides.{nat_tests}
 use Rattle.std.proofs.lemmas.Grind.{flat_map-append}
 use Rattle.std.proofs.lemmas.List.{append-nil}
 use Rattle.std.proofs.lemmas.List.Folds.{list_any-append}
-use Rattle.mpeg_ts.specs.GoodPackets.{Note, Since, good_after, is_repeat, linked, with_good}
+use Rattle.mpeg_ts.specs.GoodPackets.{Note, PacketHistory, good_after, is_repeat, linked, with_good}
 use Rattle.recording_laws.specs.Losses.{Fate, Fated, IsFate, any_kept, any_wrong, is_as_sent}
 use Rattle.recording_laws.specs.Losses.{is_made_wrong, recorded_of, sent_packet}
-use Rattle.recording_laws.specs.Multiplex.{Carrier, IsCarrier, IsRepetition, announces, is_quiet}
+use Rattle.recording_laws.specs.Multiplex.{Carrier, IsCarrier, IsRepetition, announces}
+use Rattle.recording_laws.specs.Multiplex.{is_irrelevant}
 use Rattle.recording_laws.specs.Multiplex.{IsRecordedUnit, items_of_carrier, packet_in}
-use Rattle.recording_laws.proofs.CarrierLemmas.{good-packet, good-quiet, good-repeat}
+use Rattle.recording_laws.proofs.CarrierLemmas.{good-packet, good-irrelevant, good-repeat}
 use Rattle.recording_laws.proofs.CarrierLemmas.{is_repeat-again}
-use Rattle.recording_laws.proofs.CarrierLemmas.{since_quiet}
+use Rattle.recording_laws.proofs.CarrierLemmas.{history_after_irrelevant}
 use Rattle.recording_laws.proofs.RecordingLemmas.{noted}
 
 -- The state since a good packet, without announced jumps and skipped bytes.
-abbrev pub since_loss : Option (List ℕ) → Bool → Bool → Since
-since_loss good again wrong = record {
+abbrev pub history_after_loss : Option (List ℕ) → Bool → Bool → PacketHistory
+history_after_loss good again wrong = record {
   good = good;
   has_repeat = again;
   has_jump = false;
   has_wrong = wrong;
-  has_hole = false;
+  has_loss = false;
 }
 
 pub or-assoc : (a b c : Bool) → ((a || b) || c) ≡ (a || (b || c))
@@ -53,40 +54,50 @@ module _ (distance number : ℕ) where
       (ns : List Note)
       → IsFate distance number unit fate
       → is_as_sent fate ≡ false
-      → good_after (since_loss good again wrong)
+      → good_after (history_after_loss good again wrong)
       (flat_map (λ u. noted number (packet_in distance u)) (recorded_of unit fate) ++ ns)
-      ≡ good_after (since_loss good again (wrong || is_made_wrong fate)) ns
+      ≡ good_after (history_after_loss good again (wrong || is_made_wrong fate)) ns
   unfolding good_after
   good-lost good again wrong unit fate ns h1 h2 = grind (arith, nat_tests, or-false, or-true)
 
   -- A unit without payload.
-  good-quiet-left : (good : Option (List ℕ)) (again wrong : Bool) (unit : List ℕ) (fate : Fate)
+  good-irrelevant-left : (good : Option (List ℕ)) (again wrong : Bool) (unit : List ℕ) (fate : Fate)
       (ns : List Note)
       → IsFate distance number unit fate
       → announces number (packet_in distance unit) ≡ false
-      → is_quiet number (packet_in distance unit) ≡ true
-      → good_after (since_loss good again wrong)
+      → is_irrelevant number (packet_in distance unit) ≡ true
+      → good_after (history_after_loss good again wrong)
       (flat_map (λ u. noted number (packet_in distance u)) (recorded_of unit fate) ++ ns)
-      ≡ good_after (since_loss good again (wrong || is_made_wrong fate)) ns
-  good-quiet-left good again wrong unit fate ns h1 h2 h3 =
-      grind (arith, nat_tests, append-nil, noted, good-quiet, since_quiet, or-false, good-lost)
+      ≡ good_after (history_after_loss good again (wrong || is_made_wrong fate)) ns
+  good-irrelevant-left good again wrong unit fate ns h1 h2 h3 =
+      grind (
+        arith,
+        nat_tests,
+        append-nil,
+        noted,
+        good-irrelevant,
+        history_after_irrelevant,
+        or-false,
+        good-lost,
+      )
 
   -- Units without payload.
   pub good-quiets-left : (good : Option (List ℕ)) (again wrong : Bool) (fs : List Fated)
       (ns : List Note)
       → AllByRecursion IsLeft fs
-      → AllByRecursion (λ f. is_quiet number (sent_packet distance f) ≡ true) fs
-      → good_after (since_loss good again wrong) (flat_map heard_left fs ++ ns)
-      ≡ good_after (since_loss good again (wrong || any_wrong fs)) ns
-  good-quiets-left good again wrong [] ns left quiet =
-      ap (λ (w : Bool). good_after (since_loss good again w) ns) (sym (or-false wrong))
-  good-quiets-left good again wrong (f ∷ fs) ns left quiet =
-      ap (good_after (since_loss good again wrong))
+      → AllByRecursion (λ f. is_irrelevant number (sent_packet distance f) ≡ true) fs
+      → good_after (history_after_loss good again wrong) (flat_map heard_left fs ++ ns)
+      ≡ good_after (history_after_loss good again (wrong || any_wrong fs)) ns
+  good-quiets-left good again wrong [] ns left irrelevant =
+      ap (λ (w : Bool). good_after (history_after_loss good again w) ns) (sym (or-false wrong))
+  good-quiets-left good again wrong (f ∷ fs) ns left irrelevant =
+      ap (good_after (history_after_loss good again wrong))
       (append_assoc (heard_left f) (flat_map heard_left fs) ns)
-      ∙ good-quiet-left good again wrong f.unit f.fate (flat_map heard_left fs ++ ns) left.0.fate
-      left.0.no_jump quiet.0
-      ∙ good-quiets-left good again (wrong || is_made_wrong f.fate) fs ns left.1 quiet.1
-      ∙ ap (λ (w : Bool). good_after (since_loss good again w) ns)
+      ∙ good-irrelevant-left good again wrong f.unit f.fate (flat_map heard_left fs ++ ns)
+      left.0.fate
+      left.0.no_jump irrelevant.0
+      ∙ good-quiets-left good again (wrong || is_made_wrong f.fate) fs ns left.1 irrelevant.1
+      ∙ ap (λ (w : Bool). good_after (history_after_loss good again w) ns)
       (or-assoc wrong (is_made_wrong f.fate) (any_wrong fs))
 
   -- The notes of a unit that is there as it was sent.
@@ -104,10 +115,10 @@ module _ (distance number : ℕ) where
   good-again-left : (p : List ℕ) (wrong : Bool) (again : Option Fated) (ns : List Note)
       → AllByRecursion IsLeft (option_to_list again)
       → AllByRecursion (λ f. IsRepetition number p (sent_packet distance f)) (option_to_list again)
-      → good_after (since_loss (Some p) false wrong)
+      → good_after (history_after_loss (Some p) false wrong)
       (flat_map heard_left (option_to_list again) ++ ns)
       ≡ good_after
-      (since_loss (Some p) (any_kept (option_to_list again))
+      (history_after_loss (Some p) (any_kept (option_to_list again))
       (wrong || any_wrong (option_to_list again))) ns
   good-again-left p wrong again ns h1 h2 =
       grind (
@@ -154,11 +165,12 @@ module _ (distance number : ℕ) where
       (ns : List Note)
       → IsLeftCarrier first c
       → is_as_sent c.packet.fate ≡ true
-      → is_repeat (since_loss good again wrong) (sent_packet distance c.packet) ≡ false
-      → good_after (since_loss good again wrong) (flat_map heard_left (items_of_carrier c) ++ ns)
-      ≡ with_good (linked (since_loss good again wrong) (sent_packet distance c.packet))
+      → is_repeat (history_after_loss good again wrong) (sent_packet distance c.packet) ≡ false
+      → good_after (history_after_loss good again wrong) (flat_map heard_left (items_of_carrier c)
+      ++ ns)
+      ≡ with_good (linked (history_after_loss good again wrong) (sent_packet distance c.packet))
       (good_after
-      (since_loss (Some (sent_packet distance c.packet)) (any_kept (option_to_list c.again))
+      (history_after_loss (Some (sent_packet distance c.packet)) (any_kept (option_to_list c.again))
       (any_wrong (c.before ++ (option_to_list c.again ++ c.after)))) ns)
   good-first good again wrong first c ns h1 h2 h3 =
       grind (
@@ -177,8 +189,9 @@ module _ (distance number : ℕ) where
       (ns : List Note)
       → IsLeftCarrier first c
       → is_as_sent c.packet.fate ≡ false
-      → good_after (since_loss good again wrong) (flat_map heard_left (items_of_carrier c) ++ ns)
-      ≡ good_after (since_loss good again (wrong || any_wrong (c.packet ∷ c.before)))
+      → good_after (history_after_loss good again wrong) (flat_map heard_left (items_of_carrier c)
+      ++ ns)
+      ≡ good_after (history_after_loss good again (wrong || any_wrong (c.packet ∷ c.before)))
       (flat_map heard_left (option_to_list c.again) ++ (flat_map heard_left c.after ++ ns))
   good-no_first good again wrong first c ns h1 h2 =
       grind (arith, nat_tests, heard-carrier, good-lost, good-quiets-left, or-assoc)
@@ -188,13 +201,13 @@ module _ (distance number : ℕ) where
       (after : List Fated) (ns : List Note)
       → AllByRecursion (λ f. IsRepetition number p (sent_packet distance f)) (option_to_list o)
       → AllByRecursion IsLeft after
-      → AllByRecursion (λ f. is_quiet number (sent_packet distance f) ≡ true) after
+      → AllByRecursion (λ f. is_irrelevant number (sent_packet distance f) ≡ true) after
       → any_kept (option_to_list o) ≡ true
-      → is_repeat (since_loss good again wrong) (copy_of o p) ≡ false
-      → good_after (since_loss good again wrong)
+      → is_repeat (history_after_loss good again wrong) (copy_of o p) ≡ false
+      → good_after (history_after_loss good again wrong)
       (flat_map heard_left (option_to_list o) ++ (flat_map heard_left after ++ ns))
-      ≡ with_good (linked (since_loss good again wrong) (copy_of o p))
-      (good_after (since_loss (Some (copy_of o p)) false (any_wrong after)) ns)
+      ≡ with_good (linked (history_after_loss good again wrong) (copy_of o p))
+      (good_after (history_after_loss (Some (copy_of o p)) false (any_wrong after)) ns)
   good-second good again wrong p o after ns h1 h2 h3 h4 h5 =
       grind (arith, nat_tests, append-nil, heard-kept, or-false, good-packet, good-quiets-left)
 
@@ -203,11 +216,12 @@ module _ (distance number : ℕ) where
       (after : List Fated) (ns : List Note)
       → AllByRecursion IsLeft (option_to_list o)
       → AllByRecursion IsLeft after
-      → AllByRecursion (λ f. is_quiet number (sent_packet distance f) ≡ true) after
+      → AllByRecursion (λ f. is_irrelevant number (sent_packet distance f) ≡ true) after
       → any_kept (option_to_list o) ≡ false
-      → good_after (since_loss good again wrong)
+      → good_after (history_after_loss good again wrong)
       (flat_map heard_left (option_to_list o) ++ (flat_map heard_left after ++ ns))
       ≡ good_after
-      (since_loss good again ((wrong || any_wrong (option_to_list o)) || any_wrong after)) ns
+      (history_after_loss good again ((wrong || any_wrong (option_to_list o)) || any_wrong after))
+      ns
   good-no_second good again wrong o after ns h1 h2 h3 h4 =
       grind (arith, nat_tests, good-quiets-left, or-false, append-nil, good-lost)

@@ -13,10 +13,10 @@ pub mod OpenPartLemmas
 pub mod PacedCheckLaw
 pub mod PacedFrameLemmas
 pub mod PartLemmas
-pub mod PieceLemmas
+pub mod PesPacketLemmas
 pub mod ReadPaceLemmas
 pub mod ReadingLaw
 pub mod ReadingLemmas
 pub mod RecordingLemmas
 pub mod TraceLemmas
-pub mod WholeFileLemmas
+pub mod CompleteFileLemmas

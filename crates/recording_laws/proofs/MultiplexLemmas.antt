@@ -6,10 +6,11 @@ use Rattle.std.proofs.Common.{ap, ◌∙◌}
 use Rattle.std.specs.List.{AllByRecursion, concat, flat_map, list_any}
 use Rattle.std.proofs.lemmas.Grind.{flat_map-append}
 use Rattle.std.proofs.lemmas.List.{append-nil}
-use Rattle.ttx_pes.specs.Pieces.{IsPiece}
-use Rattle.mpeg_ts.specs.Carried.{carried, with_marks}
-use Rattle.mpeg_ts.specs.GoodPackets.{GoodPacket, GoodPackets, Note, Since, good_after, linked}
-use Rattle.mpeg_ts.specs.GoodPackets.{nothing_since, with_good}
+use Rattle.ttx_pes.specs.PesPackets.{IsPesPacket}
+use Rattle.mpeg_ts.specs.Carried.{carried, with_gap_markers}
+use Rattle.mpeg_ts.specs.GoodPackets.{GoodPacket, GoodPackets, Note, PacketHistory, good_after}
+use Rattle.mpeg_ts.specs.GoodPackets.{linked}
+use Rattle.mpeg_ts.specs.GoodPackets.{empty_history, with_good}
 use Rattle.mpeg_ts.specs.Parts.{Part, begins_part, part_bytes, outcomes, outcomes_of, part_of}
 use Rattle.mpeg_ts.specs.Parts.{parts_from, with_packet}
 use Rattle.mpeg_ts.specs.TransportPacket.{begins, payload}
@@ -19,9 +20,10 @@ use Rattle.recording_laws.specs.Multiplex.{IsSentPes, Multiplex, SentPes, announ
 use Rattle.recording_laws.specs.Multiplex.{items_of_carrier, items_of_multiplex, packet_in}
 use Rattle.recording_laws.proofs.CarrierLemmas.{IsSomeCarrier, good-carrier, good-carriers}
 use Rattle.recording_laws.proofs.CarrierLemmas.{good-quiets, goods, heard, next-follows}
-use Rattle.recording_laws.proofs.CarrierLemmas.{next-unbroken, since_carrier, since_quiet}
-use Rattle.recording_laws.proofs.PartLemmas.{IsWhole, concat-snoc, parts_from-follows}
-use Rattle.recording_laws.proofs.PartLemmas.{with_marks-whole}
+use Rattle.recording_laws.proofs.CarrierLemmas.{next-unbroken, history_after_carrier}
+use Rattle.recording_laws.proofs.CarrierLemmas.{history_after_irrelevant}
+use Rattle.recording_laws.proofs.PartLemmas.{IsCompletePart, concat-snoc, parts_from-follows}
+use Rattle.recording_laws.proofs.PartLemmas.{with_gap_markers-whole}
 use Rattle.recording_laws.proofs.RecordingLemmas.{notes-units}
 
 -- A good packet that begins a PES packet begins a part.
@@ -52,37 +54,38 @@ module _ {A : Type 0} (packet_of : A → List ℕ) (number : ℕ) where
   -- What is carried from an open part on, after a carrier.
   abbrev carried_from : Bool → Part → Carrier A → List (Carrier A) → List ℕ
   carried_from given part c more =
-      with_marks given false
+      with_gap_markers given false
       (outcomes false
-      (parts_from part (goods packet_of number (since_carrier packet_of number c) more)))
+      (parts_from part (goods packet_of number (history_after_carrier packet_of number c) more)))
 
   -- The other carriers of a PES packet complete the part of the first.
   fills-part : (given : Bool) (part : Part) (c : Carrier A) (others rest : List (Carrier A))
       (bytes then : List ℕ)
-      → IsPiece bytes
+      → IsPesPacket bytes
       → part.begins ≡ true
       → part.after_break ≡ false
       → part_bytes part ++ concat (map (λ d. payload (packet_of d.packet)) others) ≡ bytes
       → AllByRecursion (IsCarrier packet_of number false) others
       → AreNextCarriers packet_of number c (others ++ rest)
       → ((whole : Part) (last : Carrier A)
-      → IsWhole whole bytes
+      → IsCompletePart whole bytes
       → whole.after_break ≡ false
       → AreNextCarriers packet_of number last rest
       → carried_from given whole last rest ≡ then)
       → carried_from given part c (others ++ rest) ≡ then
-  fills-part given part c [] rest bytes then piece first unbroken joined each next go =
+  fills-part given part c [] rest bytes then pes_packet first unbroken joined each next go =
       go part c
       (record {
         begins = first;
         bytes_are = sym (append-nil (part_bytes part)) ∙ joined;
-        is_piece = piece;
+        is_pes_packet = pes_packet;
       })
       unbroken next
-  fills-part given part c (d ∷ others) rest bytes then piece first unbroken joined each next go =
-      ap (λ (parts : List Part). with_marks given false (outcomes false parts))
+  fills-part given part c (d ∷ others) rest bytes then pes_packet first unbroken joined each next
+      go =
+      ap (λ (parts : List Part). with_gap_markers given false (outcomes false parts))
       (parts_from-follows part g later within)
-      ∙ fills-part given (with_packet part g) d others rest bytes then piece first unbroken
+      ∙ fills-part given (with_packet part g) d others rest bytes then pes_packet first unbroken
       (concat-snoc part.payloads (payload p)
       (concat (map (λ e. payload (packet_of e.packet)) others)) bytes joined)
       each.1 next.1 go
@@ -91,10 +94,10 @@ module _ {A : Type 0} (packet_of : A → List ℕ) (number : ℕ) where
       p = packet_of d.packet
 
       g : GoodPacket
-      g = linked (since_carrier packet_of number c) p
+      g = linked (history_after_carrier packet_of number c) p
 
       later : List GoodPacket
-      later = goods packet_of number (since_carrier packet_of number d) (others ++ rest)
+      later = goods packet_of number (history_after_carrier packet_of number d) (others ++ rest)
 
       within : begins_part g ≡ false
       within =
@@ -103,21 +106,21 @@ module _ {A : Type 0} (packet_of : A → List ℕ) (number : ℕ) where
   -- A complete part and the PES packets after it are carried one after another.
   whole-then : (given : Bool) (part : Part) (c : Carrier A) (sent : List (SentPes A))
       (bytes : List ℕ)
-      → IsWhole part bytes
+      → IsCompletePart part bytes
       → part.after_break ≡ false
       → AllByRecursion (IsSentPes packet_of number) sent
       → AreNextCarriers packet_of number c (carriers_of sent)
       → carried_from given part c (carriers_of sent) ≡ bytes ++ concat (map (λ s. s.bytes) sent)
-  unfolding parts_from outcomes with_marks
+  unfolding parts_from outcomes with_gap_markers
   whole-then given part c [] bytes h unbroken each next =
-      with_marks-whole given false part [] bytes h unbroken
+      with_gap_markers-whole given false part [] bytes h unbroken
   whole-then given part c (s ∷ more) bytes h unbroken each next =
-      ap (λ (parts : List Part). with_marks given false (outcomes false parts))
+      ap (λ (parts : List Part). with_gap_markers given false (outcomes false parts))
       (parts_from-begins part g later is.first.begins)
-      ∙ with_marks-whole given false part (parts_from (part_of g) later) bytes h unbroken
+      ∙ with_gap_markers-whole given false part (parts_from (part_of g) later) bytes h unbroken
       ∙ ap (λ (rest : List ℕ). bytes ++ rest)
       (fills-part true (part_of g) s.first s.others (carriers_of more) s.bytes
-      (s.bytes ++ concat (map (λ s. s.bytes) more)) is.is_piece is.first.begins
+      (s.bytes ++ concat (map (λ s. s.bytes) more)) is.is_pes_packet is.first.begins
       (next-unbroken packet_of number c s.first next.0)
       (rw (append-nil (payload p)) is.joined) is.others next.1
       (λ whole last w u n. whole-then true whole last more s.bytes w u each.1 n))
@@ -129,29 +132,29 @@ module _ {A : Type 0} (packet_of : A → List ℕ) (number : ℕ) where
       p = packet_of s.first.packet
 
       g : GoodPacket
-      g = linked (since_carrier packet_of number c) p
+      g = linked (history_after_carrier packet_of number c) p
 
       later : List GoodPacket
       later =
-          goods packet_of number (since_carrier packet_of number s.first)
+          goods packet_of number (history_after_carrier packet_of number s.first)
           (s.others ++ carriers_of more)
 
   -- What is carried of all.
   carried-all : (jump : Bool) (sent : List (SentPes A))
       → AllByRecursion (IsSentPes packet_of number) sent
       → AreInSequence packet_of number (carriers_of sent)
-      → with_marks false false (outcomes_of
-      (good_after (since_quiet (nothing_since None) jump)
+      → with_gap_markers false false (outcomes_of
+      (good_after (history_after_irrelevant (empty_history None) jump)
       (flat_map (heard packet_of number) (flat_map items_of_carrier (carriers_of sent)))))
       ≡ concat (map (λ s. s.bytes) sent)
-  unfolding good_after outcomes with_marks
+  unfolding good_after outcomes with_gap_markers
   carried-all jump [] each linked_all = refl
   carried-all jump (s ∷ more) each linked_all =
-      ap (λ (good : GoodPackets). with_marks false false (outcomes_of good)) (
-      ap (good_after since)
+      ap (λ (good : GoodPackets). with_gap_markers false false (outcomes_of good)) (
+      ap (good_after history)
       (flat_map-append (heard packet_of number) (items_of_carrier s.first)
       (flat_map items_of_carrier rest))
-      ∙ good-carrier packet_of number since s.first
+      ∙ good-carrier packet_of number history s.first
       (flat_map (heard packet_of number) (flat_map items_of_carrier rest)) true is.first refl
       ∙ ap (with_good g)
       (good-carriers packet_of number s.first rest
@@ -159,21 +162,21 @@ module _ {A : Type 0} (packet_of : A → List ℕ) (number : ℕ) where
       (all-carriers more each.1)) linked_all)
       )
       ∙ fills-part false (part_of g) s.first s.others (carriers_of more) s.bytes
-      (s.bytes ++ concat (map (λ s. s.bytes) more)) is.is_piece is.first.begins refl
+      (s.bytes ++ concat (map (λ s. s.bytes) more)) is.is_pes_packet is.first.begins refl
       (rw (append-nil (payload p)) is.joined) is.others linked_all
       (λ whole last w u n. whole-then false whole last more s.bytes w u each.1 n)
     where
       is : IsSentPes packet_of number s
       is = each.0
 
-      since : Since
-      since = since_quiet (nothing_since None) jump
+      history : PacketHistory
+      history = history_after_irrelevant (empty_history None) jump
 
       p : List ℕ
       p = packet_of s.first.packet
 
       g : GoodPacket
-      g = linked since p
+      g = linked history p
 
       rest : List (Carrier A)
       rest = s.others ++ carriers_of more
@@ -181,10 +184,10 @@ module _ {A : Type 0} (packet_of : A → List ℕ) (number : ℕ) where
 pub law_of_multiplex : LawOfMultiplex
 unfolding carried
 law_of_multiplex number distance packets recording h =
-    ap (λ (ns : List Note). with_marks false false (outcomes_of (good_after start ns)))
+    ap (λ (ns : List Note). with_gap_markers false false (outcomes_of (good_after start ns)))
     (notes-units distance number (items_of_multiplex m) recording h.is_recording
     ∙ flat_map-append hear m.lead (flat_map items_of_carrier (carriers_of m.sent)))
-    ∙ ap (λ (good : GoodPackets). with_marks false false (outcomes_of good))
+    ∙ ap (λ (good : GoodPackets). with_gap_markers false false (outcomes_of good))
     (good-quiets (packet_in distance) number start m.lead
     (flat_map hear (flat_map items_of_carrier (carriers_of m.sent))) h.is_multiplex.lead)
     ∙ carried-all (packet_in distance) number
@@ -195,8 +198,8 @@ law_of_multiplex number distance packets recording h =
     m : Multiplex (List ℕ)
     m = h.multiplex
 
-    start : Since
-    start = nothing_since None
+    start : PacketHistory
+    start = empty_history None
 
     hear : List ℕ → List Note
     hear = heard (packet_in distance) number

@@ -7,37 +7,41 @@ use Rattle.std.specs.List.{AllByRecursion, concat}
 use Rattle.std.proofs.lemmas.Bool.{cases_Bool}
 use Rattle.std.proofs.lemmas.Bool.Decides.{nat_tests}
 use Rattle.std.proofs.lemmas.List.{append-nil, take-append-le}
-use Rattle.ttx_pes.specs.Pieces.{IsPiece}
-use Rattle.mpeg_ts.specs.Carried.{mark_where, with_marks}
+use Rattle.ttx_pes.specs.PesPackets.{IsPesPacket}
+use Rattle.mpeg_ts.specs.Carried.{gap_marker_where, with_gap_markers}
 use Rattle.mpeg_ts.specs.GoodPackets.{GoodPacket}
 use Rattle.mpeg_ts.specs.Parts.{Part, begins_part, outcomes, part_bytes, part_of, parts_from}
 use Rattle.mpeg_ts.specs.Parts.{with_packet, is_break}
 use Rattle.mpeg_ts.specs.TransportPacket.{begins, payload}
-use Rattle.recording_laws.specs.Losses.{Fated, any_wrong, are_there_after, arrives, is_there}
-use Rattle.recording_laws.specs.Losses.{is_wrong_behind, last_carrier, sent_packet, units_before}
-use Rattle.recording_laws.specs.Losses.{units_behind}
+use Rattle.recording_laws.specs.Losses.{Fated, any_wrong, are_recorded_after, arrives, is_recorded}
+use Rattle.recording_laws.specs.Losses.{is_wrong_after, last_carrier, sent_packet, units_before}
+use Rattle.recording_laws.specs.Losses.{units_after}
 use Rattle.recording_laws.proofs.LeftLemmas.{carrier-payload}
-use Rattle.recording_laws.proofs.ClosedPartLemmas.{Closes, IsBroken, broken-short, closes-piece}
+use Rattle.recording_laws.proofs.ClosedPartLemmas.{Closes, IsBroken, broken-short}
+use Rattle.recording_laws.proofs.ClosedPartLemmas.{closes-pes_packet}
 use Rattle.recording_laws.proofs.ClosedPartLemmas.{parts_from-some, broken-unbegun, closes-broken}
-use Rattle.recording_laws.proofs.PartLemmas.{outcome-whole, IsWhole, parts_from-cut, concat-snoc}
+use Rattle.recording_laws.proofs.PartLemmas.{outcome-whole, IsCompletePart, parts_from-cut}
+use Rattle.recording_laws.proofs.PartLemmas.{concat-snoc}
 use Rattle.recording_laws.proofs.PartLemmas.{parts_from-follows}
-use Rattle.recording_laws.proofs.BegunPartLemmas.{ClosesGiven, IsFront, closes-front}
-use Rattle.recording_laws.proofs.ReadingLemmas.{IsMarkExact, is_held, After, Fits, Held, Marked}
+use Rattle.recording_laws.proofs.BegunPartLemmas.{ClosesGiven, IsPrefix, closes-prefix}
+use Rattle.recording_laws.proofs.ReadingLemmas.{IsGapMarkerExact, has_previous, After, Fits}
+use Rattle.recording_laws.proofs.ReadingLemmas.{Previous, Marked}
 use Rattle.recording_laws.proofs.ReadingLemmas.{Nothing, Reads, reads-marked, skip}
 use Rattle.recording_laws.specs.Multiplex.{Carrier, SentPes, carriers_of, carriers_of_pes}
 use Rattle.recording_laws.specs.Pace.{up_to_pts}
 use Rattle.recording_laws.proofs.LeftNoteLemmas.{IsLeftCarrier}
-use Rattle.recording_laws.proofs.PieceLemmas.{concat-marks, marks-pieces, marks_where}
+use Rattle.recording_laws.proofs.PesPacketLemmas.{concat-gap_markers, gap_markers-pes_packets}
+use Rattle.recording_laws.proofs.PesPacketLemmas.{gap_markers_where}
 use Rattle.recording_laws.proofs.TraceLemmas.{IsHeard, Traced}
 
 -- A part that is closed by a good packet.
-pub closed-by : (wrong_behind : Bool) (part : Part) (given gap : Bool) (front : List ℕ)
+pub closed-by : (wrong_after : Bool) (part : Part) (given gap : Bool) (prefix : List ℕ)
     (given' gap' : Bool) (g : GoodPacket) (later : List GoodPacket)
-    → Closes part given gap front given' gap'
+    → Closes part given gap prefix given' gap'
     → begins_part g ≡ true
-    → with_marks given gap (outcomes wrong_behind (parts_from part (g ∷ later)))
-    ≡ front ++ with_marks given' gap' (outcomes wrong_behind (parts_from (part_of g) later))
-closed-by wrong_behind part given gap front given' gap' g later h1 h2 =
+    → with_gap_markers given gap (outcomes wrong_after (parts_from part (g ∷ later)))
+    ≡ prefix ++ with_gap_markers given' gap' (outcomes wrong_after (parts_from (part_of g) later))
+closed-by wrong_after part given gap prefix given' gap' g later h1 h2 =
     grind (arith, nat_tests, parts_from-cut, parts_from-some)
 
 -- The bytes of carriers.
@@ -45,30 +49,30 @@ abbrev pub payloads_of : ℕ → List (Carrier Fated) → List ℕ
 payloads_of distance cs = concat (map (λ c. payload (sent_packet distance c.packet)) cs)
 
 -- The state if there is a gap since the last result.
-abbrev pub gapped : Bool → Held
+abbrev pub gapped : Bool → Previous
 gapped true = Marked
 gapped false = Nothing
 
 -- The bytes are results for PES packets.
-pub record Gives (few : Bool) (held : Held) (sent : List (SentPes Fated)) (bytes : List ℕ)
+pub record Gives (few : Bool) (previous : Previous) (sent : List (SentPes Fated)) (bytes : List ℕ)
     : Type 0 where
-  pub pieces : List (List ℕ)
-  pub each : AllByRecursion IsPiece pieces
-  pub joined : bytes ≡ concat pieces
-  pub reads : Reads few held sent pieces
+  pub pes_packets : List (List ℕ)
+  pub each : AllByRecursion IsPesPacket pes_packets
+  pub joined : bytes ≡ concat pes_packets
+  pub reads : Reads few previous sent pes_packets
 
 -- The first of them, after a gap marker or none, is that of the PES packet whose first packet began
 -- the open part.
 pub record GivesOne (few marked : Bool) (s : SentPes Fated) (between : ℕ) (skipped : Bool)
     (sent : List (SentPes Fated)) (bytes : List ℕ) : Type 0 where
-  pub piece : List ℕ
-  pub is_piece : IsPiece piece
-  pub front : up_to_pts piece ≡ up_to_pts s.bytes
-  pub as_sent : few ≡ true → (arrives s ≡ true) × (piece ≡ s.bytes)
+  pub pes_packet : List ℕ
+  pub is_pes_packet : IsPesPacket pes_packet
+  pub prefix : up_to_pts pes_packet ≡ up_to_pts s.bytes
+  pub as_sent : few ≡ true → (arrives s ≡ true) × (pes_packet ≡ s.bytes)
   pub rest : List (List ℕ)
-  pub each : AllByRecursion IsPiece rest
-  pub joined : bytes ≡ mark_where marked ++ (piece ++ concat rest)
-  pub reads : Reads few (After piece s between skipped) sent rest
+  pub each : AllByRecursion IsPesPacket rest
+  pub joined : bytes ≡ gap_marker_where marked ++ (pes_packet ++ concat rest)
+  pub reads : Reads few (After pes_packet s between skipped) sent rest
 
 -- This holds, or that PES packet has no result.
 abbrev pub Opens : Bool → Bool → Bool → SentPes Fated → ℕ → Bool → List (SentPes Fated) → List ℕ
@@ -81,25 +85,25 @@ Opens few given marked s between skipped sent bytes =
 
 -- After a gap a PES packet without a result changes nothing.
 gapped-skip : (few given : Bool) (s : SentPes Fated) (more : List (SentPes Fated))
-    (pieces : List (List ℕ))
-    → Reads few (gapped given) more pieces
-    → Reads few (skip (gapped given) s) more pieces
-gapped-skip few true s more pieces h = h
-gapped-skip few false s more pieces h = h
+    (pes_packets : List (List ℕ))
+    → Reads few (gapped given) more pes_packets
+    → Reads few (skip (gapped given) s) more pes_packets
+gapped-skip few true s more pes_packets h = h
+gapped-skip few false s more pes_packets h = h
 
 -- What follows a gap follows the results before it.
-held-skip : (few : Bool) (held : Held) (given : Bool) (s : SentPes Fated)
-    (more : List (SentPes Fated)) (pieces : List (List ℕ))
-    → is_held held ≡ given
-    → Reads few (gapped given) more pieces
-    → Reads few (skip held s) more pieces
-held-skip few Nothing true s more pieces e h = absurd (cc e)
-held-skip few Nothing false s more pieces e h = h
-held-skip few Marked true s more pieces e h = h
-held-skip few Marked false s more pieces e h = absurd (cc e)
-held-skip few (After x t between skipped) true s more pieces e h =
-    reads-marked few x t (between + length (carriers_of_pes s)) true more pieces (λ e. refl) h
-held-skip few (After x t between skipped) false s more pieces e h = absurd (cc e)
+previous-skip : (few : Bool) (previous : Previous) (given : Bool) (s : SentPes Fated)
+    (more : List (SentPes Fated)) (pes_packets : List (List ℕ))
+    → has_previous previous ≡ given
+    → Reads few (gapped given) more pes_packets
+    → Reads few (skip previous s) more pes_packets
+previous-skip few Nothing true s more pes_packets e h = absurd (cc e)
+previous-skip few Nothing false s more pes_packets e h = h
+previous-skip few Marked true s more pes_packets e h = h
+previous-skip few Marked false s more pes_packets e h = absurd (cc e)
+previous-skip few (After x t between skipped) true s more pes_packets e h =
+    reads-marked few x t (between + length (carriers_of_pes s)) true more pes_packets (λ e. refl) h
+previous-skip few (After x t between skipped) false s more pes_packets e h = absurd (cc e)
 
 -- A PES packet without a result.
 pub gives-later : (few given : Bool) (s : SentPes Fated) (more : List (SentPes Fated))
@@ -108,10 +112,10 @@ pub gives-later : (few given : Bool) (s : SentPes Fated) (more : List (SentPes F
     → Gives few (gapped given) more bytes
     → Gives few (gapped given) (s ∷ more) bytes
 gives-later few given s more bytes gone h = record {
-  pieces = h.pieces;
+  pes_packets = h.pes_packets;
   each = h.each;
   joined = h.joined;
-  reads = inl (gone, gapped-skip few given s more h.pieces h.reads);
+  reads = inl (gone, gapped-skip few given s more h.pes_packets h.reads);
 }
 
 -- The same, while the part of another one is open.
@@ -124,9 +128,9 @@ opens-later few given marked s between skipped t more bytes gone h = elim h [
   | inl one ↦
       inl
       (record {
-        piece = one.piece;
-        is_piece = one.is_piece;
-        front = one.front;
+        pes_packet = one.pes_packet;
+        is_pes_packet = one.is_pes_packet;
+        prefix = one.prefix;
         as_sent = one.as_sent;
         rest = one.rest;
         each = one.each;
@@ -137,26 +141,27 @@ opens-later few given marked s between skipped t more bytes gone h = elim h [
 ]
 
 -- A PES packet whose part was opened.
-pub gives-opened : (few : Bool) (held : Held) (given marked : Bool) (s : SentPes Fated)
+pub gives-opened : (few : Bool) (previous : Previous) (given marked : Bool) (s : SentPes Fated)
     (more : List (SentPes Fated)) (bytes : List ℕ)
-    → is_held held ≡ given
-    → Fits held marked
-    → IsMarkExact few held s marked
+    → has_previous previous ≡ given
+    → Fits previous marked
+    → IsGapMarkerExact few previous s marked
     → Opens few given marked s (length s.others) false more bytes
-    → Gives few held (s ∷ more) bytes
-gives-opened few held given marked s more bytes is fits exact h = elim h [
+    → Gives few previous (s ∷ more) bytes
+gives-opened few previous given marked s more bytes is fits exact h = elim h [
   | inl one ↦
       record {
-        pieces = marks_where marked ++ (one.piece ∷ one.rest);
-        each = marks-pieces marked (one.piece ∷ one.rest) (one.is_piece, one.each);
-        joined = one.joined ∙ sym (concat-marks marked one.piece one.rest);
+        pes_packets = gap_markers_where marked ++ (one.pes_packet ∷ one.rest);
+        each = gap_markers-pes_packets marked (one.pes_packet ∷ one.rest)
+            (one.is_pes_packet, one.each);
+        joined = one.joined ∙ sym (concat-gap_markers marked one.pes_packet one.rest);
         reads =
             inr (
               marked,
-              one.piece,
+              one.pes_packet,
               one.rest,
               refl,
-              one.front,
+              one.prefix,
               fits,
               one.reads,
               one.as_sent,
@@ -165,47 +170,51 @@ gives-opened few held given marked s more bytes is fits exact h = elim h [
       }
   | inr none ↦
       record {
-        pieces = none.1.pieces;
+        pes_packets = none.1.pes_packets;
         each = none.1.each;
         joined = none.1.joined;
-        reads = inl (none.0, held-skip few held given s more none.1.pieces is none.1.reads);
+        reads = inl (
+          none.0,
+          previous-skip few previous given s more none.1.pes_packets is
+              none.1.reads,
+        );
       }
 ]
 
 -- A result before others.
 pub gives-one : (few marked : Bool) (s : SentPes Fated) (between : ℕ) (skipped : Bool)
-    (sent : List (SentPes Fated)) (piece bytes inner : List ℕ)
-    → IsPiece piece
-    → up_to_pts piece ≡ up_to_pts s.bytes
-    → (few ≡ true → (arrives s ≡ true) × (piece ≡ s.bytes))
-    → bytes ≡ (mark_where marked ++ piece) ++ inner
-    → Gives few (After piece s between skipped) sent inner
+    (sent : List (SentPes Fated)) (pes_packet bytes inner : List ℕ)
+    → IsPesPacket pes_packet
+    → up_to_pts pes_packet ≡ up_to_pts s.bytes
+    → (few ≡ true → (arrives s ≡ true) × (pes_packet ≡ s.bytes))
+    → bytes ≡ (gap_marker_where marked ++ pes_packet) ++ inner
+    → Gives few (After pes_packet s between skipped) sent inner
     → GivesOne few marked s between skipped sent bytes
-gives-one few marked s between skipped sent piece bytes inner is front as_sent e h = record {
-  piece = piece;
-  is_piece = is;
-  front = front;
+gives-one few marked s between skipped sent pes_packet bytes inner is prefix as_sent e h = record {
+  pes_packet = pes_packet;
+  is_pes_packet = is;
+  prefix = prefix;
   as_sent = as_sent;
-  rest = h.pieces;
+  rest = h.pes_packets;
   each = h.each;
   joined =
       e
-      ∙ append_assoc (mark_where marked) piece inner
-      ∙ ap (λ (l : List ℕ). mark_where marked ++ (piece ++ l)) h.joined;
+      ∙ append_assoc (gap_marker_where marked) pes_packet inner
+      ∙ ap (λ (l : List ℕ). gap_marker_where marked ++ (pes_packet ++ l)) h.joined;
   reads = h.reads;
 }
 
 -- What follows a gap.
 pub gives-marked : (few : Bool) (x : List ℕ) (s : SentPes Fated) (between : ℕ) (skipped : Bool)
     (sent : List (SentPes Fated)) (bytes : List ℕ)
-    → (few ≡ true → (skipped || is_wrong_behind s) ≡ true)
+    → (few ≡ true → (skipped || is_wrong_after s) ≡ true)
     → Gives few Marked sent bytes
     → Gives few (After x s between skipped) sent bytes
 gives-marked few x s between skipped sent bytes gap h = record {
-  pieces = h.pieces;
+  pes_packets = h.pes_packets;
   each = h.each;
   joined = h.joined;
-  reads = reads-marked few x s between skipped sent h.pieces gap h.reads;
+  reads = reads-marked few x s between skipped sent h.pes_packets gap h.reads;
 }
 
 -- ---- links of carriers, if few are missing
@@ -240,11 +249,11 @@ wrong-lost : (a b : Bool) (n : ℕ)
     → (a || b) ≡ true
 wrong-lost a b n h1 h2 = grind (arith, nat_tests)
 
-module _ (distance number : ℕ) (wrong_behind few : Bool) where
+module _ (distance number : ℕ) (wrong_after few : Bool) where
   -- What is carried from an open part on.
   abbrev pub carried_from : Part → Bool → Bool → List GoodPacket → List ℕ
   carried_from part given gap goods =
-      with_marks given gap (outcomes wrong_behind (parts_from part goods))
+      with_gap_markers given gap (outcomes wrong_after (parts_from part goods))
 
   -- ---- the state of an open part
 
@@ -252,21 +261,21 @@ module _ (distance number : ℕ) (wrong_behind few : Bool) where
   pub record IsUnbroken (part : Part) (s : SentPes Fated) (between : ℕ) (skipped : Bool) (n : ℕ)
       (wrong : Bool) (cs : List (Carrier Fated)) : Type 0 where
     pub unskipped : skipped ≡ false
-    pub none_gone : n ≡ 0
+    pub none_lost : n ≡ 0
     pub joined : part_bytes part ++ payloads_of distance cs ≡ s.bytes
     pub near : length cs ≤ between
     pub last : Carrier Fated
     pub exact :
         few ≡ true
-        → (arrives s ≡ are_there_after last cs)
-        × (is_wrong_behind s ≡ any_wrong (units_behind (last_carrier last cs)))
-        × (wrong ≡ any_wrong (units_behind last))
+        → (arrives s ≡ are_recorded_after last cs)
+        × (is_wrong_after s ≡ any_wrong (units_after (last_carrier last cs)))
+        × (wrong ≡ any_wrong (units_after last))
 
   -- It is incomplete; or it is complete, and the first carrier of the next PES packet is missing.
   abbrev pub IsLost : Part → SentPes Fated → Bool → Type 0
   IsLost part s skipped =
       (IsBroken part × (arrives s ≡ false))
-      ⊎ (IsWhole part s.bytes × (arrives s ≡ true) × (skipped ≡ true))
+      ⊎ (IsCompletePart part s.bytes × (arrives s ≡ true) × (skipped ≡ true))
 
   -- It is unbroken; or carriers are missing, after its first packet or later; or at least 16 were.
   -- `between` carriers, with these, are between its first packet and that of the next PES packet.
@@ -279,13 +288,13 @@ module _ (distance number : ℕ) (wrong_behind few : Bool) where
   -- It begins like its PES packet.
   pub record IsFirst (part : Part) (s : SentPes Fated) : Type 0 where
     pub begins : part.begins ≡ true
-    pub is_piece : IsPiece s.bytes
-    pub front : few ≡ false → IsFront part s
+    pub is_pes_packet : IsPesPacket s.bytes
+    pub prefix : few ≡ false → IsPrefix part s
 
   -- It is incomplete while carriers are to come.
   broken-here : (part : Part) (s : SentPes Fated) (between : ℕ) (skipped : Bool) (n : ℕ)
       (wrong : Bool) (c : Carrier Fated) (cs : List (Carrier Fated))
-      → IsPiece s.bytes
+      → IsPesPacket s.bytes
       → IsLeftCarrier distance number false c
       → IsUnbroken part s between skipped n wrong (c ∷ cs)
       → IsBroken part
@@ -302,14 +311,14 @@ module _ (distance number : ℕ) (wrong_behind few : Bool) where
 
   -- One more is missing.
   going-gone : (part : Part) (s : SentPes Fated) (between : ℕ) (skipped : Bool) (n : ℕ)
-      (wrong since : Bool) (c : Carrier Fated) (cs : List (Carrier Fated))
-      → IsPiece s.bytes
+      (wrong wrong_since : Bool) (c : Carrier Fated) (cs : List (Carrier Fated))
+      → IsPesPacket s.bytes
       → IsLeftCarrier distance number false c
-      → (few ≡ true → is_there c ≡ false)
+      → (few ≡ true → is_recorded c ≡ false)
       → IsGoing part s between skipped n wrong (c ∷ cs)
-      → IsGoing part s between skipped (n + 1) since cs
-  going-gone part s between skipped n wrong since c cs is left gone (inl all) =
-      let none = all.none_gone in
+      → IsGoing part s between skipped (n + 1) wrong_since cs
+  going-gone part s between skipped n wrong wrong_since c cs is left gone (inl all) =
+      let none = all.none_lost in
       let near = all.near in
       inr
       (inl (
@@ -318,13 +327,13 @@ module _ (distance number : ℕ) (wrong_behind few : Bool) where
         λ e. inl (
           broken-here part s between skipped n wrong c cs is left all,
           (all.exact e).0
-              ∙ not-there (any_wrong (units_behind all.last)) (is_there c)
-              (any_wrong (units_before c)) (are_there_after c cs) (gone e),
+              ∙ not-there (any_wrong (units_after all.last)) (is_recorded c)
+              (any_wrong (units_before c)) (are_recorded_after c cs) (gone e),
         ),
       ))
-  going-gone part s between skipped n wrong since c cs is left gone (inr (inl some)) =
+  going-gone part s between skipped n wrong wrong_since c cs is left gone (inr (inl some)) =
       let near = some.1 in inr (inl (omega arith, omega (arith, near), some.2))
-  going-gone part s between skipped n wrong since c cs is left gone (inr (inr far)) =
+  going-gone part s between skipped n wrong wrong_since c cs is left gone (inr (inr far)) =
       let many = far.0 in inr (inr (omega (arith, many), far.1))
 
   -- It is complete.
@@ -332,11 +341,11 @@ module _ (distance number : ℕ) (wrong_behind few : Bool) where
       (wrong : Bool)
       → IsFirst part s
       → IsUnbroken part s between skipped n wrong []
-      → IsWhole part s.bytes
+      → IsCompletePart part s.bytes
   whole-here part s between skipped n wrong first all = record {
     begins = first.begins;
     bytes_are = sym (append-nil (part_bytes part)) ∙ all.joined;
-    is_piece = first.is_piece;
+    is_pes_packet = first.is_pes_packet;
   }
 
   -- What is lost stays lost.
@@ -348,12 +357,12 @@ module _ (distance number : ℕ) (wrong_behind few : Bool) where
 
   -- All of a PES packet is skipped, from its first packet on.
   pub going-skip : (part : Part) (s : SentPes Fated) (between : ℕ) (skipped : Bool) (n : ℕ)
-      (wrong since : Bool) (t : SentPes Fated)
+      (wrong wrong_since : Bool) (t : SentPes Fated)
       → IsFirst part s
       → IsGoing part s between skipped n wrong []
-      → IsGoing part s (between + length (carriers_of_pes t)) true (n + 1) since t.others
-  going-skip part s between skipped n wrong since t first (inl all) =
-      let none = all.none_gone in
+      → IsGoing part s (between + length (carriers_of_pes t)) true (n + 1) wrong_since t.others
+  going-skip part s between skipped n wrong wrong_since t first (inl all) =
+      let none = all.none_lost in
       inr
       (inl (
         omega arith,
@@ -364,10 +373,10 @@ module _ (distance number : ℕ) (wrong_behind few : Bool) where
           refl,
         ),
       ))
-  going-skip part s between skipped n wrong since t first (inr (inl some)) =
+  going-skip part s between skipped n wrong wrong_since t first (inr (inl some)) =
       let near = some.1 in
       inr (inl (omega arith, omega (arith, near), λ e. lost-skip part s skipped (some.2 e)))
-  going-skip part s between skipped n wrong since t first (inr (inr far)) =
+  going-skip part s between skipped n wrong wrong_since t first (inr (inr far)) =
       let many = far.0 in inr (inr (omega (arith, many), far.1))
 
   -- 16 are missing, if a packet follows and any are.
@@ -379,26 +388,26 @@ module _ (distance number : ℕ) (wrong_behind few : Bool) where
   sixteen n size between h1 h2 h3 = omega arith
 
   -- The facts about a packet that follows, if few are missing.
-  abbrev StillThere : ℕ → Bool → Carrier Fated → Type 0
-  StillThere n wrong c =
+  abbrev StillRecorded : ℕ → Bool → Carrier Fated → Type 0
+  StillRecorded n wrong c =
       few ≡ true
-      → (n ≡ 0) × (wrong ≡ false) × (any_wrong (units_before c) ≡ false) × (is_there c ≡ true)
+      → (n ≡ 0) × (wrong ≡ false) × (any_wrong (units_before c) ≡ false) × (is_recorded c ≡ true)
 
   -- A packet that continues the counter belongs to the part.
   going-follows : (part : Part) (s : SentPes Fated) (between : ℕ) (skipped : Bool) (n : ℕ)
-      (wrong since : Bool) (c : Carrier Fated) (cs : List (Carrier Fated)) (g : GoodPacket)
+      (wrong wrong_since : Bool) (c : Carrier Fated) (cs : List (Carrier Fated)) (g : GoodPacket)
       → IsGoing part s between skipped n wrong (c ∷ cs)
       → payload g.packet ≡ payload (sent_packet distance c.packet)
       → n % 16 ≡ 0
-      → StillThere n wrong c
-      → (few ≡ true → since ≡ any_wrong (units_behind c))
-      → IsGoing (with_packet part g) s between skipped 0 since cs
-  going-follows part s between skipped n wrong since c cs g (inl all) same on still is =
+      → StillRecorded n wrong c
+      → (few ≡ true → wrong_since ≡ any_wrong (units_after c))
+      → IsGoing (with_packet part g) s between skipped 0 wrong_since cs
+  going-follows part s between skipped n wrong wrong_since c cs g (inl all) same on still is =
       let near = all.near in
       inl
       (record {
         unskipped = all.unskipped;
-        none_gone = refl;
+        none_lost = refl;
         joined =
             concat-snoc part.payloads (payload g.packet)
             (payloads_of distance cs) s.bytes
@@ -409,14 +418,15 @@ module _ (distance number : ℕ) (wrong_behind few : Bool) where
         last = c;
         exact = λ e. (
           (all.exact e).0
-              ∙ there-after (any_wrong (units_behind all.last)) (is_there c)
-              (any_wrong (units_before c)) (are_there_after c cs)
+              ∙ there-after (any_wrong (units_after all.last)) (is_recorded c)
+              (any_wrong (units_before c)) (are_recorded_after c cs)
               (sym (all.exact e).2 ∙ (still e).1) (still e).3 (still e).2,
           (all.exact e).1,
           is e,
         );
       })
-  going-follows part s between skipped n wrong since c cs g (inr (inl some)) same on still is =
+  going-follows part s between skipped n wrong wrong_since c cs g (inr (inl some)) same on still
+      is =
       elim (cases_Bool few) [
         | inl e ↦
             let first = some.0 in let none = (still e).0 in absurd (omega (arith, first, none))
@@ -424,34 +434,35 @@ module _ (distance number : ℕ) (wrong_behind few : Bool) where
             let near = some.1 in
             inr (inr (sixteen n (length cs) between some.0 on (omega (arith, near)), many))
       ]
-  going-follows part s between skipped n wrong since c cs g (inr (inr far)) same on still is =
+  going-follows part s between skipped n wrong wrong_since c cs g (inr (inr far)) same on still is =
       let many = far.0 in inr (inr (omega (arith, many), far.1))
 
   -- When the next PES packet begins, the result fits.
   pub going-fits : (part : Part) (given gap : Bool) (s : SentPes Fated) (between : ℕ)
-      (skipped : Bool) (n : ℕ) (wrong : Bool) (piece : List ℕ) (longer breaks : Bool)
-      → (part_bytes part ≡ s.bytes → piece ≡ s.bytes)
+      (skipped : Bool) (n : ℕ) (wrong : Bool) (pes_packet : List ℕ) (longer breaks : Bool)
+      → (part_bytes part ≡ s.bytes → pes_packet ≡ s.bytes)
       → IsGoing part s between skipped n wrong []
       → (breaks ≡ false → n % 16 ≡ 0)
-      → Fits (After piece s between skipped) (true && (longer || breaks))
+      → Fits (After pes_packet s between skipped) (true && (longer || breaks))
   going-fits
-      part given gap s between skipped n wrong piece longer breaks as_sent (inl all) on none =
+      part given gap s between skipped n wrong pes_packet longer breaks as_sent (inl all) on none =
       inr (all.unskipped, as_sent (sym (append-nil (part_bytes part)) ∙ all.joined))
-  going-fits part given gap s between skipped n wrong piece longer breaks as_sent
+  going-fits part given gap s between skipped n wrong pes_packet longer breaks as_sent
       (inr (inl some)) on none =
       let follows = on (grind (arith, nat_tests)) in
       let first = some.0 in
       let near = some.1 in
       inl (omega (arith, follows, first, near))
   going-fits
-      part given gap s between skipped n wrong piece longer breaks as_sent (inr (inr far)) on none =
+      part given gap s between skipped n wrong pes_packet longer breaks as_sent (inr (inr far)) on
+      none =
       let many = far.0 in inl (omega (arith, many))
 
   -- It begins like its PES packet, whatever is joined to it.
-  front-with : (part : Part) (s : SentPes Fated) (g : GoodPacket)
-      → IsFront part s
-      → IsFront (with_packet part g) s
-  front-with part s g h = record {
+  prefix-with : (part : Part) (s : SentPes Fated) (g : GoodPacket)
+      → IsPrefix part s
+      → IsPrefix (with_packet part g) s
+  prefix-with part s g h = record {
     begins = h.begins;
     long =
         let long = h.long in
@@ -460,7 +471,7 @@ module _ (distance number : ℕ) (wrong_behind few : Bool) where
         ap up_to_pts bytes
         ∙ take-append-le 14 (part_bytes part) (payload g.packet) h.long
         ∙ h.same;
-    is_piece = h.is_piece;
+    is_pes_packet = h.is_pes_packet;
   }
     where
       bytes : part_bytes (with_packet part g) ≡ part_bytes part ++ payload g.packet
@@ -475,8 +486,8 @@ module _ (distance number : ℕ) (wrong_behind few : Bool) where
       → IsFirst (with_packet part g) s
   first-with part s g h = record {
     begins = h.begins;
-    is_piece = h.is_piece;
-    front = λ e. front-with part s g (h.front e);
+    is_pes_packet = h.is_pes_packet;
+    prefix = λ e. prefix-with part s g (h.prefix e);
   }
 
   -- ---- its result
@@ -484,7 +495,7 @@ module _ (distance number : ℕ) (wrong_behind few : Bool) where
   -- A PES packet; if few are missing, the one that was sent.
   pub record ClosesAs (part : Part) (given gap : Bool) (s : SentPes Fated) : Type 0 where
     pub is : ClosesGiven part given gap s
-    pub exact : few ≡ true → (arrives s ≡ true) × (is.piece ≡ s.bytes) × (is.longer ≡ false)
+    pub exact : few ≡ true → (arrives s ≡ true) × (is.pes_packet ≡ s.bytes) × (is.longer ≡ false)
 
   -- Or nothing.
   abbrev pub Closing : Part → Bool → Bool → SentPes Fated → Type 0
@@ -496,7 +507,7 @@ module _ (distance number : ℕ) (wrong_behind few : Bool) where
   abbrev pub Ends : Part → SentPes Fated → Type 0
   Ends part s =
       few ≡ true
-      → (IsBroken part × (arrives s ≡ false)) ⊎ (IsWhole part s.bytes × (arrives s ≡ true))
+      → (IsBroken part × (arrives s ≡ false)) ⊎ (IsCompletePart part s.bytes × (arrives s ≡ true))
 
   -- So it is one of the two.
   pub closing : (part : Part) (given gap : Bool) (s : SentPes Fated)
@@ -510,19 +521,19 @@ module _ (distance number : ℕ) (wrong_behind few : Bool) where
           inl
           (record {
             is = record {
-              piece = s.bytes;
+              pes_packet = s.bytes;
               longer = false;
-              is_piece = first.is_piece;
-              front = refl;
+              is_pes_packet = first.is_pes_packet;
+              prefix = refl;
               as_sent = λ e. refl;
               closes =
-                  closes-piece part given gap s.bytes false
+                  closes-pes_packet part given gap s.bytes false
                   (λ cut_off. outcome-whole cut_off part s.bytes whole.0);
             };
             exact = λ f. (whole.1, refl, refl);
           })
     ]
-    | inr many ↦ elim (closes-front part given gap s (first.front many)) [
+    | inr many ↦ elim (closes-prefix part given gap s (first.prefix many)) [
       | inl one ↦ inl (record { is = one; exact = λ e. absurd (cc (e, many)) })
       | inr broken ↦ inr (broken, λ e. absurd (cc (e, many)))
     ]
@@ -554,9 +565,9 @@ module _ (distance number : ℕ) (wrong_behind few : Bool) where
   -- PES packets follow a part that begins no PES packet.
   abbrev pub OnwardHeadless : List (SentPes Fated) → Type 0
   OnwardHeadless sent =
-      (part : Part) (given gap behind : Bool) (n : ℕ) (wrong : Bool) (goods : List GoodPacket)
+      (part : Part) (given gap following : Bool) (n : ℕ) (wrong : Bool) (goods : List GoodPacket)
       → part.begins ≡ false
-      → Traced distance number few behind n wrong (carriers_of sent) goods
+      → Traced distance number few following n wrong (carriers_of sent) goods
       → Gives few (gapped given) sent (carried_from part given gap goods)
 
   -- PES packets follow a part that begins one.
@@ -576,11 +587,11 @@ module _ (distance number : ℕ) (wrong_behind few : Bool) where
     pub opened : OnwardOpen sent
 
   -- The first good packet of a carrier within a PES packet begins none.
-  heard-begins : (behind : Bool) (n : ℕ) (wrong : Bool) (c : Carrier Fated) (g : GoodPacket)
+  heard-begins : (following : Bool) (n : ℕ) (wrong : Bool) (c : Carrier Fated) (g : GoodPacket)
       → IsLeftCarrier distance number false c
-      → IsHeard distance number few behind n wrong c g
+      → IsHeard distance number few following n wrong c g
       → begins g.packet ≡ false
-  heard-begins behind n wrong c g is heard = heard.copy.begins ∙ is.is_carrier.begins
+  heard-begins following n wrong c g is heard = heard.copy.begins ∙ is.is_carrier.begins
 
   -- If it belongs to the part, it continues the counter.
   heard-follows : (n : ℕ) (wrong : Bool) (c : Carrier Fated) (g : GoodPacket)
@@ -594,7 +605,7 @@ module _ (distance number : ℕ) (wrong_behind few : Bool) where
   heard-still : (n : ℕ) (wrong : Bool) (c : Carrier Fated) (g : GoodPacket)
       → IsHeard distance number few true n wrong c g
       → begins_part g ≡ false
-      → StillThere n wrong c
+      → StillRecorded n wrong c
   heard-still n wrong c g heard within is =
       let none =
       nothing-lost wrong (any_wrong (units_before c)) n
@@ -613,7 +624,7 @@ module _ (distance number : ℕ) (wrong_behind few : Bool) where
   -- So the open part is incomplete, or was complete before.
   cut-lost : (part : Part) (s : SentPes Fated) (between : ℕ) (skipped : Bool) (n : ℕ)
       (wrong : Bool) (c : Carrier Fated) (cs : List (Carrier Fated)) (g : GoodPacket)
-      → IsPiece s.bytes
+      → IsPesPacket s.bytes
       → IsLeftCarrier distance number false c
       → IsHeard distance number few true n wrong c g
       → begins_part g ≡ true
@@ -624,47 +635,47 @@ module _ (distance number : ℕ) (wrong_behind few : Bool) where
       inl (
         broken-here part s between skipped n wrong c cs is left all,
         (all.exact e).0
-            ∙ wrong-between (any_wrong (units_behind all.last)) (is_there c)
-            (any_wrong (units_before c)) (are_there_after c cs)
+            ∙ wrong-between (any_wrong (units_after all.last)) (is_recorded c)
+            (any_wrong (units_before c)) (are_recorded_after c cs)
             (ap (λ (b : Bool). b || any_wrong (units_before c)) (sym (all.exact e).2)
             ∙ wrong-lost wrong (any_wrong (units_before c)) n
             (sym ((heard.linked refl).exact e).1
             ∙ heard-breaks n wrong c g (heard-begins true n wrong c g left heard) heard cut)
-            all.none_gone),
+            all.none_lost),
       )
   cut-lost part s between skipped n wrong c cs g is left heard cut (inr (inl some)) e = some.2 e
   cut-lost part s between skipped n wrong c cs g is left heard cut (inr (inr far)) e =
       absurd (cc (e, far.1))
 
   -- The rest, after a part that begins no PES packet.
-  pub headless-within : (more : List (SentPes Fated)) (part : Part) (given gap behind : Bool)
+  pub headless-within : (more : List (SentPes Fated)) (part : Part) (given gap following : Bool)
       (n : ℕ) (wrong : Bool) (cs : List (Carrier Fated)) (goods : List GoodPacket)
       → Onward more
       → part.begins ≡ false
       → AllByRecursion (IsLeftCarrier distance number false) cs
-      → Traced distance number few behind n wrong (cs ++ carriers_of more) goods
+      → Traced distance number few following n wrong (cs ++ carriers_of more) goods
       → Gives few (gapped given) more (carried_from part given gap goods)
-  headless-within more part given gap behind n wrong [] goods go headless each traced =
-      go.headless part given gap behind n wrong goods headless traced
-  headless-within more part given gap behind n wrong (c ∷ cs) goods go headless each traced =
+  headless-within more part given gap following n wrong [] goods go headless each traced =
+      go.headless part given gap following n wrong goods headless traced
+  headless-within more part given gap following n wrong (c ∷ cs) goods go headless each traced =
       elim traced [
         | inl gone ↦
-            headless-within more part given gap behind (n + 1) gone.0 cs goods go headless each.1
+            headless-within more part given gap following (n + 1) gone.0 cs goods go headless each.1
             gone.2
         | inr here ↦ elim (cases_Bool (begins_part here.0)) [
           | inl cut ↦
               subst (Gives few (gapped given) more)
               (sym
               (ap (carried_from part given gap) here.2
-              ∙ closed-by wrong_behind part given gap [] given true here.0 here.1
+              ∙ closed-by wrong_after part given gap [] given true here.0 here.1
               (closes-broken part given gap (broken-unbegun part headless)) cut))
               (headless-within more (part_of here.0) given true true 0 here.4 cs here.1 go
-              (heard-begins behind n wrong c here.0 each.0 here.3) each.1 here.6)
+              (heard-begins following n wrong c here.0 each.0 here.3) each.1 here.6)
           | inr within ↦
               subst (Gives few (gapped given) more)
               (sym
               (ap (carried_from part given gap) here.2
-              ∙ ap (λ (ps : List Part). with_marks given gap (outcomes wrong_behind ps))
+              ∙ ap (λ (ps : List Part). with_gap_markers given gap (outcomes wrong_after ps))
               (parts_from-follows part here.0 here.1 within)))
               (headless-within more (with_packet part here.0) given gap true 0 here.4 cs here.1 go
               headless each.1 here.6)
@@ -685,25 +696,27 @@ module _ (distance number : ℕ) (wrong_behind few : Bool) where
       elim (closing part given gap s first (lost-ends part s skipped lost)) [
         | inl one ↦
             inl
-            (gives-one few (given && (gap || part.after_break)) s between skipped more one.is.piece
+            (gives-one few (given && (gap || part.after_break)) s between skipped more
+            one.is.pes_packet
             (carried_from part given gap (g ∷ later))
-            (carried_from (part_of g) true one.is.longer later) one.is.is_piece one.is.front
+            (carried_from (part_of g) true one.is.longer later) one.is.is_pes_packet one.is.prefix
             (λ e. ((one.exact e).0, (one.exact e).1))
-            (closed-by wrong_behind part given gap
-            (mark_where (given && (gap || part.after_break)) ++ one.is.piece) true one.is.longer g
+            (closed-by wrong_after part given gap
+            (gap_marker_where (given && (gap || part.after_break)) ++ one.is.pes_packet) true
+            one.is.longer g
             later one.is.closes cut)
-            (gives-marked few one.is.piece s between skipped more
+            (gives-marked few one.is.pes_packet s between skipped more
             (carried_from (part_of g) true one.is.longer later)
             (λ e. elim (lost e) [
               | inl broken ↦ absurd (cc (broken.1, (one.exact e).0))
-              | inr whole ↦ ap (λ (b : Bool). b || is_wrong_behind s) whole.2
+              | inr whole ↦ ap (λ (b : Bool). b || is_wrong_after s) whole.2
             ])
             (go true one.is.longer)))
         | inr none ↦
             inr (
               none.1,
               subst (Gives few (gapped given) more)
-                  (sym (closed-by wrong_behind part given gap [] given true g later none.0 cut))
+                  (sym (closed-by wrong_after part given gap [] given true g later none.0 cut))
                   (go given true),
             )
       ]
@@ -726,7 +739,7 @@ module _ (distance number : ℕ) (wrong_behind few : Bool) where
       elim traced [
         | inl gone ↦
             open-within more part given gap s between skipped (n + 1) gone.0 cs goods go first
-            (going-gone part s between skipped n wrong gone.0 c cs first.is_piece each.0 gone.1
+            (going-gone part s between skipped n wrong gone.0 c cs first.is_pes_packet each.0 gone.1
             going) each.1 gone.2
         | inr here ↦ elim (cases_Bool (begins_part here.0)) [
           | inl cut ↦
@@ -736,7 +749,8 @@ module _ (distance number : ℕ) (wrong_behind few : Bool) where
               (carried_from part given gap goods))
               (sym here.2)
               (open-cut more part given gap s between skipped here.0 here.1 first
-              (cut-lost part s between skipped n wrong c cs here.0 first.is_piece each.0 here.3 cut
+              (cut-lost part s between skipped n wrong c cs here.0 first.is_pes_packet each.0 here.3
+              cut
               going)
               cut
               (λ given' gap'.
@@ -746,7 +760,7 @@ module _ (distance number : ℕ) (wrong_behind few : Bool) where
               subst (Opens few given (given && (gap || part.after_break)) s between skipped more)
               (sym
               (ap (carried_from part given gap) here.2
-              ∙ ap (λ (ps : List Part). with_marks given gap (outcomes wrong_behind ps))
+              ∙ ap (λ (ps : List Part). with_gap_markers given gap (outcomes wrong_after ps))
               (parts_from-follows part here.0 here.1 within)))
               (open-within more (with_packet part here.0) given gap s between skipped 0 here.4 cs
               here.1 go

@@ -3,38 +3,38 @@
 use Rattle.std.proofs.Common.{◌≡◌, ℕ, ◌<◌, List, [], ◌∷◌, ◌++◌, length, refl, sym, ap, ◌∙◌}
 use Rattle.std.proofs.Common.{subst, arith, append_assoc}
 use Rattle.std.specs.List.{AllByRecursion, AllZip, concat}
-use Rattle.ttx_pes.specs.PesPacket.{IsPesPacket, PesValue}
-use Rattle.ttx_pes.specs.Pieces.{IsPiece}
-use Rattle.mpeg_ts.specs.Carried.{mark}
-use Rattle.recording_laws.specs.Multiplex.{pes_packets}
+use Rattle.ttx_pes.specs.PesGrammar.{IsValidPesPacket, PesValue}
+use Rattle.ttx_pes.specs.PesPackets.{IsPesPacket}
+use Rattle.mpeg_ts.specs.Carried.{gap_marker}
+use Rattle.recording_laws.specs.Multiplex.{sent_pes_packets}
 use Rattle.recording_laws.specs.Pace.{KeepPace, up_to_pts}
-use Rattle.recording_laws.proofs.PieceLemmas.{one-way}
+use Rattle.recording_laws.proofs.PesPacketLemmas.{one-way}
 use Rattle.recording_laws.proofs.ReadingLaw.{law_of_pace}
-use Rattle.recording_laws.proofs.WholeFileLemmas.{law_of_whole_file}
+use Rattle.recording_laws.proofs.CompleteFileLemmas.{law_of_complete_file}
 use Rattle.sub_plan.specs.FrameTime.{clock_of}
 use Rattle.sub_plan.specs.Options.{OptionsValue}
 use Rattle.sub_rules.specs.PesFrames.{IsReadAs}
-use Rattle.sub_rules.specs.Pieces.{joined, joined_after}
+use Rattle.sub_rules.specs.PesPackets.{joined, joined_after}
 use Rattle.sub_rules.specs.Transmission.{Transmission}
 use Rattle.recording_laws.specs.PacedCheck.{LawOfPacedCheck, frame_by_clock}
 use Rattle.recording_laws.proofs.JoinedPaceLemmas.{near-sendings}
 use Rattle.recording_laws.proofs.PacedFrameLemmas.{AreNear, near-covered, numbers}
-use Rattle.recording_laws.proofs.ReadPaceLemmas.{are-pieces, keeps-pace}
+use Rattle.recording_laws.proofs.ReadPaceLemmas.{are-pes_packets, keeps-pace}
 
 -- ---- lists
 
 -- Of joined lists each consists of PES packets.
-pieces-left : (xs ys : List (List ℕ))
-    → AllByRecursion IsPiece (xs ++ ys)
-    → AllByRecursion IsPiece xs
-pieces-left [] ys each = tt
-pieces-left (x ∷ xs) ys each = (each.0, pieces-left xs ys each.1)
+pes_packets-left : (xs ys : List (List ℕ))
+    → AllByRecursion IsPesPacket (xs ++ ys)
+    → AllByRecursion IsPesPacket xs
+pes_packets-left [] ys each = tt
+pes_packets-left (x ∷ xs) ys each = (each.0, pes_packets-left xs ys each.1)
 
-pieces-right : (xs ys : List (List ℕ))
-    → AllByRecursion IsPiece (xs ++ ys)
-    → AllByRecursion IsPiece ys
-pieces-right [] ys each = each
-pieces-right (x ∷ xs) ys each = pieces-right xs ys each.1
+pes_packets-right : (xs ys : List (List ℕ))
+    → AllByRecursion IsPesPacket (xs ++ ys)
+    → AllByRecursion IsPesPacket ys
+pes_packets-right [] ys each = each
+pes_packets-right (x ∷ xs) ys each = pes_packets-right xs ys each.1
 
 -- A list that is not empty has a last element.
 record HasLast (packets : List (List ℕ)) : Type 0 where
@@ -55,7 +55,7 @@ has-last p (q ∷ packets) =
 -- PES packets of a transmission with a frame have a last one.
 sent-last : (options : OptionsValue) (within : ℕ) (values : List PesValue)
     (packets : List (List ℕ)) (sendings : Transmission)
-    → AllZip IsPesPacket values packets
+    → AllZip IsValidPesPacket values packets
     → AllZip (IsReadAs (clock_of options)) values sendings
     → 0 < length (joined within sendings)
     → HasLast packets
@@ -68,7 +68,7 @@ sent-last options within [] [] [] each read some = absurd (omega (arith, some))
 -- ---- the law
 
 pub law_of_paced_check : LawOfPacedCheck
-law_of_paced_check number distance pace m recording before packets behind programme transmission
+law_of_paced_check number distance pace m recording before packets following programme transmission
     options losses holds far each carried_are carries good paced =
     record {
       run = parts.run;
@@ -83,12 +83,13 @@ law_of_paced_check number distance pace m recording before packets behind progra
   where
     same : carries.packets ≡ packets
     same =
-        one-way carries.packets packets (are-pieces carries.values carries.packets carries.each)
-        (pieces-left packets behind (pieces-right before (packets ++ behind) each))
+        one-way carries.packets packets (are-pes_packets carries.values carries.packets
+        carries.each)
+        (pes_packets-left packets following (pes_packets-right before (packets ++ following) each))
         (sym carries.is_whole)
 
-    are_packets : AllZip IsPesPacket carries.values packets
-    are_packets = subst (AllZip IsPesPacket carries.values) same carries.each
+    are_packets : AllZip IsValidPesPacket carries.values packets
+    are_packets = subst (AllZip IsValidPesPacket carries.values) same carries.each
 
     parts : HasLast packets
     parts =
@@ -109,26 +110,26 @@ law_of_paced_check number distance pace m recording before packets behind progra
         (keeps-pace options pace carries.values packets carries.sendings are_packets carries.read
         near)
 
-    unmarked : AllByRecursion (λ (p : List ℕ). p ≡ mark → ⊥) packets
+    unmarked : AllByRecursion (λ (p : List ℕ). p ≡ gap_marker → ⊥) packets
     unmarked =
-        (law_of_whole_file number distance recording before behind carries.values packets
-        (pieces-left before (packets ++ behind) each)
-        (pieces-right packets behind (pieces-right before (packets ++ behind) each))
+        (law_of_complete_file number distance recording before following carries.values packets
+        (pes_packets-left before (packets ++ following) each)
+        (pes_packets-right packets following (pes_packets-right before (packets ++ following) each))
         are_packets carried_are).0
 
-    all : before ++ (packets ++ behind) ≡ before ++ (parts.run ++ (parts.last ∷ behind))
+    all : before ++ (packets ++ following) ≡ before ++ (parts.run ++ (parts.last ∷ following))
     all =
         ap (λ (l : List (List ℕ)). before ++ l)
-        (ap (λ (l : List (List ℕ)). l ++ behind) parts.are
-        ∙ append_assoc parts.run (parts.last ∷ []) behind)
+        (ap (λ (l : List (List ℕ)). l ++ following) parts.are
+        ∙ append_assoc parts.run (parts.last ∷ []) following)
 
     sent : (earlier later : List (List ℕ)) × (next : List ℕ)
-        × (pes_packets m ≡ earlier ++ (parts.run ++ (next ∷ later)))
+        × (sent_pes_packets m ≡ earlier ++ (parts.run ++ (next ∷ later)))
         × (up_to_pts next ≡ up_to_pts parts.last)
     sent =
         law_of_pace number distance pace (frame_by_clock options) m recording before parts.run
-        behind parts.last losses holds far
-        (subst (AllByRecursion IsPiece) all each)
+        following parts.last losses holds far
+        (subst (AllByRecursion IsPesPacket) all each)
         (carried_are ∙ ap concat all)
-        (subst (AllByRecursion (λ (p : List ℕ). p ≡ mark → ⊥)) parts.are unmarked)
+        (subst (AllByRecursion (λ (p : List ℕ). p ≡ gap_marker → ⊥)) parts.are unmarked)
         keep

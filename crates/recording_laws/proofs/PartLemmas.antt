@@ -8,58 +8,58 @@ use Rattle.std.proofs.lemmas.List.{append-nil}
 use Rattle.std.proofs.lemmas.List.Folds.{concat-append}
 use Rattle.std.proofs.Math.Seq.{take-length}
 use Rattle.ttx_pes.proofs.PesHeaderLemmas.{head_complete}
-use Rattle.ttx_pes.specs.Pieces.{IsPiece}
+use Rattle.ttx_pes.specs.PesPackets.{IsPesPacket}
 use Rattle.ttx_pes.specs.Reading.{size_at}
 use Rattle.mpeg_ts.specs.Parts.{Part, Pes, part_bytes, outcome, gap_where}
 use Rattle.mpeg_ts.specs.GoodPackets.{GoodPacket}
 use Rattle.mpeg_ts.specs.Parts.{begins_part, may_be_cut_off, outcomes, part_of, parts_from}
 use Rattle.mpeg_ts.specs.Parts.{with_packet}
-use Rattle.mpeg_ts.specs.Carried.{with_marks}
+use Rattle.mpeg_ts.specs.Carried.{with_gap_markers}
 
 -- The beginning of a PES packet gives its size.
-pub piece-size : (b : List ℕ) → IsPiece b → size_at (take 6 b) ≡ Ok (length b)
-piece-size b h1 = grind (arith, nat_tests, head_complete)
+pub pes_packet-size : (b : List ℕ) → IsPesPacket b → size_at (take 6 b) ≡ Ok (length b)
+pes_packet-size b h1 = grind (arith, nat_tests, head_complete)
 
 -- It is long.
-pub piece-long : (b : List ℕ) → IsPiece b → 184 ≤ length b
-piece-long b h1 = grind (arith, nat_tests)
+pub pes_packet-long : (b : List ℕ) → IsPesPacket b → 184 ≤ length b
+pes_packet-long b h1 = grind (arith, nat_tests)
 
 -- A part that begins a PES packet, and has exactly its bytes.
-pub record IsWhole (part : Part) (bytes : List ℕ) : Type 0 where
+pub record IsCompletePart (part : Part) (bytes : List ℕ) : Type 0 where
   pub begins : part.begins ≡ true
   pub bytes_are : part_bytes part ≡ bytes
-  pub is_piece : IsPiece bytes
+  pub is_pes_packet : IsPesPacket bytes
 
 -- It gives the PES packet.
 pub outcome-whole : (cut_off : Bool) (part : Part) (bytes : List ℕ)
-    → IsWhole part bytes
+    → IsCompletePart part bytes
     → outcome cut_off part ≡ Pes bytes ∷ []
 unfolding outcome
 outcome-whole cut_off part bytes h =
-    let long = piece-long bytes h.is_piece in
-    let size = piece-size bytes h.is_piece in
+    let long = pes_packet-long bytes h.is_pes_packet in
+    let size = pes_packet-size bytes h.is_pes_packet in
     let all = take-length bytes in
     grind (arith, nat_tests, h.begins, h.bytes_are)
 
 -- So do parts of which it is the first.
-pub outcomes-whole : (wrong_behind : Bool) (part : Part) (more : List Part) (bytes : List ℕ)
-    → IsWhole part bytes
-    → outcomes wrong_behind (part ∷ more)
-    ≡ gap_where part.after_break ++ (Pes bytes ∷ outcomes wrong_behind more)
+pub outcomes-whole : (wrong_after : Bool) (part : Part) (more : List Part) (bytes : List ℕ)
+    → IsCompletePart part bytes
+    → outcomes wrong_after (part ∷ more)
+    ≡ gap_where part.after_break ++ (Pes bytes ∷ outcomes wrong_after more)
 unfolding outcomes
-outcomes-whole wrong_behind part more bytes h =
-    rw (outcome-whole (may_be_cut_off wrong_behind more) part bytes h)
+outcomes-whole wrong_after part more bytes h =
+    rw (outcome-whole (may_be_cut_off wrong_after more) part bytes h)
 
 -- Without a break before it, its PES packet is carried next, without a gap marker.
-pub with_marks-whole : (given wrong_behind : Bool) (part : Part) (more : List Part)
+pub with_gap_markers-whole : (given wrong_after : Bool) (part : Part) (more : List Part)
     (bytes : List ℕ)
-    → IsWhole part bytes
+    → IsCompletePart part bytes
     → part.after_break ≡ false
-    → with_marks given false (outcomes wrong_behind (part ∷ more))
-    ≡ bytes ++ with_marks true false (outcomes wrong_behind more)
-unfolding with_marks
-with_marks-whole given wrong_behind part more bytes h whole =
-    rw (outcomes-whole wrong_behind part more bytes h, whole)
+    → with_gap_markers given false (outcomes wrong_after (part ∷ more))
+    ≡ bytes ++ with_gap_markers true false (outcomes wrong_after more)
+unfolding with_gap_markers
+with_gap_markers-whole given wrong_after part more bytes h whole =
+    rw (outcomes-whole wrong_after part more bytes h, whole)
     (elim (cases_Bool given) [ inl e ↦ rw e | inr e ↦ rw e ])
 
 -- ---- parts of good packets

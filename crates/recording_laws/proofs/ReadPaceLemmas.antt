@@ -4,53 +4,53 @@ use Rattle.std.proofs.Common.{◌≡◌, ℕ, ◌+◌, ◌^◌, ◌<◌, ◌≤�
 use Rattle.std.proofs.Common.{subst, arith, Option}
 use Rattle.std.specs.List.{AllByRecursion, AllZip}
 use Rattle.std.specs.Prelude.{unwrap_or}
-use Rattle.ttx_pes.specs.PesPacket.{IsPesPacket, PesValue, header_data_length, pts_bytes}
-use Rattle.ttx_pes.specs.Pieces.{IsPiece}
+use Rattle.ttx_pes.specs.PesGrammar.{IsValidPesPacket, PesValue, header_data_length, pts_bytes}
+use Rattle.ttx_pes.specs.PesPackets.{IsPesPacket}
 use Rattle.ttx_pes.specs.Reading.{pts_bits}
 use Rattle.recording_laws.specs.Pace.{KeepPace, KeepPaceFrom, frame_by, up_to_pts}
 use Rattle.sub_plan.specs.FrameTime.{clock_of}
 use Rattle.sub_plan.specs.Options.{OptionsValue}
 use Rattle.sub_rules.specs.PesFrames.{IsReadAs}
 use Rattle.sub_rules.specs.Transmission.{SentFrame, Transmission}
-use Rattle.sub_rules.proofs.PieceFileLemmas.{packet_is_piece}
+use Rattle.sub_rules.proofs.PesPacketFileLemmas.{packet_is_pes_packet}
 use Rattle.recording_laws.specs.PacedCheck.{frame_by_clock}
 use Rattle.recording_laws.proofs.PacedFrameLemmas.{AreNear, AreNearFrom, numbers}
 
 -- All valid PES packets are PES packets.
-pub are-pieces : (values : List PesValue) (packets : List (List ℕ))
-    → AllZip IsPesPacket values packets
-    → AllByRecursion IsPiece packets
-are-pieces [] [] each = tt
-are-pieces [] (p ∷ packets) each = absurd each
-are-pieces (v ∷ values) [] each = absurd each
-are-pieces (v ∷ values) (p ∷ packets) each =
-    (packet_is_piece v p each.0, are-pieces values packets each.1)
+pub are-pes_packets : (values : List PesValue) (packets : List (List ℕ))
+    → AllZip IsValidPesPacket values packets
+    → AllByRecursion IsPesPacket packets
+are-pes_packets [] [] each = tt
+are-pes_packets [] (p ∷ packets) each = absurd each
+are-pes_packets (v ∷ values) [] each = absurd each
+are-pes_packets (v ∷ values) (p ∷ packets) each =
+    (packet_is_pes_packet v p each.0, are-pes_packets values packets each.1)
 
 -- The bits of a PTS, in its bytes after two flags and a length.
 written-bits : (a b c pts : ℕ) → pts < 2 ^ 33 → pts_bits (a ∷ b ∷ c ∷ pts_bytes pts) ≡ pts
 written-bits a b c pts fits = grind (arith, nat_tests)
 
 -- The bytes of a PES packet up to its PTS give the PTS.
-front-bits : (v : PesValue) (p : List ℕ)
-    → IsPesPacket v p
+prefix-bits : (v : PesValue) (p : List ℕ)
+    → IsValidPesPacket v p
     → pts_bits (drop 6 (up_to_pts p)) ≡ v.pts
-front-bits v p h =
+prefix-bits v p h =
     ap (λ (b : List ℕ). pts_bits (drop 6 (take 14 b))) h.bytes
     ∙ written-bits h.flags h.pts_dts_flags header_data_length v.pts h.pts_fits
 
 module _ (options : OptionsValue) where
   -- So they give its frame.
-  front-frame : (v : PesValue) (p : List ℕ) (s : SentFrame)
-      → IsPesPacket v p
+  prefix-frame : (v : PesValue) (p : List ℕ) (s : SentFrame)
+      → IsValidPesPacket v p
       → IsReadAs (clock_of options) v s
       → frame_by (frame_by_clock options) p ≡ s.frame
-  front-frame v p s h read =
-      ap (λ (pts : ℕ). unwrap_or (clock_of options pts) 0) (front-bits v p h)
+  prefix-frame v p s h read =
+      ap (λ (pts : ℕ). unwrap_or (clock_of options pts) 0) (prefix-bits v p h)
       ∙ ap (λ (frame : Option ℕ). unwrap_or frame 0) read.frame
 
   keeps-from : (pace frame : ℕ) (values : List PesValue) (packets : List (List ℕ))
       (sendings : Transmission)
-      → AllZip IsPesPacket values packets
+      → AllZip IsValidPesPacket values packets
       → AllZip (IsReadAs (clock_of options)) values sendings
       → AreNearFrom pace frame (numbers sendings)
       → KeepPaceFrom (frame_by_clock options) pace frame packets
@@ -58,7 +58,7 @@ module _ (options : OptionsValue) where
   keeps-from pace frame [] (p ∷ packets) sendings each read near = absurd each
   keeps-from pace frame (v ∷ values) (p ∷ packets) [] each read near = absurd read
   keeps-from pace frame (v ∷ values) (p ∷ packets) (s ∷ sendings) each read near =
-      let own = front-frame v p s each.0 read.0 in
+      let own = prefix-frame v p s each.0 read.0 in
       let rest = keeps-from pace s.frame values packets sendings each.1 read.1 near.1 in (
         subst (λ (f : ℕ). f ≤ frame + pace) (sym own) near.0,
         subst (λ (f : ℕ). KeepPaceFrom (frame_by_clock options) pace f packets) (sym own) rest,
@@ -67,7 +67,7 @@ module _ (options : OptionsValue) where
   -- They keep the maximum distance.
   pub keeps-pace : (pace : ℕ) (values : List PesValue) (packets : List (List ℕ))
       (sendings : Transmission)
-      → AllZip IsPesPacket values packets
+      → AllZip IsValidPesPacket values packets
       → AllZip (IsReadAs (clock_of options)) values sendings
       → AreNear pace (numbers sendings)
       → KeepPace (frame_by_clock options) pace packets
@@ -76,5 +76,5 @@ module _ (options : OptionsValue) where
   keeps-pace pace (v ∷ values) (p ∷ packets) [] each read near = absurd read
   keeps-pace pace (v ∷ values) (p ∷ packets) (s ∷ sendings) each read near =
       subst (λ (f : ℕ). KeepPaceFrom (frame_by_clock options) pace f packets)
-      (sym (front-frame v p s each.0 read.0))
+      (sym (prefix-frame v p s each.0 read.0))
       (keeps-from pace s.frame values packets sendings each.1 read.1 near)

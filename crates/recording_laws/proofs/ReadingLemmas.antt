@@ -6,80 +6,84 @@ use Rattle.std.proofs.Common.{◌∷◌, ◌++◌, length, refl, sym, ap, ◌∙
 use Rattle.std.specs.Bool.{⊤}
 use Rattle.std.proofs.lemmas.Bool.{cases_Bool}
 use Rattle.std.specs.List.{AllByRecursion}
-use Rattle.mpeg_ts.specs.Carried.{mark}
-use Rattle.recording_laws.specs.Losses.{Fated, any_wrong, arrives, is_wrong_behind, units_before}
+use Rattle.mpeg_ts.specs.Carried.{gap_marker}
+use Rattle.recording_laws.specs.Losses.{Fated, any_wrong, arrives, is_wrong_after, units_before}
 use Rattle.recording_laws.specs.Multiplex.{SentPes, carriers_of_pes}
 use Rattle.recording_laws.specs.Pace.{AreFarApart, AreFarFrom, KeepPace, KeepPaceFrom, frame_by}
 use Rattle.recording_laws.specs.Pace.{up_to_pts}
-use Rattle.recording_laws.proofs.PieceLemmas.{HasNoMark, heads, marks_where, not-empty}
-use Rattle.recording_laws.proofs.PieceLemmas.{sent_bytes, tails}
+use Rattle.recording_laws.proofs.PesPacketLemmas.{HasNoGapMarker, heads, gap_markers_where}
+use Rattle.recording_laws.proofs.PesPacketLemmas.{not-empty}
+use Rattle.recording_laws.proofs.PesPacketLemmas.{sent_bytes, tails}
 
 -- The state before a result: there was no result yet; there was one, and a gap since; or the last
 -- one begins like this PES packet, with so many carriers between its first one and the next PES
 -- packet, and perhaps PES packets without a result among them.
-pub data Held : Type 0 where
-  Nothing : Held
-  Marked : Held
-  After : List ℕ → SentPes Fated → ℕ → Bool → Held
+pub data Previous : Type 0 where
+  Nothing : Previous
+  Marked : Previous
+  After : List ℕ → SentPes Fated → ℕ → Bool → Previous
 
 -- A PES packet without a result comes between.
-abbrev pub skip : Held → SentPes Fated → Held
+abbrev pub skip : Previous → SentPes Fated → Previous
 skip Nothing t = Nothing
 skip Marked t = Marked
 skip (After x s between skipped) t = After x s (between + length (carriers_of_pes t)) true
 
 -- A gap marker may be missing before the next result: if there was none; or if the one before is as
 -- it was sent and the next one was sent after it, unless 16 carriers are between them.
-abbrev pub Fits : Held → Bool → Type 0
+abbrev pub Fits : Previous → Bool → Type 0
 Fits Nothing marked = ⊤
 Fits Marked marked = marked ≡ true
 Fits (After x s between skipped) marked =
     marked ≡ false → (16 ≤ between) ⊎ ((skipped ≡ false) × (x ≡ s.bytes))
 
 -- There was a result.
-abbrev pub is_held : Held → Bool
-is_held Nothing = false
-is_held Marked = true
-is_held (After x s between skipped) = true
+abbrev pub has_previous : Previous → Bool
+has_previous Nothing = false
+has_previous Marked = true
+has_previous (After x s between skipped) = true
 
 -- There was a gap since, if few are missing in a row.
-abbrev pub is_gap : Held → Bool
+abbrev pub is_gap : Previous → Bool
 is_gap Nothing = true
 is_gap Marked = true
-is_gap (After x s between skipped) = skipped || is_wrong_behind s
+is_gap (After x s between skipped) = skipped || is_wrong_after s
 
 -- If few are missing in a row, there is a gap marker exactly if there was a gap.
-abbrev pub IsMarkExact : Bool → Held → SentPes Fated → Bool → Type 0
-IsMarkExact few held s marked =
-    few ≡ true → marked ≡ (is_held held && (is_gap held || any_wrong (units_before s.first)))
+abbrev pub IsGapMarkerExact : Bool → Previous → SentPes Fated → Bool → Type 0
+IsGapMarkerExact few previous s marked =
+    few ≡ true → marked ≡
+    (has_previous previous && (is_gap previous || any_wrong (units_before s.first)))
 
 -- The results for PES packets, in order; each begins like its PES packet. If few are missing in a
 -- row they are those that arrive, each as it was sent.
-abbrev pub Reads : Bool → Held → List (SentPes Fated) → List (List ℕ) → Type 0
-Reads few held [] pieces =
-    (marked : Bool) × (pieces ≡ marks_where marked) × (marked ≡ true → is_held held ≡ true)
-Reads few held (s ∷ more) pieces =
-    ((few ≡ true → arrives s ≡ false) × Reads few (skip held s) more pieces)
+abbrev pub Reads : Bool → Previous → List (SentPes Fated) → List (List ℕ) → Type 0
+Reads few previous [] pes_packets =
+    (marked : Bool) × (pes_packets ≡ gap_markers_where marked) × (marked ≡ true → has_previous
+    previous ≡ true)
+Reads few previous (s ∷ more) pes_packets =
+    ((few ≡ true → arrives s ≡ false) × Reads few (skip previous s) more pes_packets)
     ⊎ ((marked : Bool) × (x : List ℕ) × (rest : List (List ℕ))
-    × (pieces ≡ marks_where marked ++ (x ∷ rest))
+    × (pes_packets ≡ gap_markers_where marked ++ (x ∷ rest))
     × (up_to_pts x ≡ up_to_pts s.bytes)
-    × Fits held marked
+    × Fits previous marked
     × Reads few (After x s (length s.others) false) more rest
     × (few ≡ true → (arrives s ≡ true) × (x ≡ s.bytes))
-    × IsMarkExact few held s marked)
+    × IsGapMarkerExact few previous s marked)
 
 -- What may follow a gap may follow a PES packet with a gap after it.
 pub reads-marked : (few : Bool) (x : List ℕ) (s : SentPes Fated) (between : ℕ) (skipped : Bool)
-    (sent : List (SentPes Fated)) (pieces : List (List ℕ))
-    → (few ≡ true → (skipped || is_wrong_behind s) ≡ true)
-    → Reads few Marked sent pieces
-    → Reads few (After x s between skipped) sent pieces
-reads-marked few x s between skipped [] pieces gap h = (h.0, h.1, λ e. refl)
-reads-marked few x s between skipped (t ∷ more) pieces gap h = elim h [
+    (sent : List (SentPes Fated)) (pes_packets : List (List ℕ))
+    → (few ≡ true → (skipped || is_wrong_after s) ≡ true)
+    → Reads few Marked sent pes_packets
+    → Reads few (After x s between skipped) sent pes_packets
+reads-marked few x s between skipped [] pes_packets gap h = (h.0, h.1, λ e. refl)
+reads-marked few x s between skipped (t ∷ more) pes_packets gap h = elim h [
   | inl later ↦
       inl (
         later.0,
-        reads-marked few x s (between + length (carriers_of_pes t)) true more pieces (λ e. refl)
+        reads-marked few x s (between + length (carriers_of_pes t)) true more pes_packets
+            (λ e. refl)
             later.1,
       )
   | inr here ↦
@@ -98,25 +102,26 @@ reads-marked few x s between skipped (t ∷ more) pieces gap h = elim h [
 ]
 
 -- They are gap markers.
-marks-same : (marked : Bool) → AllByRecursion (λ p. p ≡ mark) (marks_where marked)
-marks-same true = (refl, tt)
-marks-same false = tt
+gap_markers-same : (marked : Bool) → AllByRecursion (λ p. p ≡ gap_marker) (gap_markers_where marked)
+gap_markers-same true = (refl, tt)
+gap_markers-same false = tt
 
 -- ---- where a result begins
 
 -- None of these is another result.
-pub no-piece : (pieces before tail : List (List ℕ)) (x : List ℕ)
-    → AllByRecursion (λ p. p ≡ mark) pieces
-    → pieces ≡ before ++ (x ∷ tail)
-    → x ≡ mark
-no-piece [] before tail x all e = absurd (not-empty before tail x e)
-no-piece (p ∷ pieces) [] tail x all e = sym (heads p x pieces tail e) ∙ all.0
-no-piece (p ∷ pieces) (q ∷ before) tail x all e =
-    no-piece pieces before tail x all.1 (tails p q pieces (before ++ (x ∷ tail)) e)
+pub no-pes_packet : (pes_packets before tail : List (List ℕ)) (x : List ℕ)
+    → AllByRecursion (λ p. p ≡ gap_marker) pes_packets
+    → pes_packets ≡ before ++ (x ∷ tail)
+    → x ≡ gap_marker
+no-pes_packet [] before tail x all e = absurd (not-empty before tail x e)
+no-pes_packet (p ∷ pes_packets) [] tail x all e = sym (heads p x pes_packets tail e) ∙ all.0
+no-pes_packet (p ∷ pes_packets) (q ∷ before) tail x all e =
+    no-pes_packet pes_packets before tail x all.1 (tails p q pes_packets (before ++ (x ∷ tail)) e)
 
 -- `IsFar` is a property of PES packets, and of those after the first of them.
 module _ (few : Bool) (IsFar : List (SentPes Fated) → Type 0)
-    (behind-far : (s : SentPes Fated) (more : List (SentPes Fated)) → IsFar (s ∷ more) → IsFar more)
+    (following-far : (s : SentPes Fated) (more : List (SentPes Fated)) → IsFar (s ∷ more) → IsFar
+    more)
   where
     -- A result other than a gap marker began as one of them, and equals it if few are missing.
     pub record Located
@@ -126,22 +131,22 @@ module _ (few : Bool) (IsFar : List (SentPes Fated) → Type 0)
       pub here : SentPes Fated
       pub later : List (SentPes Fated)
       pub sent_are : sent_bytes sent ≡ earlier ++ (here.bytes ∷ sent_bytes later)
-      pub front : up_to_pts x ≡ up_to_pts here.bytes
+      pub prefix : up_to_pts x ≡ up_to_pts here.bytes
       pub reads : Reads few (After x here (length here.others) false) later tail
       pub as_sent : few ≡ true → x ≡ here.bytes
       pub far : IsFar (here ∷ later)
 
     -- With one more.
-    located-behind : (x : List ℕ) (tail : List (List ℕ)) (s : SentPes Fated)
+    located-following : (x : List ℕ) (tail : List (List ℕ)) (s : SentPes Fated)
         (more : List (SentPes Fated))
         → Located x tail more
         → Located x tail (s ∷ more)
-    located-behind x tail s more h = record {
+    located-following x tail s more h = record {
       earlier = s.bytes ∷ h.earlier;
       here = h.here;
       later = h.later;
       sent_are = ap (λ (l : List (List ℕ)). s.bytes ∷ l) h.sent_are;
-      front = h.front;
+      prefix = h.prefix;
       reads = h.reads;
       as_sent = h.as_sent;
       far = h.far;
@@ -157,66 +162,69 @@ module _ (few : Bool) (IsFar : List (SentPes Fated) → Type 0)
         → IsFar (s ∷ more)
         → ((others : List (List ℕ)) → rest ≡ others ++ (x ∷ tail) → Located x tail more)
         → Located x tail (s ∷ more)
-    located-here s more y rest [] tail x e front reads as_sent far go =
+    located-here s more y rest [] tail x e prefix reads as_sent far go =
         let same = heads y x rest tail e in
-        let behind = tails y x rest tail e in
+        let following = tails y x rest tail e in
         record {
           earlier = [];
           here = s;
           later = more;
           sent_are = refl;
-          front = ap up_to_pts (sym same) ∙ front;
+          prefix = ap up_to_pts (sym same) ∙ prefix;
           reads =
               subst (λ (z : List ℕ). Reads few (After z s (length s.others) false) more tail) same
-              (subst (Reads few (After y s (length s.others) false) more) behind reads);
+              (subst (Reads few (After y s (length s.others) false) more) following reads);
           as_sent = λ f. sym same ∙ as_sent f;
           far = far;
         }
-    located-here s more y rest (z ∷ before) tail x e front reads as_sent far go =
-        located-behind x tail s more (go before (tails y z rest (before ++ (x ∷ tail)) e))
+    located-here s more y rest (z ∷ before) tail x e prefix reads as_sent far go =
+        located-following x tail s more (go before (tails y z rest (before ++ (x ∷ tail)) e))
 
     -- After a gap marker, or none.
     located-marked : (marked : Bool) (s : SentPes Fated) (more : List (SentPes Fated)) (y : List ℕ)
         (rest before tail : List (List ℕ)) (x : List ℕ)
-        → marks_where marked ++ (y ∷ rest) ≡ before ++ (x ∷ tail)
-        → (x ≡ mark → ⊥)
+        → gap_markers_where marked ++ (y ∷ rest) ≡ before ++ (x ∷ tail)
+        → (x ≡ gap_marker → ⊥)
         → up_to_pts y ≡ up_to_pts s.bytes
         → Reads few (After y s (length s.others) false) more rest
         → (few ≡ true → y ≡ s.bytes)
         → IsFar (s ∷ more)
         → ((others : List (List ℕ)) → rest ≡ others ++ (x ∷ tail) → Located x tail more)
         → Located x tail (s ∷ more)
-    located-marked false s more y rest before tail x e none front reads as_sent far go =
-        located-here s more y rest before tail x e front reads as_sent far go
-    located-marked true s more y rest [] tail x e none front reads as_sent far go =
-        absurd (none (sym (heads mark x (y ∷ rest) tail e)))
-    located-marked true s more y rest (z ∷ before) tail x e none front reads as_sent far go =
-        located-here s more y rest before tail x (tails mark z (y ∷ rest) (before ++ (x ∷ tail)) e)
-        front reads as_sent far go
+    located-marked false s more y rest before tail x e none prefix reads as_sent far go =
+        located-here s more y rest before tail x e prefix reads as_sent far go
+    located-marked true s more y rest [] tail x e none prefix reads as_sent far go =
+        absurd (none (sym (heads gap_marker x (y ∷ rest) tail e)))
+    located-marked true s more y rest (z ∷ before) tail x e none prefix reads as_sent far go =
+        located-here s more y rest before tail x
+        (tails gap_marker z (y ∷ rest) (before ++ (x ∷ tail)) e)
+        prefix reads as_sent far go
 
     -- Where it begins.
-    pub located : (held : Held) (sent : List (SentPes Fated)) (pieces before tail : List (List ℕ))
+    pub located : (previous : Previous) (sent : List (SentPes Fated)) (pes_packets before tail :
+        List (List ℕ))
         (x : List ℕ)
-        → Reads few held sent pieces
-        → pieces ≡ before ++ (x ∷ tail)
-        → (x ≡ mark → ⊥)
+        → Reads few previous sent pes_packets
+        → pes_packets ≡ before ++ (x ∷ tail)
+        → (x ≡ gap_marker → ⊥)
         → IsFar sent
         → Located x tail sent
-    located held [] pieces before tail x reads e none far =
+    located previous [] pes_packets before tail x reads e none far =
         absurd
         (none
-        (no-piece pieces before tail x
-        (subst (AllByRecursion (λ p. p ≡ mark)) (sym reads.1) (marks-same reads.0)) e))
-    located held (s ∷ more) pieces before tail x reads e none far = elim reads [
+        (no-pes_packet pes_packets before tail x
+        (subst (AllByRecursion (λ p. p ≡ gap_marker)) (sym reads.1) (gap_markers-same reads.0)) e))
+    located previous (s ∷ more) pes_packets before tail x reads e none far = elim reads [
       | inl later ↦
-          located-behind x tail s more
-          (located (skip held s) more pieces before tail x later.1 e none (behind-far s more far))
+          located-following x tail s more
+          (located (skip previous s) more pes_packets before tail x later.1 e none
+          (following-far s more far))
       | inr here ↦
           located-marked here.0 s more here.1 here.2 before tail x (sym here.3 ∙ e) none here.4
           here.6 (λ f. (here.7 f).1) far
           (λ others f.
           located (After here.1 s (length s.others) false) more here.2 others tail x here.6 f none
-          (behind-far s more far))
+          (following-far s more far))
     ]
 
 module _ (frame_of : List ℕ → ℕ) (pace : ℕ) where
@@ -230,7 +238,7 @@ module _ (frame_of : List ℕ → ℕ) (pace : ℕ) where
     later : List (List ℕ)
     next : List ℕ
     sent_are : sent_bytes more ≡ run ++ (next ∷ later)
-    front : up_to_pts next ≡ up_to_pts last
+    prefix : up_to_pts next ≡ up_to_pts last
 
   -- 16 carriers are too many to keep the maximum distance.
   too-far : (x y a b : List ℕ) (between : ℕ)
@@ -262,41 +270,42 @@ module _ (frame_of : List ℕ → ℕ) (pace : ℕ) where
   -- The next result is that of this PES packet.
   follows-here : (x : List ℕ) (s : SentPes Fated) (between : ℕ) (skipped : Bool)
       (t : SentPes Fated) (more : List (SentPes Fated)) (y : List ℕ) (rest run : List (List ℕ))
-      (last : List ℕ) (behind : List (List ℕ))
-      → y ∷ rest ≡ run ++ (last ∷ behind)
-      → HasNoMark (run ++ last ∷ [])
+      (last : List ℕ) (following : List (List ℕ))
+      → y ∷ rest ≡ run ++ (last ∷ following)
+      → HasNoGapMarker (run ++ last ∷ [])
       → KeepPaceFrom frame_of pace (frame_by frame_of x) (run ++ last ∷ [])
       → up_to_pts x ≡ up_to_pts s.bytes
       → up_to_pts y ≡ up_to_pts t.bytes
       → (16 ≤ between) ⊎ ((skipped ≡ false) × (x ≡ s.bytes))
       → (16 ≤ between → frame_by frame_of s.bytes + pace < frame_by frame_of t.bytes)
       → ((others : List (List ℕ))
-      → rest ≡ others ++ (last ∷ behind)
-      → HasNoMark (others ++ last ∷ [])
+      → rest ≡ others ++ (last ∷ following)
+      → HasNoGapMarker (others ++ last ∷ [])
       → KeepPaceFrom frame_of pace (frame_by frame_of y) (others ++ last ∷ [])
       → Follows y t false more others last)
       → Follows x s skipped (t ∷ more) run last
-  follows-here x s between skipped t more y rest [] last behind e none keep front second fits far
+  follows-here x s between skipped t more y rest [] last following e none keep prefix second fits
+      far
       go =
-      let same = heads y last rest behind e in
+      let same = heads y last rest following e in
       let close = subst (λ (z : List ℕ). frame_by frame_of z ≤ frame_by frame_of x + pace)
       (sym same) keep.0 in
-      let first = as-sent x y s t between skipped front second far close fits in
+      let first = as-sent x y s t between skipped prefix second far close fits in
       record {
         unskipped = first.0;
         as_sent = first.1;
         later = sent_bytes more;
         next = t.bytes;
         sent_are = refl;
-        front = sym second ∙ ap up_to_pts same;
+        prefix = sym second ∙ ap up_to_pts same;
       }
-  follows-here x s between skipped t more y rest (z ∷ run) last behind e none keep front second
+  follows-here x s between skipped t more y rest (z ∷ run) last following e none keep prefix second
       fits far go =
-      let same = heads y z rest (run ++ (last ∷ behind)) e in
+      let same = heads y z rest (run ++ (last ∷ following)) e in
       let close = subst (λ (w : List ℕ). frame_by frame_of w ≤ frame_by frame_of x + pace)
       (sym same) keep.0 in
-      let first = as-sent x y s t between skipped front second far close fits in
-      let more_is = go run (tails y z rest (run ++ (last ∷ behind)) e) none.1
+      let first = as-sent x y s t between skipped prefix second far close fits in
+      let more_is = go run (tails y z rest (run ++ (last ∷ following)) e) none.1
       (subst (λ (w : List ℕ). KeepPaceFrom frame_of pace (frame_by frame_of w) (run ++ last ∷ []))
       (sym same) keep.1) in
       record {
@@ -305,46 +314,48 @@ module _ (frame_of : List ℕ → ℕ) (pace : ℕ) where
         later = more_is.later;
         next = more_is.next;
         sent_are = cc (more_is.as_sent, same, more_is.sent_are);
-        front = more_is.front;
+        prefix = more_is.prefix;
       }
 
   -- After a gap marker, or none.
   follows-marked : (marked : Bool) (x : List ℕ) (s : SentPes Fated) (between : ℕ)
       (skipped : Bool) (t : SentPes Fated) (more : List (SentPes Fated)) (y : List ℕ)
-      (rest run : List (List ℕ)) (last : List ℕ) (behind : List (List ℕ))
-      → marks_where marked ++ (y ∷ rest) ≡ run ++ (last ∷ behind)
-      → HasNoMark (run ++ last ∷ [])
+      (rest run : List (List ℕ)) (last : List ℕ) (following : List (List ℕ))
+      → gap_markers_where marked ++ (y ∷ rest) ≡ run ++ (last ∷ following)
+      → HasNoGapMarker (run ++ last ∷ [])
       → KeepPaceFrom frame_of pace (frame_by frame_of x) (run ++ last ∷ [])
       → up_to_pts x ≡ up_to_pts s.bytes
       → up_to_pts y ≡ up_to_pts t.bytes
       → Fits (After x s between skipped) marked
       → (16 ≤ between → frame_by frame_of s.bytes + pace < frame_by frame_of t.bytes)
       → ((others : List (List ℕ))
-      → rest ≡ others ++ (last ∷ behind)
-      → HasNoMark (others ++ last ∷ [])
+      → rest ≡ others ++ (last ∷ following)
+      → HasNoGapMarker (others ++ last ∷ [])
       → KeepPaceFrom frame_of pace (frame_by frame_of y) (others ++ last ∷ [])
       → Follows y t false more others last)
       → Follows x s skipped (t ∷ more) run last
-  follows-marked false x s between skipped t more y rest run last behind e none keep front second
+  follows-marked false x s between skipped t more y rest run last following e none keep prefix
+      second
       fits far go =
-      follows-here x s between skipped t more y rest run last behind e none keep front second
+      follows-here x s between skipped t more y rest run last following e none keep prefix second
       (fits refl) far go
-  follows-marked true x s between skipped t more y rest [] last behind e none keep front second
+  follows-marked true x s between skipped t more y rest [] last following e none keep prefix second
       fits far go =
-      absurd (none.0 (sym (heads mark last (y ∷ rest) behind e)))
-  follows-marked true x s between skipped t more y rest (z ∷ run) last behind e none keep front
+      absurd (none.0 (sym (heads gap_marker last (y ∷ rest) following e)))
+  follows-marked true x s between skipped t more y rest (z ∷ run) last following e none keep prefix
       second fits far go =
-      absurd (none.0 (sym (heads mark z (y ∷ rest) (run ++ (last ∷ behind)) e)))
+      absurd (none.0 (sym (heads gap_marker z (y ∷ rest) (run ++ (last ∷ following)) e)))
 
   -- No result follows.
-  nothing-follows : (rest run : List (List ℕ)) (last : List ℕ) (behind : List (List ℕ))
-      → AllByRecursion (λ p. p ≡ mark) rest
-      → rest ≡ run ++ (last ∷ behind)
-      → HasNoMark (run ++ last ∷ [])
+  nothing-follows : (rest run : List (List ℕ)) (last : List ℕ) (following : List (List ℕ))
+      → AllByRecursion (λ p. p ≡ gap_marker) rest
+      → rest ≡ run ++ (last ∷ following)
+      → HasNoGapMarker (run ++ last ∷ [])
       → ⊥
-  nothing-follows rest [] last behind all e none = none.0 (no-piece rest [] behind last all e)
-  nothing-follows rest (z ∷ run) last behind all e none =
-      none.0 (no-piece rest [] (run ++ (last ∷ behind)) z all e)
+  nothing-follows rest [] last following all e none = none.0 (no-pes_packet rest [] following last
+      all e)
+  nothing-follows rest (z ∷ run) last following all e none =
+      none.0 (no-pes_packet rest [] (run ++ (last ∷ following)) z all e)
 
   -- It was skipped.
   follows-later : (x : List ℕ) (s : SentPes Fated) (skipped : Bool) (t : SentPes Fated)
@@ -357,30 +368,32 @@ module _ (frame_of : List ℕ → ℕ) (pace : ℕ) where
   -- after it.
   follows : (x : List ℕ) (s : SentPes Fated) (between : ℕ) (skipped : Bool)
       (more : List (SentPes Fated)) (rest run : List (List ℕ)) (last : List ℕ)
-      (behind : List (List ℕ))
+      (following : List (List ℕ))
       → Reads false (After x s between skipped) more rest
-      → rest ≡ run ++ (last ∷ behind)
-      → HasNoMark (run ++ last ∷ [])
+      → rest ≡ run ++ (last ∷ following)
+      → HasNoGapMarker (run ++ last ∷ [])
       → KeepPaceFrom frame_of pace (frame_by frame_of x) (run ++ last ∷ [])
       → up_to_pts x ≡ up_to_pts s.bytes
       → AreFarFrom frame_of pace (frame_by frame_of s.bytes) between more
       → AreFarApart frame_of pace more
       → Follows x s skipped more run last
-  follows x s between skipped [] rest run last behind reads e none keep front far apart =
+  follows x s between skipped [] rest run last following reads e none keep prefix far apart =
       absurd
-      (nothing-follows rest run last behind
-      (subst (AllByRecursion (λ p. p ≡ mark)) (sym reads.1) (marks-same reads.0)) e none)
-  follows x s between skipped (t ∷ more) rest run last behind reads e none keep front far apart =
+      (nothing-follows rest run last following
+      (subst (AllByRecursion (λ p. p ≡ gap_marker)) (sym reads.1) (gap_markers-same reads.0)) e
+      none)
+  follows x s between skipped (t ∷ more) rest run last following reads e none keep prefix far
+      apart =
       elim reads [
         | inl later ↦
             follows-later x s skipped t more run last
-            (follows x s (between + length (carriers_of_pes t)) true more rest run last behind
-            later.1 e none keep front far.1 apart.1)
+            (follows x s (between + length (carriers_of_pes t)) true more rest run last following
+            later.1 e none keep prefix far.1 apart.1)
         | inr here ↦
-            follows-marked here.0 x s between skipped t more here.1 here.2 run last behind
-            (sym here.3 ∙ e) none keep front here.4 here.5 far.0
+            follows-marked here.0 x s between skipped t more here.1 here.2 run last following
+            (sym here.3 ∙ e) none keep prefix here.4 here.5 far.0
             (λ others f unmarked paced.
-            follows here.1 t (length t.others) false more here.2 others last behind here.6 f
+            follows here.1 t (length t.others) false more here.2 others last following here.6 f
             unmarked paced here.4 apart.0 apart.1)
       ]
 
@@ -391,101 +404,103 @@ module _ (frame_of : List ℕ → ℕ) (pace : ℕ) where
     pub later : List (List ℕ)
     pub next : List ℕ
     pub sent_are : sent_bytes sent ≡ earlier ++ (run ++ (next ∷ later))
-    pub front : up_to_pts next ≡ up_to_pts last
+    pub prefix : up_to_pts next ≡ up_to_pts last
 
   -- Results without a gap marker among them, which keep the maximum distance, were sent one after
   -- another.
-  pub read-run : (held : Held) (sent : List (SentPes Fated)) (before run : List (List ℕ))
-      (last : List ℕ) (behind : List (List ℕ))
-      → Reads false held sent (before ++ (run ++ (last ∷ behind)))
-      → HasNoMark (run ++ last ∷ [])
+  pub read-run : (previous : Previous) (sent : List (SentPes Fated)) (before run : List (List ℕ))
+      (last : List ℕ) (following : List (List ℕ))
+      → Reads false previous sent (before ++ (run ++ (last ∷ following)))
+      → HasNoGapMarker (run ++ last ∷ [])
       → KeepPace frame_of pace (run ++ last ∷ [])
       → AreFarApart frame_of pace sent
       → WasSent sent run last
-  read-run held sent before [] last behind reads none keep far =
+  read-run previous sent before [] last following reads none keep far =
       let found =
-      located false (AreFarApart frame_of pace) (λ s more far. far.1) held sent
-      (before ++ (last ∷ behind)) before behind last reads refl none.0 far in
+      located false (AreFarApart frame_of pace) (λ s more far. far.1) previous sent
+      (before ++ (last ∷ following)) before following last reads refl none.0 far in
       record {
         earlier = found.earlier;
         later = sent_bytes found.later;
         next = found.here.bytes;
         sent_are = found.sent_are;
-        front = sym found.front;
+        prefix = sym found.prefix;
       }
-  read-run held sent before (x ∷ run) last behind reads none keep far =
+  read-run previous sent before (x ∷ run) last following reads none keep far =
       let found =
-      located false (AreFarApart frame_of pace) (λ s more far. far.1) held sent
-      (before ++ (x ∷ (run ++ (last ∷ behind)))) before (run ++ (last ∷ behind)) x reads refl none.0
+      located false (AreFarApart frame_of pace) (λ s more far. far.1) previous sent
+      (before ++ (x ∷ (run ++ (last ∷ following)))) before (run ++ (last ∷ following)) x reads refl
+      none.0
       far in
-      let behind_it =
-      follows x found.here (length found.here.others) false found.later (run ++ (last ∷ behind))
-      run last behind found.reads refl none.1 keep found.front found.far.0 found.far.1 in
+      let after_it =
+      follows x found.here (length found.here.others) false found.later (run ++ (last ∷ following))
+      run last following found.reads refl none.1 keep found.prefix found.far.0 found.far.1 in
       record {
         earlier = found.earlier;
-        later = behind_it.later;
-        next = behind_it.next;
+        later = after_it.later;
+        next = after_it.next;
         sent_are =
             found.sent_are
             ∙ ap (λ (l : List (List ℕ)). found.earlier ++ l)
-            (cc (behind_it.as_sent, behind_it.sent_are));
-        front = behind_it.front;
+            (cc (after_it.as_sent, after_it.sent_are));
+        prefix = after_it.prefix;
       }
 
 -- ---- if few are missing
 
 -- After a gap a gap marker comes first.
-mark-first : (x : List ℕ) (s : SentPes Fated) (between : ℕ) (sent : List (SentPes Fated))
-    (pieces : List (List ℕ)) (y : List ℕ) (tail : List (List ℕ))
-    → Reads true (After x s between true) sent pieces
-    → pieces ≡ y ∷ tail
-    → y ≡ mark
-mark-first x s between [] pieces y tail reads e =
-    no-piece pieces [] tail y
-    (subst (AllByRecursion (λ p. p ≡ mark)) (sym reads.1) (marks-same reads.0)) e
-mark-first x s between (t ∷ more) pieces y tail reads e = elim reads [
+gap_marker-first : (x : List ℕ) (s : SentPes Fated) (between : ℕ) (sent : List (SentPes Fated))
+    (pes_packets : List (List ℕ)) (y : List ℕ) (tail : List (List ℕ))
+    → Reads true (After x s between true) sent pes_packets
+    → pes_packets ≡ y ∷ tail
+    → y ≡ gap_marker
+gap_marker-first x s between [] pes_packets y tail reads e =
+    no-pes_packet pes_packets [] tail y
+    (subst (AllByRecursion (λ p. p ≡ gap_marker)) (sym reads.1) (gap_markers-same reads.0)) e
+gap_marker-first x s between (t ∷ more) pes_packets y tail reads e = elim reads [
   | inl later ↦
-      mark-first x s (between + length (carriers_of_pes t)) more pieces y tail later.1 e
+      gap_marker-first x s (between + length (carriers_of_pes t)) more pes_packets y tail later.1 e
   | inr here ↦
       sym
-      (heads mark y (here.1 ∷ here.2) tail
-      (ap (λ (b : Bool). marks_where b ++ (here.1 ∷ here.2)) (sym (here.8 refl))
+      (heads gap_marker y (here.1 ∷ here.2) tail
+      (ap (λ (b : Bool). gap_markers_where b ++ (here.1 ∷ here.2)) (sym (here.8 refl))
       ∙ sym here.3 ∙ e))
 ]
 
 -- What follows a PES packet without a gap marker was sent after it.
 pub sent-next : (x : List ℕ) (s : SentPes Fated) (between : ℕ) (sent : List (SentPes Fated))
-    (pieces run behind : List (List ℕ))
-    → Reads true (After x s between false) sent pieces
-    → pieces ≡ run ++ behind
-    → HasNoMark run
+    (pes_packets run following : List (List ℕ))
+    → Reads true (After x s between false) sent pes_packets
+    → pes_packets ≡ run ++ following
+    → HasNoGapMarker run
     → (later : List (List ℕ)) × (sent_bytes sent ≡ run ++ later)
-sent-next x s between sent pieces [] behind reads e none = (sent_bytes sent, refl)
-sent-next x s between [] pieces (y ∷ run) behind reads e none =
+sent-next x s between sent pes_packets [] following reads e none = (sent_bytes sent, refl)
+sent-next x s between [] pes_packets (y ∷ run) following reads e none =
     absurd
     (none.0
-    (no-piece pieces [] (run ++ behind) y
-    (subst (AllByRecursion (λ p. p ≡ mark)) (sym reads.1) (marks-same reads.0)) e))
-sent-next x s between (t ∷ more) pieces (y ∷ run) behind reads e none = elim reads [
+    (no-pes_packet pes_packets [] (run ++ following) y
+    (subst (AllByRecursion (λ p. p ≡ gap_marker)) (sym reads.1) (gap_markers-same reads.0)) e))
+sent-next x s between (t ∷ more) pes_packets (y ∷ run) following reads e none = elim reads [
   | inl later ↦
       absurd
       (none.0
-      (mark-first x s (between + length (carriers_of_pes t)) more pieces y (run ++ behind) later.1
+      (gap_marker-first x s (between + length (carriers_of_pes t)) more pes_packets y
+      (run ++ following) later.1
       e))
   | inr here ↦ elim (cases_Bool here.0) [
     | inl is ↦
         absurd
         (none.0
         (sym
-        (heads mark y (here.1 ∷ here.2) (run ++ behind)
-        (ap (λ (b : Bool). marks_where b ++ (here.1 ∷ here.2)) (sym is) ∙ sym here.3 ∙ e))))
+        (heads gap_marker y (here.1 ∷ here.2) (run ++ following)
+        (ap (λ (b : Bool). gap_markers_where b ++ (here.1 ∷ here.2)) (sym is) ∙ sym here.3 ∙ e))))
     | inr not ↦
         let same =
-        ap (λ (b : Bool). marks_where b ++ (here.1 ∷ here.2)) (sym not) ∙ sym here.3 ∙ e in
+        ap (λ (b : Bool). gap_markers_where b ++ (here.1 ∷ here.2)) (sym not) ∙ sym here.3 ∙ e in
         let next =
-        sent-next here.1 t (length t.others) more here.2 run behind here.6
-        (tails here.1 y here.2 (run ++ behind) same) none.1 in
-        let first = sym (here.7 refl).1 ∙ heads here.1 y here.2 (run ++ behind) same in
+        sent-next here.1 t (length t.others) more here.2 run following here.6
+        (tails here.1 y here.2 (run ++ following) same) none.1 in
+        let first = sym (here.7 refl).1 ∙ heads here.1 y here.2 (run ++ following) same in
         (next.0, cc (first, next.1))
   ]
 ]

@@ -34,14 +34,14 @@ unfolding items
 items-none distance room b h1 = grind (arith, nat_tests)
 
 -- A part of a unit's beginning is a part of the bytes that it begins.
-take-front : (n l : ℕ) (u x : List ℕ)
+take-prefix : (n l : ℕ) (u x : List ℕ)
     → l + n ≤ length u
     → take n (drop l (u ++ x)) ≡ take n (drop l u)
-take-front n l u x h1 = grind (arith, nat_tests, drop-append-le, take-append-le, length-drop)
+take-prefix n l u x h1 = grind (arith, nat_tests, drop-append-le, take-append-le, length-drop)
 
 -- It is long enough.
-length-front : (n l : ℕ) (u x : List ℕ) → l + n ≤ length u → n ≤ length (drop l (u ++ x))
-length-front n l u x long = omega (arith, length-drop l (u ++ x), length-append u x)
+length-prefix : (n l : ℕ) (u x : List ℕ) → l + n ≤ length u → n ≤ length (drop l (u ++ x))
+length-prefix n l u x long = omega (arith, length-drop l (u ++ x), length-append u x)
 
 -- The place of the next packet, if the unit is as long as the distance.
 drop-unit : (d l : ℕ) (u x : List ℕ)
@@ -69,9 +69,9 @@ items-units distance room [] each enough =
     (omega (arith, ap length (drop-nil {A = ℕ} (lead_size distance))))
 items-units distance zero (u ∷ more) each enough = grind arith
 items-units distance (suc room) (u ∷ more) each enough =
-    items-packet distance room b (length-front 188 lead u rest is.long) sync
+    items-packet distance room b (length-prefix 188 lead u rest is.long) sync
     ∙ ap₂ (λ (p : List ℕ) (xs : List Item). Packet p ∷ xs)
-    (take-front 188 lead u rest is.long)
+    (take-prefix 188 lead u rest is.long)
     (ap (items distance true room) next ∙ items-units distance room more each.2 (omega arith))
   where
     is : IsRecordedUnit distance u
@@ -89,7 +89,7 @@ items-units distance (suc room) (u ∷ more) each enough =
     sync : slice_index b 0 ≡ sync_byte
     sync =
         sym (first-taken 188 b (omega arith))
-        ∙ ap (λ (p : List ℕ). slice_index p 0) (take-front 188 lead u rest is.long)
+        ∙ ap (λ (p : List ℕ). slice_index p 0) (take-prefix 188 lead u rest is.long)
         ∙ is.sync
 
     next : drop distance b ≡ drop lead rest
@@ -109,11 +109,11 @@ few-units distance (u ∷ more) each =
     omega (arith, length-append u (concat more), each.0.long)
 
 -- Nor are there from the first packet on.
-few-units-behind : (distance : ℕ) (units : List (List ℕ))
+few-units-following : (distance : ℕ) (units : List (List ℕ))
     → AreRecordedUnits distance units
     → length units ≤ length (drop (lead_size distance) (concat units))
-few-units-behind distance [] each = grind (arith, nat_tests)
-few-units-behind distance (u ∷ more) each =
+few-units-following distance [] each = grind (arith, nat_tests)
+few-units-following distance (u ∷ more) each =
     grind (arith, nat_tests, few-units, length-append, length-drop)
 
 -- The notes of a PID among packets, one after another.
@@ -135,7 +135,7 @@ notes-units distance number units recording is =
     ap (notes distance number 0) (
     ap (λ (b : List ℕ). items distance true (length b) b) all
     ∙ items-units distance (length (drop (lead_size distance) (concat units))) units is.each
-    (few-units-behind distance units is.each)
+    (few-units-following distance units is.each)
     )
     ∙ notes-packets (packet_in distance) distance number 0 units
   where

@@ -18,15 +18,15 @@ use Rattle.mpeg_ts.specs.GoodPackets.{GoodPacket, GoodPackets, Note, good_after,
 use Rattle.mpeg_ts.specs.GoodPackets.{with_good}
 use Rattle.mpeg_ts.specs.Parts.{is_break, is_unlinked}
 use Rattle.mpeg_ts.specs.TransportPacket.{announces_jump, counter}
-use Rattle.recording_laws.specs.Losses.{are_few_gone, is_there, units_before, units_behind, Fated}
+use Rattle.recording_laws.specs.Losses.{are_few_lost, is_recorded, units_before, units_after, Fated}
 use Rattle.recording_laws.specs.Losses.{any_kept, any_wrong, is_as_sent, sent_packet}
-use Rattle.recording_laws.specs.Multiplex.{Carrier, IsRepetition, is_quiet, items_of_carrier}
+use Rattle.recording_laws.specs.Multiplex.{Carrier, IsRepetition, is_irrelevant, items_of_carrier}
 use Rattle.recording_laws.proofs.CarrierLemmas.{good-repeat}
 use Rattle.recording_laws.proofs.LeftNoteLemmas.{or-false, IsLeft, IsLeftCarrier, copy_of}
 use Rattle.recording_laws.proofs.LeftNoteLemmas.{good-first}
 use Rattle.recording_laws.proofs.LeftNoteLemmas.{good-no_first, good-no_second, good-quiets-left}
 use Rattle.recording_laws.proofs.LeftNoteLemmas.{good-second, heard-carrier, heard-kept, heard_left}
-use Rattle.recording_laws.proofs.LeftNoteLemmas.{since_loss}
+use Rattle.recording_laws.proofs.LeftNoteLemmas.{history_after_loss}
 
 -- The number of missing carriers between two good packets, if the second continues the first.
 gone-between : (i n a b : ℕ)
@@ -50,9 +50,9 @@ module _ (distance number : ℕ) (few : Bool) where
   pub record Stays (good : Option (List ℕ)) (c : Carrier Fated) (goods : GoodPackets)
       (ns : List Note) : Type 0 where
     pub again : Bool
-    pub since : Bool
-    pub gone : few ≡ true → is_there c ≡ false
-    pub goods_are : goods ≡ good_after (since_loss good again since) ns
+    pub wrong_since : Bool
+    pub gone : few ≡ true → is_recorded c ≡ false
+    pub goods_are : goods ≡ good_after (history_after_loss good again wrong_since) ns
 
   -- A copy of its packet comes first.
   pub record Comes (good : Option (List ℕ)) (wrong : Bool) (c : Carrier Fated)
@@ -60,17 +60,17 @@ module _ (distance number : ℕ) (few : Bool) where
     pub copy : List ℕ
     pub spoiled : Bool
     pub again : Bool
-    pub since : Bool
+    pub wrong_since : Bool
     pub is_copy : IsCopy (sent_packet distance c.packet) copy
     pub exact :
         few ≡ true
-        → (is_there c ≡ true)
+        → (is_recorded c ≡ true)
         × (spoiled ≡ (wrong || any_wrong (units_before c)))
-        × (since ≡ any_wrong (units_behind c))
+        × (wrong_since ≡ any_wrong (units_after c))
     pub goods_are :
         goods
         ≡ with_good (good_left good spoiled copy)
-        (good_after (since_loss (Some copy) again since) ns)
+        (good_after (history_after_loss (Some copy) again wrong_since) ns)
 
   -- One of the two.
   abbrev pub Steps : Option (List ℕ) → Bool → Carrier Fated → GoodPackets → List Note → Type 0
@@ -82,20 +82,20 @@ module _ (distance number : ℕ) (few : Bool) where
       few ≡ true
       → (again wrong : Bool) (q : List ℕ)
       → IsCopy (sent_packet distance c.packet) q
-      → is_repeat (since_loss good again wrong) q ≡ false
+      → is_repeat (history_after_loss good again wrong) q ≡ false
 
   -- A repeat that is taken for one.
   second-repeat : (good : Option (List ℕ)) (again wrong : Bool) (p : List ℕ) (o : Option Fated)
       (after : List Fated) (ns : List Note)
       → AllByRecursion (λ f. IsRepetition number p (sent_packet distance f)) (option_to_list o)
       → AllByRecursion (IsLeft distance number) after
-      → AllByRecursion (λ f. is_quiet number (sent_packet distance f) ≡ true) after
+      → AllByRecursion (λ f. is_irrelevant number (sent_packet distance f) ≡ true) after
       → any_kept (option_to_list o) ≡ true
-      → is_repeat (since_loss good again wrong) (copy_of distance number o p) ≡ true
-      → good_after (since_loss good again wrong)
+      → is_repeat (history_after_loss good again wrong) (copy_of distance number o p) ≡ true
+      → good_after (history_after_loss good again wrong)
       (flat_map (heard_left distance number) (option_to_list o)
       ++ (flat_map (heard_left distance number) after ++ ns))
-      ≡ good_after (since_loss good true (wrong || any_wrong after)) ns
+      ≡ good_after (history_after_loss good true (wrong || any_wrong after)) ns
   second-repeat good again wrong p o after ns h1 h2 h3 h4 h5 =
       grind (arith, nat_tests, append-nil, heard-kept, good-repeat, good-quiets-left)
 
@@ -110,17 +110,17 @@ module _ (distance number : ℕ) (few : Bool) where
       → (is_as_sent c.packet.fate ≡ false)
       × (wrong ≡ (was || any_wrong (c.packet ∷ c.before))))
       → Steps good was c
-      (good_after (since_loss good again wrong)
+      (good_after (history_after_loss good again wrong)
       (flat_map (heard_left distance number) (option_to_list c.again)
       ++ (flat_map (heard_left distance number) c.after ++ ns))) ns
   second-steps good again was wrong first c ns h copy new gone =
       elim (cases_Bool (any_kept (option_to_list c.again))) [
-        | inl kept ↦ elim (cases_Bool (is_repeat (since_loss good again wrong) q)) [
+        | inl kept ↦ elim (cases_Bool (is_repeat (history_after_loss good again wrong) q)) [
           | inl same ↦
               inl
               (record {
                 again = true;
-                since = wrong || any_wrong c.after;
+                wrong_since = wrong || any_wrong c.after;
                 gone = λ e. absurd (cc (same, new e again wrong q copy));
                 goods_are =
                     second-repeat good again wrong p c.again c.after ns h.is_carrier.again h.after
@@ -132,7 +132,7 @@ module _ (distance number : ℕ) (few : Bool) where
                 copy = q;
                 spoiled = wrong;
                 again = false;
-                since = any_wrong c.after;
+                wrong_since = any_wrong c.after;
                 is_copy = copy;
                 exact = λ e. (
                   rw ((gone e).0, kept),
@@ -143,7 +143,8 @@ module _ (distance number : ℕ) (few : Bool) where
                     good-second distance number good again wrong p c.again c.after ns
                     h.is_carrier.again h.after h.is_carrier.after kept fresh
                     ∙ ap (λ (l : GoodPacket).
-                    with_good l (good_after (since_loss (Some q) false (any_wrong c.after)) ns))
+                    with_good l (good_after (history_after_loss (Some q) false (any_wrong c.after))
+                    ns))
                     (linked-left good again wrong q copy.no_jump);
               })
         ]
@@ -151,7 +152,7 @@ module _ (distance number : ℕ) (few : Bool) where
             inl
             (record {
               again = again;
-              since = (wrong || any_wrong (option_to_list c.again)) || any_wrong c.after;
+              wrong_since = (wrong || any_wrong (option_to_list c.again)) || any_wrong c.after;
               gone = λ e. rw ((gone e).0, lost);
               goods_are =
                   good-no_second distance number good again wrong c.again c.after ns h.again h.after
@@ -170,10 +171,10 @@ module _ (distance number : ℕ) (few : Bool) where
       (ns : List Note)
       → IsLeftCarrier distance number first c
       → is_as_sent c.packet.fate ≡ true
-      → is_repeat (since_loss good again wrong) (sent_packet distance c.packet) ≡ true
-      → good_after (since_loss good again wrong)
+      → is_repeat (history_after_loss good again wrong) (sent_packet distance c.packet) ≡ true
+      → good_after (history_after_loss good again wrong)
       (flat_map (heard_left distance number) (items_of_carrier c) ++ ns)
-      ≡ good_after (since_loss good true (wrong || any_wrong c.before))
+      ≡ good_after (history_after_loss good true (wrong || any_wrong c.before))
       (flat_map (heard_left distance number) (option_to_list c.again)
       ++ (flat_map (heard_left distance number) c.after ++ ns))
   first-repeat good again wrong first c ns h1 h2 h3 =
@@ -185,10 +186,10 @@ module _ (distance number : ℕ) (few : Bool) where
       → IsLeftCarrier distance number first c
       → IsFresh good c
       → Steps good wrong c
-      (good_after (since_loss good again wrong)
+      (good_after (history_after_loss good again wrong)
       (flat_map (heard_left distance number) (items_of_carrier c) ++ ns)) ns
   carrier-steps good again wrong first c ns h new = elim (cases_Bool (is_as_sent c.packet.fate)) [
-    | inl kept ↦ elim (cases_Bool (is_repeat (since_loss good again wrong) p)) [
+    | inl kept ↦ elim (cases_Bool (is_repeat (history_after_loss good again wrong) p)) [
       | inl same ↦
           subst (λ (l : GoodPackets). Steps good wrong c l ns)
           (sym (first-repeat good again wrong first c ns h kept same))
@@ -200,7 +201,7 @@ module _ (distance number : ℕ) (few : Bool) where
             copy = p;
             spoiled = wrong;
             again = any_kept (option_to_list c.again);
-            since = any_wrong (c.before ++ (option_to_list c.again ++ c.after));
+            wrong_since = any_wrong (c.before ++ (option_to_list c.again ++ c.after));
             is_copy = itself;
             exact = λ e. (rw kept, rw kept (sym (or-false wrong)), rw kept);
             goods_are =
@@ -208,7 +209,7 @@ module _ (distance number : ℕ) (few : Bool) where
                 ∙ ap (λ (l : GoodPacket).
                 with_good l
                 (good_after
-                (since_loss (Some p) (any_kept (option_to_list c.again))
+                (history_after_loss (Some p) (any_kept (option_to_list c.again))
                 (any_wrong (c.before ++ (option_to_list c.again ++ c.after)))) ns))
                 (linked-left good again wrong p none);
           })
@@ -244,27 +245,28 @@ module _ (distance number : ℕ) (few : Bool) where
         → (n < 15) × (is_break g.link ≡ ((wrong || any_wrong (units_before c)) || nat_lt 0 n))
 
   -- A good packet that came from a carrier, after another one or not.
-  pub record IsHeard (behind : Bool) (n : ℕ) (wrong : Bool) (c : Carrier Fated) (g : GoodPacket)
+  pub record IsHeard (following : Bool) (n : ℕ) (wrong : Bool) (c : Carrier Fated) (g : GoodPacket)
       : Type 0 where
     pub copy : IsCopy (sent_packet distance c.packet) g.packet
-    pub there : few ≡ true → is_there c ≡ true
-    pub first : behind ≡ false → is_unlinked g.link ≡ true
-    pub linked : behind ≡ true → IsLinked n wrong c g
+    pub there : few ≡ true → is_recorded c ≡ true
+    pub first : following ≡ false → is_unlinked g.link ≡ true
+    pub linked : following ≡ true → IsLinked n wrong c g
 
   -- Good packets that come from carriers, given how many are missing since the one before, if there
   -- is one, and whether a unit was damaged.
   abbrev pub Traced : Bool → ℕ → Bool → List (Carrier Fated) → List GoodPacket → Type 0
-  Traced behind n wrong [] goods = goods ≡ []
-  Traced behind n wrong (c ∷ cs) goods =
-      ((since : Bool) × (few ≡ true → is_there c ≡ false) × Traced behind (n + 1) since cs goods)
+  Traced following n wrong [] goods = goods ≡ []
+  Traced following n wrong (c ∷ cs) goods =
+      ((wrong_since : Bool) × (few ≡ true → is_recorded c ≡ false) × Traced following (n + 1)
+      wrong_since cs goods)
       ⊎ ((g : GoodPacket) × (more : List GoodPacket)
-      × (goods ≡ g ∷ more) × IsHeard behind n wrong c g
-      × (since : Bool) × (few ≡ true → since ≡ any_wrong (units_behind c))
-      × Traced true 0 since cs more)
+      × (goods ≡ g ∷ more) × IsHeard following n wrong c g
+      × (wrong_since : Bool) × (few ≡ true → wrong_since ≡ any_wrong (units_after c))
+      × Traced true 0 wrong_since cs more)
 
   -- Fewer than 15 are missing, with those to come.
   abbrev pub AreFew : ℕ → List (Carrier Fated) → Type 0
-  AreFew n cs = few ≡ true → (n < 15) × (are_few_gone n cs ≡ true)
+  AreFew n cs = few ≡ true → (n < 15) × (are_few_lost n cs ≡ true)
 
   -- One step, followed by all others.
   split-step : (good : Option (List ℕ)) (again wrong : Bool) (c : Carrier Fated)
@@ -272,13 +274,13 @@ module _ (distance number : ℕ) (few : Bool) where
       → IsSomeLeft distance number c
       → IsFresh good c
       → Steps good wrong c
-      (good_after (since_loss good again wrong)
+      (good_after (history_after_loss good again wrong)
       (flat_map (heard_left distance number) (flat_map items_of_carrier (c ∷ cs))))
       (flat_map (heard_left distance number) (flat_map items_of_carrier cs))
   split-step good again wrong c cs is new =
       subst
       (λ (l : List Note).
-      Steps good wrong c (good_after (since_loss good again wrong) l)
+      Steps good wrong c (good_after (history_after_loss good again wrong) l)
       (flat_map (heard_left distance number) (flat_map items_of_carrier cs)))
       (sym
       (flat_map-append (heard_left distance number) (items_of_carrier c)
@@ -319,7 +321,7 @@ module _ (distance number : ℕ) (few : Bool) where
       → AreRising distance number (i + 1 + n) cs
       → AreFew n cs
       → Traced (is_some good) n wrong cs
-      (good_after (since_loss good again wrong)
+      (good_after (history_after_loss good again wrong)
       (flat_map (heard_left distance number) (flat_map items_of_carrier cs))).packets
   unfolding good_after
   traced good again wrong i n [] number_is each rising small = refl
@@ -329,11 +331,12 @@ module _ (distance number : ℕ) (few : Bool) where
       fresh-later good again w q i n number_is (copy.counter ∙ rising.0) (small e).0)) [
         | inl stays ↦
             inl (
-              stays.since,
+              stays.wrong_since,
               stays.gone,
-              subst (λ (l : GoodPackets). Traced (is_some good) (n + 1) stays.since cs l.packets)
+              subst (λ (l : GoodPackets). Traced (is_some good) (n + 1) stays.wrong_since cs
+                  l.packets)
                   (sym stays.goods_are)
-                  (traced good stays.again stays.since i (n + 1) cs number_is each.1
+                  (traced good stays.again stays.wrong_since i (n + 1) cs number_is each.1
                   (subst (λ (j : ℕ). AreRising distance number j cs) (omega arith) rising.1)
                   (λ e. few-gone n c cs (stays.gone e) (small e).1)),
             )
@@ -341,7 +344,7 @@ module _ (distance number : ℕ) (few : Bool) where
             let next = comes.is_copy.counter ∙ rising.0 in
             inr (
               good_left good comes.spoiled comes.copy,
-              (good_after (since_loss (Some comes.copy) comes.again comes.since)
+              (good_after (history_after_loss (Some comes.copy) comes.again comes.wrong_since)
                   (flat_map (heard_left distance number) (flat_map items_of_carrier cs))).packets,
               ap (λ (l : GoodPackets). l.packets) comes.goods_are,
               record {
@@ -352,9 +355,9 @@ module _ (distance number : ℕ) (few : Bool) where
                     linked-copy good i n wrong comes.spoiled c comes.copy number_is next
                     (λ e. (small e).0) (λ e. (comes.exact e).1) some;
               },
-              comes.since,
+              comes.wrong_since,
               λ e. (comes.exact e).2,
-              traced (Some comes.copy) comes.again comes.since (i + 1 + n) 0 cs next each.1
+              traced (Some comes.copy) comes.again comes.wrong_since (i + 1 + n) 0 cs next each.1
                   (subst (λ (j : ℕ). AreRising distance number j cs) (omega arith) rising.1)
                   (λ e. (omega arith, few-there n c cs (comes.exact e).0 (small e).1)),
             )

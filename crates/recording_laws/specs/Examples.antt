@@ -1,6 +1,6 @@
 -- Complete recordings, byte by byte: one of what a multiplexer sends, and one with losses.
 use Rattle.std.specs.Prelude.{◌≡◌, ℕ, false, List, [], ◌∷◌, ◌++◌, None, replicate}
-use Rattle.mpeg_ts.specs.Carried.{mark}
+use Rattle.mpeg_ts.specs.Carried.{gap_marker}
 use Rattle.recording_laws.specs.Losses.{Fate, Fated, IsLossy, Kept, LeftOut, MadeWrong, arriving}
 use Rattle.recording_laws.specs.Multiplex.{IsMultiplexed, Multiplex, SentPes}
 
@@ -66,4 +66,5 @@ recording_with_losses =
 -- between them.
 pub record ExampleOfLosses : Type 0 where
   pub lossy : IsLossy 257 188 four_with_losses recording_with_losses
-  pub arrives : arriving false false four_with_losses.sent ≡ pes_of 0x20 ++ (mark ++ pes_of 0x23)
+  pub arrives : arriving false false four_with_losses.sent ≡ pes_of 0x20 ++
+      (gap_marker ++ pes_of 0x23)

@@ -1,11 +1,11 @@
 -- The laws of the bytes that a recording carries.
 use Rattle.std.specs.Prelude.{◌≡◌, ℕ, List, [], ◌∷◌, ◌++◌}
 use Rattle.std.specs.List.{AllByRecursion, AllZip, concat}
-use Rattle.ttx_pes.specs.PesPacket.{IsPesPacket, PesValue}
-use Rattle.ttx_pes.specs.Pieces.{IsPiece}
-use Rattle.mpeg_ts.specs.Carried.{carried, mark}
+use Rattle.ttx_pes.specs.PesGrammar.{IsValidPesPacket, PesValue}
+use Rattle.ttx_pes.specs.PesPackets.{IsPesPacket}
+use Rattle.mpeg_ts.specs.Carried.{carried, gap_marker}
 use Rattle.recording_laws.specs.Losses.{AreArriving, AreLosses, Fated, IsLossy}
-use Rattle.recording_laws.specs.Multiplex.{IsMultiplexed, Multiplex, pes_packets}
+use Rattle.recording_laws.specs.Multiplex.{IsMultiplexed, Multiplex, sent_pes_packets}
 use Rattle.recording_laws.specs.Pace.{AreFarApart, HoldsPts, KeepPace, up_to_pts}
 
 -- The packets of a PID carry exactly the PES packets that a multiplexer sent in them. So nothing of
@@ -31,12 +31,12 @@ LawOfLosses =
 abbrev pub LawOfNeighbours : Type 0
 LawOfNeighbours =
     (number distance : ℕ) (m : Multiplex Fated) (recording : List ℕ)
-    (before run behind : List (List ℕ))
+    (before run following : List (List ℕ))
     → IsLossy number distance m recording
-    → AllByRecursion IsPiece (before ++ (run ++ behind))
-    → carried number distance recording ≡ concat (before ++ (run ++ behind))
-    → AllByRecursion (λ p. p ≡ mark → ⊥) run
-    → (earlier later : List (List ℕ)) × (pes_packets m ≡ earlier ++ (run ++ later))
+    → AllByRecursion IsPesPacket (before ++ (run ++ following))
+    → carried number distance recording ≡ concat (before ++ (run ++ following))
+    → AllByRecursion (λ p. p ≡ gap_marker → ⊥) run
+    → (earlier later : List (List ℕ)) × (sent_pes_packets m ≡ earlier ++ (run ++ later))
 
 -- However many packets are lost: assume that two PES packets are always more than `pace` frames
 -- apart if their first transport packets are 16 or more packets of the PID apart. If carried PES
@@ -48,31 +48,31 @@ LawOfNeighbours =
 abbrev pub LawOfPace : Type 0
 LawOfPace =
     (number distance pace : ℕ) (frame_of : List ℕ → ℕ) (m : Multiplex Fated) (recording : List ℕ)
-    (before run behind : List (List ℕ)) (last : List ℕ)
+    (before run following : List (List ℕ)) (last : List ℕ)
     → AreLosses number distance m recording
     → AllByRecursion (HoldsPts distance) m.sent
     → AreFarApart frame_of pace m.sent
-    → AllByRecursion IsPiece (before ++ (run ++ (last ∷ behind)))
-    → carried number distance recording ≡ concat (before ++ (run ++ (last ∷ behind)))
-    → AllByRecursion (λ p. p ≡ mark → ⊥) (run ++ last ∷ [])
+    → AllByRecursion IsPesPacket (before ++ (run ++ (last ∷ following)))
+    → carried number distance recording ≡ concat (before ++ (run ++ (last ∷ following)))
+    → AllByRecursion (λ p. p ≡ gap_marker → ⊥) (run ++ last ∷ [])
     → KeepPace frame_of pace (run ++ last ∷ [])
     → (earlier later : List (List ℕ)) × (next : List ℕ)
-    × (pes_packets m ≡ earlier ++ (run ++ (next ∷ later)))
+    × (sent_pes_packets m ≡ earlier ++ (run ++ (next ∷ later)))
     × (up_to_pts next ≡ up_to_pts last)
 
 -- If everything that is carried, or a run of PES packets in it, is a file of PES packets with
 -- Teletext, there is no gap marker in it, and no PES packet that the multiplexer sent between the
 -- first and the last of them is missing. `check` accepts only such files. So if it accepts a
 -- recording, everything is recorded.
-abbrev pub LawOfWholeFile : Type 0
-LawOfWholeFile =
+abbrev pub LawOfCompleteFile : Type 0
+LawOfCompleteFile =
     (number distance : ℕ) (recording : List ℕ)
-    (before behind : List (List ℕ)) (values : List PesValue) (packets : List (List ℕ))
-    → AllByRecursion IsPiece before
-    → AllByRecursion IsPiece behind
-    → AllZip IsPesPacket values packets
-    → carried number distance recording ≡ concat (before ++ (packets ++ behind))
-    → AllByRecursion (λ p. p ≡ mark → ⊥) packets
+    (before following : List (List ℕ)) (values : List PesValue) (packets : List (List ℕ))
+    → AllByRecursion IsPesPacket before
+    → AllByRecursion IsPesPacket following
+    → AllZip IsValidPesPacket values packets
+    → carried number distance recording ≡ concat (before ++ (packets ++ following))
+    → AllByRecursion (λ p. p ≡ gap_marker → ⊥) packets
     × ((m : Multiplex Fated)
     → IsLossy number distance m recording
-    → (earlier later : List (List ℕ)) × (pes_packets m ≡ earlier ++ (packets ++ later)))
+    → (earlier later : List (List ℕ)) × (sent_pes_packets m ≡ earlier ++ (packets ++ later)))

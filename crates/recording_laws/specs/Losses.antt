@@ -4,7 +4,7 @@ use Rattle.std.specs.Prelude.{◌≡◌, ℕ, ◌+◌, ◌&&◌, ◌||◌, not, 
 use Rattle.std.specs.Prelude.{if◌then◌else◌, List, [], ◌∷◌, ◌++◌, length, map, slice_index, ⊤}
 use Rattle.std.specs.List.{AllByRecursion, concat, list_any, flat_map}
 use Rattle.std.specs.Option.{option_to_list}
-use Rattle.mpeg_ts.specs.Carried.{mark_where}
+use Rattle.mpeg_ts.specs.Carried.{gap_marker_where}
 use Rattle.mpeg_ts.specs.TransportPacket.{sync_byte, pid, is_wrong}
 use Rattle.recording_laws.specs.Multiplex.{Carrier, SentPes, Multiplex, IsMultiplex, IsRecording}
 use Rattle.recording_laws.specs.Multiplex.{announces, carriers_of, packet_in, items_of_multiplex}
@@ -72,37 +72,37 @@ abbrev pub any_kept : List Fated → Bool
 any_kept units = list_any (λ f. is_as_sent f.fate) units
 
 -- The packet of a carrier is there, or its repeat.
-abbrev pub is_there : Carrier Fated → Bool
-is_there c = is_as_sent c.packet.fate || any_kept (option_to_list c.again)
+abbrev pub is_recorded : Carrier Fated → Bool
+is_recorded c = is_as_sent c.packet.fate || any_kept (option_to_list c.again)
 
 -- The units of a carrier before the first recorded copy of its packet,
 abbrev pub units_before : Carrier Fated → List Fated
 units_before c = if is_as_sent c.packet.fate then [] else c.packet ∷ c.before
 
 -- and those after that copy.
-abbrev pub units_behind : Carrier Fated → List Fated
-units_behind c =
+abbrev pub units_after : Carrier Fated → List Fated
+units_after c =
     if is_as_sent c.packet.fate then c.before ++ (option_to_list c.again ++ c.after) else c.after
 
 -- Fewer than 15 carriers in a row are missing, packet and repeat, counting `gone` missing ones
 -- before these.
-abbrev pub are_few_gone : ℕ → List (Carrier Fated) → Bool
-are_few_gone gone [] = true
-are_few_gone gone (c ∷ more) =
-    if is_there c then are_few_gone 0 more
-    else nat_lt (gone + 1) 15 && are_few_gone (gone + 1) more
+abbrev pub are_few_lost : ℕ → List (Carrier Fated) → Bool
+are_few_lost gone [] = true
+are_few_lost gone (c ∷ more) =
+    if is_recorded c then are_few_lost 0 more
+    else nat_lt (gone + 1) 15 && are_few_lost (gone + 1) more
 
 -- The carriers after one that is there are there, with nothing damaged between any two.
-abbrev pub are_there_after : Carrier Fated → List (Carrier Fated) → Bool
-are_there_after c [] = true
-are_there_after c (d ∷ more) =
-    not (any_wrong (units_behind c))
-    && (is_there d && (not (any_wrong (units_before d)) && are_there_after d more))
+abbrev pub are_recorded_after : Carrier Fated → List (Carrier Fated) → Bool
+are_recorded_after c [] = true
+are_recorded_after c (d ∷ more) =
+    not (any_wrong (units_after c))
+    && (is_recorded d && (not (any_wrong (units_before d)) && are_recorded_after d more))
 
 -- Each packet of a PES packet, or its repeat, is there, with no damaged packet of the PID among
 -- them.
 abbrev pub arrives : SentPes Fated → Bool
-arrives s = is_there s.first && are_there_after s.first s.others
+arrives s = is_recorded s.first && are_recorded_after s.first s.others
 
 -- The last carrier of a list that is not empty.
 abbrev pub last_carrier : Carrier Fated → List (Carrier Fated) → Carrier Fated
@@ -110,8 +110,8 @@ last_carrier c [] = c
 last_carrier c (d ∷ more) = last_carrier d more
 
 -- A unit after the last packet of a PES packet that arrives, or after its repeat, was damaged.
-abbrev pub is_wrong_behind : SentPes Fated → Bool
-is_wrong_behind s = any_wrong (units_behind (last_carrier s.first s.others))
+abbrev pub is_wrong_after : SentPes Fated → Bool
+is_wrong_after s = any_wrong (units_after (last_carrier s.first s.others))
 
 -- ---- the carried bytes
 
@@ -123,15 +123,15 @@ unfoldable pub arriving : Bool → Bool → List (SentPes Fated) → List ℕ
 arriving given gap [] = []
 arriving given gap (s ∷ more) =
     if arrives s then
-    mark_where (given && (gap || any_wrong (units_before s.first)))
-    ++ (s.bytes ++ arriving true (is_wrong_behind s) more)
+    gap_marker_where (given && (gap || any_wrong (units_before s.first)))
+    ++ (s.bytes ++ arriving true (is_wrong_after s) more)
     else arriving given true more
 
 -- The bytes are the PES packets that arrive, with at most one gap marker after the last of them.
 pub record AreArriving (sent : List (SentPes Fated)) (bytes : List ℕ) : Type 0 where
   pub is_marked : Bool
   pub after_one : is_marked ≡ true → list_any arrives sent ≡ true
-  pub bytes_are : bytes ≡ arriving false false sent ++ mark_where is_marked
+  pub bytes_are : bytes ≡ arriving false false sent ++ gap_marker_where is_marked
 
 -- A recording with losses of any length: units of a multiplex without announced jumps were left out
 -- or damaged.
@@ -149,4 +149,4 @@ pub record AreLosses (number distance : ℕ) (m : Multiplex Fated) (recording : 
 -- The same, if fewer than 15 carriers in a row are missing.
 pub record IsLossy (number distance : ℕ) (m : Multiplex Fated) (recording : List ℕ) : Type 0 where
   pub losses : AreLosses number distance m recording
-  pub few : are_few_gone 0 (carriers_of m.sent) ≡ true
+  pub few : are_few_lost 0 (carriers_of m.sent) ≡ true

@@ -8,7 +8,7 @@ use Rattle.std.specs.Prelude.{◌≡◌, ◌⊎◌, ℕ, ◌+◌, ◌≤◌, ◌
 use Rattle.std.specs.Prelude.{[], ◌∷◌, ◌++◌, length, map, take, drop, slice_index, Option, ⊤}
 use Rattle.std.specs.List.{AllByRecursion, concat, flat_map, list_any}
 use Rattle.std.specs.Option.{option_to_list, is_some}
-use Rattle.ttx_pes.specs.Pieces.{IsPiece}
+use Rattle.ttx_pes.specs.PesPackets.{IsPesPacket}
 use Rattle.mpeg_ts.specs.GoodPackets.{counts_on, is_same}
 use Rattle.mpeg_ts.specs.PacketsInStep.{lead_size, most_bytes}
 use Rattle.mpeg_ts.specs.TransportPacket.{packet_size, sync_byte, pid, begins, is_wrong}
@@ -17,8 +17,8 @@ use Rattle.mpeg_ts.specs.TransportPacket.{has_payload, announces_jump, payload}
 -- ---- packets of a PID
 
 -- A packet of another PID, or a correct one without a payload.
-abbrev pub is_quiet : ℕ → List ℕ → Bool
-is_quiet number p = not (pid p == number) || (not (is_wrong p) && not (has_payload p))
+abbrev pub is_irrelevant : ℕ → List ℕ → Bool
+is_irrelevant number p = not (pid p == number) || (not (is_wrong p) && not (has_payload p))
 
 -- A correct packet of the PID with a payload.
 abbrev pub carries : ℕ → List ℕ → Bool
@@ -77,18 +77,18 @@ pub record IsCarrier {A : Type 0} (packet_of : A → List ℕ) (number : ℕ) (f
     (c : Carrier A) : Type 0 where
   pub carries : carries number (packet_of c.packet) ≡ true
   pub begins : begins (packet_of c.packet) ≡ first
-  pub before : AllByRecursion (λ x. is_quiet number (packet_of x) ≡ true) c.before
+  pub before : AllByRecursion (λ x. is_irrelevant number (packet_of x) ≡ true) c.before
   pub no_jump : AllByRecursion (λ x. announces number (packet_of x) ≡ false) c.before
   pub again :
       AllByRecursion (λ x. IsRepetition number (packet_of c.packet) (packet_of x))
       (option_to_list c.again)
-  pub after : AllByRecursion (λ x. is_quiet number (packet_of x) ≡ true) c.after
+  pub after : AllByRecursion (λ x. is_irrelevant number (packet_of x) ≡ true) c.after
 
 -- A PES packet in its carriers: it begins with the first byte of the first one's payload, no other
 -- carrier begins one, and its bytes are their joined payloads.
 pub record IsSentPes {A : Type 0} (packet_of : A → List ℕ) (number : ℕ) (s : SentPes A)
     : Type 0 where
-  pub is_piece : IsPiece s.bytes
+  pub is_pes_packet : IsPesPacket s.bytes
   pub first : IsCarrier packet_of number true s.first
   pub others : AllByRecursion (IsCarrier packet_of number false) s.others
   pub joined : concat (map (λ c. payload (packet_of c.packet)) (carriers_of_pes s)) ≡ s.bytes
@@ -127,13 +127,13 @@ AreInSequence packet_of number (c ∷ more) = AreNextCarriers packet_of number c
 -- PES packets as a multiplexer sends them.
 pub record IsMultiplex {A : Type 0} (packet_of : A → List ℕ) (number : ℕ) (m : Multiplex A)
     : Type 0 where
-  pub lead : AllByRecursion (λ x. is_quiet number (packet_of x) ≡ true) m.lead
+  pub lead : AllByRecursion (λ x. is_irrelevant number (packet_of x) ≡ true) m.lead
   pub sent : AllByRecursion (IsSentPes packet_of number) m.sent
   pub linked : AreInSequence packet_of number (carriers_of m.sent)
 
 -- The PES packets of a multiplex.
-abbrev pub pes_packets : {A : Type 0} → Multiplex A → List (List ℕ)
-pes_packets m = map (λ s. s.bytes) m.sent
+abbrev pub sent_pes_packets : {A : Type 0} → Multiplex A → List (List ℕ)
+sent_pes_packets m = map (λ s. s.bytes) m.sent
 
 -- ---- recordings
 
@@ -166,5 +166,5 @@ pub record IsMultiplexed (number distance : ℕ) (packets : List (List ℕ)) (re
     : Type 0 where
   pub multiplex : Multiplex (List ℕ)
   pub is_multiplex : IsMultiplex (packet_in distance) number multiplex
-  pub packets_are : pes_packets multiplex ≡ packets
+  pub packets_are : sent_pes_packets multiplex ≡ packets
   pub is_recording : IsRecording distance (items_of_multiplex multiplex) recording

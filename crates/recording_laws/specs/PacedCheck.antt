@@ -1,11 +1,11 @@
 -- Laws that compare what `check` accepts of a recording with what was sent.
 use Rattle.std.specs.Prelude.{◌≡◌, ℕ, List, [], ◌∷◌, ◌++◌, drop, Some, unwrap_or}
 use Rattle.std.specs.List.{AllByRecursion, concat}
-use Rattle.ttx_pes.specs.Pieces.{IsPiece}
+use Rattle.ttx_pes.specs.PesPackets.{IsPesPacket}
 use Rattle.ttx_pes.specs.Reading.{pts_bits}
 use Rattle.mpeg_ts.specs.Carried.{carried}
 use Rattle.recording_laws.specs.Losses.{AreLosses, Fated}
-use Rattle.recording_laws.specs.Multiplex.{Multiplex, pes_packets}
+use Rattle.recording_laws.specs.Multiplex.{Multiplex, sent_pes_packets}
 use Rattle.recording_laws.specs.Pace.{AreFarApart, HoldsPts, up_to_pts}
 use Rattle.stl_rows.specs.Programme.{ProgrammeValue}
 use Rattle.sub_plan.specs.FrameTime.{clock_of}
@@ -17,7 +17,7 @@ use Rattle.sub_rules.specs.Transmission.{Transmission}
 -- The frame of a PES packet by the clock of the options, from its bytes up to its PTS; 0 if it has
 -- none.
 abbrev pub frame_by_clock : OptionsValue → List ℕ → ℕ
-frame_by_clock options front = unwrap_or (clock_of options (pts_bits (drop 6 front))) 0
+frame_by_clock options prefix = unwrap_or (clock_of options (pts_bits (drop 6 prefix))) 0
 
 -- The PES packets are a run of those that were sent, with none missing between them. Each is as it
 -- was sent; the last one, only up to its PTS. There is at least one.
@@ -39,14 +39,14 @@ pub record WereSent (sent packets : List (List ℕ)) : Type 0 where
 abbrev pub LawOfPacedCheck : Type 0
 LawOfPacedCheck =
     (number distance pace : ℕ) (m : Multiplex Fated) (recording : List ℕ)
-    (before packets behind : List (List ℕ))
+    (before packets following : List (List ℕ))
     (programme : ProgrammeValue) (transmission : Transmission) (options : OptionsValue)
     → AreLosses number distance m recording
     → AllByRecursion (HoldsPts distance) m.sent
     → AreFarApart (frame_by_clock options) pace m.sent
-    → AllByRecursion IsPiece (before ++ (packets ++ behind))
-    → carried number distance recording ≡ concat (before ++ (packets ++ behind))
+    → AllByRecursion IsPesPacket (before ++ (packets ++ following))
+    → carried number distance recording ≡ concat (before ++ (packets ++ following))
     → CarriesBy (clock_of options) options.within (concat packets) transmission
     → GoodBy options.keeps programme transmission options
     → options.pace ≡ Some pace
-    → WereSent (pes_packets m) packets
+    → WereSent (sent_pes_packets m) packets

@@ -2,7 +2,7 @@
 //!
 //! The functions do nothing: the contract of each is a law about the definitions of `specs/`.
 ghost use Rattle.recording_laws.specs.Laws.{LawOfLosses, LawOfMultiplex, LawOfNeighbours};
-ghost use Rattle.recording_laws.specs.Laws.{LawOfPace, LawOfWholeFile};
+ghost use Rattle.recording_laws.specs.Laws.{LawOfPace, LawOfCompleteFile};
 ghost use Rattle.recording_laws.specs.PacedCheck.{LawOfPacedCheck};
 
 /// The packets of a PID carry exactly the PES packets that a multiplexer sent in them.
@@ -32,8 +32,8 @@ pub fn law_of_pace()
 
 /// If a recording is accepted, there is no gap marker in what was checked: all PES packets that
 /// were sent between the first and the last of it are recorded.
-pub fn law_of_whole_file()
-    ensures { LawOfWholeFile }
+pub fn law_of_complete_file()
+    ensures { LawOfCompleteFile }
 {}
 
 /// If a recording is accepted with a maximum distance of PES packets, its PES packets were sent one

@@ -17,6 +17,6 @@ mod laws;
 
 pub use examples::{example_of_losses, example_of_multiplex};
 pub use laws::{
-    law_of_losses, law_of_multiplex, law_of_neighbours, law_of_pace, law_of_paced_check,
-    law_of_whole_file,
+    law_of_complete_file, law_of_losses, law_of_multiplex, law_of_neighbours, law_of_pace,
+    law_of_paced_check,
 };

@@ -72,12 +72,12 @@ file_complete scope s g ts h =
     let size = h.gsi.size in
     let whole = ap length h.bytes in
     let parts = length-append g (concat h.blocks) in
-    let front = file_gsi scope s g ts h in
+    let prefix = file_gsi scope s g ts h in
     let back : drop 1024 s ≡ concat h.blocks =
     ap (drop 1024) h.bytes ∙ drop_at g (concat h.blocks) 1024 size in
     let long : ltb (length s) 1024 ≡ false = le-ltb _ _ (omega arith) in (
-      front,
-      rw (long, front, back, gsi_complete scope.takes_open g h.gsi)
+      prefix,
+      rw (long, prefix, back, gsi_complete scope.takes_open g h.gsi)
           (read_complete scope h.blocks most_blocks ts h.rest),
     )
 

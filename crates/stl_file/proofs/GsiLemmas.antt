@@ -12,9 +12,9 @@ use Rattle.std.proofs.lemmas.Slice.Eq.{bytes_eq-Decides}
 use Rattle.std.proofs.lemmas.Slice.{take-put_mid, drop-put_mid}
 use borrow.Rule.Slice.PartMut.{put_mid}
 use Rattle.stl_file.specs.Gsi.{with_counts, gsi_at, IsGsi, IsGsiFor, field}
-use Rattle.stl_file.specs.Gsi.{IsDisplay, asked_of_gsi, dfc, dsc, five_digits, level_1, level_2}
+use Rattle.stl_file.specs.Gsi.{IsDisplay, required_of_gsi, dfc, dsc, five_digits, level_1, level_2}
 use Rattle.stl_file.specs.Gsi.{no_display, open_subtitles, stl_25, stl_30}
-use Rattle.stl_file.proofs.StepLemmas.{asked-right}
+use Rattle.stl_file.proofs.StepLemmas.{requested-right}
 
 -- It passed these checks.
 format_sound : (g : List ℕ)
@@ -36,7 +36,7 @@ pub gsi_sound : (takes_open : Bool) (g h : List ℕ)
     → (h ≡ g) × IsGsiFor takes_open g
 unfolding gsi_at
 gsi_sound takes_open g h size e =
-    let right = asked-right (asked_of_gsi takes_open g) (Ok g) h e in
+    let right = requested-right (required_of_gsi takes_open g) (Ok g) h e in
     let a = right.1 in (
       grind (arith, nat_tests),
       record {
@@ -72,19 +72,19 @@ pub counts_twice : (tnb tns : ℕ) (g : List ℕ)
     → with_counts tnb tns (with_counts tnb tns g) ≡ with_counts tnb tns g
 counts_twice tnb tns g size =
     let digits = five_digits tnb ++ five_digits tns in
-    let front : length (take 238 g) ≡ 238 = length-take-le 238 g (omega arith) in
+    let prefix : length (take 238 g) ≡ 238 = length-take-le 238 g (omega arith) in
     let back : drop 248 (with_counts tnb tns g) ≡ drop 248 g =
     ap (drop 248) (sym (append_assoc (take 238 g) digits (drop 248 g)))
     ∙ drop_at (take 238 g ++ digits) (drop 248 g) 248
     (omega (arith, length-append (take 238 g) digits)) in
-    rw (take_at (take 238 g) (digits ++ drop 248 g) 238 front, back) refl
+    rw (take_at (take 238 g) (digits ++ drop 248 g) 238 prefix, back) refl
 
 -- A field before place n is in the first n bytes.
-front_field : (at len n : ℕ) (g rest : List ℕ)
+prefix_field : (at len n : ℕ) (g rest : List ℕ)
     → at + len ≤ n
     → n ≤ length g
     → field at len (take n g ++ rest) ≡ field at len g
-front_field at len n g rest le size =
+prefix_field at len n g rest le size =
     rw (← drop-take at len (take n g ++ rest), ← drop-take at len g)
     (rw (take-append-le (at + len) (take n g) rest (omega (arith, length-take n g)))
     (rw (take-take (at + len) n g le) refl))
@@ -92,5 +92,5 @@ front_field at len n g rest le size =
 -- A GSI block is also accepted with other counts.
 pub counted_is_gsi : (tnb tns : ℕ) (g : List ℕ) → IsGsi g → IsGsi (with_counts tnb tns g)
 counted_is_gsi tnb tns g h =
-    let back = length-drop 248 g in let front = length-take 238 g in
-    grind (arith, nat_tests, get_or-take, take_at, length-take-le, length-append, front_field)
+    let back = length-drop 248 g in let prefix = length-take 238 g in
+    grind (arith, nat_tests, get_or-take, take_at, length-take-le, length-append, prefix_field)

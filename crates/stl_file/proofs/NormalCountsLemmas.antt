@@ -12,7 +12,7 @@ use Rattle.sub_io.proofs.DeviceLemmas.{Writes-after}
 use Rattle.stl_file.specs.declared.counts.Counts.{Counts}
 use Rattle.stl_file.specs.declared.fault.NormalFault.{NormalFault}
 use Rattle.stl_file.specs.declared.fault.StlFault.{StlFault}
-use Rattle.stl_file.specs.Reader.{GivesNextSubtitle, ReaderValue, TakesSubtitle, given_subtitle}
+use Rattle.stl_file.specs.Reader.{GivesNextSubtitle, ReaderValue, TakesSubtitle, yielded_subtitle}
 use Rattle.stl_file.specs.Reader.{outcome_left}
 use Rattle.stl_file.specs.Subtitle.{SubtitleValue}
 use Rattle.stl_file.specs.NormalForm.{Judged, all_blocks, subtitles_of, blocks_of, cons_all}
@@ -29,7 +29,7 @@ no_failure b e = grind (arith, nat_tests)
 -- The remaining results before a call, by its result and those after it.
 pub left_is : (old new : ReaderValue) (rest next : List ℕ) (r : Result Bool StlFault)
     (s : SubtitleValue)
-    → GivesNextSubtitle old rest new (Some next) (given_subtitle r s)
+    → GivesNextSubtitle old rest new (Some next) (yielded_subtitle r s)
     → subtitles_of (outcome_left old rest)
     ≡ judged_on r s new.block (subtitles_of (outcome_left new next))
 left_is old new rest next r s a = grind (arith, nat_tests, same_Some)

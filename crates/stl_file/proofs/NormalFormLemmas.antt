@@ -1,5 +1,5 @@
 -- The normal form: a file with the same subtitles, and the results of `normal`; main lemmas:
--- normal_is_file, normal_twice, refused_body, whole_written.
+-- normal_is_file, normal_twice, refused_body, all_written.
 use Rattle.std.proofs.Common.{rules, ◌≡◌, ℕ, List, [], ◌∷◌, ◌++◌, length, refl, ap, ◌∙◌, arith}
 use Rattle.std.proofs.Common.{length-append, take, drop, false, Option, Ok, Err}
 use Rattle.std.specs.Prelude.{filter}
@@ -173,10 +173,10 @@ module _ (s : List ℕ) (r : ReaderValue) (c : Counts) (g : List ℕ) (opened : 
     (judged : normal_counts (subtitles_of (outcome_from 0 (drop 1024 s))) ≡ Ok c)
     (set : g ≡ with_counts c.tnb c.tns r.gsi) (old new : Option (List ℕ)) where
   -- Everything was written.
-  pub whole_written : Appends old new
+  pub all_written : Appends old new
       (g ++ concat (all_blocks (given (subtitles_of (outcome_from 0 (drop 1024 s))))))
       → WritesNormal s old new c.tns
-  whole_written w = grind (arith, nat_tests, accepted s r c opened judged)
+  all_written w = grind (arith, nat_tests, accepted s r c opened judged)
 
   -- The sink failed.
   pub prefix_written : AppendsPrefix old new

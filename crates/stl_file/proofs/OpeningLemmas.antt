@@ -1,5 +1,5 @@
 -- `gsi_of`, and that no file begins with rejected bytes; main lemmas: gsi_of-sound, opened_sound,
--- open_whole, bad_opening.
+-- open_complete, bad_opening.
 use Rattle.std.proofs.Common.{◌≡◌, ℕ, Bool, List, ◌++◌, length, refl, sym, ap, ◌∙◌, arith}
 use Rattle.std.proofs.Common.{length-append, take, drop, Option, Some, Result, Ok, Err, ◌<◌, ◌≤◌}
 use Rattle.std.proofs.Common.{length-take, false}
@@ -103,12 +103,12 @@ module _ {bytes : List ℕ} {n : ℕ} {new : Option (List ℕ)} {block : List �
   open_short takes_open lt = grind (arith, nat_tests, length-append, length-take)
 
   -- The result of reading a complete GSI block.
-  pub open_whole : (takes_open : Bool) (r : Result (List ℕ) StlFault)
+  pub open_complete : (takes_open : Bool) (r : Result (List ℕ) StlFault)
       → 1024 ≤ n
       → gsi_at takes_open block ≡ r
       → gsi_of takes_open bytes ≡ r
   unfolding gsi_of
-  open_whole takes_open r le e =
+  open_complete takes_open r le e =
       let long : 1024 ≤ length bytes =
       omega (arith, ap length t.parts, length-append (take n block) t.rest, length-take n block) in
       rw (le-ltb _ _ long, t.parts, take_all n block (omega arith))

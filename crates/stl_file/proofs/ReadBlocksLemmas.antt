@@ -17,8 +17,8 @@ use Rattle.stl_file.specs.declared.resuming.Found.TheVariants as found
 use Rattle.stl_file.specs.Tti.{most_blocks}
 use Rattle.stl_file.specs.Reader.{FailsReading, LastIsKept, block_after}
 use Rattle.stl_file.specs.Subtitle.{SubtitleValue}
-use Rattle.stl_file.specs.Reading.{Begun, More, Give, findings_after, findings_at, findings_from}
-use Rattle.stl_file.specs.Reading.{passed_at, step_at}
+use Rattle.stl_file.specs.Reading.{Begun, More, Yield, findings_after, findings_at, findings_from}
+use Rattle.stl_file.specs.Reading.{skipped_at, step_at}
 use Rattle.stl_file.specs.declared.scope.Scope.{Scope}
 use Rattle.stl_file.specs.Resuming.{LeadsOn, findings_by, finds_end, found_of}
 use Rattle.stl_file.specs.Fault.{is_cut, is_of_block}
@@ -65,8 +65,8 @@ module _ {scope : Scope} {from : ℕ} {refused : Option Begun} {old mid new : Op
     (h : HasRead scope from refused old mid block begun) (f : Fills mid n new buffer)
     (size : length buffer ≡ 128) (next : Option Begun) (s : SubtitleValue) where
   -- The number of bytes read in this iteration.
-  length_front : length (take n buffer) ≡ n
-  length_front = omega (arith, length-take n buffer)
+  length_prefix : length (take n buffer) ≡ n
+  length_prefix = omega (arith, length-take n buffer)
 
   -- The result, from the results of the bytes of this iteration and those left.
   leads : (to : ℕ) (r : Result Found StlFault)
@@ -83,7 +83,7 @@ module _ {scope : Scope} {from : ℕ} {refused : Option Begun} {old mid new : Op
   leads to r at whole some cut gives kept =
       let both = Consumes-trans old mid new h.bytes (take n buffer) h.consumed f.bytes in
       let l = length-append h.bytes (take n buffer) in
-      grind (arith, nat_tests, length_front, append_assoc)
+      grind (arith, nat_tests, length_prefix, append_assoc)
 
   -- No bytes: the end of the file, or its end within a subtitle.
   pub leads_end : (r : Result Found StlFault)
@@ -93,7 +93,7 @@ module _ {scope : Scope} {from : ℕ} {refused : Option Begun} {old mid new : Op
       → (r ≡ Ok found.Subtitle → ⊥)
       → findings_at scope (most_blocks - block) begun [] ≡ findings_by scope block next [] s r
       → LeadsOn scope from block refused next old new s r
-  leads_end r z le cut never gives = grind (arith, nat_tests, nil_from_length, length_front, leads)
+  leads_end r z le cut never gives = grind (arith, nat_tests, nil_from_length, length_prefix, leads)
 
   -- A byte was read, but no block may follow.
   pub leads_too_many : (n ≡ 0 → ⊥)
@@ -101,7 +101,7 @@ module _ {scope : Scope} {from : ℕ} {refused : Option Begun} {old mid new : Op
       → LeadsOn scope from (block + 1) refused next old new s (Err fault.TooManyBlocks)
   leads_too_many some full =
       let positive : 0 < n = grind (arith, nat_tests) in
-      search (rules, length_front, leads, findings_full, length-append)
+      search (rules, length_prefix, leads, findings_full, length-append)
 
   -- A truncated block.
   pub leads_truncated : (n ≡ 0 → ⊥)
@@ -110,7 +110,7 @@ module _ {scope : Scope} {from : ℕ} {refused : Option Begun} {old mid new : Op
       → LeadsOn scope from (block + 1) refused next old new s (Err fault.Truncated)
   leads_truncated some few lt =
       let room : most_blocks - block ≡ suc (most_blocks - (block + 1)) = omega arith in
-      grind (arith, nat_tests, length_front, leads, append-nil, findings_short)
+      grind (arith, nat_tests, length_prefix, leads, append-nil, findings_short)
 
   module _ (few : block < most_blocks) (long : 128 ≤ n) where
     -- The results of a complete block.
@@ -130,7 +130,7 @@ module _ {scope : Scope} {from : ℕ} {refused : Option Begun} {old mid new : Op
     -- A block with a fault.
     pub leads_refused : (x : StlFault)
         → is_of_block x ≡ true
-        → next ≡ passed_at buffer
+        → next ≡ skipped_at buffer
         → step_at scope begun buffer ≡ Err x
         → LeadsOn scope from (block_after (block + 1) x) refused next old new s (found_of (Err x))
     leads_refused x own is step =
@@ -142,19 +142,19 @@ module _ {scope : Scope} {from : ℕ} {refused : Option Begun} {old mid new : Op
 
     -- The last block of a subtitle.
     pub leads_given : next ≡ None
-        → step_at scope begun buffer ≡ Ok (Give s)
+        → step_at scope begun buffer ≡ Ok (Yield s)
         → LeadsOn scope from (block + 1) refused next old new s (Ok found.Subtitle)
     leads_given is step =
         leads (block + 1) (Ok found.Subtitle) (omega arith) (λ _. omega arith)
         (λ _. omega arith) (grind arith)
         (λ more _. one_block more ∙ rw (step, is, number) refl)
-        (λ _ front last e is.
-        let l = length-append front last in
+        (λ _ prefix last e is.
+        let l = length-append prefix last in
         let k = length-append h.bytes (take n buffer) in
         let a = ap length e in
-        let m = length_front in
-        let same = sym (drop_at h.bytes (take n buffer) (length front) (omega arith))
-        ∙ ap (drop (length front)) e ∙ drop_at front last (length front) refl in
+        let m = length_prefix in
+        let same = sym (drop_at h.bytes (take n buffer) (length prefix) (omega arith))
+        ∙ ap (drop (length prefix)) e ∙ drop_at prefix last (length prefix) refl in
         rw (← take_all n buffer (omega arith), same) at (step_gives scope begun buffer s step))
 
     -- More blocks follow.
@@ -163,4 +163,4 @@ module _ {scope : Scope} {from : ℕ} {refused : Option Begun} {old mid new : Op
     reads_on step =
         let both = Consumes-trans old mid new h.bytes (take n buffer) h.consumed f.bytes in
         let l = length-append h.bytes (take n buffer) in
-        grind (arith, nat_tests, length_front, append_assoc, one_block)
+        grind (arith, nat_tests, length_prefix, append_assoc, one_block)

@@ -1,5 +1,5 @@
--- What a call of a reader consumes and returns; main lemmas: takes_subtitle, takes_passed, refuses;
--- left-then.
+-- What a call of a reader consumes and returns; main lemmas: takes_subtitle, takes_skipped,
+-- refuses; left-then.
 use Rattle.std.proofs.Common.{◌≡◌, ℕ, true, List, [], ◌∷◌, ◌++◌, refl, sym, ap, ◌∙◌}
 use Rattle.std.proofs.Common.{append_assoc, arith, Option, Some, None, Result, Ok, Err, ◌-◌, length}
 use Rattle.std.proofs.lemmas.Bool.Decides.{nat_tests}
@@ -12,9 +12,9 @@ use Rattle.stl_file.specs.declared.resuming.Found.TheVariants as found
 use Rattle.stl_file.specs.Fault.{is_cut}
 use Rattle.stl_file.specs.Tti.{is_kept, most_blocks}
 use Rattle.stl_file.specs.SubtitleBlocks.{IsBlock, AreBlocksOf}
-use Rattle.stl_file.specs.Reader.{EndsKept, LastIsKept, Refuses, TakesPassed, TakesSubtitle}
+use Rattle.stl_file.specs.Reader.{EndsKept, LastIsKept, Refuses, TakesSkipped, TakesSubtitle}
 use Rattle.stl_file.specs.Subtitle.{SubtitleValue}
-use Rattle.stl_file.specs.Reading.{Begun, fails, findings_from, passed_by, stopped}
+use Rattle.stl_file.specs.Reading.{Begun, fails, findings_from, begun_skipped, stopped}
 use Rattle.stl_file.specs.Scope.{whole}
 use Rattle.stl_file.specs.declared.scope.Scope.{Scope}
 use Rattle.stl_file.specs.Resuming.{LeadsOn, findings_by, finds_end, found_of}
@@ -74,13 +74,13 @@ no_group : (gs : List (List (List ℕ))) → AllZip AreBlocksOf [] gs → groups
 no_group gs h = grind (arith, nat_tests)
 
 -- The last of these blocks is not skipped.
-ends_kept : (front b : List ℕ) (bs : List (List ℕ))
+ends_kept : (prefix b : List ℕ) (bs : List (List ℕ))
     → AllByRecursion IsBlock (b ∷ bs)
-    → LastIsKept (front ++ concat (b ∷ bs))
+    → LastIsKept (prefix ++ concat (b ∷ bs))
     → EndsKept (b ∷ bs)
-ends_kept front b [] h k = k front b (ap (λ (x : List ℕ). front ++ x) (append-nil b)) h.0
-ends_kept front b (c ∷ bs) h k = ends_kept (front ++ b) c bs h.1
-    (λ start last e size. k start last (sym (append_assoc front b (concat (c ∷ bs))) ∙ e) size)
+ends_kept prefix b [] h k = k prefix b (ap (λ (x : List ℕ). prefix ++ x) (append-nil b)) h.0
+ends_kept prefix b (c ∷ bs) h k = ends_kept (prefix ++ b) c bs h.1
+    (λ start last e size. k start last (sym (append_assoc prefix b (concat (c ∷ bs))) ∙ e) size)
 
 -- The blocks of a subtitle end with one that is not skipped.
 ends_group : (s : SubtitleValue) (bs : List (List ℕ))
@@ -95,7 +95,7 @@ ends_group s (b ∷ bs) a h k = ends_kept [] b bs h k
 pub takes_subtitle : (from to : ℕ) (old new : Option (List ℕ)) (s : SubtitleValue)
     (kept : Option (List ℕ))
     → kept ≡ None
-    → LeadsOn whole from to None (option_map passed_by kept) old new s (Ok found.Subtitle)
+    → LeadsOn whole from to None (option_map begun_skipped kept) old new s (Ok found.Subtitle)
     → TakesSubtitle from to old new s
 takes_subtitle from to old new s kept over l =
     let r = read_sound whole (most_blocks - from) None [] l.bytes (s ∷ []) refl
@@ -112,11 +112,11 @@ takes_subtitle from to old new s kept over l =
     }
 
 -- Only skipped blocks contain no subtitle.
-pub takes_passed : (from to : ℕ) (old new : Option (List ℕ)) (s : SubtitleValue)
+pub takes_skipped : (from to : ℕ) (old new : Option (List ℕ)) (s : SubtitleValue)
     (next : Option Begun)
     → LeadsOn whole from to None next old new s (Ok found.End)
-    → TakesPassed from to old new
-takes_passed from to old new s next l =
+    → TakesSkipped from to old new
+takes_skipped from to old new s next l =
     let r = read_sound whole (most_blocks - from) None [] l.bytes [] refl
     (let o = l.findings [] (λ e. refl) in grind (arith, append-nil)) in
     let none : groups_of r.groups ≡ [] =
@@ -129,10 +129,10 @@ takes_passed from to old new s next l =
           let at = l.block in
           omega arith;
       each = r.each;
-      passed = r.kept ∙ none;
+      skipped = r.kept ∙ none;
       consumed = rw r.bytes at l.consumed;
       ended = l.ended refl;
     }
 
 -- The meaning of a result for the bytes consumed. For `next_into`.
-pub ruleset led = (takes_subtitle, takes_passed, refuses)
+pub ruleset led = (takes_subtitle, takes_skipped, refuses)

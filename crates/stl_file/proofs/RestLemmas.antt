@@ -11,18 +11,18 @@ use Rattle.std.proofs.lemmas.List.{append-nil, take-append-drop, length-take-le}
 use Rattle.std.proofs.lemmas.Bool.{cases_Bool}
 use Rattle.std.proofs.lemmas.Bool.Decides.{nat_tests}
 use Rattle.stl_file.specs.declared.fault.StlFault.{StlFault}
-use Rattle.stl_file.specs.Tti.{is_kept, ebn, sgn, sn, text_of, is_passed_block}
+use Rattle.stl_file.specs.Tti.{is_kept, ebn, sgn, sn, text_of, is_skipped_block}
 use Rattle.stl_file.specs.Scope.{begins_outside, is_inside, is_outside}
 use Rattle.stl_file.specs.declared.scope.Scope.{Scope}
 use Rattle.stl_file.specs.SubtitleBlocks.{IsBlock, AreLinked, AreOutside, AreSubtitleBlocks}
 use Rattle.stl_file.specs.SubtitleBlocks.{AreBlocksOf}
 use Rattle.stl_file.specs.Subtitle.{SubtitleValue}
 use Rattle.stl_file.specs.NormalForm.{Judged, subtitles_of, cons_all}
-use Rattle.stl_file.specs.Reading.{Begun, BlockStep, More, Give, Findings, closed, findings_after}
-use Rattle.stl_file.specs.Reading.{findings_at, kept_at, passed_by, step_at, stopped}
+use Rattle.stl_file.specs.Reading.{Begun, BlockStep, More, Yield, Findings, closed, findings_after}
+use Rattle.stl_file.specs.Reading.{findings_at, kept_at, begun_skipped, step_at, stopped}
 use Rattle.stl_file.proofs.SubtitleBlocksLemmas.{kept_few, first_linked}
 use Rattle.stl_file.proofs.StepLemmas.{first_begun, first_kept, further_kept, longer, outside_kept}
-use Rattle.stl_file.proofs.StepLemmas.{Represents, step_kept, step_passed, step_sound}
+use Rattle.stl_file.proofs.StepLemmas.{Represents, step_kept, step_skipped, step_sound}
 use Rattle.stl_file.proofs.FindingsLemmas.{findings_full, findings_step, findings_end}
 use Rattle.stl_file.proofs.FindingsLemmas.{findings_block, findings_short}
 
@@ -57,11 +57,11 @@ kept_enough : (scope : Scope) (bs : List (List ℕ)) (begun : Option Begun) (few
 kept_enough scope [] begun few room ss h f le e = grind (arith, findings_end)
 kept_enough scope (b ∷ bs) begun few room ss h f le e =
     rw (findings_block scope room (room - 1) begun b (concat bs) (omega arith) h.0)
-    (elim (cases_Bool (is_passed_block b)) [
-      | inl passed ↦
-          rw (step_passed scope begun b passed)
+    (elim (cases_Bool (is_skipped_block b)) [
+      | inl skipped ↦
+          rw (step_skipped scope begun b skipped)
           (kept_enough scope bs begun few (room - 1) ss h.1 (omega arith) (omega arith)
-          (rw passed at e))
+          (rw skipped at e))
       | inr kept ↦
           after_enough (few - 1) (room - 1)
           (λ next. findings_at scope (few - 1) next (concat (filter is_kept bs)))
@@ -76,9 +76,9 @@ kept_enough scope (b ∷ bs) begun few room ss h f le e =
     ])
 
 -- The results after the blocks of a subtitle, with the subtitle in front unless it is skipped.
-abbrev behind_begun : Begun → List (List ℕ) → Judged → Judged
-behind_begun o tail j =
-    cond o.is_passed j
+abbrev after_begun : Begun → List (List ℕ) → Judged → Judged
+after_begun o tail j =
+    cond o.is_skipped j
     (cons_all (record o.subtitle { text = o.subtitle.text ++ flat_map text_of tail }) j)
 
 -- The blocks of a subtitle, from one that was read on, yield it and then what follows.
@@ -89,7 +89,7 @@ blocks_give : (scope : Scope) (tail : List (List ℕ)) (room : ℕ) (begun : Opt
     → o.blocks + length tail ≤ 9
     → length tail < room
     → read_at scope room begun (b ++ (concat tail ++ rest))
-    ≡ behind_begun o tail (read_at scope (room - length (b ∷ tail)) None rest)
+    ≡ after_begun o tail (read_at scope (room - length (b ∷ tail)) None rest)
 blocks_give scope [] room begun b rest o step linked few le =
     let one = findings_block scope room (room - 1) begun b rest (omega arith) linked.0.size in
     grind (arith, nat_tests, step_kept, append-nil)
@@ -114,7 +114,8 @@ outside_gives scope b others room rest i le =
     let linked : AreLinked (sgn b) (sn b) (b ∷ others) =
     subst (λ (x : List ℕ). AreLinked (sgn x) (sn x) (b ∷ others)) (sym same) i.linked in
     let outside : begins_outside scope b ≡ true = rw same i.outside in
-    blocks_give scope others room None b rest (passed_by b) (outside_kept scope b outside) linked
+    blocks_give scope others room None b rest (begun_skipped b) (outside_kept scope b outside)
+    linked
     (let few = i.few in omega arith) (omega arith)
 
 -- The blocks of a subtitle inside the scope yield it and then what follows.
@@ -134,13 +135,13 @@ inside_gives scope s g room rest inside i le =
     grind (arith, append_assoc)
 
 -- The blocks of subtitles, the first of them outside the scope.
-passes_group : (scope : Scope) (b : List ℕ) (others : List (List ℕ)) (gs : List (List (List ℕ)))
+skips_group : (scope : Scope) (b : List ℕ) (others : List (List ℕ)) (gs : List (List (List ℕ)))
     (ss : List SubtitleValue) (room : ℕ)
     → AreOutside scope (b ∷ others)
     → length (groups_of ((b ∷ others) ∷ gs)) ≤ room
     → read_at scope (room - length (b ∷ others)) None (concat (groups_of gs)) ≡ Ok ss
     → read_at scope room None (concat (groups_of ((b ∷ others) ∷ gs))) ≡ Ok ss
-passes_group scope b others gs ss room i le on =
+skips_group scope b others gs ss room i le on =
     let joined : concat (groups_of ((b ∷ others) ∷ gs))
     ≡ b ++ (concat others ++ concat (groups_of gs)) =
     ap (λ (x : List ℕ). b ++ x) (concat-append others (groups_of gs)) in
@@ -181,7 +182,7 @@ groups_give scope ((b ∷ others) ∷ gs) ss room out are le =
     elim (cases_Bool (begins_outside scope b)) [
       | inl outside ↦
           let o = rw outside at out in
-          passes_group scope b others gs ss room o.0 le
+          skips_group scope b others gs ss room o.0 le
           (groups_give scope gs ss (room - length (b ∷ others)) o.1 (rw outside at are) few)
       | inr inside ↦
           gives_group scope (b ∷ others) gs (filter (is_inside scope) gs) ss room inside
@@ -299,8 +300,8 @@ step_reads scope room begun before b ss (Ok (More None)) le rep e go all =
           in_front scope room before [] b ss ss (own ∷ r.groups) le r
           (ap (λ (x : List (List ℕ)). own ++ x) r.kept) has.0 has.1
     ]
-step_reads scope room begun before b ss (Ok (Give s)) le rep e go all =
-    let t = step_sound scope begun before (take 128 b) (Give s) (length-take-le 128 b le) rep e in
+step_reads scope room begun before b ss (Ok (Yield s)) le rep e go all =
+    let t = step_sound scope begun before (take 128 b) (Yield s) (length-take-le 128 b le) rep e in
     let c = cons_ok s _ ss all in
     let r = go None [] c.0 refl c.1 in
     let own = before ++ cond (is_kept (take 128 b)) (take 128 b ∷ []) [] in

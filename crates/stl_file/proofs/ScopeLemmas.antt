@@ -7,19 +7,19 @@ use Rattle.stl_file.specs.Tti.{tci}
 use Rattle.stl_file.proofs.TimeCodeLemmas.{in_day}
 
 -- No time code is outside the day.
-pub inside_whole : (b : List ℕ) → begins_outside whole b ≡ false
+pub inside_day : (b : List ℕ) → begins_outside whole b ≡ false
 unfolding begins_outside
-inside_whole b = grind (arith, nat_tests, in_day (tci b))
+inside_day b = grind (arith, nat_tests, in_day (tci b))
 
 -- So all groups are inside.
 pub all_inside : (gs : List (List (List ℕ))) → filter (is_inside whole) gs ≡ gs
 all_inside [] = refl
 all_inside ([] ∷ gs) = ap (λ (l : List (List (List ℕ))). [] ∷ l) (all_inside gs)
 all_inside ((b ∷ others) ∷ gs) =
-    rw (inside_whole b) (ap (λ (l : List (List (List ℕ))). (b ∷ others) ∷ l) (all_inside gs))
+    rw (inside_day b) (ap (λ (l : List (List (List ℕ))). (b ∷ others) ∷ l) (all_inside gs))
 
 -- No group is outside.
 pub none_outside : (gs : List (List (List ℕ))) → filter (is_outside whole) gs ≡ []
 none_outside [] = refl
 none_outside ([] ∷ gs) = none_outside gs
-none_outside ((b ∷ others) ∷ gs) = rw (inside_whole b) (none_outside gs)
+none_outside ((b ∷ others) ∷ gs) = rw (inside_day b) (none_outside gs)

@@ -1,5 +1,5 @@
 -- `step_at`: blocks that are read without a fault are those of subtitles; main lemmas: step_sound,
--- first_kept, further_kept, step_kept, step_passed.
+-- first_kept, further_kept, step_kept, step_skipped.
 use Rattle.std.proofs.Common.{◌≡◌, ℕ, Bool, false, true, cond, List, [], ◌∷◌, ◌++◌, length, refl}
 use Rattle.std.proofs.Common.{arith, length-append, Option, Some, None, Result, Ok, ◌+◌, ◌<◌, ◌≤◌}
 use Rattle.std.proofs.Common.{◌⊎◌}
@@ -8,23 +8,24 @@ use Rattle.std.proofs.lemmas.Grind.{flat_map-append}
 use Rattle.std.proofs.lemmas.List.{append-nil}
 use Rattle.std.proofs.lemmas.Bool.Decides.{nat_tests}
 use Rattle.stl_file.specs.declared.fault.StlFault.{StlFault}
-use Rattle.stl_file.specs.Questions.{Questions, asked}
-use Rattle.stl_file.specs.Tti.{is_kept, ebn, cf, sgn, sn, text_of, is_passed_block}
+use Rattle.stl_file.specs.Questions.{Questions, requested}
+use Rattle.stl_file.specs.Tti.{is_kept, ebn, cf, sgn, sn, text_of, is_skipped_block}
 use Rattle.stl_file.specs.SubtitleBlocks.{BelongsTo, AreLinked, AreOutside, Begins, AreBlocksOf}
 use Rattle.stl_file.specs.Subtitle.{SubtitleValue}
 use Rattle.stl_file.specs.Scope.{begins_outside, is_outside}
 use Rattle.stl_file.specs.declared.scope.Scope.{Scope}
-use Rattle.stl_file.specs.Reading.{Begun, BlockStep, More, Give, step_at, closed, first_at, kept_at}
-use Rattle.stl_file.specs.Reading.{asked_of_first, passed_by}
+use Rattle.stl_file.specs.Reading.{Begun, BlockStep, More, Yield, step_at, closed, first_at}
+use Rattle.stl_file.specs.Reading.{kept_at}
+use Rattle.stl_file.specs.Reading.{required_of_first, begun_skipped}
 
 -- ---- a first block
 
 -- If there is a value, all checks passed. Also for `GsiLemmas`.
-pub asked-right : {X : Type 0} (qs : Questions) (answer : Result X StlFault) (x : X)
-    → asked qs answer ≡ Ok x
+pub requested-right : {X : Type 0} (qs : Questions) (answer : Result X StlFault) (x : X)
+    → requested qs answer ≡ Ok x
     → (answer ≡ Ok x) × AllByRecursion (λ (q : StlFault × Bool). q.1 ≡ false) qs
-asked-right [] answer x e = (e, tt)
-asked-right (q ∷ qs) answer x e = grind (arith, nat_tests, asked-right qs answer x)
+requested-right [] answer x e = (e, tt)
+requested-right (q ∷ qs) answer x e = grind (arith, nat_tests, requested-right qs answer x)
 
 -- A first block that is read begins the subtitle.
 pub first_sound : (b : List ℕ) (s : SubtitleValue)
@@ -32,7 +33,7 @@ pub first_sound : (b : List ℕ) (s : SubtitleValue)
     → Begins s b × (s.text ≡ text_of b)
 unfolding first_at
 first_sound b s e =
-    let right = asked-right (asked_of_first b) _ s e in grind (arith, nat_tests)
+    let right = requested-right (required_of_first b) _ s e in grind (arith, nat_tests)
 
 -- A block that begins a subtitle is read as its first.
 first_complete : (b : List ℕ) (s : SubtitleValue)
@@ -44,7 +45,7 @@ first_complete b s h = grind (arith, nat_tests)
 -- A subtitle whose first block was read.
 abbrev pub first_begun : SubtitleValue → List ℕ → Begun
 first_begun s b =
-    record { subtitle = record s { text = text_of b }; blocks = 1; is_passed = false }
+    record { subtitle = record s { text = text_of b }; blocks = 1; is_skipped = false }
 
 -- A block that begins a subtitle is accepted as its first.
 pub first_kept : (scope : Scope) (s : SubtitleValue) (b : List ℕ)
@@ -57,7 +58,7 @@ first_kept scope s b inside h = rw (inside, first_complete b s h) refl
 -- A block outside the scope begins a skipped subtitle.
 pub outside_kept : (scope : Scope) (b : List ℕ)
     → begins_outside scope b ≡ true
-    → kept_at scope None b ≡ Ok (closed (ebn b) (passed_by b))
+    → kept_at scope None b ≡ Ok (closed (ebn b) (begun_skipped b))
 unfolding kept_at
 outside_kept scope b outside = rw outside (grind (arith, nat_tests))
 
@@ -87,9 +88,9 @@ pub record IsOpen (scope : Scope) (o : Begun) (g : List (List ℕ)) : Type 0 whe
   pub first : List ℕ
   pub others : List (List ℕ)
   pub blocks : g ≡ first ∷ others
-  pub passed : begins_outside scope first ≡ o.is_passed
+  pub skipped : begins_outside scope first ≡ o.is_skipped
   pub own : (sgn first ≡ o.subtitle.sgn) × (sn first ≡ o.subtitle.sn)
-  pub begins : o.is_passed ≡ false
+  pub begins : o.is_skipped ≡ false
       → Begins o.subtitle first × (o.subtitle.text ≡ flat_map text_of g)
   pub each : AllByRecursion (Within o.subtitle.sgn o.subtitle.sn) g
   pub size : length g ≡ o.blocks
@@ -105,7 +106,7 @@ Represents scope (Some o) kept = IsOpen scope o kept
 abbrev pub Reaches : Scope → List (List ℕ) → BlockStep → Type 0
 Reaches scope kept (More None) = (kept ≡ []) ⊎ AreOutside scope kept
 Reaches scope kept (More (Some o)) = IsOpen scope o kept
-Reaches scope kept (Give s) = AreBlocksOf s kept × (is_outside scope kept ≡ false)
+Reaches scope kept (Yield s) = AreBlocksOf s kept × (is_outside scope kept ≡ false)
 
 -- One more block that is not the last.
 all_push : (sgn_is sn_is : ℕ) (g : List (List ℕ)) (b : List ℕ)
@@ -187,7 +188,7 @@ step_sound scope begun kept b r size h e =
 
 -- A subtitle ends with a block that is not skipped.
 pub step_gives : (scope : Scope) (begun : Option Begun) (b : List ℕ) (s : SubtitleValue)
-    → step_at scope begun b ≡ Ok (Give s)
+    → step_at scope begun b ≡ Ok (Yield s)
     → is_kept b ≡ true
 unfolding step_at
 step_gives scope begun b s e = grind (arith, nat_tests)
@@ -201,8 +202,8 @@ unfolding step_at
 step_kept scope begun b e c = grind (arith, nat_tests)
 
 -- Comments and user data are skipped.
-pub step_passed : (scope : Scope) (begun : Option Begun) (b : List ℕ)
-    → is_passed_block b ≡ true
+pub step_skipped : (scope : Scope) (begun : Option Begun) (b : List ℕ)
+    → is_skipped_block b ≡ true
     → step_at scope begun b ≡ Ok (More begun)
 unfolding step_at
-step_passed scope begun b p = grind (arith, nat_tests)
+step_skipped scope begun b p = grind (arith, nat_tests)

@@ -12,17 +12,17 @@ use Rattle.stl_file.specs.declared.scope.Scope.{Scope}
 use Rattle.stl_file.specs.Fault.{is_of_first}
 use Rattle.stl_file.specs.Gsi.{gsi_at}
 use Rattle.stl_file.specs.Reader.{findings_for, findings_opened, gsi_of}
-use Rattle.stl_file.specs.Reading.{Begun, BlockStep, Findings, Give, More, findings_after}
-use Rattle.stl_file.specs.Reading.{findings_at, kept_at, passed_at, step_at}
+use Rattle.stl_file.specs.Reading.{Begun, BlockStep, Findings, Yield, More, findings_after}
+use Rattle.stl_file.specs.Reading.{findings_at, kept_at, skipped_at, step_at}
 use Rattle.stl_file.specs.Scope.{begins_outside}
 use Rattle.stl_file.specs.Subtitle.{SubtitleValue}
 use Rattle.stl_file.specs.SubtitleBlocks.{IsBlock}
-use Rattle.stl_file.specs.TakenOut.{LawOfScope, LawOfWholeDay, all_day, is_read_whole, stays}
+use Rattle.stl_file.specs.TakenOut.{LawOfScope, LawOfWholeDay, all_day, is_read_to_the_end, stays}
 use Rattle.stl_file.specs.TakenOut.{taken_out}
 use Rattle.stl_file.specs.TakenOut.{unnumbered, within_after}
-use Rattle.stl_file.specs.Tti.{cf, ebn, is_passed_block, most_blocks, tci}
+use Rattle.stl_file.specs.Tti.{cf, ebn, is_skipped_block, most_blocks, tci}
 use Rattle.stl_file.proofs.FindingsLemmas.{findings_block, findings_end, findings_full}
-use Rattle.stl_file.proofs.StepLemmas.{step_kept, step_passed}
+use Rattle.stl_file.proofs.StepLemmas.{step_kept, step_skipped}
 use Rattle.stl_file.proofs.TimeCodeLemmas.{in_day}
 
 -- No subtitle is outside the day.
@@ -38,23 +38,23 @@ abbrev HaveBegun : Option Bool → Option Begun → Option Begun → Type 0
 HaveBegun None full cut = (full ≡ None) × (cut ≡ None)
 HaveBegun (Some true) full cut = (o : Begun) × (full ≡ Some o) × (cut ≡ Some o)
 HaveBegun (Some false) full cut =
-    (o : Begun) × (full ≡ Some o) × (o.is_passed ≡ true) × (cut ≡ None)
+    (o : Begun) × (full ≡ Some o) × (o.is_skipped ≡ true) × (cut ≡ None)
 
 -- The results after the same step in both.
 same_after : (room room' : ℕ) (next next' : Option Begun → Findings) (b : List ℕ)
     (step : Result BlockStep StlFault) (within : Option Bool)
     → ((n : Option Begun) → step ≡ Ok (More n) → HaveBegun within n n)
-    → ((s : SubtitleValue) → step ≡ Ok (Give s) → HaveBegun within None None)
-    → HaveBegun within (passed_at b) (passed_at b)
-    → ((full cut : Option Begun) → HaveBegun within full cut → is_read_whole (next full) ≡ true
+    → ((s : SubtitleValue) → step ≡ Ok (Yield s) → HaveBegun within None None)
+    → HaveBegun within (skipped_at b) (skipped_at b)
+    → ((full cut : Option Begun) → HaveBegun within full cut → is_read_to_the_end (next full) ≡ true
     → unnumbered (next full) ≡ unnumbered (next' cut))
-    → is_read_whole (findings_after room next b step) ≡ true
+    → is_read_to_the_end (findings_after room next b step) ≡ true
     → unnumbered (findings_after room next b step) ≡ unnumbered (findings_after room' next' b step)
-same_after room room' next next' b (Err f) within more give passed on read =
-    let rest = on (passed_at b) (passed_at b) passed in grind (arith, nat_tests)
-same_after room room' next next' b (Ok (More n)) within more give passed on read =
+same_after room room' next next' b (Err f) within more give skipped on read =
+    let rest = on (skipped_at b) (skipped_at b) skipped in grind (arith, nat_tests)
+same_after room room' next next' b (Ok (More n)) within more give skipped on read =
     on n n (more n refl) read
-same_after room room' next next' b (Ok (Give s)) within more give passed on read =
+same_after room room' next next' b (Ok (Yield s)) within more give skipped on read =
     let rest = on None None (give s refl) read in grind (arith, nat_tests)
 
 -- ---- one block
@@ -62,8 +62,8 @@ same_after room room' next next' b (Ok (Give s)) within more give passed on read
 -- A block after which reading continues belongs to a subtitle, or is skipped.
 kept_block : (scope : Scope) (begun : Option Begun) (b : List ℕ) (room : ℕ)
     (next : Option Begun → Findings)
-    → is_passed_block b ≡ false
-    → is_read_whole (findings_after room next b (step_at scope begun b)) ≡ true
+    → is_skipped_block b ≡ false
+    → is_read_to_the_end (findings_after room next b (step_at scope begun b)) ≡ true
     → ((ebn b < 240) ⊎ (ebn b ≡ 255)) × (cf b ≡ 0)
 unfolding step_at
 kept_block scope begun b room next kept read = grind (arith, nat_tests)
@@ -91,7 +91,7 @@ ends_first scope b n inside e = grind (arith, nat_tests)
 
 gives_first : (scope : Scope) (b : List ℕ) (begun : Option Begun) (within : Option Bool)
     (s : SubtitleValue)
-    → kept_at scope begun b ≡ Ok (Give s)
+    → kept_at scope begun b ≡ Ok (Yield s)
     → HaveBegun (within_after scope within b) None None
 unfolding kept_at
 gives_first scope b None within s e = grind (arith, nat_tests)
@@ -103,37 +103,37 @@ ends_further : (scope : Scope) (o : Begun) (b : List ℕ) (n : Option Begun)
 unfolding kept_at
 ends_further scope o b n e = grind (arith, nat_tests)
 
-passed_both : (scope : Scope) (b : List ℕ) (within : Option Bool)
+skipped_both : (scope : Scope) (b : List ℕ) (within : Option Bool)
     → stays scope within b ≡ true
-    → HaveBegun (within_after scope within b) (passed_at b) (passed_at b)
-passed_both scope b within stay = grind (arith, nat_tests)
+    → HaveBegun (within_after scope within b) (skipped_at b) (skipped_at b)
+skipped_both scope b within stay = grind (arith, nat_tests)
 
 -- The first block of a subtitle outside the scope.
 outside_step : (scope : Scope) (b : List ℕ)
     → begins_outside scope b ≡ true
-    → kept_at scope None b ≡ Ok (More (passed_at b))
+    → kept_at scope None b ≡ Ok (More (skipped_at b))
 unfolding kept_at
 outside_step scope b outside = rw outside refl
 
 outside_begun : (scope : Scope) (b : List ℕ)
     → begins_outside scope b ≡ true
-    → HaveBegun (within_after scope None b) (passed_at b) None
+    → HaveBegun (within_after scope None b) (skipped_at b) None
 outside_begun scope b outside = grind (arith, nat_tests)
 
 -- A further block of it.
-ends_passed : (scope : Scope) (o : Begun) (b : List ℕ) (n : Option Begun)
-    → o.is_passed ≡ true
+ends_skipped : (scope : Scope) (o : Begun) (b : List ℕ) (n : Option Begun)
+    → o.is_skipped ≡ true
     → kept_at scope (Some o) b ≡ Ok (More n)
     → HaveBegun (within_after scope (Some false) b) n None
 unfolding kept_at
-ends_passed scope o b n passed e = grind (arith, nat_tests)
+ends_skipped scope o b n skipped e = grind (arith, nat_tests)
 
 gives_none : (scope : Scope) (o : Begun) (b : List ℕ) (s : SubtitleValue)
-    → o.is_passed ≡ true
-    → kept_at scope (Some o) b ≡ Ok (Give s)
+    → o.is_skipped ≡ true
+    → kept_at scope (Some o) b ≡ Ok (Yield s)
     → ⊥
 unfolding kept_at
-gives_none scope o b s passed e = grind (arith, nat_tests)
+gives_none scope o b s skipped e = grind (arith, nat_tests)
 
 fault_of_further : (scope : Scope) (o : Begun) (b : List ℕ) (f : StlFault)
     → kept_at scope (Some o) b ≡ Err f
@@ -145,22 +145,22 @@ fault_of_further scope o b f e = grind (arith, nat_tests)
 
 -- A block that stays, and one that is removed.
 stays_is : (scope : Scope) (within : Option Bool) (b : List ℕ) (bs : List (List ℕ))
-    → is_passed_block b ≡ false
+    → is_skipped_block b ≡ false
     → stays scope within b ≡ true
     → taken_out scope within (b ∷ bs) ≡ b ∷ taken_out scope (within_after scope within b) bs
 stays_is scope within b bs kept stay = rw (kept, stay) refl
 
 gone_is : (scope : Scope) (within : Option Bool) (b : List ℕ) (bs : List (List ℕ))
-    → is_passed_block b ≡ false
+    → is_skipped_block b ≡ false
     → stays scope within b ≡ false
     → taken_out scope within (b ∷ bs) ≡ taken_out scope (within_after scope within b) bs
 gone_is scope within b bs kept gone = rw (kept, gone) refl
 
 module _ (scope : Scope) (b : List ℕ) (bs : List (List ℕ)) (within : Option Bool) (room room' : ℕ)
-    (size : length b ≡ 128) (kept : is_passed_block b ≡ false) (le : suc room ≤ room')
+    (size : length b ≡ 128) (kept : is_skipped_block b ≡ false) (le : suc room ≤ room')
     (on : (full cut : Option Begun) (more : ℕ) → HaveBegun (within_after scope within b) full cut
     → room ≤ more
-    → is_read_whole (findings_at scope room full (concat bs)) ≡ true
+    → is_read_to_the_end (findings_at scope room full (concat bs)) ≡ true
     → unnumbered (findings_at scope room full (concat bs))
     ≡ unnumbered (findings_at (all_day scope) more cut
     (concat (taken_out scope (within_after scope within b) bs)))) where
@@ -179,9 +179,9 @@ module _ (scope : Scope) (b : List ℕ) (bs : List (List ℕ)) (within : Option 
       → step_at (all_day scope) begun b ≡ step_at scope begun b
       → ((n : Option Begun) → step_at scope begun b ≡ Ok (More n)
       → HaveBegun (within_after scope within b) n n)
-      → ((s : SubtitleValue) → step_at scope begun b ≡ Ok (Give s)
+      → ((s : SubtitleValue) → step_at scope begun b ≡ Ok (Yield s)
       → HaveBegun (within_after scope within b) None None)
-      → is_read_whole (findings_after room next b (step_at scope begun b)) ≡ true
+      → is_read_to_the_end (findings_after room next b (step_at scope begun b)) ≡ true
       → unnumbered (findings_after room next b (step_at scope begun b))
       ≡ unnumbered (findings_at (all_day scope) room' begun
       (concat (taken_out scope within (b ∷ bs))))
@@ -193,7 +193,7 @@ module _ (scope : Scope) (b : List ℕ) (bs : List (List ℕ)) (within : Option 
         same,
       )
       (same_after room (room' - 1) next next' b (step_at scope begun b)
-      (within_after scope within b) more give (passed_both scope b within stay)
+      (within_after scope within b) more give (skipped_both scope b within stay)
       (λ full cut h. on full cut (room' - 1) h (omega arith)) read)
 
   -- A step in the file only.
@@ -201,15 +201,15 @@ module _ (scope : Scope) (b : List ℕ) (bs : List (List ℕ)) (within : Option 
       → stays scope within b ≡ false
       → ((n : Option Begun) → step ≡ Ok (More n)
       → HaveBegun (within_after scope within b) n None)
-      → ((s : SubtitleValue) → step ≡ Ok (Give s) → ⊥)
+      → ((s : SubtitleValue) → step ≡ Ok (Yield s) → ⊥)
       → ((f : StlFault) → step ≡ Err f → is_of_first f ≡ false)
-      → is_read_whole (findings_after room next b step) ≡ true
+      → is_read_to_the_end (findings_after room next b step) ≡ true
       → unnumbered (findings_after room next b step)
       ≡ unnumbered (findings_at (all_day scope) room' None
       (concat (taken_out scope within (b ∷ bs))))
   gone_cut (Err f) gone more give fault read =
       absurd (let no = fault f refl in grind (arith, nat_tests))
-  gone_cut (Ok (Give s)) gone more give fault read = absurd (give s refl)
+  gone_cut (Ok (Yield s)) gone more give fault read = absurd (give s refl)
   gone_cut (Ok (More n)) gone more give fault read =
       rw (gone_is scope within b bs kept gone)
       (on n None room' (more n refl) (omega arith) read)
@@ -223,7 +223,7 @@ same_step a b = cc
 
 no_gift : {step : Result BlockStep StlFault} {n : Option Begun} {s : SubtitleValue}
     → step ≡ Ok (More n)
-    → step ≡ Ok (Give s)
+    → step ≡ Ok (Yield s)
     → ⊥
 no_gift a b = cc
 
@@ -237,16 +237,16 @@ no_fault a b = cc
 kept_cut : (scope : Scope) (b : List ℕ) (bs : List (List ℕ)) (within : Option Bool)
     (full cut : Option Begun) (room room' : ℕ)
     → length b ≡ 128
-    → is_passed_block b ≡ false
+    → is_skipped_block b ≡ false
     → suc room ≤ room'
     → HaveBegun within full cut
     → ((full' cut' : Option Begun) (more : ℕ) → HaveBegun (within_after scope within b) full' cut'
     → room ≤ more
-    → is_read_whole (findings_at scope room full' (concat bs)) ≡ true
+    → is_read_to_the_end (findings_at scope room full' (concat bs)) ≡ true
     → unnumbered (findings_at scope room full' (concat bs))
     ≡ unnumbered (findings_at (all_day scope) more cut'
     (concat (taken_out scope (within_after scope within b) bs))))
-    → is_read_whole (findings_after room (λ n. findings_at scope room n (concat bs)) b
+    → is_read_to_the_end (findings_after room (λ n. findings_at scope room n (concat bs)) b
     (step_at scope full b)) ≡ true
     → unnumbered (findings_after room (λ n. findings_at scope room n (concat bs)) b
     (step_at scope full b))
@@ -290,14 +290,14 @@ kept_cut scope b bs (Some false) full cut room room' size kept le begun on read 
     let step = step_kept scope (Some o) b is.0 is.1 in
     rw (begun.1, begun.3)
     (gone_cut scope b bs (Some false) room room' size kept le on (step_at scope (Some o) b) refl
-    (λ n e. ends_passed scope o b n begun.2 (sym step ∙ e))
+    (λ n e. ends_skipped scope o b n begun.2 (sym step ∙ e))
     (λ s e. gives_none scope o b s begun.2 (sym step ∙ e))
     (λ f e. fault_of_further scope o b f (sym step ∙ e)) now)
 
 -- The end of both.
 ends_cut : (scope : Scope) (within : Option Bool) (full cut : Option Begun) (room room' : ℕ)
     → HaveBegun within full cut
-    → is_read_whole (findings_at scope room full []) ≡ true
+    → is_read_to_the_end (findings_at scope room full []) ≡ true
     → unnumbered (findings_at scope room full [])
     ≡ unnumbered (findings_at (all_day scope) room' cut [])
 ends_cut scope None full cut room room' begun read =
@@ -314,7 +314,7 @@ same_cut : (scope : Scope) (bs : List (List ℕ)) (within : Option Bool) (full c
     → AllByRecursion IsBlock bs
     → HaveBegun within full cut
     → room ≤ room'
-    → is_read_whole (findings_at scope room full (concat bs)) ≡ true
+    → is_read_to_the_end (findings_at scope room full (concat bs)) ≡ true
     → unnumbered (findings_at scope room full (concat bs))
     ≡ unnumbered (findings_at (all_day scope) room' cut (concat (taken_out scope within bs)))
 same_cut scope [] within full cut room room' each begun le read =
@@ -330,17 +330,17 @@ same_cut scope (b ∷ bs) within full cut (suc room) room' each begun le read =
     let one = findings_block scope (suc room) room full b (concat bs) refl each.0 in
     let now = rw one at read in
     rw one
-    (elim (cases_Bool (is_passed_block b)) [
-      | inl passed ↦
+    (elim (cases_Bool (is_skipped_block b)) [
+      | inl skipped ↦
           rw (
-            passed,
-            step_passed scope full b passed,
+            skipped,
+            step_skipped scope full b skipped,
             findings_block (all_day scope) room' (room' - 1) cut b
                 (concat (taken_out scope within bs)) (omega arith) each.0,
-            step_passed (all_day scope) cut b passed,
+            step_skipped (all_day scope) cut b skipped,
           )
           (same_cut scope bs within full cut room (room' - 1) each.1 begun (omega arith)
-          (rw (step_passed scope full b passed) at now))
+          (rw (step_skipped scope full b skipped) at now))
       | inr kept ↦
           kept_cut scope b bs within full cut room room' each.0 kept le begun
           (λ full' cut' more h few.
@@ -351,10 +351,10 @@ same_cut scope (b ∷ bs) within full cut (suc room) room' each begun le read =
 
 module _ (g : List ℕ) (size : length g ≡ 1024) where
   -- The results of a file after its GSI block.
-  behind_gsi : (scope : Scope) (rest : List ℕ)
+  after_gsi : (scope : Scope) (rest : List ℕ)
       → findings_for scope (g ++ rest) ≡ findings_opened scope rest (gsi_at scope.takes_open g)
   unfolding findings_for gsi_of
-  behind_gsi scope rest =
+  after_gsi scope rest =
       let long : ltb (length (g ++ rest)) 1024 ≡ false =
       le-ltb _ _ (omega (arith, size, length-append g rest)) in
       rw (long, drop_at g rest 1024 size, take_at g rest 1024 size) refl
@@ -362,7 +362,7 @@ module _ (g : List ℕ) (size : length g ≡ 1024) where
 -- The results after an accepted GSI block.
 opened_law : (scope : Scope) (bs : List (List ℕ)) (gsi : Result (List ℕ) StlFault)
     → AllByRecursion IsBlock bs
-    → is_read_whole (findings_opened scope (concat bs) gsi) ≡ true
+    → is_read_to_the_end (findings_opened scope (concat bs) gsi) ≡ true
     → unnumbered (findings_opened scope (concat bs) gsi)
     ≡ unnumbered (findings_opened (all_day scope) (concat (taken_out scope None bs)) gsi)
 opened_law scope bs (Err f) each read = absurd cc
@@ -373,8 +373,8 @@ opened_law scope bs (Ok g) each read =
 pub scope_law : LawOfScope
 scope_law scope g bs size each read =
     rw (
-      behind_gsi g size scope (concat bs),
-      behind_gsi g size (all_day scope) (concat (taken_out scope None bs)),
+      after_gsi g size scope (concat bs),
+      after_gsi g size (all_day scope) (concat (taken_out scope None bs)),
     )
     (opened_law scope bs (gsi_at scope.takes_open g) each
-    (rw (behind_gsi g size scope (concat bs)) at read))
+    (rw (after_gsi g size scope (concat bs)) at read))

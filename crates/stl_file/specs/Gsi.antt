@@ -24,7 +24,7 @@ use Rattle.std.specs.Prelude.{◌⊎◌, List, [], ◌∷◌, ◌++◌, length, 
 use Rattle.std.specs.Prelude.{bytes_eq, Result, Ok}
 use Rattle.stl_file.specs.declared.fault.StlFault.{StlFault}
 use Rattle.stl_file.specs.declared.fault.StlFault.TheVariants as fault
-use Rattle.stl_file.specs.Questions.{Questions, asked}
+use Rattle.stl_file.specs.Questions.{Questions, requested}
 
 -- Size of a GSI block in bytes.
 abbrev pub gsi_size : ℕ
@@ -93,8 +93,8 @@ abbrev pub IsGsi : List ℕ → Type 0
 IsGsi g = IsGsiFor false g
 
 -- The checks of a GSI block.
-abbrev pub asked_of_gsi : Bool → List ℕ → Questions
-asked_of_gsi takes_open g =
+abbrev pub required_of_gsi : Bool → List ℕ → Questions
+required_of_gsi takes_open g =
     (fault.Format, not (bytes_eq (dfc g) stl_25) && not (bytes_eq (dfc g) stl_30))
     ∷ (fault.Rate, bytes_eq (dfc g) stl_30)
     ∷ (
@@ -107,7 +107,7 @@ asked_of_gsi takes_open g =
 
 -- The block itself, or its first fault.
 unfoldable pub gsi_at : Bool → List ℕ → Result (List ℕ) StlFault
-gsi_at takes_open g = asked (asked_of_gsi takes_open g) (Ok g)
+gsi_at takes_open g = requested (required_of_gsi takes_open g) (Ok g)
 
 -- The ASCII digit of a number below ten.
 abbrev pub digit : ℕ → ℕ

@@ -7,6 +7,6 @@ abbrev pub Questions : Type 0
 Questions = List (StlFault × Bool)
 
 -- The fault of the first check that fails, or `answer` if none does.
-abbrev pub asked : {X : Type 0} → Questions → Result X StlFault → Result X StlFault
-asked [] answer = answer
-asked (q ∷ qs) answer = if q.1 then Err q.0 else asked qs answer
+abbrev pub requested : {X : Type 0} → Questions → Result X StlFault → Result X StlFault
+requested [] answer = answer
+requested (q ∷ qs) answer = if q.1 then Err q.0 else requested qs answer

@@ -32,11 +32,11 @@ HasPlace Broken block = block ≤ most_blocks + 1
 HasPlace _ block = block ≤ most_blocks
 
 -- The result of `next_into` with its subtitle, in the form of a result of `next`.
-abbrev pub given_subtitle :
+abbrev pub yielded_subtitle :
     Result Bool StlFault → SubtitleValue → Result (Option SubtitleValue) StlFault
-given_subtitle (Ok true) s = Ok (Some s)
-given_subtitle (Ok false) s = Ok None
-given_subtitle (Err f) s = Err f
+yielded_subtitle (Ok true) s = Ok (Some s)
+yielded_subtitle (Ok false) s = Ok None
+yielded_subtitle (Err f) s = Err f
 
 -- ---- remaining results
 
@@ -86,7 +86,7 @@ block_by block (Ok found) = block
 -- The last block of these bytes is not a skipped one.
 abbrev pub LastIsKept : List ℕ → Type 0
 LastIsKept bytes =
-    (front last : List ℕ) → bytes ≡ front ++ last → IsBlock last → is_kept last ≡ true
+    (prefix last : List ℕ) → bytes ≡ prefix ++ last → IsBlock last → is_kept last ≡ true
 
 -- ---- bytes consumed by a call
 
@@ -108,11 +108,11 @@ pub record TakesSubtitle (from to : ℕ) (old new : Option (List ℕ)) (s : Subt
     pub consumed : Consumes old new (concat blocks)
 
 -- The bytes consumed are only skipped blocks, followed by the end of the file.
-pub record TakesPassed (from to : ℕ) (old new : Option (List ℕ)) : Type 0 where
+pub record TakesSkipped (from to : ℕ) (old new : Option (List ℕ)) : Type 0 where
   pub blocks : List (List ℕ)
   pub counted : from + length blocks ≡ to
   pub each : AllByRecursion IsBlock blocks
-  pub passed : filter is_kept blocks ≡ []
+  pub skipped : filter is_kept blocks ≡ []
   pub consumed : Consumes old new (concat blocks)
   pub ended : IsAtEnd new
 
@@ -162,7 +162,7 @@ pub record FailsReading
 abbrev pub TakesByAnswer :
     ℕ → ℕ → Option (List ℕ) → Option (List ℕ) → Result (Option SubtitleValue) StlFault → Type 0
 TakesByAnswer from to old new (Ok (Some s)) = TakesSubtitle from to old new s
-TakesByAnswer from to old new (Ok None) = TakesPassed from to old new
+TakesByAnswer from to old new (Ok None) = TakesSkipped from to old new
 TakesByAnswer from to old new (Err f) =
     (is_format f ≡ true → Refuses from to old new f)
     × (is_file_read f ≡ true → FailsReading whole from to None old new)

@@ -10,7 +10,7 @@ use Rattle.sub_io.specs.Reading.{◌>>=◌}
 use Rattle.stl_file.specs.declared.fault.StlFault.{StlFault}
 use Rattle.stl_file.specs.declared.fault.StlFault.TheVariants as fault
 use Rattle.stl_file.specs.Fault.{is_of_first}
-use Rattle.stl_file.specs.Questions.{Questions, asked}
+use Rattle.stl_file.specs.Questions.{Questions, requested}
 use Rattle.stl_file.specs.TimeCode.{frame_in, is_time}
 use Rattle.stl_file.specs.Tti.{block_size, most_blocks, most_of_subtitle, first_reserved, user_data}
 use Rattle.stl_file.specs.Tti.{last_block, not_cumulative, is_comment, sgn, sn, ebn, cs, vp, jc, cf}
@@ -27,17 +27,17 @@ use Rattle.stl_file.specs.declared.subtitle_blocks.BlocksRead.{BlocksRead}
 pub record Begun : Type 0 where
   pub subtitle : SubtitleValue
   pub blocks : ℕ
-  pub is_passed : Bool
+  pub is_skipped : Bool
 
 -- The effect of a block: more blocks follow, within a subtitle or between two, or it was the last
 -- block of this subtitle.
 pub data BlockStep : Type 0 where
   More : Option Begun → BlockStep
-  Give : SubtitleValue → BlockStep
+  Yield : SubtitleValue → BlockStep
 
 -- The checks of the first block of a subtitle.
-abbrev pub asked_of_first : List ℕ → Questions
-asked_of_first b =
+abbrev pub required_of_first : List ℕ → Questions
+required_of_first b =
     (fault.Cumulative, not (cs b == not_cumulative))
     ∷ (fault.Justify, nat_lt 3 (jc b))
     ∷ (fault.Row, not (nat_le 1 (vp b) && nat_le (vp b) 23))
@@ -49,7 +49,7 @@ asked_of_first b =
 -- The subtitle that starts with this block, with the block's text.
 unfoldable pub first_at : List ℕ → Result SubtitleValue StlFault
 first_at b =
-    asked (asked_of_first b) (Ok (record {
+    requested (required_of_first b) (Ok (record {
       sgn = sgn b;
       sn = sn b;
       tci = frame_in (tci b);
@@ -60,8 +60,8 @@ first_at b =
     }))
 
 -- The checks of a further block.
-abbrev pub asked_of_further : Begun → List ℕ → Questions
-asked_of_further begun b =
+abbrev pub required_of_further : Begun → List ℕ → Questions
+required_of_further begun b =
     (fault.Sequence, not ((sgn b == begun.subtitle.sgn) && (sn b == begun.subtitle.sn)))
     ∷ (fault.TooLong, begun.blocks == most_of_subtitle)
     ∷ []
@@ -69,39 +69,39 @@ asked_of_further begun b =
 -- EBN FF ends a subtitle; otherwise it continues. A skipped subtitle is not returned.
 abbrev pub closed : ℕ → Begun → BlockStep
 closed n begun =
-    if n == last_block then (if begun.is_passed then More None else Give begun.subtitle)
+    if n == last_block then (if begun.is_skipped then More None else Yield begun.subtitle)
     else More (Some begun)
 
 -- A skipped subtitle that starts with this block: its other blocks must have the same SGN and SN,
 -- and must not be too many.
-abbrev pub passed_by : List ℕ → Begun
-passed_by b = record {
+abbrev pub begun_skipped : List ℕ → Begun
+begun_skipped b = record {
   subtitle = record empty_subtitle { sgn = sgn b; sn = sn b };
   blocks = 1;
-  is_passed = true;
+  is_skipped = true;
 }
 
 -- It continues if this block is not its last.
-abbrev pub passed_at : List ℕ → Option Begun
-passed_at b = if ebn b == last_block then None else Some (passed_by b)
+abbrev pub skipped_at : List ℕ → Option Begun
+skipped_at b = if ebn b == last_block then None else Some (begun_skipped b)
 
 -- A block of a subtitle: its first, or a further one of the current subtitle. The first block of a
 -- subtitle outside the scope is not checked.
 unfoldable pub kept_at : Scope → Option Begun → List ℕ → Result BlockStep StlFault
 kept_at scope None b =
-    if begins_outside scope b then Ok (More (passed_at b))
+    if begins_outside scope b then Ok (More (skipped_at b))
     else do
       s ← first_at b
-      Ok (closed (ebn b) (record { subtitle = s; blocks = 1; is_passed = false }))
+      Ok (closed (ebn b) (record { subtitle = s; blocks = 1; is_skipped = false }))
 kept_at scope (Some begun) b =
-    asked (asked_of_further begun b) (Ok (closed (ebn b) (record begun {
+    requested (required_of_further begun b) (Ok (closed (ebn b) (record begun {
       subtitle = record begun.subtitle { text = begun.subtitle.text ++ text_of b };
       blocks = begun.blocks + 1;
     })))
 
 -- The current subtitle, if it is read in place, with the state of reading its blocks.
 abbrev pub begun_by : SubtitleValue → BlocksRead → Begun
-begun_by s read = record { subtitle = s; blocks = read.count; is_passed = read.is_passed }
+begun_by s read = record { subtitle = s; blocks = read.count; is_skipped = read.is_skipped }
 
 -- There is none before its first block.
 abbrev pub begun_in : SubtitleValue → BlocksRead → Option Begun
@@ -111,12 +111,12 @@ begun_in s read = if read.count == 0 then None else Some (begun_by s read)
 -- is complete.
 abbrev pub step_in : SubtitleValue → BlocksRead → Result Bool StlFault → Result BlockStep StlFault
 step_in s read (Err f) = Err f
-step_in s read (Ok true) = Ok (Give s)
+step_in s read (Ok true) = Ok (Yield s)
 step_in s read (Ok false) = Ok (More (begun_in s read))
 
 -- The checks of every block except user data.
-abbrev pub asked_of_block : List ℕ → Questions
-asked_of_block b =
+abbrev pub required_of_block : List ℕ → Questions
+required_of_block b =
     (fault.Extension, nat_le first_reserved (ebn b) && not (ebn b == last_block))
     ∷ (fault.CommentFlag, nat_lt is_comment (cf b))
     ∷ []
@@ -125,7 +125,7 @@ asked_of_block b =
 unfoldable pub step_at : Scope → Option Begun → List ℕ → Result BlockStep StlFault
 step_at scope begun b =
     if ebn b == user_data then Ok (More begun)
-    else asked (asked_of_block b)
+    else requested (required_of_block b)
     (if cf b == is_comment then Ok (More begun) else kept_at scope begun b)
 
 -- ---- all following blocks
@@ -148,10 +148,10 @@ pub data Findings : Type 0 where
 abbrev pub findings_after :
     ℕ → (Option Begun → Findings) → List ℕ → Result BlockStep StlFault → Findings
 findings_after room next b (Err f) =
-    if is_of_first f then refuses f (most_blocks - room) (next (passed_at b))
+    if is_of_first f then refuses f (most_blocks - room) (next (skipped_at b))
     else breaks f (most_blocks - room)
 findings_after room next b (Ok (More begun)) = next begun
-findings_after room next b (Ok (Give s)) = finds s (most_blocks - room) (next None)
+findings_after room next b (Ok (Yield s)) = finds s (most_blocks - room) (next None)
 
 -- The results for bytes after the GSI block, if `room` blocks may still follow and `begun` is the
 -- current subtitle. If the file ends within a subtitle, the last complete block is reported; for

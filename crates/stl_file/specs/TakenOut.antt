@@ -9,7 +9,7 @@ use Rattle.stl_file.specs.Reading.{Findings, breaks, finds, no_more, refuses}
 use Rattle.stl_file.specs.Scope.{begins_outside}
 use Rattle.stl_file.specs.SubtitleBlocks.{IsBlock}
 use Rattle.stl_file.specs.TimeCode.{day}
-use Rattle.stl_file.specs.Tti.{ebn, is_passed_block, last_block}
+use Rattle.stl_file.specs.Tti.{ebn, is_skipped_block, last_block}
 
 -- A block that is neither comment nor user data is kept. The first block of a subtitle is kept if
 -- it is not outside, each other one if the first was, which `within` says.
@@ -26,7 +26,7 @@ within_after scope within b =
 abbrev pub taken_out : Scope → Option Bool → List (List ℕ) → List (List ℕ)
 taken_out scope within [] = []
 taken_out scope within (b ∷ bs) =
-    if is_passed_block b then b ∷ taken_out scope within bs
+    if is_skipped_block b then b ∷ taken_out scope within bs
     else if stays scope within b then b ∷ taken_out scope (within_after scope within b) bs
     else taken_out scope (within_after scope within b) bs
 
@@ -35,11 +35,11 @@ abbrev pub all_day : Scope → Scope
 all_day scope = record scope { from = 0; to = day }
 
 -- Reading reaches the end of the file: the file is complete, and its blocks are linked.
-abbrev pub is_read_whole : Findings → Bool
-is_read_whole no_more = true
-is_read_whole (breaks f block) = false
-is_read_whole (finds s block more) = is_read_whole more
-is_read_whole (refuses f block more) = is_read_whole more
+abbrev pub is_read_to_the_end : Findings → Bool
+is_read_to_the_end no_more = true
+is_read_to_the_end (breaks f block) = false
+is_read_to_the_end (finds s block more) = is_read_to_the_end more
+is_read_to_the_end (refuses f block more) = is_read_to_the_end more
 
 -- Ignores block numbers.
 abbrev pub unnumbered : Findings → Findings
@@ -56,7 +56,7 @@ LawOfScope =
     (scope : Scope) (gsi : List ℕ) (blocks : List (List ℕ))
     → length gsi ≡ gsi_size
     → AllByRecursion IsBlock blocks
-    → is_read_whole (findings_for scope (gsi ++ concat blocks)) ≡ true
+    → is_read_to_the_end (findings_for scope (gsi ++ concat blocks)) ≡ true
     → unnumbered (findings_for scope (gsi ++ concat blocks))
     ≡ unnumbered (findings_for (all_day scope) (gsi ++ concat (taken_out scope None blocks)))
 

@@ -107,11 +107,11 @@ abbrev pub text_of : List ℕ → List ℕ
 text_of b = before_unused (tf b)
 
 -- User data, whatever its CF, and comments are skipped: they are not part of a subtitle.
-abbrev pub is_passed_block : List ℕ → Bool
-is_passed_block b =
+abbrev pub is_skipped_block : List ℕ → Bool
+is_skipped_block b =
     (ebn b == user_data)
     || ((nat_lt (ebn b) first_reserved || (ebn b == last_block)) && (cf b == is_comment))
 
 -- A block that is not skipped.
 abbrev pub is_kept : List ℕ → Bool
-is_kept b = not (is_passed_block b)
+is_kept b = not (is_skipped_block b)

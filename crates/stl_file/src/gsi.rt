@@ -125,9 +125,9 @@ impl Gsi {
         requires { at + len ≤ 1024 }
         ensures { result.now ≡ field at len self.now }
     {
-        let (_, behind) = self.bytes.split_at(at);
-        let (front, _) = behind.split_at(len);
-        front
+        let (_, following) = self.bytes.split_at(at);
+        let (prefix, _) = following.split_at(len);
+        prefix
     }
 
     /// Returns CPN, the code page number.

@@ -56,7 +56,7 @@ fn judge(gsi: Gsi, body: &[u8]) -> Result<Counts, NormalFault>
     ensures few { IfOk result (λ counts. (counts.tnb < 100000) × (counts.tns < 100000)) }
 {
     let mut source = MemSource::new(body);
-    let mut reader = StlReader::behind(gsi);
+    let mut reader = StlReader::following(gsi);
     let mut subtitle = Subtitle::empty();
     let mut counts = Counts { tnb: 0, tns: 0 };
     'subtitles: loop {
@@ -125,7 +125,7 @@ fn put_subtitles<K: Sink>(gsi: Gsi, body: &[u8], sink: &mut K) -> Result<(), Fai
     ensures count { CountsFailure (K.failure_count sink.old) result (K.failure_count sink.new) }
 {
     let mut source = MemSource::new(body);
-    let mut reader = StlReader::behind(gsi);
+    let mut reader = StlReader::following(gsi);
     let mut subtitle = Subtitle::empty();
     'subtitles: loop {
         match read_on(&mut reader, &mut source, &mut subtitle) {

@@ -12,9 +12,9 @@ ghost use Rattle.stl_file.specs.Fault.{is_format, is_file_read};
 ghost use Rattle.stl_file.specs.Gsi.{IsGsi, IsGsiFor};
 ghost use Rattle.stl_file.specs.Reader.{block_after, block_by, gsi_of, opened_at, FailsReading};
 ghost use Rattle.stl_file.specs.Reader.{HasPlace, GivesNextSubtitle, Refuses, RefusesOpening};
-ghost use Rattle.stl_file.specs.Reader.{RefusesOpeningFor, TakesByAnswer, TakesPassed};
-ghost use Rattle.stl_file.specs.Reader.{TakesSubtitle, given_subtitle, progress_after_answer};
-ghost use Rattle.stl_file.specs.Reading.{begun_in, passed_by};
+ghost use Rattle.stl_file.specs.Reader.{RefusesOpeningFor, TakesByAnswer, TakesSkipped};
+ghost use Rattle.stl_file.specs.Reader.{TakesSubtitle, yielded_subtitle, progress_after_answer};
+ghost use Rattle.stl_file.specs.Reading.{begun_in, begun_skipped};
 ghost use Rattle.stl_file.specs.Resuming.{LeadsOn, found_of};
 ghost use Rattle.stl_file.specs.Scope.{whole};
 ghost use Rattle.stl_file.specs.Tti.{most_blocks};
@@ -83,13 +83,13 @@ impl StlReader {
             (failed is_file_read result) source.new }
     {
         match read_gsi(source, Scope::whole()) {
-            Ok(gsi) => Ok(StlReader::behind(gsi)),
+            Ok(gsi) => Ok(StlReader::following(gsi)),
             Err(fault) => Err(fault),
         }
     }
 
     // Creates a reader after this GSI block.
-    pub(crate) fn behind(gsi: Gsi) -> StlReader
+    pub(crate) fn following(gsi: Gsi) -> StlReader
         ensures { result ≡ record { gsi = gsi; block = 0; progress = Reading } }
     {
         StlReader {
@@ -145,7 +145,7 @@ impl StlReader {
             (S.remaining source.old) (S.remaining source.new))) }
         // `None` means that only skipped blocks were left.
         ensures none { self.old.progress ≡ Reading → IfOk result (λ found. IfNone found
-            (TakesPassed self.old.block self.new.block
+            (TakesSkipped self.old.block self.new.block
             (S.remaining source.old) (S.remaining source.new))) }
         // No file has the rejected bytes.
         ensures refused { self.old.progress ≡ Reading → IfErr result (λ fault.
@@ -197,16 +197,16 @@ impl StlReader {
         ensures exact { IfKnown (S.remaining source.old) (λ bytes.
             failed is_file_read result ≡ false →
             GivesNextSubtitle self.old bytes self.new (S.remaining source.new)
-            (given_subtitle result subtitle.new)) }
+            (yielded_subtitle result subtitle.new)) }
 
         // A subtitle consists of the blocks consumed; `false` means that only skipped blocks were
         // left. No file has the rejected bytes; a failing source failed at this block.
         ensures taken { self.old.progress ≡ Reading → TakesByAnswer self.old.block self.new.block
             (S.remaining source.old) (S.remaining source.new)
-            (given_subtitle result subtitle.new) }
+            (yielded_subtitle result subtitle.new) }
 
         ensures progress { self.new.progress ≡ progress_after_answer self.old.progress
-            (given_subtitle result subtitle.new) }
+            (yielded_subtitle result subtitle.new) }
         ensures place { HasPlace self.new.progress self.new.block }
         ensures gsi { self.new.gsi ≡ self.old.gsi }
         // After the end and after a fault nothing is consumed, and the reader does not change.
@@ -281,11 +281,11 @@ pub(crate) fn read_blocks<S: Source>(
     requires few { block.old ≤ most_blocks }
     requires count { CanFail (S.failure_count source.old) }
     ensures leads { failed is_file_read result ≡ false →
-        LeadsOn scope block.old (block_by block.new (given_subtitle result subtitle.new))
-        (option_map passed_by refused.old) (option_map passed_by refused.new)
+        LeadsOn scope block.old (block_by block.new (yielded_subtitle result subtitle.new))
+        (option_map begun_skipped refused.old) (option_map begun_skipped refused.new)
         (S.remaining source.old) (S.remaining source.new) subtitle.new (found_of result) }
     ensures failed { failed is_file_read result ≡ true →
-        FailsReading scope block.old (block.new + 1) (option_map passed_by refused.old)
+        FailsReading scope block.old (block.new + 1) (option_map begun_skipped refused.old)
         (S.remaining source.old) (S.remaining source.new) }
     ensures never { IfErr result (λ fault. fault ≢ Ended) }
     ensures over { result ≡ Ok true → refused.new ≡ None }
@@ -328,18 +328,18 @@ pub(crate) fn read_blocks<S: Source>(
 // Continues a subtitle after its rejected first block, if there is one. Returns how many of its
 // blocks were read.
 fn resume(subtitle: &mut Subtitle, refused: &Option<Tti>) -> BlocksRead
-    ensures { begun_in subtitle.new result ≡ option_map passed_by refused.now }
+    ensures { begun_in subtitle.new result ≡ option_map begun_skipped refused.now }
 {
     let count = match refused {
         None => 0,
         Some(block) => {
-            subtitle.pass(block);
+            subtitle.skip_subtitle(block);
             1
         }
     };
     BlocksRead {
         count,
-        is_passed: true,
+        is_skipped: true,
     }
 }
 

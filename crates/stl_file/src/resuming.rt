@@ -10,7 +10,7 @@ ghost use Rattle.stl_file.specs.declared.progress.Progress.TheVariants.{Reading}
 ghost use Rattle.stl_file.specs.Fault.{is_format, is_file_read};
 ghost use Rattle.stl_file.specs.Gsi.{IsGsiFor};
 ghost use Rattle.stl_file.specs.Reader.{FailsReading, HasPlace, RefusesOpeningFor};
-ghost use Rattle.stl_file.specs.Reading.{passed_by};
+ghost use Rattle.stl_file.specs.Reading.{begun_skipped};
 ghost use Rattle.stl_file.specs.Resuming.{IsOfFirst, LeadsOn, begun_at, progress_found};
 
 use crate::fault::StlFault;
@@ -51,7 +51,7 @@ pub struct ResumingReader {
 impl Model for ResumingReader {
     ghost use Rattle.std.specs.Prelude.{option_map};
     ghost use Rattle.stl_file.specs.Reader.{HasPlace};
-    ghost use Rattle.stl_file.specs.Reading.{passed_by};
+    ghost use Rattle.stl_file.specs.Reading.{begun_skipped};
     ghost use Rattle.stl_file.specs.Resuming.{ResumingValue};
 
     ghost Value = { ResumingValue };
@@ -60,7 +60,7 @@ impl Model for ResumingReader {
       scope = r.scope;
       block = r.block;
       progress = r.progress;
-      refused = option_map passed_by r.refused;
+      refused = option_map begun_skipped r.refused;
     } };
 
     ghost invariant = { λ r. HasPlace r.progress r.block };

@@ -210,7 +210,7 @@ impl Subtitle {
     }
 
     // Becomes the skipped subtitle that starts with this block.
-    pub(crate) fn pass(&mut self, block: &Tti)
+    pub(crate) fn skip_subtitle(&mut self, block: &Tti)
         ensures { self.new ≡ record empty_subtitle { sgn = sgn block.now; sn = sn block.now } }
     {
         *self = Subtitle::empty();

@@ -15,7 +15,7 @@ pub(crate) struct BlocksRead {
     // The number of blocks. If it is 0, the contents of the subtitle are meaningless.
     pub(crate) count: u8,
     // The subtitle is skipped, since it is outside the scope or was rejected.
-    pub(crate) is_passed: bool,
+    pub(crate) is_skipped: bool,
 }
 
 /// Takes the next block of a file. Returns `true` if it is the last one of a subtitle that is not
@@ -92,14 +92,14 @@ fn take_first(
 {
     let is_last = block.ebn() == 0xff;
     if scope.is_outside(block) {
-        subtitle.pass(block);
+        subtitle.skip_subtitle(block);
         read.count = if is_last { 0 } else { 1 };
-        read.is_passed = true;
+        read.is_skipped = true;
         return Ok(false);
     }
     subtitle.begin(block)?;
     read.count = 1;
-    read.is_passed = false;
+    read.is_skipped = false;
     Ok(is_last)
 }
 
@@ -125,7 +125,7 @@ fn take_further(
     }
     subtitle.extend(block);
     let is_last = block.ebn() == 0xff;
-    if is_last && read.is_passed {
+    if is_last && read.is_skipped {
         read.count = 0;
         return Ok(false);
     }

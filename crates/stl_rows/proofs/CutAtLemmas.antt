@@ -33,12 +33,12 @@ are_first-by mark text found is =
     grind (arith, nat_tests, ltb-true, slice_split_first, length-drop, cut_at-none, ltb-false)
 
 -- Shown for the result of `cut_at`.
-pub cut_at-first : (mark : ℕ) (text front : List ℕ) (behind : Option (Bor (List ℕ)))
-    → (front, option_map (λ x. x.now) behind) ≡ cut_at mark text
+pub cut_at-first : (mark : ℕ) (text prefix : List ℕ) (following : Option (Bor (List ℕ)))
+    → (prefix, option_map (λ x. x.now) following) ≡ cut_at mark text
     → (slice_split (λ c. c == mark) text
-    ≡ front ∷ option_map_or (λ more. slice_split (λ c. c == mark) more.now) behind [])
-    × (IfSome behind (λ more. length more.now < length text))
-cut_at-first mark text front None e =
+    ≡ prefix ∷ option_map_or (λ more. slice_split (λ c. c == mark) more.now) following [])
+    × (IfSome following (λ more. length more.now < length text))
+cut_at-first mark text prefix None e =
     subst (AreFirst mark text) (sym e) (are_first-by mark text _ refl)
-cut_at-first mark text front (Some more) e =
+cut_at-first mark text prefix (Some more) e =
     subst (AreFirst mark text) (sym e) (are_first-by mark text _ refl)

@@ -17,7 +17,7 @@ use Rattle.stl_file.specs.Subtitle.{SubtitleValue, IsSubtitle, empty_subtitle}
 use Rattle.stl_rows.specs.declared.layout.Drawing.{Drawing}
 use Rattle.stl_rows.specs.DrawnPage.{drawn}
 use Rattle.stl_rows.specs.DuePage.{IsEdge, IsLastEdge, IsNextEdge, LawOfBlankPages}
-use Rattle.stl_rows.specs.DuePage.{LawOfDueSubtitles, LawOfEdges, TellsLastEdge, drawn_or_blank}
+use Rattle.stl_rows.specs.DuePage.{LawOfDueSubtitles, LawOfEdges, ReportsLastEdge, drawn_or_blank}
 use Rattle.stl_rows.specs.DuePage.{due, ends_at, is_due, tci_of_ending}
 use Rattle.stl_rows.specs.Programme.{IsProgramme}
 
@@ -205,7 +205,7 @@ module _ (n : Drawing) (ts : List SubtitleValue) (f at : ℕ) (ok : IsProgramme 
       → ((k : ℕ) (d : SubtitleValue) → at ≤ k → k < length ts → f < (get_or ts k d).tci)
       → MatchOption o (at ≡ 0)
       (λ tco. (1 ≤ at) × ((d : SubtitleValue) → tco ≡ (get_or ts (at - 1) d).tco))
-      → TellsLastEdge ts f o
+      → ReportsLastEdge ts f o
   last_edge-gap None high before after none = λ x edge.
       let times = times_of_edge x edge in
       let there = edge.3 in
@@ -235,7 +235,7 @@ module _ (n : Drawing) (ts : List SubtitleValue) (f at : ℕ) (ok : IsProgramme 
           let order = ok.in_order edge.0 (at - 1) edge.1 l (omega (arith, some.0, high)) in
           grind arith in
           let later : at ≤ edge.0 → f < edge.1.tci =
-          λ l. let behind = after edge.0 edge.1 l edge.2 in grind arith in
+          λ l. let following = after edge.0 edge.1 l edge.2 in grind arith in
           grind (arith, nat_tests, cases_lt)
 
 -- Without a cue between two frames the expected page is the same: for a checker that goes back

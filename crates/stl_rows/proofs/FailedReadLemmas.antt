@@ -6,8 +6,8 @@ use Rattle.std.specs.Io.KnownBytes.{Consumes}
 use Rattle.std.specs.List.{All, filter}
 use Rattle.std.proofs.KnownBytes.{Consumes-trans}
 use Rattle.std.proofs.lemmas.Bool.Decides.{nat_tests}
-use Rattle.sub_io.specs.Telling.{Tells}
-use Rattle.sub_io.proofs.TellingLemmas.{Tells-none}
+use Rattle.sub_io.specs.Reporting.{Reports}
+use Rattle.sub_io.proofs.ReportingLemmas.{Reports-none}
 use Rattle.stl_file.specs.declared.fault.StlFault.{StlFault}
 use Rattle.stl_file.specs.declared.resuming.Found.{Found}
 use Rattle.stl_file.specs.declared.scope.Scope.{Scope}
@@ -18,9 +18,9 @@ use Rattle.stl_file.specs.Resuming.{LeadsOn, ResumingValue}
 use Rattle.stl_rows.specs.declared.layout.Drawing.{Drawing}
 use Rattle.stl_rows.specs.declared.fault.LoadFault.{LoadFault}
 use Rattle.stl_rows.specs.declared.times.Times.{Times}
-use Rattle.stl_rows.specs.EveryFault.{FailsTelling, faults, is_told_before}
+use Rattle.stl_rows.specs.EveryFault.{FailsReporting, faults, is_reported_before}
 use Rattle.stl_rows.specs.Keeping.{KeptRecords}
-use Rattle.stl_rows.proofs.LoadingLemmas.{GoesOn, IsToldBy, tells-unread}
+use Rattle.stl_rows.proofs.LoadingLemmas.{GoesOn, IsReportedBy, reports-unread}
 
 -- The GSI block and `block` TTI blocks have been read.
 pub record HasTaken (old now : Option (List ℕ)) (block : ℕ) : Type 0 where
@@ -54,40 +54,42 @@ block-is : (bytes more : List ℕ) (from to : ℕ)
 block-is bytes more from to long at = grind (arith, nat_tests, length-append bytes more)
 
 -- No fault comes before block 0.
-none_before-0 : (all : List LoadFault) → filter (is_told_before 0) all ≡ []
+none_before-0 : (all : List LoadFault) → filter (is_reported_before 0) all ≡ []
 none_before-0 [] = refl
 none_before-0 (f ∷ fs) = grind (arith, nat_tests, none_before-0 fs)
 
 -- The source fails while a subtitle is read.
 pub fails-next : {drawing : Drawing} {start old new : Option (List ℕ)} {before : Option Times}
     {kept : KeptRecords} {early : List LoadFault} {D : Type 0}
-    {IsTold : D → LoadFault → D → Type 0} {told_old told_new : D} {scope : Scope}
+    {IsReported : D → LoadFault → D → Type 0} {reported_old reported_new : D} {scope : Scope}
     (reader : ResumingValue) {block : ℕ}
     → HasTaken start old reader.block
-    → All (IsToldBy reader.block) early
-    → Tells IsTold told_old told_new early
+    → All (IsReportedBy reader.block) early
+    → Reports IsReported reported_old reported_new early
     → ((all : List ℕ) → start ≡ Some all → (rest : List ℕ) × (old ≡ Some rest)
     × GoesOn drawing all (findings_from scope reader.block reader.refused rest) before kept early)
     → FailsReading scope reader.block block reader.refused old new
-    → FailsTelling drawing start new IsTold told_old told_new block
-fails-next {start = start} {old} {new} {scope = scope} reader {block} taken early_told told goes
+    → FailsReporting drawing start new IsReported reported_old reported_new block
+fails-next {start = start} {old} {new} {scope = scope} reader {block} taken early_reported reported
+    goes
     failed =
     record {
       bytes = taken.bytes ++ failed.bytes;
       consumed =
           Consumes-trans start old new taken.bytes failed.bytes taken.consumed failed.consumed;
       block_is = block-is taken.bytes failed.bytes reader.block block taken.long failed.block;
-      told = λ all is.
+      reported = λ all is.
           let here = goes all is in
           let left = left_over here.0 new failed.bytes (rw here.1 at failed.consumed) in
           let names : FindsFrom block (findings_from scope reader.block reader.refused here.0) =
           rw left.1 (failed.none left.0) in
-          tells-unread reader.block block (omega (arith, failed.block)) early_told names here.2
-          told;
+          reports-unread reader.block block (omega (arith, failed.block)) early_reported names
+          here.2
+          reported;
     }
 
 -- The source fails while the GSI block is read: nothing was reported.
 pub reads-nothing : (drawing : Drawing) (file : List ℕ)
-    {D : Type 0} {IsTold : D → LoadFault → D → Type 0} (told : D)
-    → Tells IsTold told told (filter (is_told_before 0) (faults drawing file))
-reads-nothing drawing file told = grind (arith, nat_tests, none_before-0, Tells-none)
+    {D : Type 0} {IsReported : D → LoadFault → D → Type 0} (reported : D)
+    → Reports IsReported reported reported (filter (is_reported_before 0) (faults drawing file))
+reads-nothing drawing file reported = grind (arith, nat_tests, none_before-0, Reports-none)

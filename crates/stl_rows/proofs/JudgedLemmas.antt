@@ -14,11 +14,11 @@ use Rattle.stl_rows.specs.declared.fault.RowFault.{RowFault}
 use Rattle.stl_rows.specs.declared.layout.Drawing.{Drawing}
 use Rattle.stl_rows.specs.declared.times.Times.{Times}
 use Rattle.stl_rows.specs.DrawnPage.{drawn}
-use Rattle.stl_rows.specs.EveryFault.{faults, faults_behind, load_fault}
+use Rattle.stl_rows.specs.EveryFault.{faults, faults_after, load_fault}
 use Rattle.stl_rows.specs.Judged.{AllJudged, JudgedSubtitle, LawOfDecided, LawOfJudged}
 use Rattle.stl_rows.specs.Judged.{LawOfKnown, is_followed_in_order, is_undecided_in}
 use Rattle.stl_rows.specs.Judged.{with_bits}
-use Rattle.stl_rows.specs.Judged.{is_undecided_from, judged_before, judged_behind, judged_of}
+use Rattle.stl_rows.specs.Judged.{is_undecided_from, judged_before, judged_after, judged_of}
 use Rattle.stl_rows.specs.Loading.{records_of}
 use Rattle.stl_rows.specs.Programme.{follow_faults, row_faults, times_of}
 use Rattle.stl_rows.specs.TextCode.{first_of}
@@ -35,8 +35,8 @@ drawn_none (k ∷ ks) r none = absurd cc
 
 each_drawn : (drawing : Drawing) (before : Option Times) (other : Bool) (left : Findings)
     → All (λ (j : JudgedSubtitle). IsOk (drawn drawing j.subtitle))
-    (judged_behind drawing before other left).judged
-unfolding judged_behind
+    (judged_after drawing before other left).judged
+unfolding judged_after
 each_drawn drawing before other no_more = grind (arith, nat_tests)
 each_drawn drawing before other (breaks f block) = grind (arith, nat_tests)
 each_drawn drawing before other (refuses f block left) =
@@ -67,7 +67,7 @@ decided_none = (refl, λ start frame. grind (arith, nat_tests))
 
 decided_more : (t : SubtitleValue) (all : AllJudged)
     → AllDecided all
-    → AllDecided (judged_before (record { subtitle = t; is_behind_other = false }) all)
+    → AllDecided (judged_before (record { subtitle = t; is_after_other = false }) all)
 decided_more t all h =
     (h.0, λ start frame. let rest = h.1 t.tco frame in grind (arith, nat_tests))
 
@@ -78,9 +78,9 @@ no_order (k ∷ ks) row e = absurd cc
 
 -- If there is no fault, the next record is in order with a subtitle.
 followed : (drawing : Drawing) (t : SubtitleValue) (left : Findings)
-    → faults_behind drawing (Some (times_of t)) left ≡ []
+    → faults_after drawing (Some (times_of t)) left ≡ []
     → is_followed_in_order (times_of t) left ≡ true
-unfolding faults_behind
+unfolding faults_after
 followed drawing t no_more none = grind (arith, nat_tests)
 followed drawing t (breaks f block) none = grind (arith, nat_tests)
 followed drawing t (refuses f block left) none = grind (arith, nat_tests)
@@ -88,29 +88,29 @@ followed drawing t (finds u block left) none =
     grind (arith, nat_tests, empty_parts, no_order, map_empty)
 
 -- All subtitles are reliable.
-all_behind : (drawing : Drawing) (before : Option Times) (left : Findings)
-    → faults_behind drawing before left ≡ []
-    → (map (λ (j : JudgedSubtitle). j.subtitle) (judged_behind drawing before false left).judged
+all_after : (drawing : Drawing) (before : Option Times) (left : Findings)
+    → faults_after drawing before left ≡ []
+    → (map (λ (j : JudgedSubtitle). j.subtitle) (judged_after drawing before false left).judged
     ≡ records_of left)
-    × AllDecided (judged_behind drawing before false left)
-unfolding faults_behind judged_behind
-all_behind drawing before no_more none = (refl, decided_none)
-all_behind drawing before (breaks f block) none = absurd cc
-all_behind drawing before (refuses f block left) none = absurd cc
-all_behind drawing before (finds t block left) none =
+    × AllDecided (judged_after drawing before false left)
+unfolding faults_after judged_after
+all_after drawing before no_more none = (refl, decided_none)
+all_after drawing before (breaks f block) none = absurd cc
+all_after drawing before (refuses f block left) none = absurd cc
+all_after drawing before (finds t block left) none =
     let parts = empty_parts (map (load_fault block) (follow_faults drawing before t)) _ none in
     let own = map_empty (load_fault block) (follow_faults drawing before t) parts.0 in
     let next = followed drawing t left parts.1 in
-    let rest = all_behind drawing (Some (times_of t)) left parts.1 in
+    let rest = all_after drawing (Some (times_of t)) left parts.1 in
     rw (own, next) (
       ap (λ (l : List SubtitleValue). t ∷ l) rest.0,
-      decided_more t (judged_behind drawing (Some (times_of t)) false left) rest.1,
+      decided_more t (judged_after drawing (Some (times_of t)) false left) rest.1,
     )
 
 pub all_decided : LawOfDecided
 unfolding faults judged_of
 all_decided drawing file none =
-    let all = all_behind drawing None (findings_for drawing.scope file) none in
+    let all = all_after drawing None (findings_for drawing.scope file) none in
     (all.0, λ frame. all.1.1 0 frame)
 
 -- ---- for callers

@@ -21,10 +21,10 @@ use Rattle.stl_rows.specs.declared.layout.Drawing.{Drawing}
 use Rattle.stl_rows.specs.declared.times.Times.{Times}
 use Rattle.stl_rows.specs.Judged.{AllJudged, JudgedSubtitle, are_in_order}
 use Rattle.stl_rows.specs.Judged.{is_followed_in_order}
-use Rattle.stl_rows.specs.Judged.{judged_before, judged_behind, start_from, with_bits}
+use Rattle.stl_rows.specs.Judged.{judged_before, judged_after, start_from, with_bits}
 use Rattle.stl_rows.specs.Keeping.{KeptRecords, all_kept, kept_after, nothing_kept, refused_one}
 use Rattle.stl_rows.specs.EveryFault.{load_fault}
-use Rattle.stl_rows.specs.Keeping.{are_none, bits_after, is_enough, is_whole}
+use Rattle.stl_rows.specs.Keeping.{are_none, bits_after, is_enough, are_all_kept}
 use Rattle.stl_rows.specs.Keeping.{broken_one, with_one, without_last}
 use Rattle.stl_rows.specs.Programme.{AreInOrder, IsProgramme, follow_faults, order_faults}
 use Rattle.stl_rows.specs.Programme.{row_faults, times_before, times_of}
@@ -36,7 +36,7 @@ use Rattle.stl_rows.specs.TextCode.{first_of}
 -- ---- subtitles with their bits
 
 abbrev with_bit : SubtitleValue → Bool → JudgedSubtitle
-with_bit t bit = record { subtitle = t; is_behind_other = bit }
+with_bit t bit = record { subtitle = t; is_after_other = bit }
 
 take_none : (n : ℕ) → take {A = Bool} n [] ≡ []
 take_none zero = refl
@@ -207,12 +207,12 @@ is_followed (Some times) left = is_followed_in_order times left
 abbrev pub judged_on : Drawing → Option Times → KeptRecords → Findings → AllJudged
 judged_on drawing before k left =
     if k.is_latest && not (is_followed before left)
-    then joined (take (length k.records - 1) (all_kept k)) (judged_behind drawing before true left)
-    else joined (all_kept k) (judged_behind drawing before k.is_before_other left)
+    then joined (take (length k.records - 1) (all_kept k)) (judged_after drawing before true left)
+    else joined (all_kept k) (judged_after drawing before k.is_before_other left)
 
 -- Before anything is read.
 pub judged-start : (drawing : Drawing) (left : Findings)
-    → judged_behind drawing None false left ≡ judged_on drawing None nothing_kept left
+    → judged_after drawing None false left ≡ judged_on drawing None nothing_kept left
 judged-start drawing left = refl
 
 -- At the end of the file.
@@ -225,7 +225,7 @@ end_none latest other js given = grind (arith, nat_tests, append-nil)
 pub judged-end : (drawing : Drawing) (before : Option Times) (k : KeptRecords)
     → judged_on drawing before k no_more
     ≡ record { judged = all_kept k; is_before_other = k.is_before_other }
-unfolding judged_behind
+unfolding judged_after
 judged-end drawing None k = end_none k.is_latest k.is_before_other (all_kept k) _
 judged-end drawing (Some times) k = end_none k.is_latest k.is_before_other (all_kept k) _
 
@@ -234,7 +234,7 @@ pub judged-refused : (drawing : Drawing) (before : Option Times) (k : KeptRecord
     (fault : StlFault) (block : ℕ) (left : Findings)
     → judged_on drawing before k (refuses fault block left)
     ≡ judged_on drawing before (refused_one k) left
-unfolding judged_behind
+unfolding judged_after
 judged-refused drawing None k fault block left = refl
 judged-refused drawing (Some times) k fault block left = refl
 
@@ -242,21 +242,21 @@ judged-refused drawing (Some times) k fault block left = refl
 finds_clean : (drawing : Drawing) (before : Option Times) (other : Bool) (t : SubtitleValue)
     (block : ℕ) (left : Findings)
     → is_none (first_of (follow_faults drawing before t)) ≡ true
-    → judged_behind drawing before other (finds t block left)
+    → judged_after drawing before other (finds t block left)
     ≡ (if is_followed_in_order (times_of t) left
-    then judged_before (with_bit t other) (judged_behind drawing (Some (times_of t)) false left)
-    else judged_behind drawing (Some (times_of t)) true left)
-unfolding judged_behind
+    then judged_before (with_bit t other) (judged_after drawing (Some (times_of t)) false left)
+    else judged_after drawing (Some (times_of t)) true left)
+unfolding judged_after
 finds_clean drawing before other t block left none = rw none refl
 
 -- A record with a fault.
-finds_told : (drawing : Drawing) (before : Option Times) (other : Bool) (t : SubtitleValue)
+finds_reported : (drawing : Drawing) (before : Option Times) (other : Bool) (t : SubtitleValue)
     (block : ℕ) (left : Findings)
     → is_none (first_of (follow_faults drawing before t)) ≡ false
-    → judged_behind drawing before other (finds t block left)
-    ≡ judged_behind drawing (Some (times_of t)) true left
-unfolding judged_behind
-finds_told drawing before other t block left some = rw some refl
+    → judged_after drawing before other (finds t block left)
+    ≡ judged_after drawing (Some (times_of t)) true left
+unfolding judged_after
+finds_reported drawing before other t block left some = rw some refl
 
 -- A record is in order with those times if it has no fault of its times.
 followed_is : (before : Option Times) (t : SubtitleValue) (block : ℕ) (left : Findings)
@@ -274,7 +274,7 @@ clean_order (k ∷ ks) row none = absurd cc
 
 -- One more subtitle that is kept.
 bits_kept : (k : KeptRecords) (t : SubtitleValue)
-    → length k.behind_other ≤ length k.records
+    → length k.after_other ≤ length k.records
     → all_kept (with_one t k) ≡ all_kept k ++ with_bit t k.is_before_other ∷ []
 bits_kept k t fits = grind (arith, nat_tests, with_bits-set, with_bits-unset)
 
@@ -290,19 +290,19 @@ kept_length (t ∷ ts) [] = ap suc (kept_length ts [])
 kept_length (t ∷ ts) (bit ∷ bits) = ap suc (kept_length ts bits)
 
 -- Whether the last subtitle was reliable or not.
-clean_step : (latest followed : Bool) (given behind other_behind : AllJudged)
+clean_step : (latest followed : Bool) (given following other_after : AllJudged)
     (js then_kept : List JudgedSubtitle) (j : JudgedSubtitle) (n : ℕ)
     → then_kept ≡ js ++ j ∷ []
     → n ≡ length js
     → (if latest && not true then given
-    else joined js (if followed then judged_before j behind else other_behind))
-    ≡ (if not followed then joined (take n then_kept) other_behind else joined then_kept behind)
-clean_step latest followed given behind other_behind js then_kept j n is size =
+    else joined js (if followed then judged_before j following else other_after))
+    ≡ (if not followed then joined (take n then_kept) other_after else joined then_kept following)
+clean_step latest followed given following other_after js then_kept j n is size =
     grind (arith, nat_tests, joined-more, drop_last)
 
 judged_clean : (drawing : Drawing) (before : Option Times) (k : KeptRecords) (t : SubtitleValue)
     (block : ℕ) (left : Findings)
-    → length k.behind_other ≤ length k.records
+    → length k.after_other ≤ length k.records
     → is_none (first_of (follow_faults drawing before t)) ≡ true
     → judged_on drawing before k (finds t block left)
     ≡ judged_on drawing (Some (times_of t)) (with_one t k) left
@@ -319,20 +319,20 @@ judged_clean drawing before k t block left fits none =
       bits_kept,
     )
 
-judged_told : (drawing : Drawing) (before : Option Times) (k : KeptRecords) (t : SubtitleValue)
+judged_reported : (drawing : Drawing) (before : Option Times) (k : KeptRecords) (t : SubtitleValue)
     (block : ℕ) (left : Findings) (in_order : Bool)
     → is_none (first_of (follow_faults drawing before t)) ≡ false
     → in_order ≡ is_none (first_of (order_faults before (times_of t)))
     → judged_on drawing before k (finds t block left)
     ≡ judged_on drawing (Some (times_of t))
     (if k.is_latest && not in_order then broken_one (without_last k) else broken_one k) left
-judged_told drawing before k t block left in_order some is =
-    grind (arith, nat_tests, followed_is, finds_told, with_bits-take)
+judged_reported drawing before k t block left in_order some is =
+    grind (arith, nat_tests, followed_is, finds_reported, with_bits-take)
 
 -- One more record of the file.
 pub judged-next : (drawing : Drawing) (before : Option Times) (k : KeptRecords)
     (t : SubtitleValue) (block : ℕ) (left : Findings) (in_order clean : Bool)
-    → length k.behind_other ≤ length k.records
+    → length k.after_other ≤ length k.records
     → in_order ≡ is_none (first_of (order_faults before (times_of t)))
     → clean ≡ is_none (first_of (follow_faults drawing before t))
     → judged_on drawing before k (finds t block left)
@@ -340,7 +340,7 @@ pub judged-next : (drawing : Drawing) (before : Option Times) (k : KeptRecords)
 judged-next drawing before k t block left in_order true fits is_order is_clean =
     judged_clean drawing before k t block left fits (sym is_clean)
 judged-next drawing before k t block left in_order false fits is_order is_clean =
-    judged_told drawing before k t block left in_order (sym is_clean) is_order
+    judged_reported drawing before k t block left in_order (sym is_clean) is_order
 
 -- ---- the kept subtitles are a programme
 
@@ -350,8 +350,8 @@ pub record AreKept (drawing : Drawing) (before : Option Times) (early : List Loa
     (k : KeptRecords) : Type 0 where
   pub each : All IsSubtitle k.records
   pub drawable : All (λ t. IsOk (drawn drawing t)) k.records
-  pub fits : length k.behind_other ≤ length k.records
-  pub whole : is_whole k ≡ is_none (first_of early)
+  pub fits : length k.after_other ≤ length k.records
+  pub whole : are_all_kept k ≡ is_none (first_of early)
   pub programme : early ≡ [] → (before ≡ times_before k.records) × IsProgramme drawing k.records
 
 -- Before anything is read.
@@ -359,14 +359,14 @@ pub kept-none : (drawing : Drawing) → AreKept drawing None [] nothing_kept
 kept-none drawing = grind (arith, nat_tests)
 
 -- If something untrusted follows the last, not all is kept.
-not_whole : (none : Bool) → (none && not true) ≡ false
-not_whole none = grind (arith, nat_tests)
+not_all_kept : (none : Bool) → (none && not true) ≡ false
+not_all_kept none = grind (arith, nat_tests)
 
 -- A fault was reported.
-told_some : {A : Type 0} (xs ys : List A) (y : A)
+reported_some : {A : Type 0} (xs ys : List A) (y : A)
     → is_none (first_of (xs ++ y ∷ ys)) ≡ false
-told_some [] ys y = refl
-told_some (x ∷ xs) ys y = refl
+reported_some [] ys y = refl
+reported_some (x ∷ xs) ys y = refl
 
 not_empty : {A : Type 0} (xs ys : List A) (y : A) → xs ++ y ∷ ys ≡ [] → ⊥
 not_empty [] ys y e = absurd cc
@@ -377,7 +377,7 @@ pub kept-refused : {drawing : Drawing} {before : Option Times} {early : List Loa
     {k : KeptRecords} (fault : LoadFault)
     → AreKept drawing before early k
     → AreKept drawing before (early ++ fault ∷ []) (refused_one k)
-kept-refused fault kept = grind (arith, nat_tests, not_whole, told_some, not_empty)
+kept-refused fault kept = grind (arith, nat_tests, not_all_kept, reported_some, not_empty)
 
 -- If a bit was set, not all bits are unset.
 some_bits : (bits more : List Bool) → are_none (bits ++ (more ++ true ∷ [])) ≡ false
@@ -389,12 +389,12 @@ pub none-first : {A : Type 0} (xs : List A) → is_none (first_of xs) ≡ true �
 none-first xs h = grind (arith, nat_tests)
 
 -- The faults of one more record were reported.
-told_more : (early : List LoadFault) (block : ℕ) (kinds : List LoadFaultKind)
+reported_more : (early : List LoadFault) (block : ℕ) (kinds : List LoadFaultKind)
     → is_none (first_of kinds) ≡ false
     → is_none (first_of (early ++ map (load_fault block) kinds)) ≡ false
-told_more early block [] some = absurd cc
-told_more early block (kind ∷ kinds) some =
-    told_some early (map (load_fault block) kinds) (load_fault block kind)
+reported_more early block [] some = absurd cc
+reported_more early block (kind ∷ kinds) some =
+    reported_some early (map (load_fault block) kinds) (load_fault block kind)
 
 -- A list with a first element is not empty.
 none_some : {A : Type 0} (xs : List A) → is_none (first_of xs) ≡ false → xs ≡ [] → ⊥
@@ -403,11 +403,11 @@ none_some xs some none = grind (arith, nat_tests)
 module _ {drawing : Drawing} {before : Option Times} {early : List LoadFault} {k : KeptRecords}
     (t : SubtitleValue) (block : ℕ) (kept : AreKept drawing before early k) where
   fits_then : (other : Bool)
-      → length (bits_after (length k.records) other k.behind_other) ≤ length (k.records ++ t ∷ [])
+      → length (bits_after (length k.records) other k.after_other) ≤ length (k.records ++ t ∷ [])
   fits_then other = grind (arith, nat_tests, length-append, length-replicate, length-take)
 
-  whole_then : is_whole (with_one t k) ≡ is_none (first_of early)
-  whole_then = grind (arith, nat_tests, not_whole, some_bits)
+  all_kept_then : are_all_kept (with_one t k) ≡ is_none (first_of early)
+  all_kept_then = grind (arith, nat_tests, not_all_kept, some_bits)
 
   -- A record without a fault is kept.
   kept_clean : IsSubtitle t
@@ -423,7 +423,7 @@ module _ {drawing : Drawing} {before : Option Times} {early : List LoadFault} {k
             All-push (λ x. IsOk (drawn drawing x)) k.records t kept.drawable
             (draws (drawn drawing t) rows.1);
         fits = fits_then k.is_before_other;
-        whole = whole_then;
+        whole = all_kept_then;
         programme = λ nothing.
             let all = kept.programme nothing in (
               sym (ap (option_map times_of) (last_of-push k.records t)),
@@ -432,25 +432,25 @@ module _ {drawing : Drawing} {before : Option Times} {early : List LoadFault} {k
       })
 
   -- A record with a fault is not kept; the record before it may be dropped too.
-  kept_told : (early_then : List LoadFault) (drops : Bool)
+  kept_reported : (early_then : List LoadFault) (drops : Bool)
       → is_none (first_of early_then) ≡ false
       → AreKept drawing (Some (times_of t)) early_then
       (if drops then broken_one (without_last k) else broken_one k)
-  kept_told early_then false some = record {
+  kept_reported early_then false some = record {
     each = kept.each;
     drawable = kept.drawable;
     fits = kept.fits;
-    whole = not_whole (are_none k.behind_other) ∙ sym some;
+    whole = not_all_kept (are_none k.after_other) ∙ sym some;
     programme = λ none. absurd (none_some early_then some none);
   }
-  kept_told early_then true some =
+  kept_reported early_then true some =
       let n : ℕ = length k.records - 1 in
       let fits = kept.fits in
       record {
         each = All-take IsSubtitle n k.records kept.each;
         drawable = All-take (λ x. IsOk (drawn drawing x)) n k.records kept.drawable;
-        fits = omega (arith, fits, length-take n k.records, length-take n k.behind_other);
-        whole = not_whole (are_none (take n k.behind_other)) ∙ sym some;
+        fits = omega (arith, fits, length-take n k.records, length-take n k.after_other);
+        whole = not_all_kept (are_none (take n k.after_other)) ∙ sym some;
         programme = λ none. absurd (none_some early_then some none);
       }
 
@@ -464,19 +464,19 @@ module _ {drawing : Drawing} {before : Option Times} {early : List LoadFault} {k
   kept-next in_order true is_clean subtitle =
       kept_clean subtitle (none-first (follow_faults drawing before t) (sym is_clean))
   kept-next in_order false is_clean subtitle =
-      kept_told (early ++ map (load_fault block) (follow_faults drawing before t))
+      kept_reported (early ++ map (load_fault block) (follow_faults drawing before t))
       (k.is_latest && not in_order)
-      (told_more early block (follow_faults drawing before t) (sym is_clean))
+      (reported_more early block (follow_faults drawing before t) (sym is_clean))
 
 -- ---- the subtitles used for checking
 
 -- If all subtitles are kept, no fault was reported.
-pub whole_none : {drawing : Drawing} {before : Option Times} {early : List LoadFault}
+pub all_kept_none : {drawing : Drawing} {before : Option Times} {early : List LoadFault}
     {k : KeptRecords}
     → AreKept drawing before early k
-    → is_whole k ≡ true
+    → are_all_kept k ≡ true
     → early ≡ []
-whole_none {early = early} kept whole = none-first early (sym kept.whole ∙ whole)
+all_kept_none {early = early} kept whole = none-first early (sym kept.whole ∙ whole)
 
 -- Subtitles that are enough for checking are a programme.
 pub programme-kept : {drawing : Drawing} {before : Option Times} {early : List LoadFault}
@@ -484,11 +484,11 @@ pub programme-kept : {drawing : Drawing} {before : Option Times} {early : List L
     → AreKept drawing before early k
     → is_enough k ≡ true
     → IsProgramme drawing k.records
-programme-kept {k = k} kept enough = elim (cases_Bool (is_whole k)) [
-  | inl whole ↦ (kept.programme (whole_none kept whole)).1
+programme-kept {k = k} kept enough = elim (cases_Bool (are_all_kept k)) [
+  | inl whole ↦ (kept.programme (all_kept_none kept whole)).1
   | inr part ↦ record {
     each = kept.each;
-    in_order = ordered k.records k.behind_other
+    in_order = ordered k.records k.after_other
         (let h = rw part at enough in grind (arith, nat_tests));
     drawable = kept.drawable;
   }
@@ -498,12 +498,12 @@ programme-kept {k = k} kept enough = elim (cases_Bool (is_whole k)) [
 
 -- If a fault was reported, they must be in order.
 pub enough-some : (k : KeptRecords)
-    → is_whole k ≡ false
+    → are_all_kept k ≡ false
     → 0 < length k.records
     → is_enough k ≡ are_in_order (with_bits k.records [])
 enough-some k part some = grind (arith, nat_tests, kept_length, in_order-bits)
 
-pub none-asked : {A : Type 0} (x : Option A) (none : Bool)
+pub none-requested : {A : Type 0} (x : Option A) (none : Bool)
     → is_some x ≡ not none
     → none ≡ is_none x
-none-asked x none h = grind (arith, nat_tests)
+none-requested x none h = grind (arith, nat_tests)

@@ -20,7 +20,7 @@ use Rattle.stl_rows.specs.DrawnPage.{PlacedLine, drawn_by, is_on_row, lines_by}
 use Rattle.stl_rows.specs.DrawnPage.{page_of_placed, pitch, placed_from, placed_fault_kinds}
 use Rattle.stl_rows.specs.DrawnPage.{placed_faults, placed_lines, rows_off, shown_row, takes_none}
 use Rattle.stl_rows.specs.Line.{has_cells, is_double}
-use Rattle.stl_rows.specs.LineByLayout.{drawn_from, fault_at, line_at, page_with, place_behind}
+use Rattle.stl_rows.specs.LineByLayout.{drawn_from, fault_at, line_at, page_with, place_after}
 use Rattle.stl_rows.specs.PlainPage.{unless}
 use Rattle.stl_rows.specs.PreparedLine.{row_from, start_by}
 use Rattle.stl_rows.specs.TextCode.{fault_of, first_of}
@@ -98,23 +98,23 @@ row_step items jc off place line page rest row long none above low high =
 
 module _ (items : LayoutItems) (jc off : ℕ) (place : Place) (line : List ℕ) (page : Rows) where
   -- A line that takes no row changes only the number.
-  passed : takes_none items line ≡ true
+  skipped : takes_none items line ≡ true
       → (fault_at items off place line ≡ None)
-      × (place_behind items place line ≡ record place { number = place.number + 1 })
+      × (place_after items place line ≡ record place { number = place.number + 1 })
       × (page_with items jc off place line page ≡ page)
-  unfolding fault_at place_behind page_with
-  passed none = grind (arith, nat_tests)
+  unfolding fault_at place_after page_with
+  skipped none = grind (arith, nat_tests)
 
   -- Any other line has its own fault, and the place moves down.
   taken : takes_none items line ≡ false
       → (fault_at items off place line
       ≡ first_of (map (fault_of place.number) (placed_fault_kinds items off (line_at place line))))
-      × (place_behind items place line ≡ record {
+      × (place_after items place line ≡ record {
         number = place.number + 1;
         depth = place.depth + pitch items;
         is_under_double = is_double line;
       })
-  unfolding fault_at place_behind
+  unfolding fault_at place_after
   taken some = grind (arith, nat_tests)
 
   same_length : length page ≡ 24 → length (page_with items jc off place line page) ≡ 24
@@ -154,11 +154,11 @@ drawn_from-step : (items : LayoutItems) (jc off : ℕ) (place : Place) (page : R
     → drawn_from items jc off place page lines
     ≡ drawn_over items jc off page (placed_at items place lines))
     → option_map_or Err (fault_at items off place line)
-    (drawn_from items jc off (place_behind items place line)
+    (drawn_from items jc off (place_after items place line)
     (page_with items jc off place line page) lines)
     ≡ drawn_over items jc off page (placed_at items place (line ∷ lines))
 drawn_from-step items jc off place page line lines true long is rest =
-    let p = passed items jc off place line page is in
+    let p = skipped items jc off place line page is in
     rw (p.0, p.1, p.2, is)
     (rest (record place { number = place.number + 1 }) page long)
 drawn_from-step items jc off place page line lines false long is rest =

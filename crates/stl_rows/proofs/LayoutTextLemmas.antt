@@ -17,17 +17,18 @@ use Rattle.stl_rows.specs.LayoutText.{stripped_with}
 -- ---- what came before
 
 -- Within a list the default value doesn't matter; beyond its end it is the result.
-came_at : (came : List Bool) (k : ℕ) → k < length came → get_or came k true ≡ get_or came k false
-came_at [] k low = absurd (omega (arith, low))
-came_at (c ∷ came) zero low = refl
-came_at (c ∷ came) (suc k) low = came_at came k (omega (arith, low))
+received_at : (received : List Bool) (k : ℕ) → k < length received → get_or received k true ≡ get_or
+    received k false
+received_at [] k low = absurd (omega (arith, low))
+received_at (c ∷ received) zero low = refl
+received_at (c ∷ received) (suc k) low = received_at received k (omega (arith, low))
 
-came_before : (came : List Bool) (k : ℕ)
-    → (length came ≤ k) ⊎ (get_or came k false ≡ true)
-    → get_or came k true ≡ true
-came_before [] k h = refl
-came_before (c ∷ came) zero h = grind (arith, nat_tests)
-came_before (c ∷ came) (suc k) h = grind (arith, nat_tests, came_before came k)
+received_before : (received : List Bool) (k : ℕ)
+    → (length received ≤ k) ⊎ (get_or received k false ≡ true)
+    → get_or received k true ≡ true
+received_before [] k h = refl
+received_before (c ∷ received) zero h = grind (arith, nat_tests)
+received_before (c ∷ received) (suc k) h = grind (arith, nat_tests, received_before received k)
 
 -- ---- pairs of digits
 
@@ -88,15 +89,15 @@ module _ (text : List ℕ) (at : ℕ) where
       → stripped_with strip (drop at text)
       ≡ stripped_with (slice_set strip code true) (drop (at + 2) text)
   stripped_with-more strip code low is within new =
-      stripped_with-step strip code low is ∙ rw (came_at strip code within, new) refl
+      stripped_with-step strip code low is ∙ rw (received_at strip code within, new) refl
 
   pub stripped_with-again : (strip : List Bool) (code : ℕ)
       → at + 1 < length text
       → byte_of_digits (get_or text at 0) (get_or text (at + 1) 0) ≡ Some code
       → (length strip ≤ code) ⊎ (get_or strip code false ≡ true)
       → stripped_with strip (drop at text) ≡ None
-  stripped_with-again strip code low is came =
-      stripped_with-step strip code low is ∙ rw (came_before strip code came) refl
+  stripped_with-again strip code low is received =
+      stripped_with-step strip code low is ∙ rw (received_before strip code received) refl
 
   pub stripped_with-bad : (strip : List Bool)
       → at + 1 < length text
@@ -120,33 +121,34 @@ module _ (text : List ℕ) (at : ℕ) where
 -- ---- items
 
 -- Items, by the first text: for `items_of_text`.
-pub items_set-more : (items next : LayoutItems) (came : List Bool) (number : ℕ) (text : List ℕ)
+pub items_set-more : (items next : LayoutItems) (received : List Bool) (number : ℕ) (text : List ℕ)
     (texts : List (List ℕ))
     → Some (number, next) ≡ item_set items text
-    → number < length came
-    → get_or came number false ≡ false
-    → items_set items came (text ∷ texts)
-    ≡ items_set next (slice_set came number true) texts
+    → number < length received
+    → get_or received number false ≡ false
+    → items_set items received (text ∷ texts)
+    ≡ items_set next (slice_set received number true) texts
 unfolding items_set
-items_set-more items next came number text texts is within new =
-    rw (← is, came_at came number within, new) refl
+items_set-more items next received number text texts is within new =
+    rw (← is, received_at received number within, new) refl
 
-pub items_set-again : (items next : LayoutItems) (came : List Bool) (number : ℕ) (text : List ℕ)
+pub items_set-again : (items next : LayoutItems) (received : List Bool) (number : ℕ) (text : List ℕ)
     (texts : List (List ℕ))
     → Some (number, next) ≡ item_set items text
-    → get_or came number false ≡ true
-    → items_set items came (text ∷ texts) ≡ None
+    → get_or received number false ≡ true
+    → items_set items received (text ∷ texts) ≡ None
 unfolding items_set
-items_set-again items next came number text texts is again =
-    rw (← is, came_before came number (inr again)) refl
+items_set-again items next received number text texts is again =
+    rw (← is, received_before received number (inr again)) refl
 
-pub items_set-bad : (items : LayoutItems) (came : List Bool) (text : List ℕ)
+pub items_set-bad : (items : LayoutItems) (received : List Bool) (text : List ℕ)
     (texts : List (List ℕ))
     → None ≡ item_set items text
-    → items_set items came (text ∷ texts) ≡ None
+    → items_set items received (text ∷ texts) ≡ None
 unfolding items_set
-items_set-bad items came text texts is = rw (← is) refl
+items_set-bad items received text texts is = rw (← is) refl
 
-pub items_set-end : (items : LayoutItems) (came : List Bool) → items_set items came [] ≡ Some items
+pub items_set-end : (items : LayoutItems) (received : List Bool) → items_set items received [] ≡
+    Some items
 unfolding items_set
-items_set-end items came = refl
+items_set-end items received = refl

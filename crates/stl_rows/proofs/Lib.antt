@@ -14,8 +14,8 @@ pub mod LaidOutLemmas
 pub mod DefaultLayoutLemmas
 pub mod CutLemmas
 pub mod DrawLinesLemmas
-pub mod LetterLemmas
-pub mod LetterLaw
+pub mod PrintingCodeLemmas
+pub mod PrintingCodeLaw
 pub mod DuePageLemmas
 pub mod PageShapeLemmas
 pub mod LastRowLemmas

@@ -24,8 +24,8 @@ use Rattle.stl_rows.specs.declared.fault.LoadFault.{LoadFault}
 use Rattle.stl_rows.specs.declared.fault.RowFault.{RowFault}
 use Rattle.stl_rows.specs.declared.layout.Drawing.{Drawing}
 use Rattle.stl_rows.specs.DrawnPage.{drawn}
-use Rattle.stl_rows.specs.EveryFault.{faults, faults_behind, load_fault}
-use Rattle.stl_rows.specs.Loading.{LawOfLoading, loaded, records_of, unless_told}
+use Rattle.stl_rows.specs.EveryFault.{faults, faults_after, load_fault}
+use Rattle.stl_rows.specs.Loading.{LawOfLoading, loaded, records_of, unless_reported}
 use Rattle.stl_rows.specs.Programme.{AreInOrder, IsProgramme, ProgrammeValue, follow_faults}
 use Rattle.stl_rows.specs.Programme.{order_faults, row_faults, times_before, times_of}
 use Rattle.stl_rows.proofs.FaultlessLemmas.{empty_parts, map_empty}
@@ -42,9 +42,9 @@ record IsFaultless (n : Drawing) (records : List SubtitleValue) (left : Findings
       → IsProgramme n (records ++ records_of left)
 
 faultless : (n : Drawing) (records : List SubtitleValue) (left : Findings)
-    → faults_behind n (times_before records) left ≡ []
+    → faults_after n (times_before records) left ≡ []
     → IsFaultless n records left
-unfolding faults_behind
+unfolding faults_after
 faultless n records no_more h = record { all = refl; programme = λ ok each. rw append-nil ok }
 faultless n records (breaks f block) h = absurd cc
 faultless n records (refuses f block left) h = absurd cc
@@ -102,8 +102,8 @@ given_faultless : (n : Drawing) (records : List SubtitleValue) (left : Findings)
     (ts : List SubtitleValue)
     → subtitles_of (stopped left) ≡ Ok ts
     → IsProgramme n (records ++ ts)
-    → (faults_behind n (times_before records) left ≡ []) × (records_of left ≡ ts)
-unfolding faults_behind
+    → (faults_after n (times_before records) left ≡ []) × (records_of left ≡ ts)
+unfolding faults_after
 given_faultless n records no_more ts h ok = (refl, cc)
 given_faultless n records (breaks f block) ts h ok = absurd cc
 given_faultless n records (refuses f block left) ts h ok = absurd cc
@@ -127,17 +127,17 @@ all_subtitles (t ∷ ts) (g ∷ gs) e =
     All-cons IsSubtitle t ts (blocks_subtitle t g e.0) (all_subtitles ts gs e.1)
 
 -- If a value was loaded, there is no fault.
-none_told : (fs : List LoadFault) (p q : ProgrammeValue)
-    → unless_told fs p ≡ Ok q
+none_reported : (fs : List LoadFault) (p q : ProgrammeValue)
+    → unless_reported fs p ≡ Ok q
     → (fs ≡ []) × (p ≡ q)
-none_told fs p q h = grind (arith, nat_tests)
+none_reported fs p q h = grind (arith, nat_tests)
 
 -- A file that is loaded has no fault. Also for `sub_answer`.
 pub none_of_loaded : (drawing : Drawing) (file : List ℕ) (programme : ProgrammeValue)
     → loaded drawing file ≡ Ok programme
     → faults drawing file ≡ []
 unfolding loaded
-none_of_loaded drawing file programme h = (none_told (faults drawing file) _ programme h).0
+none_of_loaded drawing file programme h = (none_reported (faults drawing file) _ programme h).0
 
 -- The law, from the definition of a file: for `law_of_loading`.
 pub loading_is : ((scope : Scope) (s g : List ℕ) (ts : List SubtitleValue)
@@ -147,12 +147,12 @@ pub loading_is : ((scope : Scope) (s g : List ℕ) (ts : List SubtitleValue)
 unfolding loaded faults
 loading_is file n s ts = (there, back)
   where
-    there : unless_told (faults_behind n None (findings_for n.scope s))
+    there : unless_reported (faults_after n None (findings_for n.scope s))
         (record { drawing = n; records = records_of (findings_for n.scope s) })
         ≡ Ok (record { drawing = n; records = ts })
         → (g : List ℕ) × IsFileFor n.scope s g ts × AreInOrder ts × All (λ t. IsOk (drawn n t)) ts
     there h =
-        let own = none_told (faults_behind n None (findings_for n.scope s)) _ _ h in
+        let own = none_reported (faults_after n None (findings_for n.scope s)) _ _ h in
         let l = faultless n [] (findings_for n.scope s) own.0 in
         let same = ap (λ (p : ProgrammeValue). p.records) own.1 in
         let is = (file n.scope s (take 1024 s) ts).1 (refl, l.all ∙ ap Ok same) in
@@ -162,7 +162,7 @@ loading_is file n s ts = (there, back)
         (take 1024 s, is, ok.in_order, ok.drawable)
 
     back : (g : List ℕ) × IsFileFor n.scope s g ts × AreInOrder ts × All (λ t. IsOk (drawn n t)) ts
-        → unless_told (faults_behind n None (findings_for n.scope s))
+        → unless_reported (faults_after n None (findings_for n.scope s))
         (record { drawing = n; records = records_of (findings_for n.scope s) })
         ≡ Ok (record { drawing = n; records = ts })
     back h =

@@ -1,5 +1,5 @@
 -- The rest of a file after some of its subtitles, and the faults reported of these; main lemmas:
--- goes_on-next, tells-unread.
+-- goes_on-next, reports-unread.
 use Rattle.std.proofs.Common.{rules, ◌≡◌, ◌<◌, ◌≤◌, ◌+◌, ℕ, Bool, true, false, List, ◌∷◌, ◌++◌, []}
 use Rattle.std.proofs.Common.{take, length, map, Option, Some, None, refl, sym}
 use Rattle.std.proofs.Common.{◌∙◌, ◌-◌, ap, inl, inr, arith, length-take, append_assoc, append-nil}
@@ -15,8 +15,8 @@ use Rattle.std.specs.Prelude.{All, ◌≢◌, ◌&&◌, not, is_none}
 use Rattle.std.proofs.lemmas.List.{map-append}
 use Rattle.std.specs.List.{filter, list_all}
 use lib.Seq.{take-append-le}
-use Rattle.sub_io.specs.Telling.{Tells, first_alone}
-use Rattle.sub_io.proofs.TellingLemmas.{Tells-trans}
+use Rattle.sub_io.specs.Reporting.{Reports, first_alone}
+use Rattle.sub_io.proofs.ReportingLemmas.{Reports-trans}
 use Rattle.stl_file.specs.declared.fault.StlFault.{StlFault}
 use Rattle.stl_file.specs.declared.fault.StlFault.TheVariants.{Ended}
 use Rattle.stl_file.specs.Fault.{is_of_first, is_file_read}
@@ -29,20 +29,21 @@ use Rattle.stl_rows.specs.declared.fault.LoadFaultKind.{LoadFaultKind}
 use Rattle.stl_rows.specs.declared.fault.LoadFaultKind.TheVariants.{File, OutOfOrder, Overlap, Row}
 use Rattle.stl_rows.specs.declared.times.Times.{Times}
 use Rattle.stl_rows.specs.DrawnPage.{drawn}
-use Rattle.stl_rows.specs.EveryFault.{StopsWithin, TellsFaults, TellsOfFile, faults, faults_behind}
-use Rattle.stl_rows.specs.EveryFault.{ends_in_subtitle, is_told_before, is_of_file}
+use Rattle.stl_rows.specs.EveryFault.{StopsWithin, ReportsFaults, ReportsOfFile, faults}
+use Rattle.stl_rows.specs.EveryFault.{faults_after}
+use Rattle.stl_rows.specs.EveryFault.{ends_in_subtitle, is_reported_before, is_of_file}
 use Rattle.stl_rows.specs.EveryFault.{EndsSubtitleAfter, WantsMemory, load_fault}
 use Rattle.stl_rows.specs.Judged.{AllJudged, JudgedSubtitle, JudgesBy, are_in_order, are_some}
 use Rattle.stl_rows.specs.Judged.{judged_of, judges}
-use Rattle.stl_rows.specs.Keeping.{KeptRecords, all_kept, are_none, is_enough, is_whole}
+use Rattle.stl_rows.specs.Keeping.{KeptRecords, all_kept, are_none, is_enough, are_all_kept}
 use Rattle.stl_rows.specs.Keeping.{judged_with}
 use Rattle.stl_rows.specs.Keeping.{kept_after, nothing_kept, refused_one}
 use Rattle.stl_rows.specs.Loading.{loaded, records_of}
 use Rattle.stl_rows.proofs.JudgedLemmas.{all_decided}
 use Rattle.stl_rows.proofs.KeepingLemmas.{AreKept, judged-end, judged-next, judged-refused}
-use Rattle.stl_rows.proofs.KeepingLemmas.{judged-start, judged_on, none-first, whole_none}
+use Rattle.stl_rows.proofs.KeepingLemmas.{judged-start, judged_on, none-first, all_kept_none}
 use Rattle.stl_rows.proofs.KeepingLemmas.{with_bits-subtitles}
-use Rattle.stl_file.specs.TakenOut.{is_read_whole}
+use Rattle.stl_file.specs.TakenOut.{is_read_to_the_end}
 use Rattle.stl_file.specs.Reading.{Begun, findings_from}
 use Rattle.stl_file.specs.Tti.{most_blocks}
 use Rattle.stl_file.specs.declared.scope.Scope.{Scope}
@@ -62,35 +63,37 @@ is_of_subtitle (Row fault) = true
 is_of_subtitle _ = false
 
 -- Such a fault, reported at this block or before.
-abbrev pub IsToldBy : ℕ → LoadFault → Type 0
-IsToldBy block fault = (is_of_subtitle fault.kind ≡ true) × (fault.block ≤ block)
+abbrev pub IsReportedBy : ℕ → LoadFault → Type 0
+IsReportedBy block fault = (is_of_subtitle fault.kind ≡ true) × (fault.block ≤ block)
 
 -- The faults of a subtitle are reported at its block.
 at_block : (drawing : Drawing) (before : Option Times) (t : SubtitleValue) (block : ℕ)
-    → All (IsToldBy block) (map (load_fault block) (follow_faults drawing before t))
+    → All (IsReportedBy block) (map (load_fault block) (follow_faults drawing before t))
 at_block drawing before t block = grind (arith, nat_tests)
 
 -- The faults of the subtitles so far, and of one more.
-pub told-next : (drawing : Drawing) (before : Option Times) (t : SubtitleValue) (from to : ℕ)
+pub reported-next : (drawing : Drawing) (before : Option Times) (t : SubtitleValue) (from to : ℕ)
     (early : List LoadFault)
     → from ≤ to
-    → All (IsToldBy from) early
-    → All (IsToldBy to) (early ++ map (load_fault to) (follow_faults drawing before t))
-told-next drawing before t from to early le h =
-    All-append (IsToldBy to) early (map (load_fault to) (follow_faults drawing before t))
-    (All-weaker (IsToldBy from) (IsToldBy to) (λ f told. (told.0, omega (arith, le, told.1))) early
+    → All (IsReportedBy from) early
+    → All (IsReportedBy to) (early ++ map (load_fault to) (follow_faults drawing before t))
+reported-next drawing before t from to early le h =
+    All-append (IsReportedBy to) early (map (load_fault to) (follow_faults drawing before t))
+    (All-weaker (IsReportedBy from) (IsReportedBy to)
+    (λ f reported. (reported.0, omega (arith, le, reported.1))) early
     h)
     (at_block drawing before t to)
 
 -- The faults of the subtitles so far, and the one for which the next is rejected.
-pub told-refused : (fault : StlFault) (from to : ℕ) (early : List LoadFault)
+pub reported-refused : (fault : StlFault) (from to : ℕ) (early : List LoadFault)
     → from ≤ to
     → is_of_first fault ≡ true
-    → All (IsToldBy from) early
-    → All (IsToldBy to) (early ++ load_fault to (File fault) ∷ [])
-told-refused fault from to early le first h =
-    All-push (IsToldBy to) early (load_fault to (File fault))
-    (All-weaker (IsToldBy from) (IsToldBy to) (λ f told. (told.0, omega (arith, le, told.1))) early
+    → All (IsReportedBy from) early
+    → All (IsReportedBy to) (early ++ load_fault to (File fault) ∷ [])
+reported-refused fault from to early le first h =
+    All-push (IsReportedBy to) early (load_fault to (File fault))
+    (All-weaker (IsReportedBy from) (IsReportedBy to)
+    (λ f reported. (reported.0, omega (arith, le, reported.1))) early
     h)
     (first, omega arith)
 
@@ -103,34 +106,40 @@ first_kind fault first = grind (arith, nat_tests)
 of_file : (kind : LoadFaultKind) → is_of_subtitle kind ≡ true → is_of_file kind ≡ true
 of_file kind h = grind (arith, nat_tests)
 
-pub told-of_file : (block : ℕ) (early : List LoadFault)
-    → All (IsToldBy block) early
+pub reported-of_file : (block : ℕ) (early : List LoadFault)
+    → All (IsReportedBy block) early
     → list_all (λ (f : LoadFault). is_of_file f.kind) early ≡ true
-told-of_file block early h = grind (arith, nat_tests, list_all-from_AllPass, All-weaker, of_file)
+reported-of_file block early h = grind (
+  arith,
+  nat_tests,
+  list_all-from_AllPass,
+  All-weaker,
+  of_file,
+)
 
 -- If the audience said stop at the last fault of a subtitle, all its faults were reported.
 order_alone : (before : Option Times) (t : Times)
     → first_alone (first_of (order_faults before t)) ≡ order_faults before t
 order_alone before t = grind (arith, nat_tests)
 
-stops-whole : {D : Type 0} {IsTold : D → LoadFault → D → Type 0} {old new : D}
+stops-whole : {D : Type 0} {IsReported : D → LoadFault → D → Type 0} {old new : D}
     {items : List LoadFault}
     → 0 < length items
-    → Tells IsTold old new items
-    → StopsWithin IsTold old new items
-stops-whole {items = items} some told = search (rules, take-length)
+    → Reports IsReported old new items
+    → StopsWithin IsReported old new items
+stops-whole {items = items} some reported = search (rules, take-length)
 
 pub stops-last : (drawing : Drawing) (before : Option Times) (t : SubtitleValue) (block : ℕ)
-    {D : Type 0} {IsTold : D → LoadFault → D → Type 0} (old mid new : D)
+    {D : Type 0} {IsReported : D → LoadFault → D → Type 0} (old mid new : D)
     (order row : Option LoadFaultKind)
     → order ≡ first_of (order_faults before (times_of t))
     → first_alone row ≡ row_faults (drawn drawing t)
     → is_none row ≡ false
-    → Tells IsTold old mid (map (load_fault block) (first_alone order))
-    → Tells IsTold mid new (map (load_fault block) (first_alone row))
-    → StopsWithin IsTold old new (map (load_fault block) (follow_faults drawing before t))
+    → Reports IsReported old mid (map (load_fault block) (first_alone order))
+    → Reports IsReported mid new (map (load_fault block) (first_alone row))
+    → StopsWithin IsReported old new (map (load_fault block) (follow_faults drawing before t))
 stops-last drawing before t block old mid new order row is_order is_row some p q =
-    grind (arith, nat_tests, order_alone, map-append, stops-whole, length-append, Tells-trans)
+    grind (arith, nat_tests, order_alone, map-append, stops-whole, length-append, Reports-trans)
 
 -- ---- the rest of the file
 
@@ -138,9 +147,9 @@ stops-last drawing before t block old mid new order row is_order is_row some p q
 -- file; likewise the kept subtitles and the reliable ones of the rest.
 pub record GoesOn (drawing : Drawing) (file : List ℕ) (left : Findings) (before : Option Times)
     (kept : KeptRecords) (early : List LoadFault) : Type 0 where
-  pub same : faults drawing file ≡ early ++ faults_behind drawing before left
+  pub same : faults drawing file ≡ early ++ faults_after drawing before left
   pub judged : judged_of drawing file ≡ judged_on drawing before kept left
-  pub whole : is_read_whole (findings_for drawing.scope file) ≡ is_read_whole left
+  pub whole : is_read_to_the_end (findings_for drawing.scope file) ≡ is_read_to_the_end left
   pub ends_after : (rest : List LoadFault) (at : ℕ)
       → EndsSubtitleAfter drawing before rest at left
       → EndsSubtitleAfter drawing None (early ++ rest) at (findings_for drawing.scope file)
@@ -161,7 +170,7 @@ module _ {drawing : Drawing} {file : List ℕ} {rest : Findings} {before : Optio
       → GoesOn drawing file (finds t block rest) before kept early
       → GoesOn drawing file rest (Some (times_of t)) (kept_after in_order clean t kept)
       (early ++ map (load_fault block) (follow_faults drawing before t))
-  unfolding faults_behind
+  unfolding faults_after
   goes_on-next t block in_order clean are_kept is_order is_clean on =
       grind (arith, nat_tests, append_assoc, judged-next)
 
@@ -170,27 +179,28 @@ module _ {drawing : Drawing} {file : List ℕ} {rest : Findings} {before : Optio
       → GoesOn drawing file (refuses fault block rest) before kept early
       → GoesOn drawing file rest before (refused_one kept)
       (early ++ load_fault block (File fault) ∷ [])
-  unfolding faults_behind
+  unfolding faults_after
   goes_on-refused fault block on = grind (arith, nat_tests, append_assoc, judged-refused)
 
 -- ---- all that was reported
 
 -- All faults.
-tells-all : {D : Type 0} {IsTold : D → LoadFault → D → Type 0} {old new : D} {stopped : Bool}
+reports-all : {D : Type 0} {IsReported : D → LoadFault → D → Type 0} {old new : D} {stopped : Bool}
     {early all : List LoadFault}
     → all ≡ early
     → 0 < length early
-    → Tells IsTold old new early
-    → TellsFaults IsTold old new stopped all
-tells-all same some told = rw same (record { all = λ no. told; prefix = stops-whole some told })
+    → Reports IsReported old new early
+    → ReportsFaults IsReported old new stopped all
+reports-all same some reported = rw same
+    (record { all = λ no. reported; prefix = stops-whole some reported })
 
-module _ {D : Type 0} {IsTold : D → LoadFault → D → Type 0} {old mid new : D} where
+module _ {D : Type 0} {IsReported : D → LoadFault → D → Type 0} {old mid new : D} where
   -- The faults up to the one at which the audience said stop.
   stops-more : (early items rest : List LoadFault)
-      → Tells IsTold old mid early
-      → StopsWithin IsTold mid new items
-      → StopsWithin IsTold old new (early ++ (items ++ rest))
-  stops-more early items rest told s =
+      → Reports IsReported old mid early
+      → StopsWithin IsReported mid new items
+      → StopsWithin IsReported old new (early ++ (items ++ rest))
+  stops-more early items rest reported s =
       let bound : s.0 ≤ length items = s.2 in
       let here : take (length early + s.0) (early ++ (items ++ rest)) ≡ early ++ take s.0 items =
       take-append-add early (items ++ rest) s.0
@@ -198,42 +208,42 @@ module _ {D : Type 0} {IsTold : D → LoadFault → D → Type 0} {old mid new :
         length early + s.0,
         omega (arith, s.1),
         omega (arith, s.2, length-append early (items ++ rest), length-append items rest),
-        rw here (Tells-trans old mid new early (take s.0 items) told s.3),
+        rw here (Reports-trans old mid new early (take s.0 items) reported s.3),
       )
 
   pub of_file-stopped : (early items : List LoadFault) {block : ℕ}
-      → All (IsToldBy block) (early ++ items)
-      → Tells IsTold old mid early
-      → StopsWithin IsTold mid new items
-      → TellsOfFile IsTold old new
-  of_file-stopped early items {block} h told s =
-      let stops = stops-more early items [] told s in
+      → All (IsReportedBy block) (early ++ items)
+      → Reports IsReported old mid early
+      → StopsWithin IsReported mid new items
+      → ReportsOfFile IsReported old new
+  of_file-stopped early items {block} h reported s =
+      let stops = stops-more early items [] reported s in
       let all : List LoadFault = early ++ (items ++ []) in
       record {
         faults = take stops.0 all;
         some = omega (arith, stops.1, stops.2, length-take stops.0 all);
-        of_file = told-of_file block (take stops.0 all)
-            (All-take (IsToldBy block) stops.0 all (rw append-nil h));
-        told = stops.3;
+        of_file = reported-of_file block (take stops.0 all)
+            (All-take (IsReportedBy block) stops.0 all (rw append-nil h));
+        reported = stops.3;
       }
 
   -- The fault that ends reading is a fault of the file too.
   pub of_file-end : (early : List LoadFault) (fault : StlFault) {from block : ℕ}
-      → All (IsToldBy from) early
+      → All (IsReportedBy from) early
       → is_file_read fault ≡ false
       → fault ≢ Ended
-      → Tells IsTold old mid early
-      → Tells IsTold mid new (load_fault block (File fault) ∷ [])
-      → TellsOfFile IsTold old new
-  of_file-end early fault {from} {block} early_told read ended p q =
+      → Reports IsReported old mid early
+      → Reports IsReported mid new (load_fault block (File fault) ∷ [])
+      → ReportsOfFile IsReported old new
+  of_file-end early fault {from} {block} early_reported read ended p q =
       let last : List LoadFault = load_fault block (File fault) ∷ [] in
       record {
         faults = early ++ last;
         some = omega (arith, length-append early last);
         of_file =
             list_all-append (λ (f : LoadFault). is_of_file f.kind) early last
-            ∙ rw (told-of_file from early early_told, file-of_file fault read ended) refl;
-        told = Tells-trans old mid new early last p q;
+            ∙ rw (reported-of_file from early early_reported, file-of_file fault read ended) refl;
+        reported = Reports-trans old mid new early last p q;
       }
     where
       file-of_file : (fault : StlFault) → is_file_read fault ≡ false → fault ≢ Ended
@@ -242,61 +252,61 @@ module _ {D : Type 0} {IsTold : D → LoadFault → D → Type 0} {old mid new :
 
 -- ---- each way out
 
-module _ {D : Type 0} {IsTold : D → LoadFault → D → Type 0} {old mid : D} {drawing : Drawing}
+module _ {D : Type 0} {IsReported : D → LoadFault → D → Type 0} {old mid : D} {drawing : Drawing}
     {file : List ℕ} {left : Findings} {before : Option Times} {kept : KeptRecords}
     {early : List LoadFault} (on : GoesOn drawing file left before kept early)
-    (told : Tells IsTold old mid early) where
+    (reported : Reports IsReported old mid early) where
   -- Faults were reported, and the rest of the file has none.
-  pub tells-none : {stopped : Bool}
+  pub reports-none : {stopped : Bool}
       → left ≡ no_more
       → 0 < length early
-      → TellsFaults IsTold old mid stopped (faults drawing file)
-  unfolding faults_behind
-  tells-none is some = tells-all (rw is at on.same ∙ append-nil early) some told
+      → ReportsFaults IsReported old mid stopped (faults drawing file)
+  unfolding faults_after
+  reports-none is some = reports-all (rw is at on.same ∙ append-nil early) some reported
 
   -- The fault that ends reading was reported last.
-  pub tells-end : {new : D} {stopped : Bool} {fault : StlFault} {block : ℕ}
+  pub reports-end : {new : D} {stopped : Bool} {fault : StlFault} {block : ℕ}
       → left ≡ breaks fault block
-      → Tells IsTold mid new (load_fault block (File fault) ∷ [])
-      → TellsFaults IsTold old new stopped (faults drawing file)
-  unfolding faults_behind
-  tells-end {new} {stopped} {fault} {block} is q =
+      → Reports IsReported mid new (load_fault block (File fault) ∷ [])
+      → ReportsFaults IsReported old new stopped (faults drawing file)
+  unfolding faults_after
+  reports-end {new} {stopped} {fault} {block} is q =
       let last : List LoadFault = load_fault block (File fault) ∷ [] in
-      tells-all (rw is at on.same) (omega (arith, length-append early last))
-      (Tells-trans old mid new early last told q)
+      reports-all (rw is at on.same) (omega (arith, length-append early last))
+      (Reports-trans old mid new early last reported q)
 
   -- The audience said stop at one of these faults.
-  tells-some : {new : D} (items rest : List LoadFault) (has_stopped : Bool)
-      → faults_behind drawing before left ≡ items ++ rest
+  reports-some : {new : D} (items rest : List LoadFault) (has_stopped : Bool)
+      → faults_after drawing before left ≡ items ++ rest
       → has_stopped ≡ true
-      → StopsWithin IsTold mid new items
-      → TellsFaults IsTold old new has_stopped (faults drawing file)
-  tells-some items rest has_stopped is is_stopped q =
-      let s = stops-more early items rest told q in
+      → StopsWithin IsReported mid new items
+      → ReportsFaults IsReported old new has_stopped (faults drawing file)
+  reports-some items rest has_stopped is is_stopped q =
+      let s = stops-more early items rest reported q in
       grind (arith, nat_tests, on.same, is)
 
   -- It said stop at a fault of a subtitle.
-  pub tells-stop : {new : D} {rest : Findings} {t : SubtitleValue} {block : ℕ}
+  pub reports-stop : {new : D} {rest : Findings} {t : SubtitleValue} {block : ℕ}
       (has_stopped : Bool)
       → left ≡ finds t block rest
       → has_stopped ≡ true
-      → StopsWithin IsTold mid new (map (load_fault block) (follow_faults drawing before t))
-      → TellsFaults IsTold old new has_stopped (faults drawing file)
-  unfolding faults_behind
-  tells-stop {rest = rest} {t} {block} has_stopped is =
-      tells-some (map (load_fault block) (follow_faults drawing before t))
-      (faults_behind drawing (Some (times_of t)) rest) has_stopped (rw is refl)
+      → StopsWithin IsReported mid new (map (load_fault block) (follow_faults drawing before t))
+      → ReportsFaults IsReported old new has_stopped (faults drawing file)
+  unfolding faults_after
+  reports-stop {rest = rest} {t} {block} has_stopped is =
+      reports-some (map (load_fault block) (follow_faults drawing before t))
+      (faults_after drawing (Some (times_of t)) rest) has_stopped (rw is refl)
 
   -- It said stop at the fault for which a subtitle is rejected.
-  pub tells-refused : {new : D} {rest : Findings} {fault : StlFault} {block : ℕ}
+  pub reports-refused : {new : D} {rest : Findings} {fault : StlFault} {block : ℕ}
       (has_stopped : Bool)
       → left ≡ refuses fault block rest
       → has_stopped ≡ true
-      → Tells IsTold mid new (load_fault block (File fault) ∷ [])
-      → TellsFaults IsTold old new has_stopped (faults drawing file)
-  unfolding faults_behind
-  tells-refused {rest = rest} {fault} {block} has_stopped is is_stopped q =
-      tells-some (load_fault block (File fault) ∷ []) (faults_behind drawing before rest)
+      → Reports IsReported mid new (load_fault block (File fault) ∷ [])
+      → ReportsFaults IsReported old new has_stopped (faults drawing file)
+  unfolding faults_after
+  reports-refused {rest = rest} {fault} {block} has_stopped is is_stopped q =
+      reports-some (load_fault block (File fault) ∷ []) (faults_after drawing before rest)
       has_stopped (rw is refl) is_stopped (stops-whole (omega arith) q)
 
 -- Something was reported.
@@ -306,12 +316,12 @@ some-first xs h = grind (arith, nat_tests)
 -- ---- the subtitles used for checking
 
 -- If all subtitles are kept, no bit is set.
-whole_bits : (bits : List Bool) (other : Bool)
+all_kept_bits : (bits : List Bool) (other : Bool)
     → (are_none bits && not other) ≡ true
     → (bits ≡ []) × (other ≡ false)
-whole_bits [] false h = (refl, refl)
-whole_bits [] true h = absurd cc
-whole_bits (bit ∷ bits) other h = absurd cc
+all_kept_bits [] false h = (refl, refl)
+all_kept_bits [] true h = absurd cc
+all_kept_bits (bit ∷ bits) other h = absurd cc
 
 module _ {drawing : Drawing} {file : List ℕ} {left : Findings} {before : Option Times}
     {kept : KeptRecords} {early : List LoadFault}
@@ -322,15 +332,15 @@ module _ {drawing : Drawing} {file : List ℕ} {left : Findings} {before : Optio
         ≡ record { judged = all_kept kept; is_before_other = kept.is_before_other }
     all_is = rw is at on.judged ∙ judged-end drawing before kept
 
-    read_whole : is_read_whole (findings_for drawing.scope file) ≡ true
-    read_whole = rw is at on.whole
+    read_to_the_end : is_read_to_the_end (findings_for drawing.scope file) ≡ true
+    read_to_the_end = rw is at on.whole
 
-    pub told-all : faults drawing file ≡ early
-    unfolding faults_behind
-    told-all = rw is at on.same ∙ append-nil early
+    pub reported-all : faults drawing file ≡ early
+    unfolding faults_after
+    reported-all = rw is at on.same ∙ append-nil early
 
     judges_is : judges drawing file ≡ (are_some (all_kept kept) && are_in_order (all_kept kept))
-    judges_is = rw (all_is, read_whole) refl
+    judges_is = rw (all_is, read_to_the_end) refl
 
     -- The kept subtitles are enough for checking.
     pub judges-enough : AreKept drawing before early kept
@@ -339,18 +349,18 @@ module _ {drawing : Drawing} {file : List ℕ} {left : Findings} {before : Optio
     unfolding loaded
     judges-enough are_kept enough = record {
       all = sym all_is;
-      enough = elim (cases_Bool (is_whole kept)) [
-        | inl whole ↦ inr (told-all ∙ whole_none are_kept whole)
+      enough = elim (cases_Bool (are_all_kept kept)) [
+        | inl whole ↦ inr (reported-all ∙ all_kept_none are_kept whole)
         | inr part ↦ inl (judges_is ∙ rw part at enough)
       ];
       whole = λ none.
-          let nothing = sym told-all ∙ none in
+          let nothing = sym reported-all ∙ none in
           let bits =
-          whole_bits kept.behind_other kept.is_before_other (are_kept.whole ∙ rw nothing refl) in
+          all_kept_bits kept.after_other kept.is_before_other (are_kept.whole ∙ rw nothing refl) in
           let records : records_of (findings_for drawing.scope file) ≡ kept.records =
           sym (all_decided drawing file none).0
           ∙ ap (λ (all : AllJudged). map (λ (j : JudgedSubtitle). j.subtitle) all.judged) all_is
-          ∙ with_bits-subtitles kept.records kept.behind_other in
+          ∙ with_bits-subtitles kept.records kept.after_other in
           (rw (none, records) refl, rw (bits.0, bits.1) refl);
     }
 
@@ -363,7 +373,8 @@ module _ {drawing : Drawing} {file : List ℕ} {left : Findings} {before : Optio
       → left ≡ breaks fault block
       → judges drawing file ≡ false
   judges-broken is =
-      let broken : is_read_whole (findings_for drawing.scope file) ≡ false = rw is at on.whole in
+      let broken : is_read_to_the_end (findings_for drawing.scope file) ≡ false = rw is at on.whole
+      in
       rw broken refl
 
 -- If they are not enough, a fault was reported.
@@ -373,7 +384,7 @@ pub some-few : {drawing : Drawing} {before : Option Times} {kept : KeptRecords}
     → is_enough kept ≡ false
     → 0 < length early
 some-few {kept = kept} {early} are_kept few =
-    let part : is_whole kept ≡ false = grind (arith, nat_tests) in
+    let part : are_all_kept kept ≡ false = grind (arith, nat_tests) in
     some-first early (sym are_kept.whole ∙ part)
 
 -- ---- if the source failed
@@ -384,30 +395,30 @@ not_unfinished kind h = grind (arith, nat_tests)
 
 filter-early : (from block : ℕ) (early : List LoadFault)
     → from < block
-    → All (IsToldBy from) early
-    → filter (is_told_before block) early ≡ early
+    → All (IsReportedBy from) early
+    → filter (is_reported_before block) early ≡ early
 filter-early from block [] lt h = refl
 filter-early from block (f ∷ fs) lt h =
-    let one = All-head (IsToldBy from) f fs h in
-    let rest = filter-early from block fs lt (All-tail (IsToldBy from) f fs h) in
+    let one = All-head (IsReportedBy from) f fs h in
+    let rest = filter-early from block fs lt (All-tail (IsReportedBy from) f fs h) in
     grind (arith, nat_tests, not_unfinished f.kind, one.0, one.1)
 
 -- Faults at this block or a later one do not.
 late_kinds : (block at : ℕ) (kinds : List LoadFaultKind)
     → block ≤ at
-    → filter (is_told_before block) (map (load_fault at) kinds) ≡ []
+    → filter (is_reported_before block) (map (load_fault at) kinds) ≡ []
 late_kinds block at [] le = refl
 late_kinds block at (k ∷ ks) le = grind (arith, nat_tests, late_kinds block at ks)
 
 late_fault : (block at : ℕ) (f : StlFault)
     → FindsFrom block (breaks f at)
-    → is_told_before block (load_fault at (File f)) ≡ false
+    → is_reported_before block (load_fault at (File f)) ≡ false
 late_fault block at f names = grind (arith, nat_tests)
 
 late : (drawing : Drawing) (before : Option Times) (block : ℕ) (left : Findings)
     → FindsFrom block left
-    → filter (is_told_before block) (faults_behind drawing before left) ≡ []
-unfolding faults_behind
+    → filter (is_reported_before block) (faults_after drawing before left) ≡ []
+unfolding faults_after
 late drawing before block no_more names = grind (arith, nat_tests)
 late drawing before block (breaks f at) names = grind (arith, nat_tests, late_fault)
 late drawing before block (refuses f at left) names =
@@ -425,30 +436,30 @@ late drawing before block (finds t at left) names =
 unread : {drawing : Drawing} {file : List ℕ} {left : Findings} {before : Option Times}
     {kept : KeptRecords} {early : List LoadFault} (from block : ℕ)
     → from < block
-    → All (IsToldBy from) early
+    → All (IsReportedBy from) early
     → FindsFrom block left
     → GoesOn drawing file left before kept early
-    → filter (is_told_before block) (faults drawing file) ≡ early
-unread {drawing} {left = left} {before} {early = early} from block lt early_told names on =
+    → filter (is_reported_before block) (faults drawing file) ≡ early
+unread {drawing} {left = left} {before} {early = early} from block lt early_reported names on =
     rw (
       on.same,
-      filter-append (is_told_before block) early (faults_behind drawing before left),
-      filter-early from block early lt early_told,
+      filter-append (is_reported_before block) early (faults_after drawing before left),
+      filter-early from block early lt early_reported,
       late drawing before block left names,
     ) (append-nil early)
 
 -- The faults before the block at which the source failed were reported.
-pub tells-unread : {D : Type 0} {IsTold : D → LoadFault → D → Type 0} {old new : D}
+pub reports-unread : {D : Type 0} {IsReported : D → LoadFault → D → Type 0} {old new : D}
     {drawing : Drawing} {file : List ℕ} {left : Findings} {before : Option Times}
     {kept : KeptRecords} {early : List LoadFault} (from block : ℕ)
     → from < block
-    → All (IsToldBy from) early
+    → All (IsReportedBy from) early
     → FindsFrom block left
     → GoesOn drawing file left before kept early
-    → Tells IsTold old new early
-    → Tells IsTold old new (filter (is_told_before block) (faults drawing file))
-tells-unread from block lt early_told names on told =
-    rw (unread from block lt early_told names on) told
+    → Reports IsReported old new early
+    → Reports IsReported old new (filter (is_reported_before block) (faults drawing file))
+reports-unread from block lt early_reported names on reported =
+    rw (unread from block lt early_reported names on) reported
 
 -- ---- if memory was refused
 
@@ -467,22 +478,23 @@ found-from scope block refused b le =
     (finds_from scope (most_blocks - block) block refused b (omega arith))
 
 -- For a subtitle without a fault.
-pub wants-memory : {D : Type 0} {IsTold : D → LoadFault → D → Type 0} {old new : D}
+pub wants-memory : {D : Type 0} {IsReported : D → LoadFault → D → Type 0} {old new : D}
     {drawing : Drawing} {file : List ℕ} {before : Option Times} {kept : KeptRecords}
     {early : List LoadFault} (from block : ℕ) (t : SubtitleValue) (rest : Findings)
     → from < block
-    → All (IsToldBy from) early
+    → All (IsReportedBy from) early
     → FindsFrom block rest
     → is_none (first_of (follow_faults drawing before t)) ≡ true
     → GoesOn drawing file (finds t block rest) before kept early
-    → Tells IsTold old new (early ++ map (load_fault block) (follow_faults drawing before t))
-    → WantsMemory drawing file IsTold old new block
-wants-memory {drawing = drawing} {before = before} {early = early} from block t rest lt early_told
-    names clean on told =
+    → Reports IsReported old new (early ++ map (load_fault block) (follow_faults drawing before t))
+    → WantsMemory drawing file IsReported old new block
+wants-memory {drawing = drawing} {before = before} {early = early} from block t rest lt
+    early_reported
+    names clean on reported =
     let none = none-first (follow_faults drawing before t) clean in
-    let all = unread from block lt early_told (omega arith, names) on in
+    let all = unread from block lt early_reported (omega arith, names) on in
     record {
-      told = rw all (rw (none, append-nil early) at told);
+      reported = rw all (rw (none, append-nil early) at reported);
       ends = rw all
           (rw (append-nil early) at (on.ends_after [] block (inl (refl, refl, none))));
     }

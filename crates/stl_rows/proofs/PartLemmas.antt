@@ -11,7 +11,7 @@ use Rattle.stl_rows.specs.declared.fault.LoadFaultKind.TheVariants.{File}
 use Rattle.stl_rows.specs.declared.layout.Drawing.{Drawing}
 use Rattle.stl_rows.specs.declared.times.Times.{Times}
 use Rattle.stl_rows.specs.DrawnPage.{drawn}
-use Rattle.stl_rows.specs.EveryFault.{faults, faults_behind, load_fault}
+use Rattle.stl_rows.specs.EveryFault.{faults, faults_after, load_fault}
 use Rattle.stl_rows.specs.Loading.{LawOfParts, of_day, kinds_of, records_of}
 use Rattle.stl_rows.specs.Programme.{follow_faults, times_of}
 
@@ -23,9 +23,9 @@ kinds_at block (k ∷ ks) = ap (λ (l : List LoadFaultKind). k ∷ l) (kinds_at 
 
 -- The faults are the same, apart from the block numbers.
 kinds_unnumbered : (drawing : Drawing) (before : Option Times) (left : Findings)
-    → kinds_of (faults_behind drawing before left)
-    ≡ kinds_of (faults_behind drawing before (unnumbered left))
-unfolding faults_behind
+    → kinds_of (faults_after drawing before left)
+    ≡ kinds_of (faults_after drawing before (unnumbered left))
+unfolding faults_after
 kinds_unnumbered drawing before no_more = refl
 kinds_unnumbered drawing before (breaks f block) = refl
 kinds_unnumbered drawing before (refuses f block left) =
@@ -34,9 +34,9 @@ kinds_unnumbered drawing before (finds t block left) =
     let kinds = follow_faults drawing before t in
     rw (
       map-append (λ f. f.kind) (map (load_fault block) kinds)
-          (faults_behind drawing (Some (times_of t)) left),
+          (faults_after drawing (Some (times_of t)) left),
       map-append (λ f. f.kind) (map (load_fault 0) kinds)
-          (faults_behind drawing (Some (times_of t)) (unnumbered left)),
+          (faults_after drawing (Some (times_of t)) (unnumbered left)),
       kinds_at block kinds,
       kinds_at 0 kinds,
       kinds_unnumbered drawing (Some (times_of t)) left,
@@ -55,8 +55,8 @@ unfolding drawn
 drawn_same drawing t = refl
 
 faults_same : (drawing : Drawing) (before : Option Times) (left : Findings)
-    → faults_behind drawing before left ≡ faults_behind (of_day drawing) before left
-unfolding faults_behind
+    → faults_after drawing before left ≡ faults_after (of_day drawing) before left
+unfolding faults_after
 faults_same drawing before no_more = refl
 faults_same drawing before (breaks f block) = refl
 faults_same drawing before (refuses f block left) = rw (faults_same drawing before left) refl
@@ -69,7 +69,7 @@ unfolding faults
 part_is law drawing gsi blocks size each read =
     let same = law drawing.scope gsi blocks size each read in (
       kinds_unnumbered drawing None (findings_for drawing.scope _)
-          ∙ ap (λ (l : Findings). kinds_of (faults_behind drawing None l)) same
+          ∙ ap (λ (l : Findings). kinds_of (faults_after drawing None l)) same
           ∙ sym (kinds_unnumbered drawing None (findings_for (all_day drawing.scope) _))
           ∙ ap kinds_of (faults_same drawing None _),
       records_unnumbered (findings_for drawing.scope _) ∙ ap records_of same

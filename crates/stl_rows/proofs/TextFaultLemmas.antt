@@ -1,5 +1,5 @@
 -- The first fault of a text whose codes are read one by one, by the shape of each line:
--- told-faults.
+-- reported-faults.
 use Rattle.std.proofs.Common.{rules, ◌≡◌, ℕ, ◌+◌, Bool, true, false, cond, List, [], ◌∷◌, ◌++◌}
 use Rattle.std.proofs.Common.{Option, None, length, refl, sym, ap, ◌∙◌, arith, length-append}
 use Rattle.std.proofs.Common.{append-nil}
@@ -16,7 +16,7 @@ use Rattle.stl_rows.specs.declared.text_faults.OpenLine.{OpenLine}
 use Rattle.stl_rows.specs.PlainPage.{line_fault_kinds, line_faults, subtitle_faults}
 use Rattle.stl_rows.specs.Line.{has_cells, is_boxed, is_double, prepared}
 use Rattle.stl_rows.specs.LineByLine.{empty_line, line_under, prepared_lines}
-use Rattle.stl_rows.specs.LineByLine.{shape_fault_kinds, told, told_first, with_cell}
+use Rattle.stl_rows.specs.LineByLine.{shape_fault_kinds, reported, reported_first, with_cell}
 use Rattle.stl_rows.specs.TextCode.{first_of, lines_of_codes, refused_codes, text_codes}
 use Rattle.stl_rows.proofs.LineByLineLemmas.{onto_code, onto_line_end}
 
@@ -80,44 +80,53 @@ option_or_assoc : {A : Type 0} (a b c : Option A)
 option_or_assoc a b c = grind (arith, nat_tests)
 
 -- The faults of the open line come before those of the lines below it.
-told_line : (before : Option RowFault) (cells : List ℕ) (line : OpenLine) (ls : List (List ℕ))
+reported_line : (before : Option RowFault) (cells : List ℕ) (line : OpenLine) (ls : List (List ℕ))
     → HasShape cells line
-    → option_or (told_first before line)
+    → option_or (reported_first before line)
     (first_of (line_faults (line.number + 1) (line.row + 1) line.is_double ls))
     ≡ option_or before
     (first_of (line_faults line.number line.row line.is_under_double (prepared cells ∷ ls)))
-told_line before cells line ls h =
+reported_line before cells line ls h =
     grind (arith, nat_tests, shape_kinds, double_prepared, first_of-append, option_or_assoc)
 
 -- The result is a refused code, or else a fault found before, or else the first fault of the lines
 -- that are left, if the open line has the shape of its cells.
-abbrev IsTold : List (ℕ × TextCode) → Type 0
-IsTold ss =
+abbrev IsReported : List (ℕ × TextCode) → Type 0
+IsReported ss =
     (before : Option RowFault) (cells : List ℕ) (line : OpenLine)
     → HasShape cells line
-    → told before line ss
+    → reported before line ss
     ≡ option_or (first_of (refused_codes ss)) (option_or before (first_of
     (line_faults line.number line.row line.is_under_double (prepared_lines cells ss))))
 
 -- One text code, and those after it.
-told-code : (at : ℕ) (s : TextCode) (ss : List (ℕ × TextCode)) → IsTold ss → IsTold ((at, s) ∷ ss)
-told-code at (Cell code) ss after before cells line h = search (rules, onto_code, shape-push)
-told-code at NoCell ss after before cells line h = after before cells line h
-told-code at NewLine ss after before cells line h =
+reported-code : (at : ℕ) (s : TextCode) (ss : List (ℕ × TextCode)) → IsReported ss → IsReported
+    ((at, s) ∷ ss)
+reported-code at (Cell code) ss after before cells line h = search (rules, onto_code, shape-push)
+reported-code at NoCell ss after before cells line h = after before cells line h
+reported-code at NewLine ss after before cells line h =
     rw (onto_line_end cells (lines_of_codes ss))
-    (after (told_first before line) [] (line_under line) (shape-none _ _ _)
+    (after (reported_first before line) [] (line_under line) (shape-none _ _ _)
     ∙ ap (option_or (first_of (refused_codes ss)))
-    (told_line before cells line (prepared_lines [] ss) h))
-told-code at (Refused kind) ss after before cells line h = refl
+    (reported_line before cells line (prepared_lines [] ss) h))
+reported-code at (Refused kind) ss after before cells line h = refl
 
 -- All text codes.
-told-is : (ss : List (ℕ × TextCode)) → IsTold ss
-told-is [] before cells line h = grind (arith, nat_tests, onto_line_end, shape_kinds, append-nil)
-told-is (c ∷ ss) before cells line h = told-code c.0 c.1 ss (told-is ss) before cells line h
+reported-is : (ss : List (ℕ × TextCode)) → IsReported ss
+reported-is [] before cells line h = grind (
+  arith,
+  nat_tests,
+  onto_line_end,
+  shape_kinds,
+  append-nil,
+)
+reported-is (c ∷ ss) before cells line h = reported-code c.0 c.1 ss (reported-is ss) before cells
+    line h
 
 -- For `first_fault`.
-pub told-faults : (n : National) (t : SubtitleValue)
-    → told None (empty_line 0 t.vp false) (text_codes n 0 t.text) ≡ first_of (subtitle_faults n t)
-told-faults n t =
-    told-is (text_codes n 0 t.text) None [] (empty_line 0 t.vp false) (shape-none 0 t.vp false)
+pub reported-faults : (n : National) (t : SubtitleValue)
+    → reported None (empty_line 0 t.vp false) (text_codes n 0 t.text) ≡ first_of
+    (subtitle_faults n t)
+reported-faults n t =
+    reported-is (text_codes n 0 t.text) None [] (empty_line 0 t.vp false) (shape-none 0 t.vp false)
     ∙ sym (first_of-append (refused_codes (text_codes n 0 t.text)) _)

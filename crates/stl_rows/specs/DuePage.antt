@@ -43,9 +43,9 @@ pub record IsNextEdge (records : List SubtitleValue) (frame edge : ℕ) : Type 0
   pub least : (e : ℕ) → IsEdge records e → frame < e → edge ≤ e
 
 -- The answer is the first cue after a frame; `None` if there is none.
-abbrev pub TellsNextEdge : List SubtitleValue → ℕ → Option ℕ → Type 0
-TellsNextEdge records frame None = (e : ℕ) → IsEdge records e → e ≤ frame
-TellsNextEdge records frame (Some edge) = IsNextEdge records frame edge
+abbrev pub ReportsNextEdge : List SubtitleValue → ℕ → Option ℕ → Type 0
+ReportsNextEdge records frame None = (e : ℕ) → IsEdge records e → e ≤ frame
+ReportsNextEdge records frame (Some edge) = IsNextEdge records frame edge
 
 -- The last cue up to a frame.
 pub record IsLastEdge (records : List SubtitleValue) (frame edge : ℕ) : Type 0 where
@@ -54,9 +54,9 @@ pub record IsLastEdge (records : List SubtitleValue) (frame edge : ℕ) : Type 0
   pub greatest : (e : ℕ) → IsEdge records e → e ≤ frame → e ≤ edge
 
 -- The answer is the last cue up to a frame; `None` if there is none.
-abbrev pub TellsLastEdge : List SubtitleValue → ℕ → Option ℕ → Type 0
-TellsLastEdge records frame None = (e : ℕ) → IsEdge records e → frame < e
-TellsLastEdge records frame (Some edge) = IsLastEdge records frame edge
+abbrev pub ReportsLastEdge : List SubtitleValue → ℕ → Option ℕ → Type 0
+ReportsLastEdge records frame None = (e : ℕ) → IsEdge records e → frame < e
+ReportsLastEdge records frame (Some edge) = IsLastEdge records frame edge
 
 -- Among subtitles in order, one whose time includes a frame is shown there. So the order in which
 -- they are searched does not matter.

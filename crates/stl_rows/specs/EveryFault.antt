@@ -5,7 +5,7 @@ use Rattle.std.specs.Prelude.{◌⊎◌}
 use Rattle.std.specs.List.{filter, list_all}
 use Rattle.std.specs.Io.KnownBytes.{Consumes}
 use Rattle.sub_io.specs.Reading.{IfKnown}
-use Rattle.sub_io.specs.Telling.{Tells, TellsSome}
+use Rattle.sub_io.specs.Reporting.{Reports, ReportsSome}
 use Rattle.stl_file.specs.declared.fault.StlFault.TheVariants.{Ended, Read, Unfinished}
 use Rattle.stl_file.specs.Reader.{block_of_byte, findings_for}
 use Rattle.stl_file.specs.Reading.{Findings, breaks, finds, no_more, refuses}
@@ -24,18 +24,18 @@ load_fault block kind = record { block = block; kind = kind }
 -- rejected subtitle, the reason; times are then compared as if it did not exist. At the last block
 -- of any other, its times compared with those of the one before, even if that has faults, and the
 -- first fault of drawing it. At the end, the fault that ends reading.
-unfoldable pub faults_behind : Drawing → Option Times → Findings → List LoadFault
-faults_behind drawing before no_more = []
-faults_behind drawing before (breaks fault block) = load_fault block (File fault) ∷ []
-faults_behind drawing before (refuses fault block more) =
-    load_fault block (File fault) ∷ faults_behind drawing before more
-faults_behind drawing before (finds t block more) =
+unfoldable pub faults_after : Drawing → Option Times → Findings → List LoadFault
+faults_after drawing before no_more = []
+faults_after drawing before (breaks fault block) = load_fault block (File fault) ∷ []
+faults_after drawing before (refuses fault block more) =
+    load_fault block (File fault) ∷ faults_after drawing before more
+faults_after drawing before (finds t block more) =
     map (load_fault block) (follow_faults drawing before t)
-    ++ faults_behind drawing (Some (times_of t)) more
+    ++ faults_after drawing (Some (times_of t)) more
 
 -- All faults of a file, in the order of its blocks.
 unfoldable pub faults : Drawing → List ℕ → List LoadFault
-faults drawing file = faults_behind drawing None (findings_for drawing.scope file)
+faults drawing file = faults_after drawing None (findings_for drawing.scope file)
 
 -- The fault is in the bytes of the file, not in the source or the memory.
 abbrev pub is_of_file : LoadFaultKind → Bool
@@ -45,43 +45,44 @@ is_of_file Memory = false
 is_of_file _ = true
 
 -- Faults of the file were reported, at least one.
-pub record TellsOfFile {D : Type 0} (IsTold : D → LoadFault → D → Type 0) (old new : D) : Type 0
+pub record ReportsOfFile {D : Type 0} (IsReported : D → LoadFault → D → Type 0) (old new : D) : Type
+    0
   where
     pub faults : List LoadFault
     pub some : 0 < length faults
     pub of_file : list_all (λ (f : LoadFault). is_of_file f.kind) faults ≡ true
-    pub told : Tells IsTold old new faults
+    pub reported : Reports IsReported old new faults
 
 -- Faults of the file were reported, or nothing.
-pub record TellsAnyOfFile
-    {D : Type 0} (IsTold : D → LoadFault → D → Type 0) (old new : D)
+pub record ReportsAnyOfFile
+    {D : Type 0} (IsReported : D → LoadFault → D → Type 0) (old new : D)
     : Type 0 where
   pub faults : List LoadFault
   pub of_file : list_all (λ (f : LoadFault). is_of_file f.kind) faults ≡ true
-  pub told : Tells IsTold old new faults
+  pub reported : Reports IsReported old new faults
 
 -- The reports before a result, whether or not the source's bytes are known: faults of the file, or
 -- nothing, if there is a result; faults of the file if there is none; and faults, or nothing, if
 -- the source failed or memory could not be allocated.
-abbrev pub TellsByAnswer : {D A : Type 0}
+abbrev pub ReportsByAnswer : {D A : Type 0}
     → (D → LoadFault → D → Type 0) → D → D → Result (Option A) LoadFault → Type 0
-TellsByAnswer IsTold old new (Ok (Some found)) = TellsAnyOfFile IsTold old new
-TellsByAnswer IsTold old new (Ok None) = TellsOfFile IsTold old new
-TellsByAnswer IsTold old new (Err f) = TellsSome IsTold old new
+ReportsByAnswer IsReported old new (Ok (Some found)) = ReportsAnyOfFile IsReported old new
+ReportsByAnswer IsReported old new (Ok None) = ReportsOfFile IsReported old new
+ReportsByAnswer IsReported old new (Err f) = ReportsSome IsReported old new
 
 -- The audience stopped at one of these: it received those up to there.
 abbrev pub StopsWithin : {D : Type 0}
     → (D → LoadFault → D → Type 0) → D → D → List LoadFault → Type 0
-StopsWithin IsTold old new items =
-    (n : ℕ) × (0 < n) × (n ≤ length items) × Tells IsTold old new (take n items)
+StopsWithin IsReported old new items =
+    (n : ℕ) × (0 < n) × (n ≤ length items) × Reports IsReported old new (take n items)
 
 -- All of these were reported if the audience did not stop, otherwise a prefix of them.
-pub record TellsFaults
-    {D : Type 0} (IsTold : D → LoadFault → D → Type 0) (old new : D) (has_stopped : Bool)
+pub record ReportsFaults
+    {D : Type 0} (IsReported : D → LoadFault → D → Type 0) (old new : D) (has_stopped : Bool)
     (items : List LoadFault)
     : Type 0 where
-  pub all : has_stopped ≡ false → Tells IsTold old new items
-  pub prefix : StopsWithin IsTold old new items
+  pub all : has_stopped ≡ false → Reports IsReported old new items
+  pub prefix : StopsWithin IsReported old new items
 
 -- The file ends within a subtitle.
 abbrev pub ends_in_subtitle : LoadFaultKind → Bool
@@ -90,45 +91,46 @@ ends_in_subtitle _ = false
 
 -- The fault is found before this block is read. A file that ends within a subtitle, with the last
 -- complete block as its place, is found only when the next block is read.
-abbrev pub is_told_before : ℕ → LoadFault → Bool
-is_told_before block fault = nat_lt fault.block block && not (ends_in_subtitle fault.kind)
+abbrev pub is_reported_before : ℕ → LoadFault → Bool
+is_reported_before block fault = nat_lt fault.block block && not (ends_in_subtitle fault.kind)
 
 -- The source failed: the block is that of the first byte after those consumed. Exactly the faults
 -- before it were reported.
-pub record FailsTelling
+pub record FailsReporting
     {D : Type 0} (drawing : Drawing) (old new : Option (List ℕ))
-    (IsTold : D → LoadFault → D → Type 0) (told_old told_new : D) (block : ℕ)
+    (IsReported : D → LoadFault → D → Type 0) (reported_old reported_new : D) (block : ℕ)
     : Type 0 where
   pub bytes : List ℕ
   pub consumed : Consumes old new bytes
   pub block_is : block ≡ block_of_byte (length bytes)
-  pub told :
+  pub reported :
       IfKnown old
-      (λ all. Tells IsTold told_old told_new
-      (filter (is_told_before block) (faults drawing all)))
+      (λ all. Reports IsReported reported_old reported_new
+      (filter (is_reported_before block) (faults drawing all)))
 
 -- A subtitle without faults ends at this block, after one with the times `before`, and exactly
 -- these faults are reported before it.
 abbrev pub EndsSubtitleAfter : Drawing → Option Times → List LoadFault → ℕ → Findings → Type 0
-EndsSubtitleAfter drawing before told at no_more = ⊥
-EndsSubtitleAfter drawing before told at (breaks fault block) = ⊥
-EndsSubtitleAfter drawing before told at (refuses fault block more) =
+EndsSubtitleAfter drawing before reported at no_more = ⊥
+EndsSubtitleAfter drawing before reported at (breaks fault block) = ⊥
+EndsSubtitleAfter drawing before reported at (refuses fault block more) =
     (rest : List LoadFault)
-    × (told ≡ load_fault block (File fault) ∷ rest)
+    × (reported ≡ load_fault block (File fault) ∷ rest)
     × EndsSubtitleAfter drawing before rest at more
-EndsSubtitleAfter drawing before told at (finds t block more) =
-    ((at ≡ block) × (told ≡ []) × (follow_faults drawing before t ≡ []))
+EndsSubtitleAfter drawing before reported at (finds t block more) =
+    ((at ≡ block) × (reported ≡ []) × (follow_faults drawing before t ≡ []))
     ⊎ ((rest : List LoadFault)
-    × (told ≡ map (load_fault block) (follow_faults drawing before t) ++ rest)
+    × (reported ≡ map (load_fault block) (follow_faults drawing before t) ++ rest)
     × EndsSubtitleAfter drawing (Some (times_of t)) rest at more)
 
 -- The memory for the subtitle that ends at this block could not be allocated: it has no fault, and
 -- the faults before it were reported.
 pub record WantsMemory
-    {D : Type 0} (drawing : Drawing) (file : List ℕ) (IsTold : D → LoadFault → D → Type 0)
+    {D : Type 0} (drawing : Drawing) (file : List ℕ) (IsReported : D → LoadFault → D → Type 0)
     (old new : D) (block : ℕ)
     : Type 0 where
-  pub told : Tells IsTold old new (filter (is_told_before block) (faults drawing file))
+  pub reported : Reports IsReported old new
+      (filter (is_reported_before block) (faults drawing file))
   pub ends :
-      EndsSubtitleAfter drawing None (filter (is_told_before block) (faults drawing file)) block
+      EndsSubtitleAfter drawing None (filter (is_reported_before block) (faults drawing file)) block
       (findings_for drawing.scope file)

@@ -9,7 +9,7 @@ use Rattle.std.specs.List.{list_any}
 use Rattle.stl_file.specs.Reader.{findings_for}
 use Rattle.stl_file.specs.Reading.{Findings, breaks, finds, no_more, refuses}
 use Rattle.stl_file.specs.Subtitle.{SubtitleValue}
-use Rattle.stl_file.specs.TakenOut.{is_read_whole}
+use Rattle.stl_file.specs.TakenOut.{is_read_to_the_end}
 use Rattle.stl_rows.specs.declared.layout.Drawing.{Drawing}
 use Rattle.stl_rows.specs.declared.times.Times.{Times}
 use Rattle.stl_rows.specs.DrawnPage.{drawn}
@@ -22,7 +22,7 @@ use Rattle.stl_rows.specs.TextCode.{first_of}
 -- the one before it, or before the first.
 pub record JudgedSubtitle : Type 0 where
   pub subtitle : SubtitleValue
-  pub is_behind_other : Bool
+  pub is_after_other : Bool
 
 -- All of a file, and whether another subtitle follows the last.
 pub record AllJudged : Type 0 where
@@ -45,22 +45,22 @@ judged_before j all =
 -- The reliable subtitles of the rest of a file, after a subtitle with these times. `other`: another
 -- one follows the last reliable one. A subtitle is reliable if it has no fault and its times are in
 -- order with those of the subtitle after it.
-unfoldable pub judged_behind : Drawing → Option Times → Bool → Findings → AllJudged
-judged_behind drawing before other no_more = record { judged = []; is_before_other = other }
-judged_behind drawing before other (breaks fault block) =
+unfoldable pub judged_after : Drawing → Option Times → Bool → Findings → AllJudged
+judged_after drawing before other no_more = record { judged = []; is_before_other = other }
+judged_after drawing before other (breaks fault block) =
     record { judged = []; is_before_other = other }
-judged_behind drawing before other (refuses fault block more) =
-    judged_behind drawing before true more
-judged_behind drawing before other (finds t block more) =
+judged_after drawing before other (refuses fault block more) =
+    judged_after drawing before true more
+judged_after drawing before other (finds t block more) =
     if is_none (first_of (follow_faults drawing before t))
     && is_followed_in_order (times_of t) more
-    then judged_before (record { subtitle = t; is_behind_other = other })
-    (judged_behind drawing (Some (times_of t)) false more)
-    else judged_behind drawing (Some (times_of t)) true more
+    then judged_before (record { subtitle = t; is_after_other = other })
+    (judged_after drawing (Some (times_of t)) false more)
+    else judged_after drawing (Some (times_of t)) true more
 
 -- The reliable subtitles of a file.
 unfoldable pub judged_of : Drawing → List ℕ → AllJudged
-judged_of drawing file = judged_behind drawing None false (findings_for drawing.scope file)
+judged_of drawing file = judged_after drawing None false (findings_for drawing.scope file)
 
 -- ---- whether a transmission can be checked
 
@@ -84,7 +84,7 @@ are_some (j ∷ js) = true
 abbrev pub judges : Drawing → List ℕ → Bool
 judges drawing file =
     let judged = (judged_of drawing file).judged in
-    is_read_whole (findings_for drawing.scope file) && are_some judged && are_in_order judged
+    is_read_to_the_end (findings_for drawing.scope file) && are_some judged && are_in_order judged
 
 -- ---- frames with an unknown expected page
 
@@ -93,7 +93,7 @@ judges drawing file =
 abbrev pub is_undecided_from : ℕ → List JudgedSubtitle → Bool → ℕ → Bool
 is_undecided_from start [] other frame = nat_le start frame && other
 is_undecided_from start (j ∷ js) other frame =
-    (nat_le start frame && nat_lt frame j.subtitle.tci && j.is_behind_other)
+    (nat_le start frame && nat_lt frame j.subtitle.tci && j.is_after_other)
     || is_undecided_from j.subtitle.tco js other frame
 
 -- The expected page is unknown at this frame.
@@ -106,20 +106,20 @@ is_undecided all frame = is_undecided_from 0 all.judged all.is_before_other fram
 -- it, and whether one follows the last. Missing bits are false.
 pub record JudgedValue : Type 0 where
   pub programme : ProgrammeValue
-  pub behind_other : List Bool
+  pub after_other : List Bool
   pub is_before_other : Bool
 
 -- Subtitles, each with its bit.
 abbrev pub with_bits : List SubtitleValue → List Bool → List JudgedSubtitle
 with_bits [] bits = []
-with_bits (t ∷ ts) [] = record { subtitle = t; is_behind_other = false } ∷ with_bits ts []
+with_bits (t ∷ ts) [] = record { subtitle = t; is_after_other = false } ∷ with_bits ts []
 with_bits (t ∷ ts) (bit ∷ bits) =
-    record { subtitle = t; is_behind_other = bit } ∷ with_bits ts bits
+    record { subtitle = t; is_after_other = bit } ∷ with_bits ts bits
 
 -- All of its subtitles and bits.
 abbrev pub all_of : JudgedValue → AllJudged
 all_of j = record {
-  judged = with_bits j.programme.records j.behind_other;
+  judged = with_bits j.programme.records j.after_other;
   is_before_other = j.is_before_other;
 }
 
@@ -129,12 +129,12 @@ is_undecided_in j frame = is_undecided (all_of j) frame
 
 -- There is another subtitle anywhere, so some of the file was rejected.
 abbrev pub has_refused : JudgedValue → Bool
-has_refused j = j.is_before_other || list_any (λ bit. bit) j.behind_other
+has_refused j = j.is_before_other || list_any (λ bit. bit) j.after_other
 
 -- A programme of a file without rejected subtitles.
 abbrev pub known : ProgrammeValue → JudgedValue
 known programme =
-    record { programme = programme; behind_other = []; is_before_other = false }
+    record { programme = programme; after_other = []; is_before_other = false }
 
 -- The programme against which a transmission is checked: all subtitles of a file without faults;
 -- otherwise its reliable subtitles, if a transmission can be checked against them.

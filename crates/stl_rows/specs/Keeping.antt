@@ -2,12 +2,12 @@
 use Rattle.std.specs.Prelude.{ℕ, ◌-◌, Bool, true, false, not, ◌&&◌, ◌||◌, if◌then◌else◌, List, []}
 use Rattle.std.specs.Prelude.{◌∷◌, ◌++◌, length, take, replicate, ◌≡◌, ◌⊎◌, Option, Some, None}
 use Rattle.std.specs.Prelude.{Result, Ok, Err}
-use Rattle.sub_io.specs.Telling.{Tells}
+use Rattle.sub_io.specs.Reporting.{Reports}
 use Rattle.stl_file.specs.Subtitle.{SubtitleValue}
 use Rattle.stl_rows.specs.declared.layout.Drawing.{Drawing}
 use Rattle.stl_rows.specs.declared.fault.LoadFault.{LoadFault}
 use Rattle.stl_rows.specs.declared.fault.LoadFaultKind.TheVariants.{Memory}
-use Rattle.stl_rows.specs.EveryFault.{TellsFaults, WantsMemory, faults}
+use Rattle.stl_rows.specs.EveryFault.{ReportsFaults, WantsMemory, faults}
 use Rattle.stl_rows.specs.Judged.{JudgedSubtitle, JudgedValue, JudgesBy, are_in_order, are_some}
 use Rattle.stl_rows.specs.Judged.{judges, with_bits}
 
@@ -16,24 +16,24 @@ use Rattle.stl_rows.specs.Judged.{judges, with_bits}
 -- the next are compared.
 pub record KeptRecords : Type 0 where
   pub records : List SubtitleValue
-  pub behind_other : List Bool
+  pub after_other : List Bool
   pub is_before_other : Bool
   pub is_latest : Bool
 
 -- The state before any subtitle.
 abbrev pub nothing_kept : KeptRecords
 nothing_kept =
-    record { records = []; behind_other = []; is_before_other = false; is_latest = false }
+    record { records = []; after_other = []; is_before_other = false; is_latest = false }
 
 -- The subtitles with their bits.
 abbrev pub all_kept : KeptRecords → List JudgedSubtitle
-all_kept k = with_bits k.records k.behind_other
+all_kept k = with_bits k.records k.after_other
 
 -- The programme against which a transmission is checked.
 abbrev pub judged_with : Drawing → KeptRecords → JudgedValue
 judged_with drawing k = record {
   programme = record { drawing = drawing; records = k.records };
-  behind_other = k.behind_other;
+  after_other = k.after_other;
   is_before_other = k.is_before_other;
 }
 
@@ -48,7 +48,7 @@ bits_after n other bits =
 abbrev pub with_one : SubtitleValue → KeptRecords → KeptRecords
 with_one t k = record {
   records = k.records ++ t ∷ [];
-  behind_other = bits_after (length k.records) k.is_before_other k.behind_other;
+  after_other = bits_after (length k.records) k.is_before_other k.after_other;
   is_before_other = false;
   is_latest = true;
 }
@@ -65,7 +65,7 @@ broken_one k = record k { is_before_other = true; is_latest = false }
 abbrev pub without_last : KeptRecords → KeptRecords
 without_last k = record k {
   records = take (length k.records - 1) k.records;
-  behind_other = take (length k.records - 1) k.behind_other;
+  after_other = take (length k.records - 1) k.after_other;
 }
 
 -- After the next subtitle, with or without a fault. If its times are not in order with those of the
@@ -84,12 +84,12 @@ are_none [] = true
 are_none (bit ∷ bits) = false
 
 -- No other subtitle exists, so no fault was reported.
-abbrev pub is_whole : KeptRecords → Bool
-is_whole k = are_none k.behind_other && not k.is_before_other
+abbrev pub are_all_kept : KeptRecords → Bool
+are_all_kept k = are_none k.after_other && not k.is_before_other
 
 -- A transmission can be checked against these subtitles.
 abbrev pub is_enough : KeptRecords → Bool
-is_enough k = is_whole k || (are_some (all_kept k) && are_in_order (all_kept k))
+is_enough k = are_all_kept k || (are_some (all_kept k) && are_in_order (all_kept k))
 
 -- ---- results of loading a whole file
 
@@ -100,10 +100,11 @@ is_enough k = is_whole k || (are_some (all_kept k) && are_in_order (all_kept k))
 abbrev pub LoadsAll : {D : Type 0}
     → Drawing → List ℕ → (D → LoadFault → D → Type 0) → D → D → Bool
     → Result (Option KeptRecords) LoadFault → Type 0
-LoadsAll drawing file IsTold old new has_stopped (Ok (Some kept)) =
-    JudgesBy drawing file (judged_with drawing kept) × Tells IsTold old new (faults drawing file)
-LoadsAll drawing file IsTold old new has_stopped (Ok None) =
-    TellsFaults IsTold old new has_stopped (faults drawing file)
+LoadsAll drawing file IsReported old new has_stopped (Ok (Some kept)) =
+    JudgesBy drawing file (judged_with drawing kept) × Reports IsReported old new
+    (faults drawing file)
+LoadsAll drawing file IsReported old new has_stopped (Ok None) =
+    ReportsFaults IsReported old new has_stopped (faults drawing file)
     × ((has_stopped ≡ true) ⊎ (judges drawing file ≡ false))
-LoadsAll drawing file IsTold old new has_stopped (Err f) =
-    f.kind ≡ Memory → WantsMemory drawing file IsTold old new f.block
+LoadsAll drawing file IsReported old new has_stopped (Err f) =
+    f.kind ≡ Memory → WantsMemory drawing file IsReported old new f.block

@@ -61,7 +61,7 @@ unfoldable pub default_items : LayoutItems
 default_items = record {
   strip = replicate 32 false;
   ahead = Some StartBox ∷ Some StartBox ∷ None ∷ None ∷ None ∷ None ∷ [];
-  behind = None ∷ None ∷ None ∷ None ∷ None ∷ None ∷ [];
+  following = None ∷ None ∷ None ∷ None ∷ None ∷ None ∷ [];
   after = Some EndBox ∷ Some EndBox ∷ None ∷ None ∷ [];
   fit = false;
   white = false;

@@ -106,10 +106,10 @@ stripped_with strip (high ∷ low ∷ digits) = do
 abbrev pub before_of_parts :
     List ℕ → Option (List ℕ) → Option (List (Option Attribute) × List (Option Attribute))
 before_of_parts ahead None = option_map (λ codes. (codes, no_codes 6)) (codes_of_text 6 ahead)
-before_of_parts ahead (Some behind) = do
+before_of_parts ahead (Some following) = do
   first ← codes_of_text 6 ahead
-  second ← codes_of_text 6 behind
-  if nat_le (length ahead + length behind) 12 then Some (first, second) else None
+  second ← codes_of_text 6 following
+  if nat_le (length ahead + length following) 12 then Some (first, second) else None
 
 -- The value of `before`: the codes before the asterisk and those after it.
 unfoldable pub before_of_text :
@@ -155,7 +155,7 @@ value_set items name value =
     else (if bytes_eq name (codes "before")
     then option_map
     (λ (b : List (Option Attribute) × List (Option Attribute)).
-    (9, record items { ahead = b.0; behind = b.1 }))
+    (9, record items { ahead = b.0; following = b.1 }))
     (before_of_text value)
     else (if bytes_eq name (codes "after")
     then option_map (λ a. (10, record items { after = a })) (codes_of_text 4 value)
@@ -174,12 +174,12 @@ item_set items text =
 
 -- Sets the items of more texts. `None` if a text is no item, or one that was set before.
 unfoldable pub items_set : LayoutItems → List Bool → List (List ℕ) → Option LayoutItems
-items_set items came [] = Some items
-items_set items came (text ∷ texts) = do
+items_set items received [] = Some items
+items_set items received (text ∷ texts) = do
   next ← item_set items text
-  if slice_index_or came next.0 true
+  if slice_index_or received next.0 true
       then None
-      else items_set next.1 (slice_set came next.0 true) texts
+      else items_set next.1 (slice_set received next.0 true) texts
 
 -- The layout of a text.
 unfoldable pub layout_of_text : List ℕ → Option Layout

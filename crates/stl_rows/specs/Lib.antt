@@ -8,7 +8,7 @@ pub mod LayoutText
 pub mod PreparedLine
 pub mod DrawnPage
 pub mod LineByLayout
-pub mod Letters
+pub mod PrintingCodes
 pub mod Programme
 pub mod DuePage
 pub mod Loading

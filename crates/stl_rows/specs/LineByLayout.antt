@@ -57,8 +57,8 @@ fault_at items off place line =
     else first_of (map (fault_of place.number) (placed_fault_kinds items off (line_at place line)))
 
 -- The position of the next line.
-unfoldable pub place_behind : LayoutItems → Place → List ℕ → Place
-place_behind items place line =
+unfoldable pub place_after : LayoutItems → Place → List ℕ → Place
+place_after items place line =
     if takes_none items line then record place { number = place.number + 1 }
     else record {
       number = place.number + 1;
@@ -79,5 +79,5 @@ unfoldable pub drawn_from :
 drawn_from items jc off place page [] = Ok page
 drawn_from items jc off place page (line ∷ lines) =
     option_map_or Err (fault_at items off place line)
-    (drawn_from items jc off (place_behind items place line)
+    (drawn_from items jc off (place_after items place line)
     (page_with items jc off place line page) lines)

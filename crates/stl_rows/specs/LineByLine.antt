@@ -77,19 +77,19 @@ shape_fault_kinds line =
     ++ when (nat_lt 0 line.len && line.is_under_double) Hidden
 
 -- A fault found before, or else the first fault of the line.
-abbrev pub told_first : Option RowFault → OpenLine → Option RowFault
-told_first before line =
+abbrev pub reported_first : Option RowFault → OpenLine → Option RowFault
+reported_first before line =
     option_or before (first_of (map (fault_of line.number) (shape_fault_kinds line)))
 
 -- The first fault of a text code and those after it.
-abbrev pub told_of_code : ℕ → TextCode → Option RowFault → OpenLine
+abbrev pub reported_of_code : ℕ → TextCode → Option RowFault → OpenLine
     → (Option RowFault → OpenLine → Option RowFault) → Option RowFault
-told_of_code at (Cell code) before line next = next before (with_cell line code)
-told_of_code at NoCell before line next = next before line
-told_of_code at NewLine before line next = next (told_first before line) (line_under line)
-told_of_code at (Refused kind) before line next = Some (fault_of at kind)
+reported_of_code at (Cell code) before line next = next before (with_cell line code)
+reported_of_code at NoCell before line next = next before line
+reported_of_code at NewLine before line next = next (reported_first before line) (line_under line)
+reported_of_code at (Refused kind) before line next = Some (fault_of at kind)
 
 -- The first fault of text codes, given a fault found before, if any, and the current line.
-abbrev pub told : Option RowFault → OpenLine → List (ℕ × TextCode) → Option RowFault
-told before line [] = told_first before line
-told before line (c ∷ codes) = told_of_code c.0 c.1 before line (λ f l. told f l codes)
+abbrev pub reported : Option RowFault → OpenLine → List (ℕ × TextCode) → Option RowFault
+reported before line [] = reported_first before line
+reported before line (c ∷ codes) = reported_of_code c.0 c.1 before line (λ f l. reported f l codes)

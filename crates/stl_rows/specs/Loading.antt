@@ -9,7 +9,7 @@ use Rattle.stl_file.specs.File.{IsFileFor}
 use Rattle.stl_file.specs.Gsi.{gsi_size}
 use Rattle.stl_file.specs.Reader.{block_of_byte, findings_for}
 use Rattle.stl_file.specs.SubtitleBlocks.{IsBlock}
-use Rattle.stl_file.specs.TakenOut.{all_day, is_read_whole, taken_out}
+use Rattle.stl_file.specs.TakenOut.{all_day, is_read_to_the_end, taken_out}
 use Rattle.stl_file.specs.Subtitle.{SubtitleValue}
 use Rattle.stl_file.specs.Reading.{Findings, breaks, finds, no_more, refuses}
 use Rattle.stl_rows.specs.declared.layout.Drawing.{Drawing}
@@ -29,35 +29,35 @@ records_of (refuses fault block more) = records_of more
 records_of (finds t block more) = t ∷ records_of more
 
 -- The programme if there is no fault; otherwise the first fault.
-abbrev pub unless_told : List LoadFault → ProgrammeValue → Result ProgrammeValue LoadFault
-unless_told [] programme = Ok programme
-unless_told (fault ∷ more) programme = Err fault
+abbrev pub unless_reported : List LoadFault → ProgrammeValue → Result ProgrammeValue LoadFault
+unless_reported [] programme = Ok programme
+unless_reported (fault ∷ more) programme = Err fault
 
 -- The result of loading a file: the programme of its subtitles, or its first fault.
 unfoldable pub loaded : Drawing → List ℕ → Result ProgrammeValue LoadFault
 loaded drawing file =
-    unless_told (faults drawing file)
+    unless_reported (faults drawing file)
     (record { drawing = drawing; records = records_of (findings_for drawing.scope file) })
 
 -- A subtitle ends at this block, after one with the times `before`, and there is no fault up to it.
-abbrev pub EndsBehind : Drawing → Option Times → ℕ → Findings → Type 0
-EndsBehind drawing before at no_more = ⊥
-EndsBehind drawing before at (breaks fault block) = ⊥
-EndsBehind drawing before at (refuses fault block more) = ⊥
-EndsBehind drawing before at (finds t block more) =
+abbrev pub EndsAfter : Drawing → Option Times → ℕ → Findings → Type 0
+EndsAfter drawing before at no_more = ⊥
+EndsAfter drawing before at (breaks fault block) = ⊥
+EndsAfter drawing before at (refuses fault block more) = ⊥
+EndsAfter drawing before at (finds t block more) =
     (follow_faults drawing before t ≡ [])
-    × ((at ≡ block) ⊎ EndsBehind drawing (Some (times_of t)) at more)
+    × ((at ≡ block) ⊎ EndsAfter drawing (Some (times_of t)) at more)
 
 -- A subtitle of the file ends at this block, and there is no fault up to it.
 abbrev pub EndsRecord : Drawing → List ℕ → ℕ → Type 0
-EndsRecord drawing file at = EndsBehind drawing None at (findings_for drawing.scope file)
+EndsRecord drawing file at = EndsAfter drawing None at (findings_for drawing.scope file)
 
 -- An error of loading. `Memory` occurs only at the last block of a subtitle with no fault before. A
 -- failure of the source says nothing about the file.
-abbrev pub TellsFault : Drawing → List ℕ → ℕ → LoadFaultKind → Type 0
-TellsFault drawing file block (File Read) = ⊤
-TellsFault drawing file block Memory = EndsRecord drawing file block
-TellsFault drawing file block kind = loaded drawing file ≡ Err (load_fault block kind)
+abbrev pub ReportsFault : Drawing → List ℕ → ℕ → LoadFaultKind → Type 0
+ReportsFault drawing file block (File Read) = ⊤
+ReportsFault drawing file block Memory = EndsRecord drawing file block
+ReportsFault drawing file block kind = loaded drawing file ≡ Err (load_fault block kind)
 
 -- No fault comes before this block. Except that a file that ends within a subtitle, with the last
 -- complete block as its place, is found only when the next block is read.
@@ -102,7 +102,7 @@ LawOfParts =
     (drawing : Drawing) (gsi : List ℕ) (blocks : List (List ℕ))
     → length gsi ≡ gsi_size
     → AllByRecursion IsBlock blocks
-    → is_read_whole (findings_for drawing.scope (gsi ++ concat blocks)) ≡ true
+    → is_read_to_the_end (findings_for drawing.scope (gsi ++ concat blocks)) ≡ true
     → (kinds_of (faults drawing (gsi ++ concat blocks))
     ≡ kinds_of (faults (of_day drawing) (gsi ++ concat (taken_out drawing.scope None blocks))))
     × (records_of (findings_for drawing.scope (gsi ++ concat blocks))

@@ -55,7 +55,7 @@ unfoldable pub headed : LayoutItems → List ℕ → List ℕ
 headed items cells =
     codes_of_places items.ahead
     ++ whitened items (take (leading_codes cells) cells)
-    ++ codes_of_places items.behind
+    ++ codes_of_places items.following
     ++ drop (leading_codes cells) cells
 
 -- `after`: the codes at the end of a line. With `fit`, only as many as there is room for.

@@ -5,7 +5,7 @@ ghost use Rattle.ttx_page.specs.Page.{AreCodes};
 ghost use Rattle.stl_rows.specs.DrawnPage.{LawOfDefaultLayout, drawn};
 ghost use Rattle.stl_rows.specs.Layout.{drawing_by};
 ghost use Rattle.stl_rows.specs.PlainPage.{line_faults, page_of_lines};
-ghost use Rattle.stl_rows.specs.Letters.{LawOfLetters};
+ghost use Rattle.stl_rows.specs.PrintingCodes.{LawOfPrintingCodes};
 ghost use Rattle.stl_rows.specs.LineByLine.{FitsRow, put_line, prepared_lines};
 ghost use Rattle.stl_rows.specs.TextCode.{text_codes};
 
@@ -126,6 +126,6 @@ pub fn law_of_default_layout()
 {}
 
 /// No layout adds, changes, loses or reorders printable characters of a text.
-pub fn law_of_letters()
-    ensures { LawOfLetters }
+pub fn law_of_printing_codes()
+    ensures { LawOfPrintingCodes }
 {}

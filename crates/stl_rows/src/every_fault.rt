@@ -4,12 +4,13 @@ ghost use Rattle.std.specs.Prelude.{◌≡◌, ◌⊎◌, [], ◌∷◌, map, tr
 ghost use Rattle.std.specs.Prelude.{IfSome, None, Ok, OnErr, OnOk, is_err, is_none};
 ghost use Rattle.sub_io.specs.Device.{CanFail, CountsIf, failed};
 ghost use Rattle.sub_io.specs.Reading.{IfKnown};
-ghost use Rattle.sub_io.specs.Telling.{Tells, TellsSome, first_alone};
+ghost use Rattle.sub_io.specs.Reporting.{Reports, ReportsSome, first_alone};
 ghost use Rattle.stl_file.specs.declared.fault.StlFault.TheVariants.{Read};
 ghost use Rattle.stl_file.specs.Fault as stl;
 ghost use Rattle.stl_file.specs.Subtitle.{IsSubtitle};
-ghost use Rattle.stl_rows.specs.EveryFault.{FailsTelling, StopsWithin, TellsAnyOfFile, TellsFaults};
-ghost use Rattle.stl_rows.specs.EveryFault.{TellsByAnswer, TellsOfFile, WantsMemory, faults};
+ghost use Rattle.stl_rows.specs.EveryFault.{FailsReporting, StopsWithin, ReportsAnyOfFile};
+ghost use Rattle.stl_rows.specs.EveryFault.{ReportsFaults};
+ghost use Rattle.stl_rows.specs.EveryFault.{ReportsByAnswer, ReportsOfFile, WantsMemory, faults};
 ghost use Rattle.stl_rows.specs.EveryFault.{load_fault};
 ghost use Rattle.stl_rows.specs.Fault.{is_load_read};
 ghost use Rattle.stl_rows.specs.Judged.{JudgesBy, judges};
@@ -64,18 +65,18 @@ pub fn load_all<S: Source, D: Audience<LoadFault>>(
     // If the source's bytes are known, they determine the result and the reports.
     ensures exact { IfKnown (S.remaining source.old) (λ bytes. IfOk result (λ found.
         IfSome found (JudgesBy (drawing_within national layout scope) bytes))) }
-    ensures told_all { IfKnown (S.remaining source.old) (λ bytes. IfOk result (λ found.
-        IfSome found (λ _. Tells D.is_told audience.old audience.new
+    ensures reported_all { IfKnown (S.remaining source.old) (λ bytes. IfOk result (λ found.
+        IfSome found (λ _. Reports D.is_reported audience.old audience.new
         (faults (drawing_within national layout scope) bytes)))) }
-    ensures told { IfKnown (S.remaining source.old) (λ bytes. result ≡ Ok None →
-        TellsFaults D.is_told audience.old audience.new (D.has_stopped audience.new)
+    ensures reported { IfKnown (S.remaining source.old) (λ bytes. result ≡ Ok None →
+        ReportsFaults D.is_reported audience.old audience.new (D.has_stopped audience.new)
         (faults (drawing_within national layout scope) bytes)) }
     ensures not_judged { IfKnown (S.remaining source.old) (λ bytes. result ≡ Ok None →
         (D.has_stopped audience.new ≡ true)
         ⊎ (judges (drawing_within national layout scope) bytes ≡ false)) }
     ensures memory { IfKnown (S.remaining source.old) (λ bytes. IfErr result (λ f.
         f.kind ≡ Memory → WantsMemory (drawing_within national layout scope) bytes
-        D.is_told audience.old audience.new f.block)) }
+        D.is_reported audience.old audience.new f.block)) }
 
     ensures programme { IfOk result (λ found. IfSome found (λ judged.
         IsProgramme judged.programme.drawing judged.programme.records)) }
@@ -83,17 +84,17 @@ pub fn load_all<S: Source, D: Audience<LoadFault>>(
         judged.programme.drawing ≡ drawing_within national layout scope)) }
     // `None` means that faults were reported.
     ensures some { result ≡ Ok None →
-        TellsOfFile D.is_told audience.old audience.new }
+        ReportsOfFile D.is_reported audience.old audience.new }
     ensures any { IfOk result (λ found. IfSome found (λ _.
-        TellsAnyOfFile D.is_told audience.old audience.new)) }
+        ReportsAnyOfFile D.is_reported audience.old audience.new)) }
     ensures stopped { D.has_stopped audience.new ≡ true → result ≡ Ok None }
     // Whether or not the source's bytes are known, faults may have been reported before it failed.
-    ensures some_before { IfErr result (λ _. TellsSome D.is_told audience.old audience.new) }
+    ensures some_before { IfErr result (λ _. ReportsSome D.is_reported audience.old audience.new) }
     // A failed read has the block of the byte that could not be read.
     ensures read { IfErr result (λ f. is_load_read f ≡ true →
-        FailsTelling (drawing_within national layout scope)
+        FailsReporting (drawing_within national layout scope)
         (S.remaining source.old) (S.remaining source.new)
-        D.is_told audience.old audience.new f.block) }
+        D.is_reported audience.old audience.new f.block) }
     ensures kinds { IfErr result (λ f. (f.kind ≡ Memory) ⊎ (f.kind ≡ File Read)) }
     ensures count { CountsIf S.failure_count source.old (failed is_load_read result) source.new }
 {
@@ -121,20 +122,20 @@ pub fn load_all_in<A: Allocator + Copy, S: Source, D: Audience<LoadFault>>(
     requires listens { D.has_stopped audience.old ≡ false }
     // If the source's bytes are known, they determine the result and the reports.
     ensures exact { IfKnown (S.remaining source.old) (λ bytes. LoadsAll drawing bytes
-        D.is_told audience.old audience.new (D.has_stopped audience.new) result) }
+        D.is_reported audience.old audience.new (D.has_stopped audience.new) result) }
     ensures programme { IfOk result (λ found.
         IfSome found (λ kept. IsProgramme drawing kept.records)) }
-    ensures told { TellsByAnswer D.is_told audience.old audience.new result }
+    ensures reported { ReportsByAnswer D.is_reported audience.old audience.new result }
     ensures stopped { D.has_stopped audience.new ≡ true → result ≡ Ok None }
-    ensures read { IfErr result (λ f. is_load_read f ≡ true → FailsTelling drawing
+    ensures read { IfErr result (λ f. is_load_read f ≡ true → FailsReporting drawing
         (S.remaining source.old) (S.remaining source.new)
-        D.is_told audience.old audience.new f.block) }
+        D.is_reported audience.old audience.new f.block) }
     ensures kinds { IfErr result (λ f. (f.kind ≡ Memory) ⊎ (f.kind ≡ File Read)) }
     ensures count { CountsIf S.failure_count source.old (failed is_load_read result) source.new }
 {
     let mut reader = match ResumingReader::open(source, drawing.scope) {
         Ok(reader) => reader,
-        Err(fault) => match tell_end(fault, 0, audience) {
+        Err(fault) => match report_end(fault, 0, audience) {
             Ok(()) => return Ok(None),
             Err(failed) => return Err(failed),
         },
@@ -144,21 +145,21 @@ pub fn load_all_in<A: Allocator + Copy, S: Source, D: Audience<LoadFault>>(
     let mut subtitle = Subtitle::empty();
     'subtitles: loop {
         match reader.next_into(source, &mut subtitle) {
-            Err(fault) => match tell_end(fault, reader.block(), audience) {
+            Err(fault) => match report_end(fault, reader.block(), audience) {
                 Ok(()) => return Ok(None),
                 Err(failed) => return Err(failed),
             },
             Ok(Found::End) => return Ok(kept.if_enough()),
             Ok(Found::Refused(fault)) => {
                 let kind = Some(LoadFaultKind::File(fault));
-                let Ok(_) = tell_fault(kind, reader.block(), audience) else {
+                let Ok(_) = report_fault(kind, reader.block(), audience) else {
                     return Ok(None);
                 };
                 kept.refuse();
             }
             Ok(Found::Subtitle) => {
                 let block = reader.block();
-                let Ok(clean) = tell_faults(&drawing, before, &subtitle, block, audience) else {
+                let Ok(clean) = report_faults(&drawing, before, &subtitle, block, audience) else {
                     return Ok(None);
                 };
                 let times = Times::of(&subtitle);
@@ -173,13 +174,13 @@ pub fn load_all_in<A: Allocator + Copy, S: Source, D: Audience<LoadFault>>(
 }
 
 // Reports the fault that ends reading. If the source failed, returns that as an error instead.
-fn tell_end<D: Audience<LoadFault>>(
+fn report_end<D: Audience<LoadFault>>(
     fault: StlFault,
     block: u32,
     audience: &mut D,
 ) -> Result<(), LoadFault>
     requires { D.has_stopped audience.old ≡ false }
-    ensures told { OnOk result (Tells D.is_told audience.old audience.new
+    ensures reported { OnOk result (Reports D.is_reported audience.old audience.new
         (load_fault block (File fault) ∷ [])) }
     ensures read { IfErr result (λ f.
         (fault ≡ Read) × (f ≡ load_fault block (File Read)) × (audience.new ≡ audience.old)) }
@@ -191,13 +192,13 @@ fn tell_end<D: Audience<LoadFault>>(
         return Err(fault);
     }
     // Nothing is reported after it, so it doesn't matter whether the audience stops.
-    let _ = audience.tell(fault);
+    let _ = audience.report(fault);
     Ok(())
 }
 
 // Reports the faults of a subtitle that follows one with the times `before` and ends at `block`.
 // Returns whether there is none.
-fn tell_faults<D: Audience<LoadFault>>(
+fn report_faults<D: Audience<LoadFault>>(
     drawing: &Drawing,
     before: Option<Times>,
     subtitle: &Subtitle,
@@ -205,9 +206,9 @@ fn tell_faults<D: Audience<LoadFault>>(
     audience: &mut D,
 ) -> Result<bool, Stopped>
     requires { D.has_stopped audience.old ≡ false }
-    ensures told { OnOk result (Tells D.is_told audience.old audience.new
+    ensures reported { OnOk result (Reports D.is_reported audience.old audience.new
         (map (load_fault block) (follow_faults drawing.now before subtitle.now))) }
-    ensures stops { OnErr result (StopsWithin D.is_told audience.old audience.new
+    ensures stops { OnErr result (StopsWithin D.is_reported audience.old audience.new
         (map (load_fault block) (follow_faults drawing.now before subtitle.now))) }
     ensures clean { IfOk result (λ clean.
         clean ≡ is_none (first_of (follow_faults drawing.now before subtitle.now))) }
@@ -215,21 +216,21 @@ fn tell_faults<D: Audience<LoadFault>>(
     ensures subtitle { IsSubtitle subtitle.now }
 {
     let times = Times::of(subtitle);
-    let in_order = tell_fault(times.fault_after(before), block, audience)?;
-    let Ok(drawn) = tell_fault(row_fault(subtitle, drawing), block, audience) else {
+    let in_order = report_fault(times.fault_after(before), block, audience)?;
+    let Ok(drawn) = report_fault(row_fault(subtitle, drawing), block, audience) else {
         return Err(Stopped);
     };
     Ok(in_order && drawn)
 }
 
 // Reports a fault, if there is one. Returns whether there is none.
-fn tell_fault<D: Audience<LoadFault>>(
+fn report_fault<D: Audience<LoadFault>>(
     kind: Option<LoadFaultKind>,
     block: u32,
     audience: &mut D,
 ) -> Result<bool, Stopped>
     requires { D.has_stopped audience.old ≡ false }
-    ensures told { Tells D.is_told audience.old audience.new
+    ensures reported { Reports D.is_reported audience.old audience.new
         (map (load_fault block) (first_alone kind)) }
     ensures clean { IfOk result (λ clean. clean ≡ is_none kind) }
     ensures some { OnErr result (is_none kind ≡ false) }
@@ -238,7 +239,7 @@ fn tell_fault<D: Audience<LoadFault>>(
     match kind {
         None => Ok(true),
         Some(kind) => {
-            audience.tell(LoadFault { block, kind })?;
+            audience.report(LoadFault { block, kind })?;
             Ok(false)
         }
     }

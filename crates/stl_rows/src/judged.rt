@@ -21,7 +21,7 @@ pub struct JudgedProgramme {
     programme: Programme,
     // The bits from the first subtitle on. If bits are missing, no other subtitle precedes the
     // rest.
-    behind_other: Vec<bool>,
+    after_other: Vec<bool>,
     is_before_other: bool,
 }
 
@@ -32,7 +32,7 @@ impl Model for JudgedProgramme {
 
     ghost view = { λ j. record {
       programme = j.programme;
-      behind_other = j.behind_other.items;
+      after_other = j.after_other.items;
       is_before_other = j.is_before_other;
     } };
 }
@@ -44,7 +44,7 @@ impl Model for JudgedProgramme {
 #[derive(Drop)]
 pub struct Judging<'a> {
     programme: &'a Programme,
-    behind_other: &'a [bool],
+    after_other: &'a [bool],
     is_before_other: bool,
 }
 
@@ -55,7 +55,7 @@ impl<'a> Model for Judging<'a> {
 
     ghost view = { λ j. record {
       programme = j.programme.now;
-      behind_other = j.behind_other.now;
+      after_other = j.after_other.now;
       is_before_other = j.is_before_other;
     } };
 }
@@ -68,13 +68,13 @@ impl JudgedProgramme {
     {
         let Kept {
             subtitles,
-            behind_other,
+            after_other,
             is_before_other,
             is_latest: _,
         } = kept;
         JudgedProgramme {
             programme: Programme::of(drawing, subtitles),
-            behind_other,
+            after_other,
             is_before_other,
         }
     }
@@ -92,7 +92,7 @@ impl JudgedProgramme {
     {
         Judging {
             programme: &self.programme,
-            behind_other: self.behind_other.as_slice(),
+            after_other: self.after_other.as_slice(),
             is_before_other: self.is_before_other,
         }
     }
@@ -105,7 +105,7 @@ impl<'a> Judging<'a> {
     {
         Judging {
             programme,
-            behind_other: &[],
+            after_other: &[],
             is_before_other: false,
         }
     }
@@ -121,7 +121,7 @@ impl<'a> Judging<'a> {
     pub fn has_refused(&self) -> bool
         ensures { result ≡ has_refused self.now }
     {
-        self.is_before_other || is_one_set(self.behind_other)
+        self.is_before_other || is_one_set(self.after_other)
     }
 
     /// Returns whether the expected page is unknown at a frame: another subtitle lies between the
@@ -132,7 +132,7 @@ impl<'a> Judging<'a> {
         ensures { result ≡ is_undecided_in self.now frame }
     {
         self.programme
-            .is_undecided(self.behind_other, self.is_before_other, frame)
+            .is_undecided(self.after_other, self.is_before_other, frame)
     }
 }
 

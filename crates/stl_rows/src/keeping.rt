@@ -2,7 +2,8 @@
 
 ghost use Rattle.std.specs.Prelude.{◌≡◌, [], true, if◌then◌else◌, IfErr, IfSome, None, OnOk, Some};
 ghost use Rattle.stl_rows.specs.Judged.{are_in_order, with_bits};
-ghost use Rattle.stl_rows.specs.Keeping.{bits_after, is_enough, is_whole, kept_after, nothing_kept};
+ghost use Rattle.stl_rows.specs.Keeping.{bits_after, is_enough, are_all_kept, kept_after};
+ghost use Rattle.stl_rows.specs.Keeping.{nothing_kept};
 ghost use Rattle.stl_rows.specs.Keeping.{refused_one, broken_one, without_last, with_one};
 ghost use Rattle.stl_rows.specs.declared.fault.LoadFaultKind.TheVariants.{Memory};
 
@@ -20,7 +21,7 @@ use stl_file::Subtitle;
 pub struct Kept<A: Allocator + Copy> {
     pub(crate) subtitles: Cues<A>,
     // The bits from the first subtitle on, up to the last one that is set.
-    pub(crate) behind_other: Vec<bool, A>,
+    pub(crate) after_other: Vec<bool, A>,
     // Another subtitle follows the last.
     pub(crate) is_before_other: bool,
     // The last one is the subtitle with whose times the next are compared.
@@ -34,7 +35,7 @@ impl<A: Allocator + Copy> Model for Kept<A> {
 
     ghost view = { λ k. record {
       records = k.subtitles;
-      behind_other = k.behind_other.items;
+      after_other = k.after_other.items;
       is_before_other = k.is_before_other;
       is_latest = k.is_latest;
     } };
@@ -78,7 +79,7 @@ impl<A: Allocator + Copy> Kept<A> {
     {
         Kept {
             subtitles: Cues::new(alloc),
-            behind_other: Vec::new(alloc),
+            after_other: Vec::new(alloc),
             is_before_other: false,
             is_latest: false,
         }
@@ -97,7 +98,7 @@ impl<A: Allocator + Copy> Kept<A> {
         ensures memory { IfErr result (λ kind. kind ≡ Memory) }
     {
         if self.is_before_other {
-            push_bit(&mut self.behind_other, self.subtitles.len())?;
+            push_bit(&mut self.after_other, self.subtitles.len())?;
         }
         let Ok(()) = self.subtitles.push(subtitle) else {
             return Err(LoadFaultKind::Memory);
@@ -113,7 +114,7 @@ impl<A: Allocator + Copy> Kept<A> {
     {
         let left = self.subtitles.len().saturating_sub(1);
         self.subtitles.truncate(left);
-        self.behind_other.truncate(left);
+        self.after_other.truncate(left);
     }
 
     // Takes the next subtitle of the file. `in_order`: its times are in order with those of the one
@@ -139,10 +140,10 @@ impl<A: Allocator + Copy> Kept<A> {
     }
 
     // Returns whether these are all subtitles of the file.
-    fn is_whole(&self) -> bool
-        ensures { result ≡ is_whole self.now }
+    fn are_all_kept(&self) -> bool
+        ensures { result ≡ are_all_kept self.now }
     {
-        self.behind_other.is_empty() && !self.is_before_other
+        self.after_other.is_empty() && !self.is_before_other
     }
 
     // Returns whether a transmission can be checked against these subtitles: they are all of the
@@ -150,7 +151,7 @@ impl<A: Allocator + Copy> Kept<A> {
     fn is_enough(&self) -> bool
         ensures { result ≡ is_enough self.now }
     {
-        if self.is_whole() {
+        if self.are_all_kept() {
             return true;
         }
         if self.subtitles.is_empty() {
@@ -172,7 +173,7 @@ impl<A: Allocator + Copy> Kept<A> {
     {
         let Kept {
             subtitles,
-            behind_other: _,
+            after_other: _,
             is_before_other: _,
             is_latest: _,
         } = self;

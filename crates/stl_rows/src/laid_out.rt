@@ -8,7 +8,7 @@ ghost use Rattle.stl_rows.specs.DrawnPage.{drawn_by, last_depth, placed_fault_ki
 ghost use Rattle.stl_rows.specs.DrawnPage.{unstripped};
 ghost use Rattle.stl_rows.specs.LineByLayout.{HoldCodes, cut_lines, drawn_from, fault_at};
 ghost use Rattle.stl_rows.specs.LineByLayout.{flat_codes};
-ghost use Rattle.stl_rows.specs.LineByLayout.{line_at, page_with, place_behind, prepared_cut};
+ghost use Rattle.stl_rows.specs.LineByLayout.{line_at, page_with, place_after, prepared_cut};
 ghost use Rattle.stl_rows.specs.PreparedLine.{prepared_by};
 ghost use Rattle.stl_rows.specs.TextCode.{first_of, refused_codes, text_codes};
 
@@ -77,8 +77,8 @@ fn first_line(cells: &[u8]) -> (&[u8], Option<&[u8]>)
     let mut at = 0;
     while at < cells.len() {
         if cells[at] == 0x8A {
-            let (line, behind) = cells.split_at(at);
-            return (line, Some(behind.split_at(1).1));
+            let (line, following) = cells.split_at(at);
+            return (line, Some(following.split_at(1).1));
         }
         at += 1;
     }
@@ -97,7 +97,7 @@ fn last_depth(items: &LayoutItems, cells: &[u8]) -> u16
     let mut line = LineCells::new();
     let mut rest = cells;
     'lines: loop {
-        let (cells, behind) = first_line(rest);
+        let (cells, following) = first_line(rest);
         prepare_by(&mut line, items, cells);
         if !line.is_empty() {
             last = depth;
@@ -105,7 +105,7 @@ fn last_depth(items: &LayoutItems, cells: &[u8]) -> u16
         if !line.is_empty() || !items.pack {
             depth += pitch;
         }
-        match behind {
+        match following {
             Some(more) => rest = more,
             None => return last,
         }
@@ -176,11 +176,11 @@ impl Place {
     }
 
     // Moves to the position of the next line.
-    #[tactic(auto, unfolding(crate::specs::LineByLayout::place_behind))]
-    fn pass(&mut self, items: &LayoutItems, line: &[u8])
+    #[tactic(auto, unfolding(crate::specs::LineByLayout::place_after))]
+    fn skip_line(&mut self, items: &LayoutItems, line: &[u8])
         requires number { self.old.number ≤ 1008 }
         requires depth { self.old.depth ≤ 3000 }
-        ensures { self.new ≡ place_behind items.now self.old line.now }
+        ensures { self.new ≡ place_after items.now self.old line.now }
     {
         self.number += 1;
         if items.pack && line.is_empty() {
@@ -225,14 +225,14 @@ fn draw_lines(
     let mut line = LineCells::new();
     let mut rest = cells;
     'lines: loop {
-        let (cells, behind) = first_line(rest);
+        let (cells, following) = first_line(rest);
         prepare_by(&mut line, items, cells);
         if let Some(fault) = place.fault(items, off, line.as_slice()) {
             return Err(fault);
         }
         put_line(items, jc, off, &place, line.as_slice(), &mut page);
-        place.pass(items, line.as_slice());
-        match behind {
+        place.skip_line(items, line.as_slice());
+        match following {
             Some(more) => rest = more,
             None => return Ok(page),
         }

@@ -79,7 +79,7 @@ pub(crate) struct LayoutItems {
     /// `before`, up to its `*`: codes before a line's own leading codes.
     pub(crate) ahead: [Option<Attribute>; 6],
     /// `before`, after its `*`: codes after a line's own leading codes.
-    pub(crate) behind: [Option<Attribute>; 6],
+    pub(crate) following: [Option<Attribute>; 6],
     /// `after`: codes at the end of a line.
     pub(crate) after: [Option<Attribute>; 4],
     /// `fit`: only as many of those at the end as there is room for.
@@ -121,7 +121,7 @@ impl LayoutItems {
         LayoutItems {
             strip: [false; 32],
             ahead: [start_box, start_box, None, None, None, None],
-            behind: [None; 6],
+            following: [None; 6],
             after: [end_box, end_box, None, None],
             fit: false,
             white: false,

@@ -23,7 +23,7 @@ fn cut_at(text: &str, mark: char) -> (&str, Option<&str>)
     ensures { (result.0.now, option_map (λ x. x.now) result.1) ≡ cut_at mark text.now }
 {
     match text.split_once(mark) {
-        Some((front, behind)) => (front, Some(behind)),
+        Some((prefix, following)) => (prefix, Some(following)),
         None => (text, None),
     }
 }
@@ -145,13 +145,13 @@ fn stripped_of_text(text: &[u8]) -> Option<[bool; 32]>
 fn before_of_text(text: &str) -> Option<([Option<Attribute>; 6], [Option<Attribute>; 6])>
     ensures { result ≡ before_of_text text.now }
 {
-    let (ahead, behind) = cut_at(text, '*');
+    let (ahead, following) = cut_at(text, '*');
     let first = codes_of_text::<6>(ahead.as_bytes())?;
-    let Some(behind) = behind else {
+    let Some(following) = following else {
         return Some((first, [None; 6]));
     };
-    let second = codes_of_text::<6>(behind.as_bytes())?;
-    if ahead.len() + behind.len() <= 12 {
+    let second = codes_of_text::<6>(following.as_bytes())?;
+    if ahead.len() + following.len() <= 12 {
         Some((first, second))
     } else {
         None
@@ -244,9 +244,9 @@ fn set_value(items: &mut LayoutItems, name: &str, value: &str) -> Option<usize>
             Some(8)
         }
         "before" => {
-            let (ahead, behind) = before_of_text(value)?;
+            let (ahead, following) = before_of_text(value)?;
             items.ahead = ahead;
-            items.behind = behind;
+            items.following = following;
             Some(9)
         }
         "after" => {
@@ -286,16 +286,16 @@ fn items_of_text(text: &str) -> Option<LayoutItems>
         ≡ result }
 {
     let mut items = LayoutItems::new();
-    let mut came = [false; 15];
+    let mut received = [false; 15];
     let mut rest = text;
     'texts: loop {
-        let (item, behind) = first_text(rest);
+        let (item, following) = first_text(rest);
         let number = set_item(&mut items, item)?;
-        if came[number] {
+        if received[number] {
             return None;
         }
-        came[number] = true;
-        match behind {
+        received[number] = true;
+        match following {
             Some(more) => rest = more,
             None => return Some(items),
         }

@@ -34,7 +34,7 @@ mod text_faults;
 mod times;
 
 pub use cues::Cues;
-pub use drawing::{draw, law_of_default_layout, law_of_letters};
+pub use drawing::{draw, law_of_default_layout, law_of_printing_codes};
 pub use every_fault::{load_all, load_all_in};
 pub use fault::{LoadFault, LoadFaultKind, RowFault, RowFaultKind};
 pub use judged::{JudgedProgramme, Judging, law_of_known};

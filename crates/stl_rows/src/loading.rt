@@ -8,7 +8,7 @@ ghost use Rattle.stl_rows.specs.Fault.{is_load_read};
 ghost use Rattle.stl_rows.specs.Layout.{drawing_within};
 ghost use Rattle.stl_rows.specs.declared.fault.LoadFaultKind.TheVariants.{File};
 ghost use Rattle.stl_rows.specs.Loading.{FailsLoading, LawOfLoading, LawOfParts};
-ghost use Rattle.stl_rows.specs.Loading.{TellsFault, loaded};
+ghost use Rattle.stl_rows.specs.Loading.{ReportsFault, loaded};
 ghost use Rattle.stl_rows.specs.Judged.{LawOfDecided, LawOfJudged};
 ghost use Rattle.stl_rows.specs.Programme.{IsProgramme};
 
@@ -20,7 +20,7 @@ use crate::national::National;
 use crate::programme::Programme;
 use std::alloc::{Allocator, Global};
 use stl_file::{Scope, law_of_files, law_of_scope};
-use sub_io::{FirstTold, Source};
+use sub_io::{FirstReported, Source};
 
 /// Loads the subtitles of an STL file, to be drawn with a national option and a layout.
 ///
@@ -48,7 +48,7 @@ pub fn load<S: Source>(
         loaded (drawing_within national layout scope) bytes ≡ Ok programme)) }
     ensures fault { IfKnown (S.remaining source.old) (λ bytes.
         IfErr result (λ f.
-        TellsFault (drawing_within national layout scope) bytes f.block f.kind)) }
+        ReportsFault (drawing_within national layout scope) bytes f.block f.kind)) }
     ensures never { IfErr result (λ f. f.kind ≢ File Ended) }
 
     ensures programme { IfOk result (λ programme.
@@ -83,14 +83,14 @@ pub fn load_in<A: Allocator + Copy, S: Source>(
     ensures exact { IfKnown (S.remaining source.old) (λ bytes. IfOk result (λ v.
         loaded drawing bytes ≡ Ok (record { drawing = drawing; records = v }))) }
     ensures fault { IfKnown (S.remaining source.old) (λ bytes. IfErr result (λ f.
-        TellsFault drawing bytes f.block f.kind)) }
+        ReportsFault drawing bytes f.block f.kind)) }
     ensures never { IfErr result (λ f. f.kind ≢ File Ended) }
     ensures programme { IfOk result (λ v. IsProgramme drawing v) }
     ensures read { IfErr result (λ f. is_load_read f ≡ true → FailsLoading drawing
         (S.remaining source.old) (S.remaining source.new) f.block) }
     ensures count { CountsIf S.failure_count source.old (failed is_load_read result) source.new }
 {
-    let mut first = FirstTold::new();
+    let mut first = FirstReported::new();
     match load_all_in(alloc, source, drawing, &mut first) {
         Ok(Some(kept)) => Ok(kept.into_subtitles()),
         Ok(None) => match first.into_first() {

@@ -115,7 +115,7 @@ fn push_headed(line: &mut LineCells, items: &LayoutItems, cells: &[u8])
     if items.white && !has_colour(codes) {
         push_cells(line, &[0x07]);
     }
-    push_codes(line, &items.behind);
+    push_codes(line, &items.following);
     push_cells(line, rest);
 }
 
@@ -164,7 +164,7 @@ pub(crate) fn is_double(line: &[u8]) -> bool
 fn uncounted(items: &LayoutItems, line: &[u8]) -> (usize, usize)
     ensures value { result ≡ uncounted items.now line.now }
     ensures ahead { result.0 ≤ length line.now }
-    ensures behind { result.1 ≤ length line.now }
+    ensures following { result.1 ≤ length line.now }
 {
     if !items.text {
         return (0, 0);
@@ -205,8 +205,8 @@ pub(crate) fn start_by(items: &LayoutItems, jc: u8, line: &[u8]) -> usize
     ensures value { result ≡ start_by items.now jc line.now }
     ensures within { result + length line.now ≤ 40 }
 {
-    let (ahead, behind) = uncounted(items, line);
-    let width = line.len().saturating_sub(ahead + behind);
+    let (ahead, following) = uncounted(items, line);
+    let width = line.len().saturating_sub(ahead + following);
     let wanted = wanted_column(items, jc_read(items, jc), ahead, width);
     wanted.min(40 - line.len())
 }

@@ -6,7 +6,8 @@ ghost use Rattle.std.specs.Prelude.{slice_get, slice_index_or};
 ghost use Rattle.stl_file.specs.Subtitle.{SubtitleValue};
 ghost use Rattle.stl_rows.specs.DuePage.{due, LawOfBlankPages, LawOfDuePages, LawOfDueSubtitles};
 ghost use Rattle.stl_rows.specs.DuePage.{LawOfLastRow};
-ghost use Rattle.stl_rows.specs.DuePage.{LawOfEdges, TellsLastEdge, TellsNextEdge, tci_of_ending};
+ghost use Rattle.stl_rows.specs.DuePage.{LawOfEdges, ReportsLastEdge, ReportsNextEdge};
+ghost use Rattle.stl_rows.specs.DuePage.{tci_of_ending};
 ghost use Rattle.stl_rows.specs.Judged.{is_undecided_from, is_undecided_in, with_bits};
 ghost use Rattle.stl_rows.specs.Programme.{IsProgramme, first_in, last_out};
 
@@ -106,7 +107,7 @@ fn draw_near(
 ) -> (Option<u32>, usize)
     requires { IsProgramme drawing.now subtitles.now }
     ensures page { page.new ≡ due drawing.now subtitles.now frame }
-    ensures edge { TellsNextEdge subtitles.now frame result.0 }
+    ensures edge { ReportsNextEdge subtitles.now frame result.0 }
 {
     let at = first_after_near(drawing, subtitles, frame, guess);
     if at == subtitles.len() {
@@ -127,7 +128,7 @@ fn draw_near(
 // Returns the next cue after a frame.
 fn edge_after(drawing: &Drawing, subtitles: &Cues<Global>, frame: u32) -> Option<u32>
     requires { IsProgramme drawing.now subtitles.now }
-    ensures { TellsNextEdge subtitles.now frame result }
+    ensures { ReportsNextEdge subtitles.now frame result }
 {
     let at = first_after(drawing, subtitles, frame);
     if at == subtitles.len() {
@@ -159,7 +160,7 @@ fn tco_before(subtitles: &Cues<Global>, at: usize) -> Option<u32>
 // Returns the last cue up to a frame.
 fn edge_until(drawing: &Drawing, subtitles: &Cues<Global>, frame: u32) -> Option<u32>
     requires { IsProgramme drawing.now subtitles.now }
-    ensures { TellsLastEdge subtitles.now frame result }
+    ensures { ReportsLastEdge subtitles.now frame result }
 {
     let at = first_after(drawing, subtitles, frame);
     if at == subtitles.len() {
@@ -207,15 +208,15 @@ fn bit_at(bits: &[bool], at: usize) -> bool
 fn is_undecided_at(
     drawing: &Drawing,
     subtitles: &Cues<Global>,
-    behind_other: &[bool],
+    after_other: &[bool],
     is_before_other: bool,
     frame: u32,
 ) -> bool
     requires { IsProgramme drawing.now subtitles.now }
     ensures { result
-        ≡ is_undecided_from 0 (with_bits subtitles.now behind_other.now) is_before_other frame }
+        ≡ is_undecided_from 0 (with_bits subtitles.now after_other.now) is_before_other frame }
 {
-    if behind_other.is_empty() && !is_before_other {
+    if after_other.is_empty() && !is_before_other {
         return false;
     }
     let at = first_after(drawing, subtitles, frame);
@@ -227,7 +228,7 @@ fn is_undecided_at(
     if tci <= frame {
         return false;
     }
-    bit_at(behind_other, at)
+    bit_at(after_other, at)
 }
 
 impl Programme {
@@ -315,7 +316,7 @@ impl Programme {
     /// search is needed.
     pub fn draw_due(&self, frame: u32, guess: usize, page: &mut Page) -> (Option<u32>, usize)
         ensures page { page.new ≡ due self.now.drawing self.now.records frame }
-        ensures edge { TellsNextEdge self.now.records frame result.0 }
+        ensures edge { ReportsNextEdge self.now.records frame result.0 }
         ensures programme { IsProgramme self.now.drawing self.now.records }
     {
         draw_near(&self.drawing, &self.subtitles, frame, guess, page)
@@ -325,7 +326,7 @@ impl Programme {
     ///
     /// Returns `None` if there is none.
     pub fn next_edge(&self, frame: u32) -> Option<u32>
-        ensures value { TellsNextEdge self.now.records frame result }
+        ensures value { ReportsNextEdge self.now.records frame result }
         ensures programme { IsProgramme self.now.drawing self.now.records }
     {
         edge_after(&self.drawing, &self.subtitles, frame)
@@ -335,7 +336,7 @@ impl Programme {
     ///
     /// Returns `None` if there is none. The expected page is the same from there to the frame.
     pub fn last_edge(&self, frame: u32) -> Option<u32>
-        ensures value { TellsLastEdge self.now.records frame result }
+        ensures value { ReportsLastEdge self.now.records frame result }
         ensures programme { IsProgramme self.now.drawing self.now.records }
     {
         edge_until(&self.drawing, &self.subtitles, frame)
@@ -356,13 +357,13 @@ impl Programme {
     #[tactic(auto, unfolding(crate::specs::Judged::is_undecided_in))]
     pub(crate) fn is_undecided(
         &self,
-        behind_other: &[bool],
+        after_other: &[bool],
         is_before_other: bool,
         frame: u32,
     ) -> bool
         ensures { result ≡ is_undecided_in (record {
           programme = self.now;
-          behind_other = behind_other.now;
+          after_other = after_other.now;
           is_before_other = is_before_other;
         }) frame }
     {
@@ -370,7 +371,7 @@ impl Programme {
         is_undecided_at(
             &self.drawing,
             subtitles,
-            behind_other,
+            after_other,
             is_before_other,
             frame,
         )

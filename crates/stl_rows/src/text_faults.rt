@@ -6,8 +6,8 @@
 
 ghost use Rattle.std.specs.Prelude.{◌≡◌, ◌<◌, ◌≤◌, length, IsOk, MatchOption, Err, None, false};
 ghost use Rattle.stl_rows.specs.DrawnPage.{drawn};
-ghost use Rattle.stl_rows.specs.LineByLine.{empty_line, line_under, shape_fault_kinds, told};
-ghost use Rattle.stl_rows.specs.LineByLine.{told_first, with_cell};
+ghost use Rattle.stl_rows.specs.LineByLine.{empty_line, line_under, shape_fault_kinds, reported};
+ghost use Rattle.stl_rows.specs.LineByLine.{reported_first, with_cell};
 ghost use Rattle.stl_rows.specs.TextCode.{first_of, text_codes};
 
 use crate::fault::{RowFault, RowFaultKind};
@@ -95,7 +95,7 @@ impl OpenLine {
     // Returns the fault found before the line, or else the first fault of the line.
     fn first_fault(&self, before: Option<RowFault>) -> Option<RowFault>
         requires { self.now.len ≤ 1008 }
-        ensures { result ≡ told_first before self.now }
+        ensures { result ≡ reported_first before self.now }
     {
         if before.is_some() {
             return before;
@@ -115,7 +115,7 @@ impl OpenLine {
 fn fault_of_text(national: National, vp: u8, text: &[u8]) -> Option<RowFault>
     requires last { vp ≤ 23 }
     requires short { length text.now ≤ 1008 }
-    ensures { result ≡ told None (empty_line 0 vp false) (text_codes national 0 text.now) }
+    ensures { result ≡ reported None (empty_line 0 vp false) (text_codes national 0 text.now) }
 {
     let mut fault = None;
     let mut line = OpenLine::first(vp);

@@ -21,11 +21,11 @@ use Rattle.stl_rows.specs.declared.fault.LoadFaultKind.TheVariants as load
 use Rattle.stl_rows.specs.declared.layout.Drawing.{Drawing}
 use Rattle.sub_plan.specs.Options.{OptionsValue}
 use Rattle.sub_check.specs.CheckedFiles.{all_events_by, all_events_of, answer_by, first_answer}
-use Rattle.sub_rules.specs.Events.{first_told}
+use Rattle.sub_rules.specs.Events.{first_reported}
 use Rattle.sub_check.proofs.FilesLemmas.{accepted-loads, accepted-loads_by}
-use Rattle.sub_check.proofs.RuleToldLemmas.{first_of_rule}
-use Rattle.sub_check.proofs.FirstToldLemmas.{of_rule}
-use Rattle.sub_rules.specs.declared.event.Event.TheVariants.{Ended, PassedUntil, Told, Trusted}
+use Rattle.sub_check.proofs.RuleReportedLemmas.{first_of_rule}
+use Rattle.sub_check.proofs.FirstReportedLemmas.{of_rule}
+use Rattle.sub_rules.specs.declared.event.Event.TheVariants.{Ended, SkippedUntil, Reported, Trusted}
 use Rattle.sub_rules.specs.Fault.{is_failure}
 use Rattle.sub_checker.specs.declared.accepted.Accepted.{Accepted}
 use Rattle.sub_rules.specs.declared.event.Event.{Event}
@@ -33,7 +33,7 @@ use Rattle.sub_rules.specs.declared.fault.CheckFault.{CheckFault}
 use Rattle.sub_rules.specs.declared.fault.CheckFault.TheVariants as fault
 use Rattle.sub_listing.specs.FirstPacket.{FirstNumber}
 use Rattle.sub_listing.specs.DeviceCall.{Counts, SinkCall, SourceCall}
-use Rattle.sub_answer.specs.EveryFault.{AnswersAll, AreListed, PrintsMemoryLast, TellsBoth}
+use Rattle.sub_answer.specs.EveryFault.{AnswersAll, AreListed, PrintsMemoryLast, ReportsBoth}
 use Rattle.sub_answer.specs.FaultListing.{all_listing, last_listing}
 use Rattle.sub_listing.specs.EventLines.{event_lines, most_counted, refusals, subtitle_events}
 use Rattle.sub_listing.specs.Faults.{kind_by}
@@ -44,7 +44,7 @@ use Rattle.sub_listing.specs.declared.status.Status.{Status}
 use Rattle.sub_listing.specs.declared.status.Status.TheVariants.{Done, Fault, Refused}
 use Rattle.sub_listing.proofs.PrintingLemmas.{printed-status}
 use Rattle.sub_answer.proofs.BothFilesLemmas.{Exactly, exactly-accepted, exactly-accepted_by}
-use Rattle.sub_answer.proofs.BothFilesLemmas.{pes-fails, status-told, stl-fails}
+use Rattle.sub_answer.proofs.BothFilesLemmas.{pes-fails, status-reported, stl-fails}
 
 -- A sink in a call, given its contents before and after.
 abbrev sink : Option (List ℕ) → ℕ → Option (List ℕ) → ℕ → SinkCall
@@ -83,11 +83,11 @@ printed-cut old new m n text listing part risen =
 
 -- There is no fault exactly if there is no first one.
 none-first : (events : List Event)
-    → (min (refusals events) most_counted == 0) ≡ is_none (first_told events)
+    → (min (refusals events) most_counted == 0) ≡ is_none (first_reported events)
 none-first [] = refl
-none-first (Told f ∷ events) = grind (arith, nat_tests)
+none-first (Reported f ∷ events) = grind (arith, nat_tests)
 none-first (Ended rule frame ∷ events) = let rest = none-first events in grind (arith, nat_tests)
-none-first (PassedUntil f ∷ events) = let rest = none-first events in grind (arith, nat_tests)
+none-first (SkippedUntil f ∷ events) = let rest = none-first events in grind (arith, nat_tests)
 none-first (Trusted from to ∷ events) = let rest = none-first events in grind (arith, nat_tests)
 
 -- The status of what was read, given whether there was a fault.
@@ -101,9 +101,9 @@ last-status first n a None is = rw is refl
 last-status first n a (Some f) is = rw is refl
 
 read-status : (first : ℕ) (events : List Event) (a : Accepted)
-    → (all_listing first events (Ok (Some a))).status ≡ by_first (first_told events)
+    → (all_listing first events (Ok (Some a))).status ≡ by_first (first_reported events)
 read-status first events a =
-    last-status first (min (refusals events) most_counted) a (first_told events)
+    last-status first (min (refusals events) most_counted) a (first_reported events)
     (none-first events)
 
 never-fault : (o : Option CheckFault) → by_first o ≢ Fault
@@ -118,13 +118,13 @@ answer-fails : (first : ℕ) (events : List Event) (answer : Result (Option Acce
 answer-fails first events answer ended is = grind (arith, nat_tests, never-fault, read-status)
 
 -- Want of memory is reported last, after faults of the subtitle file.
-memory-last : (drawing : Drawing) (options : OptionsValue) (told pes old new : Option (List ℕ))
+memory-last : (drawing : Drawing) (options : OptionsValue) (reported pes old new : Option (List ℕ))
     (first : ℕ) (events : List Event) (answer : Result (Option Accepted) CheckFault) (block : ℕ)
     → answer ≡ Err (fault.Subtitles (load_fault block load.Memory))
-    → IfKnown told (λ file. AreListed drawing options file pes events answer)
+    → IfKnown reported (λ file. AreListed drawing options file pes events answer)
     → Appends old new (all_listing first events answer).text
-    → PrintsMemoryLast drawing told old new
-memory-last drawing options told pes old new first events answer block memory listed text = (
+    → PrintsMemoryLast drawing reported old new
+memory-last drawing options reported pes old new first events answer block memory listed text = (
   first,
   events,
   block,
@@ -134,11 +134,11 @@ memory-last drawing options told pes old new first events answer block memory li
 )
 
 -- Without a fault there are no events of the subtitle file.
-untold : (fs : List LoadFault) (more : List Event)
-    → first_told (subtitle_events fs ++ more) ≡ None
+unreported : (fs : List LoadFault) (more : List Event)
+    → first_reported (subtitle_events fs ++ more) ≡ None
     → fs ≡ []
-untold [] more none = refl
-untold (f ∷ fs) more none = cc
+unreported [] more none = refl
+unreported (f ∷ fs) more none = cc
 
 -- If nothing failed, the last line says that the files are accepted exactly if they are.
 done-exactly :
@@ -168,14 +168,15 @@ done-exactly drawing options file bytes pes first events (Ok None) Means known r
     )
 done-exactly drawing options file bytes pes first events (Ok (Some a)) Means known runs ended are
     exact loads =
-    rw (read-status first events a) (go (first_told events) refl (exact a refl))
+    rw (read-status first events a) (go (first_reported events) refl (exact a refl))
   where
-    go : (o : Option CheckFault) → first_told events ≡ o
+    go : (o : Option CheckFault) → first_reported events ≡ o
         → Exactly drawing file (answer_by o a) Means
         → (by_first o ≡ Done) ↔ Means
     go None is exactly = (
       λ done.
-          let none = untold (faults drawing file) are.more (ap first_told (sym are.both) ∙ is) in
+          let none = unreported (faults drawing file) are.more (ap first_reported (sym are.both) ∙
+          is) in
           (exactly.exactly are.judged.programme (are.by.whole none).0 refl refl).0 refl,
       λ is. refl,
     )
@@ -188,11 +189,11 @@ done-exactly drawing options file bytes pes first events (Ok (Some a)) Means kno
           let p = are.judged.programme in
           let alone : events ≡ are.more =
           are.both ∙ ap (λ fs. subtitle_events fs ++ are.more) none in
-          let told : all_events_of p options bytes ≡ events =
+          let reported : all_events_of p options bytes ≡ events =
           sym (ap (λ (j : JudgedValue). all_events_by j options bytes) whole.1)
           ∙ sym (are.listed bytes known).0
           ∙ sym alone in
-          let own = of_rule f (first_of_rule p options bytes f (ap first_told told ∙ is)) in
+          let own = of_rule f (first_of_rule p options bytes f (ap first_reported reported ∙ is)) in
           let ok =
           (exactly.exactly p whole.0 own.no_subtitle own.no_source).1 accepted in
           cc,
@@ -204,7 +205,7 @@ done-exactly drawing options file bytes pes first events (Ok (Some a)) Means kno
 pub answers_cut :
     (drawing : Drawing) (options : OptionsValue) (stl pes : SourceCall) (first : FirstNumber)
     (Untouched : Type 0) (old new : PrinterValue) (given : Result (Option Accepted) CheckFault)
-    → TellsBoth drawing options stl pes first Untouched old new given
+    → ReportsBoth drawing options stl pes first Untouched old new given
     → new.failed ≡ true
     → AnswersAll drawing options stl pes first Untouched
     (sink old.contents old.count new.contents new.count) Fault
@@ -217,7 +218,7 @@ pub answers_end :
     (Untouched : Type 0) (old new : PrinterValue) (given : Result (Option Accepted) CheckFault)
     (end : Option (List ℕ)) (end_count : ℕ) (status : Status)
     → LawOfLoading
-    → TellsBoth drawing options stl pes first Untouched old new given
+    → ReportsBoth drawing options stl pes first Untouched old new given
     → new.failed ≡ false
     → old.refused ≡ 0
     → PrintsOrFails (sink new.contents new.count end end_count)
@@ -251,7 +252,7 @@ answers_end
       listed = t.listed;
       unjudged = λ other. t.unjudged holds;
       checked = λ other. t.checked holds;
-      ends = status-told drawing options stl pes (sink old.contents old.count end end_count)
+      ends = status-reported drawing options stl pes (sink old.contents old.count end end_count)
           (all_listing t.number t.events t.answer) status t.answer _ printed t.sources
           (λ none at_once runs file heard bytes known.
           done-exactly drawing options file bytes pes.known t.number t.events t.answer _ known runs

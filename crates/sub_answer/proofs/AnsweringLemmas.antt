@@ -13,11 +13,11 @@ use Rattle.stl_rows.specs.declared.fault.LoadFault.{LoadFault}
 use Rattle.stl_rows.specs.declared.fault.LoadFaultKind.{LoadFaultKind}
 use Rattle.stl_rows.specs.declared.fault.LoadFaultKind.TheVariants as load
 use Rattle.stl_rows.specs.declared.layout.Drawing.{Drawing}
-use Rattle.stl_rows.specs.Loading.{FailsLoading, LawOfLoading, TellsFault, loaded}
+use Rattle.stl_rows.specs.Loading.{FailsLoading, LawOfLoading, ReportsFault, loaded}
 use Rattle.stl_rows.specs.Programme.{ProgrammeValue}
 use Rattle.sub_plan.specs.Options.{OptionsValue}
 use Rattle.sub_check.specs.CheckedFiles.{AreChecked, IsCheckedBy}
-use Rattle.sub_check.specs.CheckedFiles.{TellsSubtitles}
+use Rattle.sub_check.specs.CheckedFiles.{ReportsSubtitles}
 use Rattle.ttx_pes.specs.declared.fault.PesFault.TheVariants as pes_fault
 use Rattle.sub_answer.proofs.FailedReadLemmas.{no_events}
 use Rattle.sub_rules.specs.Fault.{is_failure, is_failure_kind, is_pes_read}
@@ -26,7 +26,7 @@ use Rattle.sub_checker.specs.declared.accepted.Accepted.{Accepted}
 use Rattle.sub_rules.specs.declared.fault.CheckFault.{CheckFault}
 use Rattle.sub_rules.specs.declared.fault.CheckFault.TheVariants as fault
 use Rattle.sub_answer.specs.Answering.{AnswersCheck, verdict}
-use Rattle.sub_answer.specs.BothFiles.{TellsSources}
+use Rattle.sub_answer.specs.BothFiles.{ReportsSources}
 use Rattle.sub_listing.specs.DeviceCall.{Counts, SinkCall, SourceCall}
 use Rattle.sub_listing.specs.Faults.{kind_by}
 use Rattle.sub_listing.specs.FaultLine.{status_of}
@@ -37,8 +37,8 @@ use Rattle.sub_listing.specs.Listing.{PrintsOrFails}
 use Rattle.sub_listing.specs.declared.status.Status.{Status}
 use Rattle.sub_listing.specs.declared.status.Status.TheVariants.{Done, Fault}
 use Rattle.sub_answer.proofs.BothFilesLemmas.{Exactly, exactly-accepted, exactly-accepted_by}
-use Rattle.sub_answer.proofs.BothFilesLemmas.{status-told}
-use Rattle.sub_answer.proofs.BothFilesLemmas.{told-fails, told-not_done, told-runs}
+use Rattle.sub_answer.proofs.BothFilesLemmas.{status-reported}
+use Rattle.sub_answer.proofs.BothFilesLemmas.{reported-fails, reported-not_done, reported-runs}
 
 -- If the PES file was read, the subtitle file gives a programme. For `done-exactly`.
 has_programme :
@@ -63,21 +63,21 @@ failure-of_programme :
     (drawing : Drawing) (file : List ℕ) (programme : ProgrammeValue) (block : ℕ)
     (kind : LoadFaultKind)
     → loaded drawing file ≡ Ok programme
-    → TellsFault drawing file block kind
+    → ReportsFault drawing file block kind
     → is_failure_kind kind ≡ true
-failure-of_programme drawing file programme block (load.File stl.Read) is told = refl
-failure-of_programme drawing file programme block load.Memory is told = refl
-failure-of_programme drawing file programme block kind is told = cc
+failure-of_programme drawing file programme block (load.File stl.Read) is reported = refl
+failure-of_programme drawing file programme block load.Memory is reported = refl
+failure-of_programme drawing file programme block kind is reported = cc
 
 -- The subtitle file gives a programme, so a fault that is no failure is not one of it. For
 -- `done-exactly`.
 looked-at :
     (drawing : Drawing) (file : List ℕ) (programme : ProgrammeValue) (f : CheckFault)
     → loaded drawing file ≡ Ok programme
-    → TellsSubtitles drawing file (Err f)
+    → ReportsSubtitles drawing file (Err f)
     → is_failure f ≡ false
     → (is_subtitle_fault f ≡ false) × (is_pes_read f ≡ false)
-looked-at drawing file programme f is told runs = grind (arith, nat_tests, failure-of_programme)
+looked-at drawing file programme f is reported runs = grind (arith, nat_tests, failure-of_programme)
 
 -- The status is `Done` exactly if the files are accepted.
 done-exactly :
@@ -91,11 +91,11 @@ done-exactly drawing options file bytes first (Ok a) Means are exact other =
     let given = has_programme drawing file (Ok a) are.refused refl in
     (λ done. (exact.exactly given.0 given.1 refl refl).0 refl, λ is. refl)
 done-exactly drawing options file bytes first (Err f) Means are exact other = (
-  λ done. absurd (told-not_done (is_failure f) done),
+  λ done. absurd (reported-not_done (is_failure f) done),
   λ is.
       let given = exact.loads is in
       let looked =
-      looked-at drawing file given.0 f given.1 are.subtitles (told-runs (is_failure f) other) in
+      looked-at drawing file given.0 f given.1 are.subtitles (reported-runs (is_failure f) other) in
       let ok = (exact.exactly given.0 given.1 looked.0 looked.1).1 is in
       cc,
 )
@@ -105,7 +105,7 @@ answer-fails : (first : ℕ) (answer : Result Accepted CheckFault)
     → (verdict first answer).status ≡ Fault
     → failed is_failure answer ≡ true
 answer-fails first (Ok a) is = cc
-answer-fails first (Err f) is = told-fails (is_failure f) is
+answer-fails first (Err f) is = reported-fails (is_failure f) is
 
 -- The answer of `check_files` for both files, and the line that is printed. For `print_verdict`.
 pub as_answered :
@@ -115,7 +115,7 @@ pub as_answered :
     → LawOfLoading
     → PrintsOrFails out (verdict number answer) status
     → (failed is_subtitle_fault answer ≡ false → StartsAt first pes number)
-    → TellsSources (FailsLoading drawing stl.known stl.left)
+    → ReportsSources (FailsLoading drawing stl.known stl.left)
     (λ index. FailsAtPacket index pes.known pes.left)
     Untouched (failed is_subtitle_fault answer) stl pes answer
     → IfKnown stl.known (λ file. AreChecked drawing options file pes.known answer)
@@ -129,15 +129,15 @@ as_answered
       printed = printed;
       sources = sources;
       checked = checked;
-      ends = status-told drawing options stl pes out (verdict number answer) status answer _
+      ends = status-reported drawing options stl pes out (verdict number answer) status answer _
           printed sources
-          (λ none at_once other file told bytes heard.
-          let are = rw heard at (checked file told) in
+          (λ none at_once other file reported bytes heard.
+          let are = rw heard at (checked file reported) in
           done-exactly drawing options file bytes number answer _ are
           (exactly-accepted drawing options file bytes answer loading
           (λ p loads. are.checked p loads none at_once bytes refl)) other)
-          (λ other file told bytes heard.
-          let are = rw heard at (checked file told) in
+          (λ other file reported bytes heard.
+          let are = rw heard at (checked file reported) in
           done-exactly drawing options file bytes number answer _ are
           (exactly-accepted_by drawing options file bytes answer loading
           (λ p loads. are.checked_by p loads bytes refl)) other)
@@ -146,16 +146,16 @@ as_answered
             block,
             subst (λ (r : Result Accepted CheckFault). Appends out.old out.new
                 (verdict number r).text) memory line,
-            λ file told.
-                subst (TellsSubtitles drawing file) memory (checked file told).subtitles,
+            λ file reported.
+                subst (ReportsSubtitles drawing file) memory (checked file reported).subtitles,
           ));
     }
 
 -- The answer if the source failed before its first PES packet was found, with any options. For
 -- `check_from`.
-pub no_piece_read : (programme : ProgrammeValue) (options : OptionsValue) (bytes : List ℕ)
+pub no_pes_packet_read : (programme : ProgrammeValue) (options : OptionsValue) (bytes : List ℕ)
     → IsCheckedBy programme options bytes (Err (fault.Pes 0 pes_fault.Read))
-no_piece_read programme options bytes = grind (arith, nat_tests, no_events)
+no_pes_packet_read programme options bytes = grind (arith, nat_tests, no_events)
 
 -- An answer that reports a failed source has the status `Fault`.
 verdict-fault : (is_one : CheckFault → Bool)

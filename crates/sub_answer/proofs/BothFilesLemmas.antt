@@ -1,5 +1,5 @@
 -- What the status of a check says about both files, from the listing that belongs to it. Main
--- lemmas: status-told, exactly-accepted, exactly-accepted_by.
+-- lemmas: status-reported, exactly-accepted, exactly-accepted_by.
 use Rattle.std.proofs.Common.{◌≡◌, ◌≢◌, ◌↔◌, ◌∙◌, ap, arith, refl, sym, ℕ, List, Bool, true}
 use Rattle.std.proofs.Common.{false, Result, Ok, Err}
 use Rattle.std.specs.Prelude.{IsFalse, IsOk}
@@ -33,24 +33,24 @@ use Rattle.sub_listing.specs.FaultLine.{status_of}
 use Rattle.sub_listing.specs.declared.status.Status.{Status}
 use Rattle.sub_listing.specs.declared.status.Status.TheVariants.{Done, Fault}
 use Rattle.sub_listing.proofs.PrintingLemmas.{did_not_rise, printed-status, printed-whole}
-use Rattle.sub_answer.specs.BothFiles.{TellsSources, TellsStatus}
+use Rattle.sub_answer.specs.BothFiles.{ReportsSources, IsStatusOfFiles}
 
 -- ---- the line of a fault, and its status
 
 -- It is never `Done`.
-pub told-not_done : (b : Bool) → status_of (kind_by b) ≢ Done
-told-not_done true e = cc
-told-not_done false e = cc
+pub reported-not_done : (b : Bool) → status_of (kind_by b) ≢ Done
+reported-not_done true e = cc
+reported-not_done false e = cc
 
 -- It is `Fault` only for a failure.
-pub told-fails : (b : Bool) → status_of (kind_by b) ≡ Fault → b ≡ true
-told-fails true e = refl
-told-fails false e = cc
+pub reported-fails : (b : Bool) → status_of (kind_by b) ≡ Fault → b ≡ true
+reported-fails true e = refl
+reported-fails false e = cc
 
 -- Otherwise it is another status.
-pub told-runs : (b : Bool) → status_of (kind_by b) ≢ Fault → b ≡ false
-told-runs true other = absurd (other refl)
-told-runs false other = refl
+pub reported-runs : (b : Bool) → status_of (kind_by b) ≢ Fault → b ≡ false
+reported-runs true other = absurd (other refl)
+reported-runs false other = refl
 
 -- A failed source of the subtitle file is a failure.
 pub stl-fails : (f : CheckFault) → is_stl_read f ≡ true → is_failure f ≡ true
@@ -131,13 +131,13 @@ exactly-accepted_by drawing options file bytes answer loading checked = record {
 }
 
 -- What the status that was printed with a listing says about the files.
-pub status-told :
+pub status-reported :
     {Counts : Type 0} {AtBlock AtPes : ℕ → Type 0} {Untouched : Type 0} {is_of_subtitles : Bool}
     (drawing : Drawing) (options : OptionsValue) (stl pes : SourceCall) (out : SinkCall)
     (listing : Listing) (status : Status) (answer : Result Counts CheckFault)
     (PrintsMemory : Type 0)
     → PrintsOrFails out listing status
-    → TellsSources AtBlock AtPes Untouched is_of_subtitles stl pes answer
+    → ReportsSources AtBlock AtPes Untouched is_of_subtitles stl pes answer
     → (IsFalse options.keeps
     → options.within ≡ 0
     → listing.status ≢ Fault
@@ -153,16 +153,16 @@ pub status-told :
     → answer ≡ Err (fault.Subtitles (load_fault block load.Memory))
     → Appends out.old out.new listing.text
     → PrintsMemory)
-    → TellsStatus drawing options stl pes out PrintsMemory status
-status-told drawing options stl pes out listing status answer PrintsMemory printed sources done
+    → IsStatusOfFiles drawing options stl pes out PrintsMemory status
+status-reported drawing options stl pes out listing status answer PrintsMemory printed sources done
     done_by fails memory =
     record {
-      done = λ none at_once file told bytes heard other.
+      done = λ none at_once file reported bytes heard other.
           let is = printed-status out listing status printed other in
-          rw is (done none at_once (λ failing. other (is ∙ failing)) file told bytes heard);
-      done_by = λ file told bytes heard other.
+          rw is (done none at_once (λ failing. other (is ∙ failing)) file reported bytes heard);
+      done_by = λ file reported bytes heard other.
           let is = printed-status out listing status printed other in
-          rw is (done_by (λ failing. other (is ∙ failing)) file told bytes heard);
+          rw is (done_by (λ failing. other (is ∙ failing)) file reported bytes heard);
       fault = λ is stl_same pes_same out_same.
           let whole = printed-whole out listing status printed out_same in
           let wanted =
@@ -178,7 +178,7 @@ pub sources-untouched :
     {Counts : Type 0} (AtBlock AtPes : ℕ → Type 0) (Untouched Other : Type 0) (is : Bool)
     (stl pes : SourceCall) (answer : Result Counts CheckFault)
     → (Untouched → Other)
-    → TellsSources AtBlock AtPes Untouched is stl pes answer
-    → TellsSources AtBlock AtPes Other is stl pes answer
-sources-untouched AtBlock AtPes Untouched Other is stl pes answer other tells =
+    → ReportsSources AtBlock AtPes Untouched is stl pes answer
+    → ReportsSources AtBlock AtPes Other is stl pes answer
+sources-untouched AtBlock AtPes Untouched Other is stl pes answer other reports =
     grind (arith, nat_tests)

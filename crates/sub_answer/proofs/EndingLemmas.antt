@@ -6,18 +6,18 @@ use Rattle.std.proofs.Common.{◌≡◌, ◌∙◌, ap, refl, subst, ℕ, List, 
 use Rattle.std.proofs.Common.{Bool, Option, Some, false, true, if◌then◌else◌, length, sym}
 use Rattle.std.specs.Prelude.{⊤}
 use Rattle.std.proofs.lemmas.Bool.{true≢false}
-use Rattle.sub_answer.specs.Answering.{Answers, HandsOnBefore, InputCall, WritesBefore, fails}
-use Rattle.sub_answer.specs.Answering.{first_input, input_call, reads_pieces}
-use Rattle.sub_answer.specs.Part.{IsPartOf, whole_file}
+use Rattle.sub_answer.specs.Answering.{Answers, FlushesBefore, InputCall, WritesBefore, fails}
+use Rattle.sub_answer.specs.Answering.{first_input, input_call, reads_pes_packets}
+use Rattle.sub_answer.specs.Part.{IsPartOf, entire_file}
 use Rattle.sub_answer.proofs.BothFilesLemmas.{sources-untouched}
-use Rattle.sub_files.specs.FileCalls.{CallsInTurn, FileCall}
+use Rattle.sub_files.specs.FileCalls.{CallsInOrder, FileCall}
 use Rattle.sub_listing.specs.DeviceCall.{SinkCall}
-use Rattle.sub_listing.specs.LastLine.{HoldsLastLine}
+use Rattle.sub_listing.specs.LastLine.{BuffersLastLineOnly}
 use Rattle.sub_listing.specs.declared.status.Status.{Status}
 use Rattle.sub_request.specs.declared.request.Request.{Request}
 use Rattle.sub_request.specs.declared.request.Request.TheVariants as ask
-use Rattle.ttx_pes.specs.Advancing.{held_then}
-use Rattle.sub_answer.specs.Ending.{EndsWith, HoldsLineAlone, IsEmptySource, Lines, lines_in}
+use Rattle.ttx_pes.specs.Advancing.{buffered_then}
+use Rattle.sub_answer.specs.Ending.{EndsWith, BuffersOneLineOnly, IsEmptySource, Lines, lines_in}
 
 -- The answer, if `Untouched` is replaced by a weaker statement.
 untouched :
@@ -31,63 +31,67 @@ untouched request first second Untouched Other file out status other is =
 
 -- The answer if the first input of the request is a source. For `answer`.
 pub answers_second :
-    (request : Request) (first second pieces : InputCall) (Untouched Other : Type 0)
+    (request : Request) (first second pes_packets : InputCall) (Untouched Other : Type 0)
     (file out : SinkCall) (status : Status)
-    → reads_pieces request ≡ false
-    → pieces ≡ second
+    → reads_pes_packets request ≡ false
+    → pes_packets ≡ second
     → (Untouched → Other)
-    → Answers request (first_input request first pieces) pieces Untouched file out status
+    → Answers request (first_input request first pes_packets) pes_packets Untouched file out status
     → Answers request first second Other file out status
-answers_second request first second pieces Untouched Other file out status source same other is =
+answers_second request first second pes_packets Untouched Other file out status source same other
+    is =
     untouched request first second Untouched Other file out status other
     (subst (λ (p : InputCall). Answers request first p Untouched file out status) same
-    (subst (λ (b : Bool). Answers request (if b then pieces else first) pieces Untouched file out
+    (subst (λ (b : Bool). Answers request (if b then pes_packets else first) pes_packets Untouched
+    file out
     status) source is))
 
 -- Which input is the first one of a request.
-pub first_source : (request : Request) (source pieces : InputCall) → reads_pieces request ≡ false
-    → first_input request source pieces ≡ source
-first_source request source pieces is =
-    subst (λ (b : Bool). (if b then pieces else source) ≡ source) (sym is) refl
+pub first_source : (request : Request) (source pes_packets : InputCall) → reads_pes_packets request
+    ≡ false
+    → first_input request source pes_packets ≡ source
+first_source request source pes_packets is =
+    subst (λ (b : Bool). (if b then pes_packets else source) ≡ source) (sym is) refl
 
-pub first_pieces : (request : Request) (source pieces : InputCall) → reads_pieces request ≡ true
-    → first_input request source pieces ≡ pieces
-first_pieces request source pieces is =
-    subst (λ (b : Bool). (if b then pieces else source) ≡ pieces) (sym is) refl
+pub first_pes_packets : (request : Request) (source pes_packets : InputCall) → reads_pes_packets
+    request ≡ true
+    → first_input request source pes_packets ≡ pes_packets
+first_pes_packets request source pes_packets is =
+    subst (λ (b : Bool). (if b then pes_packets else source) ≡ pes_packets) (sym is) refl
 
-either_empty : (b : Bool) (source pieces : InputCall)
+either_empty : (b : Bool) (source pes_packets : InputCall)
     → source.call.known ≡ Some []
-    → pieces.call.known ≡ Some []
-    → (if b then pieces else source).call.known ≡ Some []
-either_empty true source pieces h1 h2 = h2
-either_empty false source pieces h1 h2 = h1
+    → pes_packets.call.known ≡ Some []
+    → (if b then pes_packets else source).call.known ≡ Some []
+either_empty true source pes_packets h1 h2 = h2
+either_empty false source pes_packets h1 h2 = h1
 
-pub first_empty : (request : Request) (source pieces input : InputCall)
-    → input ≡ first_input request source pieces
+pub first_empty : (request : Request) (source pes_packets input : InputCall)
+    → input ≡ first_input request source pes_packets
     → source.call.known ≡ Some []
-    → pieces.call.known ≡ Some []
+    → pes_packets.call.known ≡ Some []
     → input.call.known ≡ Some []
-first_empty request source pieces input is h1 h2 =
+first_empty request source pes_packets input is h1 h2 =
     subst (λ (i : InputCall). i.call.known ≡ Some []) (sym is)
-    (either_empty (reads_pieces request) source pieces h1 h2)
+    (either_empty (reads_pes_packets request) source pes_packets h1 h2)
 
 -- The PES packets of an empty source. For `answer_alone`.
-pub told_nothing : (held bytes : List ℕ) → held ≡ [] → bytes ≡ []
-    → held_then held (Some bytes) ≡ Some []
-told_nothing held bytes none empty = rw (none, empty) refl
+pub reported_nothing : (buffered bytes : List ℕ) → buffered ≡ [] → bytes ≡ []
+    → buffered_then buffered (Some bytes) ≡ Some []
+reported_nothing buffered bytes none empty = rw (none, empty) refl
 
 -- An empty input.
 abbrev nothing : InputCall
 nothing = record {
   call = record { known = Some []; left = Some []; old_count = 0; new_count = 0 };
-  number = record { known = Some 0; left = Some 0; passed = 0 };
+  number = record { known = Some 0; left = Some 0; skipped = 0 };
 }
 
 -- The answer of a request that reads PES packets does not depend on the second input.
 any_second :
     (request : Request) (first second other : InputCall) (Untouched Other : Type 0)
     (file out : SinkCall) (status : Status)
-    → reads_pieces request ≡ true
+    → reads_pes_packets request ≡ true
     → Answers request first second Untouched file out status
     → Answers request first other Other file out status
 any_second (ask.Packets pes) first second other U V file out status reads is = is
@@ -117,9 +121,9 @@ any_second (ask.Survey recording options) first second other U V file out status
 -- Nor does what it flushes before.
 any_second_followed :
     (request : Request) (First Second Other IsAlone : Type 0)
-    → reads_pieces request ≡ true
-    → HandsOnBefore request First Second IsAlone
-    → HandsOnBefore request First Other IsAlone
+    → reads_pes_packets request ≡ true
+    → FlushesBefore request First Second IsAlone
+    → FlushesBefore request First Other IsAlone
 any_second_followed (ask.Packets pes) First Second Other IsAlone reads is = is
 any_second_followed (ask.Listen pes listening) First Second Other IsAlone reads is = tt
 any_second_followed (ask.Extract recording pes stream) First Second Other IsAlone reads is = tt
@@ -137,12 +141,12 @@ any_second_followed
     absurd (true≢false (sym reads))
 any_second_followed (ask.Survey recording options) First Second Other IsAlone reads is = is
 
--- How a run ends that reads only PES packets. For `answer_pieces`.
+-- How a run ends that reads only PES packets. For `answer_pes_packets`.
 pub ends_alone :
     {IsAlone : Lines → Type 0} (request : Request)
     (IsFirst IsSecond IsFirst' : InputCall → Type 0) (Untouched : Type 0)
     (IsFile : InputCall → SinkCall → Type 0) (old new : Lines) (result : Status)
-    → reads_pieces request ≡ true
+    → reads_pes_packets request ≡ true
     → EndsWith request IsFirst IsSecond Untouched IsFile IsAlone old new result
     → ((call : InputCall) → IsFirst call → IsFirst' call)
     → EndsWith request IsFirst' IsEmptySource ⊤ IsFile IsAlone old new result
@@ -163,7 +167,7 @@ ends_alone
           λ none.
           any_second_followed request (fails is.first) (fails is.second) (fails nothing) _ reads
           (is.followed none);
-      handed_on = is.handed_on;
+      flushed = is.flushed;
     }
 
 -- How a run ends, with weaker properties of devices.
@@ -193,42 +197,42 @@ ends_weaker
           untouched request is.first is.second Untouched Untouched' is.file _ is.status other
           is.answers;
       followed = is.followed;
-      handed_on = is.handed_on;
+      flushed = is.flushed;
     }
 
-none_of : (held : List ℕ) → length held ≡ 0 → held ≡ []
+none_of : (buffered : List ℕ) → length buffered ≡ 0 → buffered ≡ []
 none_of [] is = refl
 none_of (byte ∷ more) is = grind (arith, nat_tests)
 
 -- What is flushed before, with other statements of which source failed and what is held back.
-hands_on_so :
+flushes_so :
     (request : Request) (First First' Second Second' IsAlone IsAlone' : Type 0)
     → (First' → First)
     → (Second' → Second)
     → (IsAlone → IsAlone')
-    → HandsOnBefore request First Second IsAlone
-    → HandsOnBefore request First' Second' IsAlone'
-hands_on_so (ask.Packets pes) F F' S S' A A' first second alone is =
+    → FlushesBefore request First Second IsAlone
+    → FlushesBefore request First' Second' IsAlone'
+flushes_so (ask.Packets pes) F F' S S' A A' first second alone is =
     λ fails. alone (is (first fails))
-hands_on_so (ask.Survey recording options) F F' S S' A A' first second alone is =
+flushes_so (ask.Survey recording options) F F' S S' A A' first second alone is =
     λ fails. alone (is (first fails))
-hands_on_so
+flushes_so
     (ask.Check stl pes options national layout scope true) F F' S S' A A' first second alone is =
     λ fails. alone (is (second fails))
-hands_on_so
+flushes_so
     (ask.Check stl pes options national layout scope false) F F' S S' A A' first second alone is =
     tt
-hands_on_so ask.Help F F' S S' A A' first second alone is = tt
-hands_on_so ask.Version F F' S S' A A' first second alone is = tt
-hands_on_so (ask.Packet bytes) F F' S S' A A' first second alone is = tt
-hands_on_so (ask.Show stl) F F' S S' A A' first second alone is = tt
-hands_on_so (ask.Normal input output) F F' S S' A A' first second alone is = tt
-hands_on_so
+flushes_so ask.Help F F' S S' A A' first second alone is = tt
+flushes_so ask.Version F F' S S' A A' first second alone is = tt
+flushes_so (ask.Packet bytes) F F' S S' A A' first second alone is = tt
+flushes_so (ask.Show stl) F F' S S' A A' first second alone is = tt
+flushes_so (ask.Normal input output) F F' S S' A A' first second alone is = tt
+flushes_so
     (ask.Schedule stl pes options serial national layout scope) F F' S S' A A' first second alone
     is =
     tt
-hands_on_so (ask.Listen pes listening) F F' S S' A A' first second alone is = tt
-hands_on_so (ask.Extract recording pes stream) F F' S S' A A' first second alone is = tt
+flushes_so (ask.Listen pes listening) F F' S S' A A' first second alone is = tt
+flushes_so (ask.Extract recording pes stream) F F' S S' A A' first second alone is = tt
 
 -- What is written before, in the same way.
 writes_so :
@@ -250,7 +254,7 @@ writes_so (ask.Check stl pes options national layout scope all) F F' N N' first 
 writes_so (ask.Listen pes listening) F F' N N' first none is = tt
 writes_so (ask.Survey recording options) F F' N N' first none is = tt
 
--- What is written before, from the bytes in a buffer. For `answer_and_hand_on`.
+-- What is written before, from the bytes in a buffer. For `answer_and_flush`.
 pub written_before :
     (request : Request) (Fails : Type 0) (old new : List ℕ)
     → old ≡ []
@@ -264,80 +268,83 @@ fails_so input other same is = subst (λ (i : InputCall). fails i) (sym same) is
 
 -- What is flushed and written before, if the first input of the request is a source or gives PES
 -- packets. For `answer`.
-pub followed_beside :
-    (request : Request) (first pieces : InputCall) (SecondFails None IsAlone : Type 0)
-    → reads_pieces request ≡ false
-    → (SecondFails → fails pieces)
-    → HandsOnBefore request (fails (first_input request first pieces)) (fails pieces)
+pub followed_with_file :
+    (request : Request) (first pes_packets : InputCall) (SecondFails None IsAlone : Type 0)
+    → reads_pes_packets request ≡ false
+    → (SecondFails → fails pes_packets)
+    → FlushesBefore request (fails (first_input request first pes_packets)) (fails pes_packets)
     (None → IsAlone)
     → None
-    → HandsOnBefore request (fails first) SecondFails IsAlone
-followed_beside request first pieces SecondFails None IsAlone source second is none =
-    hands_on_so request _ _ _ _ _ _ (fails_so _ _ (first_source request first pieces source))
+    → FlushesBefore request (fails first) SecondFails IsAlone
+followed_with_file request first pes_packets SecondFails None IsAlone source second is none =
+    flushes_so request _ _ _ _ _ _ (fails_so _ _ (first_source request first pes_packets source))
     second (λ so. so none) is
 
-pub written_beside :
-    (request : Request) (first pieces : InputCall) (Before None : Type 0)
-    → reads_pieces request ≡ false
-    → WritesBefore request (fails (first_input request first pieces)) (Before → None)
+pub written_with_file :
+    (request : Request) (first pes_packets : InputCall) (Before None : Type 0)
+    → reads_pes_packets request ≡ false
+    → WritesBefore request (fails (first_input request first pes_packets)) (Before → None)
     → Before
     → WritesBefore request (fails first) None
-written_beside request first pieces Before None source is none =
-    writes_so request _ _ _ _ (fails_so _ _ (first_source request first pieces source))
+written_with_file request first pes_packets Before None source is none =
+    writes_so request _ _ _ _ (fails_so _ _ (first_source request first pes_packets source))
     (λ so. so none) is
 
 -- What is flushed before, if the request reads PES packets, whatever the second source does.
-followed_pieces :
+followed_pes_packets :
     (request : Request) (Second Other None IsAlone First : Type 0)
-    → reads_pieces request ≡ true
-    → HandsOnBefore request First Second (None → IsAlone)
+    → reads_pes_packets request ≡ true
+    → FlushesBefore request First Second (None → IsAlone)
     → None
-    → HandsOnBefore request First Other IsAlone
-followed_pieces request Second Other None IsAlone First reads is none =
-    hands_on_so request First First Other Other (None → IsAlone) IsAlone (λ f. f) (λ f. f)
+    → FlushesBefore request First Other IsAlone
+followed_pes_packets request Second Other None IsAlone First reads is none =
+    flushes_so request First First Other Other (None → IsAlone) IsAlone (λ f. f) (λ f. f)
     (λ so. so none) (any_second_followed request First Second Other (None → IsAlone) reads is)
 
-pub followed_of_pieces :
-    (request : Request) (source pieces : InputCall) (FirstFails Second None IsAlone : Type 0)
-    → reads_pieces request ≡ true
-    → (FirstFails → fails pieces)
-    → HandsOnBefore request (fails (first_input request source pieces)) (fails pieces)
+pub followed_of_pes_packets :
+    (request : Request) (source pes_packets : InputCall) (FirstFails Second None IsAlone : Type 0)
+    → reads_pes_packets request ≡ true
+    → (FirstFails → fails pes_packets)
+    → FlushesBefore request (fails (first_input request source pes_packets)) (fails pes_packets)
     (None → IsAlone)
     → None
-    → HandsOnBefore request FirstFails Second IsAlone
-followed_of_pieces request source pieces FirstFails Second None IsAlone reads first is none =
-    followed_pieces request (fails pieces) Second None IsAlone FirstFails reads
-    (hands_on_so request _ _ _ _ _ _
-    (λ f. fails_so _ _ (first_pieces request source pieces reads) (first f)) (λ f. f) (λ so. so) is)
+    → FlushesBefore request FirstFails Second IsAlone
+followed_of_pes_packets request source pes_packets FirstFails Second None IsAlone reads first is
+    none =
+    followed_pes_packets request (fails pes_packets) Second None IsAlone FirstFails reads
+    (flushes_so request _ _ _ _ _ _
+    (λ f. fails_so _ _ (first_pes_packets request source pes_packets reads) (first f)) (λ f. f)
+    (λ so. so) is)
     none
 
-pub written_of_pieces :
-    (request : Request) (source pieces : InputCall) (FirstFails Before None : Type 0)
-    → reads_pieces request ≡ true
-    → (FirstFails → fails pieces)
-    → WritesBefore request (fails (first_input request source pieces)) (Before → None)
+pub written_of_pes_packets :
+    (request : Request) (source pes_packets : InputCall) (FirstFails Before None : Type 0)
+    → reads_pes_packets request ≡ true
+    → (FirstFails → fails pes_packets)
+    → WritesBefore request (fails (first_input request source pes_packets)) (Before → None)
     → Before
     → WritesBefore request FirstFails None
-written_of_pieces request source pieces FirstFails Before None reads first is none =
+written_of_pes_packets request source pes_packets FirstFails Before None reads first is none =
     writes_so request _ _ _ _
-    (λ f. fails_so _ _ (first_pieces request source pieces reads) (first f)) (λ so. so none) is
+    (λ f. fails_so _ _ (first_pes_packets request source pes_packets reads) (first f))
+    (λ so. so none) is
 
--- What is flushed before, from the bytes that the lines hold back. For `answer_and_hand_on`.
+-- What is flushed before, from the bytes that the lines hold back. For `answer_and_flush`.
 pub followed_before :
-    {O : Type 0} (contents : O → Option (List ℕ)) (held_back : O → List ℕ)
-    (held failure_count : O → ℕ)
+    {O : Type 0} (contents : O → Option (List ℕ)) (buffer_state : O → List ℕ)
+    (buffered failure_count : O → ℕ)
     (IsPush : O → List ℕ → Option ℕ → O → Type 0) (old new : O)
-    → ((o : O) → held o ≡ length (held_back o))
+    → ((o : O) → buffered o ≡ length (buffer_state o))
     → (request : Request) (First Second : Type 0)
-    → HandsOnBefore request First Second
-    (held old ≡ 0 → HoldsLastLine contents held IsPush new)
-    → held_back old ≡ []
-    → HandsOnBefore request First Second
-    (HoldsLineAlone contents held_back failure_count IsPush
-    (lines_in contents held_back failure_count new))
+    → FlushesBefore request First Second
+    (buffered old ≡ 0 → BuffersLastLineOnly contents buffered IsPush new)
+    → buffer_state old ≡ []
+    → FlushesBefore request First Second
+    (BuffersOneLineOnly contents buffer_state failure_count IsPush
+    (lines_in contents buffer_state failure_count new))
 followed_before
-    contents held_back held failure_count IsPush old new law request First Second is none =
-    hands_on_so request First First Second Second _ _ (λ f. f) (λ f. f)
+    contents buffer_state buffered failure_count IsPush old new law request First Second is none =
+    flushes_so request First First Second Second _ _ (λ f. f) (λ f. f)
     (λ so.
     let last = so (law old ∙ ap length none) in
     record {
@@ -346,26 +353,26 @@ followed_before
       last = record {
         before = last.before;
         settled = sym (law last.before) ∙ last.settled;
-        told = last.told;
+        reported = last.reported;
         line = last.line;
       };
     })
     is
 
 -- A source that is read completely, from its first PES packet.
-pub whole_source : {D : Type 0} (remaining : D → Option (List ℕ)) (failure_count : D → ℕ)
+pub entire_source : {D : Type 0} (remaining : D → Option (List ℕ)) (failure_count : D → ℕ)
     (old new : D) (input : InputCall)
     → input ≡ input_call remaining failure_count (λ s. Some 0) (λ s. 0) old new
-    → IsPartOf whole_file remaining failure_count old new input
-whole_source remaining failure_count old new input is = grind (arith, nat_tests)
+    → IsPartOf entire_file remaining failure_count old new input
+entire_source remaining failure_count old new input is = grind (arith, nat_tests)
 
 -- Calls followed by others are calls in turn. For `open_and_answer`.
 pub calls_go_on : {I O D : Type 0} (IsCall : D → FileCall I O → D → Type 0) (old mid new : D)
     (calls more : List (FileCall I O))
-    → CallsInTurn IsCall old mid calls
-    → CallsInTurn IsCall mid new more
-    → CallsInTurn IsCall old new (calls ++ more)
+    → CallsInOrder IsCall old mid calls
+    → CallsInOrder IsCall mid new more
+    → CallsInOrder IsCall old new (calls ++ more)
 calls_go_on IsCall old mid new [] more made after =
-    subst (λ d. CallsInTurn IsCall d new more) made after
+    subst (λ d. CallsInOrder IsCall d new more) made after
 calls_go_on IsCall old mid new (call ∷ calls) more (next, is, made) after =
     (next, is, calls_go_on IsCall next mid new calls more made after)

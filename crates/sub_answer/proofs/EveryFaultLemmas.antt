@@ -9,11 +9,12 @@ use Rattle.std.specs.Prelude.{◌⊎◌, ◌||◌, not, is_err, IfErr}
 use Rattle.std.specs.List.{filter}
 use Rattle.sub_io.specs.Device.{RisesIf}
 use Rattle.sub_io.specs.Reading.{IfKnown}
-use Rattle.sub_io.specs.Telling.{Tells, TellsInTurn, TellsSome}
+use Rattle.sub_io.specs.Reporting.{Reports, ReportsInOrder, ReportsSome}
 use Rattle.ttx_pes.specs.declared.fault.PesFault.TheVariants as pes_fault
 use Rattle.stl_file.specs.declared.fault.StlFault.TheVariants as stl_fault
-use Rattle.stl_rows.specs.EveryFault.{FailsTelling, TellsFaults, TellsOfFile, WantsMemory, faults}
-use Rattle.stl_rows.specs.EveryFault.{is_told_before, load_fault}
+use Rattle.stl_rows.specs.EveryFault.{FailsReporting, ReportsFaults, ReportsOfFile, WantsMemory}
+use Rattle.stl_rows.specs.EveryFault.{faults}
+use Rattle.stl_rows.specs.EveryFault.{is_reported_before, load_fault}
 use Rattle.stl_rows.specs.Judged.{JudgedValue, JudgesBy, judges, known}
 use Rattle.stl_rows.proofs.LoadingLaw.{none_of_loaded}
 use Rattle.stl_rows.specs.Fault.{is_load_read, is_read_kind}
@@ -26,7 +27,7 @@ use Rattle.stl_rows.specs.declared.layout.Drawing.{Drawing}
 use Rattle.sub_plan.specs.Options.{OptionsValue}
 use Rattle.sub_check.specs.CheckedFiles.{first_answer}
 use Rattle.sub_rules.specs.Fault.{is_failure_kind}
-use Rattle.sub_rules.specs.Pieces.{FailsAtPiece}
+use Rattle.sub_rules.specs.PesPackets.{FailsAtPesPacket}
 use Rattle.sub_checker.specs.declared.accepted.Accepted.{Accepted}
 use Rattle.sub_rules.specs.declared.event.Event.{Event}
 use Rattle.sub_rules.specs.declared.fault.CheckFault.{CheckFault}
@@ -34,7 +35,7 @@ use Rattle.sub_rules.specs.declared.fault.CheckFault.TheVariants as fault
 use Rattle.sub_listing.specs.FirstPacket.{FirstNumber}
 use Rattle.sub_listing.specs.DeviceCall.{SourceCall}
 use Rattle.sub_answer.specs.EveryFault.{AreListedBefore, AreListedOfPes, FailsAtBlock, IsAnswer}
-use Rattle.sub_answer.specs.EveryFault.{IsListedOf, TellsBoth, TellsPes, read_answer}
+use Rattle.sub_answer.specs.EveryFault.{IsListedOf, ReportsBoth, ReportsPes, read_answer}
 use Rattle.sub_listing.specs.EventLines.{most_counted, refusals, subtitle_event, subtitle_events}
 use Rattle.sub_listing.specs.Printer.{PrinterValue, PrintsEvent, PrintsEvents, can_fail}
 use Rattle.sub_listing.proofs.PrinterLemmas.{prints-renumbered, prints-taken, prints-two}
@@ -55,35 +56,36 @@ named : (f g : LoadFault)
     → f ≡ g
 named f g is = cc
 
-module _ {D : Type 0} (IsTold : D → LoadFault → D → Type 0) (value : D → PrinterValue)
-    (one : (s t : D) (x : LoadFault) → IsTold s x t
+module _ {D : Type 0} (IsReported : D → LoadFault → D → Type 0) (value : D → PrinterValue)
+    (one : (s t : D) (x : LoadFault) → IsReported s x t
     → PrintsEvent (value s) (subtitle_event x) (value t))
     (drawing : Drawing) (options : OptionsValue) (stl pes : SourceCall) (first : FirstNumber)
     (Untouched : Type 0) (old new : D)
     (goes : (value old).failed ≡ false) (few : (value old).refused ≤ most_counted)
     (untouched : Untouched) (pes_count : RisesIf pes.old_count false pes.new_count) where
-  abbrev printed : (items : List LoadFault) → Tells IsTold old new items
+  abbrev printed : (items : List LoadFault) → Reports IsReported old new items
       → PrintsEvents (value old) (subtitle_events items) (value new)
-  printed items told = prints_all IsTold value subtitle_event one old new items goes few told
+  printed items reported = prints_all IsReported value subtitle_event one old new items goes few
+      reported
 
   -- The subtitle file can't be read on: these were reported before.
   ended_at : (block : ℕ) (kind : LoadFaultKind) (items : List LoadFault)
       → (value new).failed ≡ false
-      → Tells IsTold old new items
+      → Reports IsReported old new items
       → RisesIf stl.old_count (is_read_kind kind) stl.new_count
       → (is_read_kind kind ≡ true → FailsAtBlock stl.known stl.left block)
       → is_failure_kind kind ≡ true
       → IfKnown stl.known (λ file.
       AreListedBefore drawing file (subtitle_events items) block kind)
-      → TellsBoth drawing options stl pes first Untouched (value old) (value new)
+      → ReportsBoth drawing options stl pes first Untouched (value old) (value new)
       (Err (fault.Subtitles (load_fault block kind)))
-  ended_at block kind items quiet told count fails ended are = record {
+  ended_at block kind items fault_free reported count fails ended are = record {
     events = subtitle_events items;
     answer = Err (fault.Subtitles (load_fault block kind));
     same = λ holds. refl;
     number = (value old).first;
     starts = λ is. cc;
-    prints = printed items told;
+    prints = printed items reported;
     sources = record {
       stl_count = count;
       pes_count = pes_count;
@@ -94,7 +96,7 @@ module _ {D : Type 0} (IsTold : D → LoadFault → D → Type 0) (value : D →
       before = λ is. untouched;
     };
     ended = ended;
-    cut = λ failing. absurd (true≢false (sym failing ∙ quiet));
+    cut = λ failing. absurd (true≢false (sym failing ∙ fault_free));
     unjudged = λ holds is. cc;
     checked = λ holds file heard bytes known. tt;
     listed = are;
@@ -103,88 +105,89 @@ module _ {D : Type 0} (IsTold : D → LoadFault → D → Type 0) (value : D →
   -- An allocation was refused.
   at_memory : (block : ℕ)
       → (value new).failed ≡ false
-      → TellsSome IsTold old new
+      → ReportsSome IsReported old new
       → RisesIf stl.old_count (is_load_read (load_fault block load.Memory)) stl.new_count
-      → IfKnown stl.known (λ file. WantsMemory drawing file IsTold old new block)
-      → TellsBoth drawing options stl pes first Untouched (value old) (value new)
+      → IfKnown stl.known (λ file. WantsMemory drawing file IsReported old new block)
+      → ReportsBoth drawing options stl pes first Untouched (value old) (value new)
       (Err (fault.Subtitles (load_fault block load.Memory)))
-  at_memory block quiet some count wants =
+  at_memory block fault_free some count wants =
       let items =
-      decided (Tells IsTold old new) stl.known
-      (λ file. filter (is_told_before block) (faults drawing file)) some.items some.told
-      (λ file told. (wants file told).told) in
-      ended_at block load.Memory items.0 quiet items.1 count
+      decided (Reports IsReported old new) stl.known
+      (λ file. filter (is_reported_before block) (faults drawing file)) some.items some.reported
+      (λ file reported. (wants file reported).reported) in
+      ended_at block load.Memory items.0 fault_free items.1 count
       (λ is. cc) refl
-      (λ file told. (ap subtitle_events (items.2 file told), (wants file told).ends))
+      (λ file reported. (ap subtitle_events (items.2 file reported), (wants file reported).ends))
 
   -- The source failed.
   at_read : (block : ℕ)
       → (value new).failed ≡ false
-      → TellsSome IsTold old new
+      → ReportsSome IsReported old new
       → RisesIf stl.old_count (is_load_read (load_fault block (load.File stl_fault.Read)))
       stl.new_count
-      → FailsTelling drawing stl.known stl.left IsTold old new block
-      → TellsBoth drawing options stl pes first Untouched (value old) (value new)
+      → FailsReporting drawing stl.known stl.left IsReported old new block
+      → ReportsBoth drawing options stl pes first Untouched (value old) (value new)
       (Err (fault.Subtitles (load_fault block (load.File stl_fault.Read))))
-  at_read block quiet some count f =
+  at_read block fault_free some count f =
       let items =
-      decided (Tells IsTold old new) stl.known
-      (λ file. filter (is_told_before block) (faults drawing file)) some.items some.told f.told in
-      ended_at block (load.File stl_fault.Read) items.0 quiet items.1 count
+      decided (Reports IsReported old new) stl.known
+      (λ file. filter (is_reported_before block) (faults drawing file)) some.items some.reported
+      f.reported in
+      ended_at block (load.File stl_fault.Read) items.0 fault_free items.1 count
       (λ is. record { bytes = f.bytes; consumed = f.consumed; block_is = f.block_is }) refl
-      (λ file told. ap subtitle_events (items.2 file told))
+      (λ file reported. ap subtitle_events (items.2 file reported))
 
-  -- The subtitle file can't be read on. For `tell_every_fault`.
+  -- The subtitle file can't be read on. For `report_every_fault`.
   pub after_error : (block : ℕ) (kind : LoadFaultKind)
       → (value new).failed ≡ false
       → (kind ≡ load.Memory) ⊎ (kind ≡ load.File stl_fault.Read)
-      → TellsSome IsTold old new
+      → ReportsSome IsReported old new
       → RisesIf stl.old_count (is_load_read (load_fault block kind)) stl.new_count
       → IfKnown stl.known (λ file.
-      kind ≡ load.Memory → WantsMemory drawing file IsTold old new block)
+      kind ≡ load.Memory → WantsMemory drawing file IsReported old new block)
       → (is_load_read (load_fault block kind) ≡ true
-      → FailsTelling drawing stl.known stl.left IsTold old new block)
-      → TellsBoth drawing options stl pes first Untouched (value old) (value new)
+      → FailsReporting drawing stl.known stl.left IsReported old new block)
+      → ReportsBoth drawing options stl pes first Untouched (value old) (value new)
       (Err (fault.Subtitles (load_fault block kind)))
-  after_error block kind quiet kinds some count memory read =
+  after_error block kind fault_free kinds some count memory read =
       grind (arith, nat_tests, at_memory, at_read)
 
   -- The part of a list that was reported, whether the sink failed or not.
   prints-faults : (items : List LoadFault) (stopped b : Bool)
       → (value new).failed ≡ b
       → (b ≡ false → stopped ≡ false)
-      → TellsFaults IsTold old new stopped items
+      → ReportsFaults IsReported old new stopped items
       → PrintsEvents (value old) (subtitle_events items) (value new) × (0 < length items)
-  prints-faults items stopped b is quiet told =
-      let p = told.prefix in
+  prints-faults items stopped b is fault_free reported =
+      let p = reported.prefix in
       let least : 0 < p.0 = p.1 in
       let most : p.0 ≤ length items = p.2 in
-      (go b is quiet, omega (arith, least, most))
+      (go b is fault_free, omega (arith, least, most))
     where
       go : (b : Bool) → (value new).failed ≡ b → (b ≡ false → stopped ≡ false)
           → PrintsEvents (value old) (subtitle_events items) (value new)
-      go false is quiet = printed items (told.all (quiet refl))
-      go true is quiet =
-          let p = told.prefix in
+      go false is fault_free = printed items (reported.all (fault_free refl))
+      go true is fault_free =
+          let p = reported.prefix in
           prints-taken subtitle_event (value old) (value new) p.0 items is
           (printed (take p.0 items) p.3)
 
   -- The subtitle file is refused: these are its faults, of which the sink may have a part. For
-  -- `tell_every_fault`.
+  -- `report_every_fault`.
   pub after_faults : (stopped : Bool)
       → ((value new).failed ≡ false → (value new).count ≡ (value old).count → stopped ≡ false)
-      → TellsOfFile IsTold old new
-      → IfKnown stl.known (λ file. TellsFaults IsTold old new stopped (faults drawing file))
+      → ReportsOfFile IsReported old new
+      → IfKnown stl.known (λ file. ReportsFaults IsReported old new stopped (faults drawing file))
       → IfKnown stl.known (λ file. (stopped ≡ true) ⊎ (judges drawing file ≡ false))
       → RisesIf stl.old_count false stl.new_count
-      → TellsBoth drawing options stl pes first Untouched (value old) (value new) (Ok None)
-  after_faults stopped quiet some told unjudged count =
-      let here = printed some.faults some.told in
+      → ReportsBoth drawing options stl pes first Untouched (value old) (value new) (Ok None)
+  after_faults stopped fault_free some reported unjudged count =
+      let here = printed some.faults some.reported in
       let items =
       decided (λ (fs : List LoadFault). PrintsEvents (value old) (subtitle_events fs) (value new)
       × (0 < length fs)) stl.known (faults drawing) some.faults (here, some.some)
       (λ file heard. prints-faults (faults drawing file) stopped (value new).failed refl
-      (λ holds. quiet holds (here.put_count holds)) (told file heard)) in
+      (λ holds. fault_free holds (here.put_count holds)) (reported file heard)) in
       record {
         events = subtitle_events items.0;
         answer = Ok None;
@@ -203,7 +206,7 @@ module _ {D : Type 0} (IsTold : D → LoadFault → D → Type 0) (value : D →
         cut = λ failing. refl;
         unjudged = λ holds is file heard. elim (unjudged file heard) [
           | inl stopping ↦
-              absurd (true≢false (sym stopping ∙ quiet holds (here.put_count holds)))
+              absurd (true≢false (sym stopping ∙ fault_free holds (here.put_count holds)))
           | inr unread ↦ unread
         ];
         checked = λ holds file heard bytes known. tt;
@@ -212,21 +215,21 @@ module _ {D : Type 0} (IsTold : D → LoadFault → D → Type 0) (value : D →
       }
 
   -- At least one fault was reported, and the sink failed when the lines were to be flushed.
-  -- For `tell_every_fault`.
+  -- For `report_every_fault`.
   pub after_unhanded : (fs : List LoadFault)
       → (value new).failed ≡ true
-      → Tells IsTold old new fs
+      → Reports IsReported old new fs
       → 0 < length fs
       → IfKnown stl.known (λ file. fs ≡ faults drawing file)
       → RisesIf stl.old_count false stl.new_count
-      → TellsBoth drawing options stl pes first Untouched (value old) (value new) (Ok None)
-  after_unhanded fs failing told some are count = record {
+      → ReportsBoth drawing options stl pes first Untouched (value old) (value new) (Ok None)
+  after_unhanded fs failing reported some are count = record {
     events = subtitle_events fs;
     answer = Ok None;
     same = λ holds. refl;
     number = (value old).first;
     starts = λ is. cc;
-    prints = printed fs told;
+    prints = printed fs reported;
     sources = record {
       stl_count = count;
       pes_count = pes_count;
@@ -244,7 +247,7 @@ module _ {D : Type 0} (IsTold : D → LoadFault → D → Type 0) (value : D →
 
 -- ---- flushed lines
 
--- A printer that can't be flushed has failed. For `tell_every_fault`.
+-- A printer that can't be flushed has failed. For `report_every_fault`.
 pub stops_failed : (old new : PrinterValue) (events : List Event)
     → PrintsEvents old events new
     → old.count < 0xFFFF_FFFF_FFFF_FFFF
@@ -252,32 +255,33 @@ pub stops_failed : (old new : PrinterValue) (events : List Event)
     → new.failed ≡ true
 stops_failed old new events prints room stopped = grind (arith, nat_tests, still_goes)
 
--- Something was reported to a printer that waits. For `tell_every_fault`.
-pub some_told : {D : Type 0} (IsTold : D → LoadFault → D → Type 0) (waits : D → Bool)
+-- Something was reported to a printer that waits. For `report_every_fault`.
+pub some_reported : {D : Type 0} (IsReported : D → LoadFault → D → Type 0) (has_pending : D → Bool)
     (old new : D) (fs : List LoadFault)
-    → Tells IsTold old new fs
-    → waits old ≡ false
-    → waits new ≡ true
+    → Reports IsReported old new fs
+    → has_pending old ≡ false
+    → has_pending new ≡ true
     → 0 < length fs
-some_told IsTold waits old new [] told still waiting =
-    absurd (true≢false (sym waiting ∙ ap waits told.in_turn ∙ still))
-some_told IsTold waits old new (f ∷ fs) told still waiting = omega arith
+some_reported IsReported has_pending old new [] reported still pending =
+    absurd (true≢false (sym pending ∙ ap has_pending reported.one_by_one ∙ still))
+some_reported IsReported has_pending old new (f ∷ fs) reported still pending = omega arith
 
--- If it holds nothing back unless it waits, that stays true after events. For `tell_every_fault`.
-pub held_told : {D : Type 0} (IsTold : D → LoadFault → D → Type 0) (waits : D → Bool)
-    (held : D → ℕ)
-    (one : (s t : D) (f : LoadFault) → IsTold s f t → waits t ≡ false → held t ≡ 0)
+-- If it holds nothing back unless it waits, that stays true after events. For `report_every_fault`.
+pub buffered_reported : {D : Type 0} (IsReported : D → LoadFault → D → Type 0)
+    (has_pending : D → Bool)
+    (buffered : D → ℕ)
+    (one : (s t : D) (f : LoadFault) → IsReported s f t → has_pending t ≡ false → buffered t ≡ 0)
     (old new : D) (fs : List LoadFault)
-    → (waits old ≡ false → held old ≡ 0)
-    → TellsInTurn IsTold old new fs
-    → waits new ≡ false
-    → held new ≡ 0
-held_told IsTold waits held one old new [] holds told =
-    subst (λ d. waits d ≡ false → held d ≡ 0) (sym told) holds
-held_told IsTold waits held one old new (f ∷ fs) holds (mid, first, rest) =
-    held_told IsTold waits held one mid new fs (one old mid f first) rest
+    → (has_pending old ≡ false → buffered old ≡ 0)
+    → ReportsInOrder IsReported old new fs
+    → has_pending new ≡ false
+    → buffered new ≡ 0
+buffered_reported IsReported has_pending buffered one old new [] holds reported =
+    subst (λ d. has_pending d ≡ false → buffered d ≡ 0) (sym reported) holds
+buffered_reported IsReported has_pending buffered one old new (f ∷ fs) holds (mid, first, rest) =
+    buffered_reported IsReported has_pending buffered one mid new fs (one old mid f first) rest
 
--- A property of errors. For `tell_every_fault`.
+-- A property of errors. For `report_every_fault`.
 pub when_err : {X E : Type 0} {Q : Type 0} (r : Result X E) → is_err r ≡ true → IfErr r (λ _. Q) → Q
 when_err (Ok x) is holds = absurd (true≢false (sym is))
 when_err (Err e) is holds = holds
@@ -324,23 +328,23 @@ module _ (drawing : Drawing) (options : OptionsValue) (stl pes : SourceCall) (fi
       (programme : ProgrammeValue)
       → loaded drawing file ≡ Ok programme
       → IsAnswer programme options bytes (first_answer (subtitle_events fs ++ events) a)))
-  verdict events a checked file heard bytes told programme loads =
+  verdict events a checked file heard bytes reported programme loads =
       let none = none_of_loaded drawing file programme loads in
       let whole = (by file heard).whole none in
       let one : judged.programme ≡ programme = let both = sym whole.0 ∙ loads in cc in
       let nothing : fs ≡ [] = are file heard ∙ none in
       subst (λ gs. IsAnswer programme options bytes (first_answer (subtitle_events gs ++ events) a))
-      (sym nothing) (checked bytes told programme (whole.1 ∙ ap known one))
+      (sym nothing) (checked bytes reported programme (whole.1 ∙ ap known one))
 
   -- The faults of the subtitle file were reported, and then the events of the PES file. For
-  -- `tell_every_fault`.
+  -- `report_every_fault`.
   pub after_judged : (given : Result (Option Accepted) CheckFault)
-      → TellsPes judged options pes first mid new given
-      → TellsBoth drawing options stl pes first Untouched old new given
+      → ReportsPes judged options pes first mid new given
+      → ReportsBoth drawing options stl pes first Untouched old new given
   after_judged given t = go t.answer refl
     where
       go : (r : Result Accepted ℕ) → t.answer ≡ r
-          → TellsBoth drawing options stl pes first Untouched old new given
+          → ReportsBoth drawing options stl pes first Untouched old new given
       go (Ok a) is = record {
         events = subtitle_events fs ++ t.events;
         answer = Ok (Some a);
@@ -360,8 +364,9 @@ module _ (drawing : Drawing) (options : OptionsValue) (stl pes : SourceCall) (fi
         unjudged = λ holds e. cc;
         checked = λ holds.
             verdict t.events a
-            (λ bytes told programme known_is. t.checked holds bytes told programme a known_is is);
-        listed = both_listed t.events (Ok a) (λ bytes told. rw is at (t.listed bytes told));
+            (λ bytes reported programme known_is. t.checked holds bytes reported programme a
+            known_is is);
+        listed = both_listed t.events (Ok a) (λ bytes reported. rw is at (t.listed bytes reported));
       }
       go (Err n) is = record {
         events = subtitle_events fs ++ t.events;
@@ -376,12 +381,13 @@ module _ (drawing : Drawing) (options : OptionsValue) (stl pes : SourceCall) (fi
           stl_read = λ f e. cc;
           pes_read = λ index e.
               let at : n ≡ index = cc in
-              subst (λ (m : ℕ). FailsAtPiece m pes.known pes.left) at (t.read n is);
+              subst (λ (m : ℕ). FailsAtPesPacket m pes.known pes.left) at (t.read n is);
           before = λ e. cc;
         };
         ended = refl;
         cut = λ failing. let ok = rw is at (t.cut failing) in cc;
         unjudged = λ holds e. cc;
-        checked = λ holds file heard bytes told. tt;
-        listed = both_listed t.events (Err n) (λ bytes told. rw is at (t.listed bytes told));
+        checked = λ holds file heard bytes reported. tt;
+        listed = both_listed t.events (Err n)
+            (λ bytes reported. rw is at (t.listed bytes reported));
       }

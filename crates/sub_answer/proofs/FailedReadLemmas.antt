@@ -1,5 +1,5 @@
 -- The source of the PES file failed: what is reported then, and what is not. Main lemmas:
--- tells_none, cut_reads, last_line.
+-- reports_none, cut_reads, last_line.
 use Rattle.std.proofs.lemmas.Bool.Decides.{nat_tests}
 use Rattle.std.proofs.Common.{◌≡◌, refl, sym, subst, arith, ℕ, ◌<◌}
 use Rattle.std.proofs.Common.{List, [], Bool, true, Option}
@@ -12,11 +12,11 @@ use Rattle.stl_rows.specs.Judged.{JudgedValue}
 use Rattle.stl_rows.specs.Programme.{ProgrammeValue}
 use Rattle.stl_rows.specs.declared.layout.Drawing.{Drawing}
 use Rattle.sub_plan.specs.Options.{OptionsValue}
-use Rattle.sub_check.specs.CheckedFiles.{TellsEvents}
-use Rattle.sub_check.specs.CheckedFiles.{events_of_first_by, events_of_first_pieces}
+use Rattle.sub_check.specs.CheckedFiles.{ReportsEvents}
+use Rattle.sub_check.specs.CheckedFiles.{events_of_first_by, events_of_first_pes_packets}
 use Rattle.sub_rules.specs.Fault.{is_pes_read}
-use Rattle.sub_rules.specs.PieceEvents.{all_announced, events_of_pieces, steps_of_each}
-use Rattle.sub_rules.specs.Trusted.{told_after}
+use Rattle.sub_rules.specs.PesPacketEvents.{all_announced, events_of_pes_packets, steps_of_each}
+use Rattle.sub_rules.specs.Trusted.{reported_after}
 use Rattle.sub_checker.specs.declared.accepted.Accepted.{Accepted}
 use Rattle.sub_rules.specs.declared.event.Event.{Event}
 use Rattle.sub_rules.specs.declared.fault.CheckFault.{CheckFault}
@@ -24,30 +24,30 @@ use Rattle.sub_rules.specs.declared.fault.CheckFault.TheVariants as fault
 use Rattle.sub_listing.specs.FirstPacket.{FirstNumber}
 use Rattle.sub_listing.specs.DeviceCall.{SourceCall}
 use Rattle.sub_listing.specs.Faults.{check_line}
-use Rattle.sub_listing.specs.LastLine.{HoldsLastLine, PutsLine}
+use Rattle.sub_listing.specs.LastLine.{BuffersLastLineOnly, PutsLine}
 use Rattle.sub_listing.specs.FaultLine.{line_of, counted_from}
-use Rattle.sub_answer.specs.EveryFault.{TellsBoth}
+use Rattle.sub_answer.specs.EveryFault.{ReportsBoth}
 use Rattle.sub_listing.specs.Printer.{PrinterValue}
 
 -- Without PES packets there are no events.
 pub no_events : (programme : ProgrammeValue) (options : OptionsValue) (bytes : List ℕ)
-    → events_of_first_pieces programme options bytes 0 ≡ []
-unfolding events_of_pieces all_announced told_after steps_of_each
+    → events_of_first_pes_packets programme options bytes 0 ≡ []
+unfolding events_of_pes_packets all_announced reported_after steps_of_each
 no_events programme options bytes = refl
 
 -- Nor are there if subtitles were refused.
 no_events_by : (judged : JudgedValue) (options : OptionsValue) (bytes : List ℕ)
     → events_of_first_by judged options bytes 0 ≡ []
-unfolding events_of_pieces all_announced told_after steps_of_each
+unfolding events_of_pes_packets all_announced reported_after steps_of_each
 no_events_by judged options bytes = refl
 
--- The source failed before its first PES packet was found. For `tell_transmission`.
-pub tells_none : {D : Type 0} (IsTold : D → Event → D → Type 0) (judged : JudgedValue)
+-- The source failed before its first PES packet was found. For `report_transmission`.
+pub reports_none : {D : Type 0} (IsReported : D → Event → D → Type 0) (judged : JudgedValue)
     (options : OptionsValue) (bytes : List ℕ) (old : D)
-    → TellsEvents judged options bytes IsTold old old (Err (fault.Pes 0 pes_fault.Read))
-tells_none IsTold judged options bytes old = grind (arith, nat_tests, no_events_by)
+    → ReportsEvents judged options bytes IsReported old old (Err (fault.Pes 0 pes_fault.Read))
+reports_none IsReported judged options bytes old = grind (arith, nat_tests, no_events_by)
 
--- A result other than `Ok` is an error. For `hand_on_told`.
+-- A result other than `Ok` is an error. For `flush_reports`.
 pub not_is_err : {X E : Type 0} (r : Result X E) → not (is_ok r) ≡ is_err r
 not_is_err (Ok x) = refl
 not_is_err (Err e) = refl
@@ -72,29 +72,29 @@ ok_keeps (Err f) old new ok same risen = absurd (true≢false (sym ok))
 pub cut_reads : {drawing : Drawing} {options : OptionsValue} {stl pes : SourceCall}
     {first : FirstNumber} {Untouched : Type 0} {old new : PrinterValue}
     {given : Result (Option Accepted) CheckFault}
-    → TellsBoth drawing options stl pes first Untouched old new given
+    → ReportsBoth drawing options stl pes first Untouched old new given
     → new.failed ≡ true
     → pes.old_count < pes.new_count
     → ⊥
-cut_reads told failing risen =
-    ok_keeps told.answer _ _ (told.cut failing) told.sources.pes_count risen
+cut_reads reported failing risen =
+    ok_keeps reported.answer _ _ (reported.cut failing) reported.sources.pes_count risen
 
 -- The line of the failure was written, and nothing before it is held back.
-pub last_line : {K : Type 0} (contents : K → Option (List ℕ)) (held : K → ℕ)
+pub last_line : {K : Type 0} (contents : K → Option (List ℕ)) (buffered : K → ℕ)
     (IsPush : K → List ℕ → Option ℕ → K → Type 0) (before new end : K) (number : ℕ)
     (answer : Result (Option Accepted) CheckFault)
     → failed is_pes_read answer ≡ true
-    → held before ≡ 0
+    → buffered before ≡ 0
     → IfErr answer (λ f.
     PutsLine contents IsPush before (line_of (counted_from number (check_line f))) new)
     → end ≡ new
-    → HoldsLastLine contents held IsPush end
-last_line contents held IsPush before new end number (Ok a) is none line same =
+    → BuffersLastLineOnly contents buffered IsPush end
+last_line contents buffered IsPush before new end number (Ok a) is none line same =
     absurd (true≢false (sym is))
-last_line contents held IsPush before new end number (Err f) is none line same = record {
+last_line contents buffered IsPush before new end number (Err f) is none line same = record {
   before = before;
   settled = none;
-  told = counted_from number (check_line f);
+  reported = counted_from number (check_line f);
   line = subst
       (PutsLine contents IsPush before (line_of (counted_from number (check_line f)))) (sym same)
       line;

@@ -21,25 +21,25 @@ use Rattle.sub_answer.specs.Answering.{AnswersListen, PrintsHeard}
 use Rattle.sub_listing.specs.DeviceCall.{SinkCall, SourceCall}
 use Rattle.sub_listing.specs.declared.status.Status.{Status}
 use Rattle.sub_answer.specs.ListenListing.{IsOldPage, Listens, listing_of, tuned_with}
-use Rattle.sub_listing.specs.DisplayLines.{IsSeenWhole}
+use Rattle.sub_listing.specs.DisplayLines.{IsSeenComplete}
 use Rattle.ttx_page.specs.Page.{Rows}
 use Rattle.sub_listen.specs.declared.listening.ListenFault.{ListenFault}
 use Rattle.sub_request.specs.declared.listening.Listening.{Listening}
 
 -- The output of a run of a receiver that was tuned. For `listen`.
 pub listens_from : (leaves : ℕ → ℕ) (l : Listening) (first : ℕ) (frames : Transmission)
-    → (unread : Option Unread) (told left : Option (List ℕ)) (w : PageIdValue)
+    → (unread : Option Unread) (reported left : Option (List ℕ)) (w : PageIdValue)
     → (old end : Display) (result : Result (Unit {0}) ListenFault) (page : Rows)
     → (asks_complete : Bool)
     → asks_complete ≡ l.options.asks_complete
     → w ≡ l.options.page
     → old ≡ tuned_with page
     → IsOldPage page
-    → HearsFile leaves l frames unread told left w old end result
-    → IfOk result (λ _. IsSeenWhole asks_complete end)
-    → Listens leaves l first frames unread told left (listing_of first asks_complete end result)
+    → HearsFile leaves l frames unread reported left w old end result
+    → IfOk result (λ _. IsSeenComplete asks_complete end)
+    → Listens leaves l first frames unread reported left (listing_of first asks_complete end result)
 listens_from
-    leaves l first frames unread told left w old end result page asks_complete asks tuned start
+    leaves l first frames unread reported left w old end result page asks_complete asks tuned start
     is_old hears seen =
     grind (arith, nat_tests)
 
@@ -63,13 +63,13 @@ pub heard_kept : (leaves : ℕ → ℕ) (l : Listening) (number : ℕ) (old mid 
     (record { known = old; left = left; old_count = old_count; new_count = new_count }) out status
 heard_kept leaves l number old mid left old_count mid_count new_count out status kept same heard =
     record {
-      exact = λ frames unread bytes told reads none.
-          let known = known_kept old mid bytes kept told in
+      exact = λ frames unread bytes reported reads none.
+          let known = known_kept old mid bytes kept reported in
           let printed = heard.exact frames unread bytes known reads (none ∙ sym same) in (
             printed.0,
             subst (λ (t : Option (List ℕ)).
                 Listens leaves l number frames unread t left printed.0)
-                (known ∙ sym told) printed.1,
+                (known ∙ sym reported) printed.1,
             printed.2,
           );
       read = λ other.
@@ -79,8 +79,8 @@ heard_kept leaves l number old mid left old_count mid_count new_count out status
               index = failed.1.index;
               is = failed.1.is;
               place = fails_packet_kept failed.1.index old mid left kept failed.1.place;
-              heard = λ frames unread bytes told.
-                  failed.1.heard frames unread bytes (known_kept old mid bytes kept told);
+              heard = λ frames unread bytes reported.
+                  failed.1.heard frames unread bytes (known_kept old mid bytes kept reported);
             },
             failed.2,
           );
@@ -94,14 +94,14 @@ pub none_heard : (leaves : ℕ → ℕ) (l : Listening) (number : ℕ) (pes : So
     → PrintsOrFails out (fault_listing (counted_from number (check_line (check.Pes 0 Read)))) status
     → PrintsHeard leaves l number pes out status
 none_heard leaves l number pes out status kept risen printed = record {
-  exact = λ frames unread bytes told reads none. absurd (omega (arith, risen, none));
+  exact = λ frames unread bytes reported reads none. absurd (omega (arith, risen, none));
   read = λ other. (
     fault.File (check.Pes 0 Read),
     record {
       index = 0;
       is = refl;
       place = fails_first_packet pes.known pes.left kept;
-      heard = λ frames unread bytes told reads i few. absurd (omega (arith, few));
+      heard = λ frames unread bytes reported reads i few. absurd (omega (arith, few));
     },
     printed,
   );

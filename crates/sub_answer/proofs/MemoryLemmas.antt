@@ -9,7 +9,7 @@ use Rattle.stl_rows.specs.Layout.{drawing_within}
 use Rattle.sub_request.specs.declared.files.FileNames.TheVariants as names
 use Rattle.sub_request.specs.declared.request.Request.{Request}
 use Rattle.sub_request.specs.declared.request.Request.TheVariants as ask
-use Rattle.sub_files.specs.FileCalls.{CallsInTurn, FileCall}
+use Rattle.sub_files.specs.FileCalls.{CallsInOrder, FileCall}
 use Rattle.sub_files.specs.MemoryFiles.{IsMemoryCall, MemFilesValue, bytes_at}
 use Rattle.sub_files.specs.Opening.{Opens}
 use Rattle.sub_files.specs.declared.opening.Opened.{Opened}
@@ -19,10 +19,10 @@ use Rattle.sub_listing.specs.DeviceCall.{SinkCall}
 use Rattle.sub_listing.specs.declared.status.Status.{Status}
 use Rattle.sub_listing.specs.declared.status.Status.TheVariants.{Done, Fault}
 use Rattle.sub_answer.specs.Answering.{InputCall}
-use Rattle.sub_answer.specs.Ending.{EndsOver, EndsWith, FilesLeft, HandsOnHeldLines, IsSourceOf}
+use Rattle.sub_answer.specs.Ending.{EndsOver, EndsWith, FilesLeft, FlushesBufferedLines, IsSourceOf}
 use Rattle.sub_answer.specs.Ending.{Lines, devices_of, let_go}
 use Rattle.sub_answer.specs.FilesInMemory.{LawOfFilesInMemory, known_of_memory}
-use Rattle.sub_answer.specs.Part.{part_asked, through_range, through_stream, whole_file}
+use Rattle.sub_answer.specs.Part.{part_requested, through_range, through_stream, entire_file}
 use Rattle.sub_answer.specs.declared.part.Part.{Part}
 
 -- Two files with these names were opened.
@@ -39,73 +39,74 @@ both_opened :
     (stl pes : List ℕ) (before after : MemFilesValue)
     (calls more : List (FileCall (List ℕ) Written))
     (opened : Opened (List ℕ) Written)
-    → CallsInTurn IsMemoryCall before after (calls ++ more)
+    → CallsInOrder IsMemoryCall before after (calls ++ more)
     → Opens (names.ReadBoth stl pes) calls (Some opened)
     → BothOpened stl pes before opened
 both_opened stl pes before after calls more opened made opens = grind (arith, nat_tests)
 
 -- The bytes of a file in memory, or of a part of it, in the calls of an answer.
-read_told : (part : Part) (file : List ℕ) (left : Option (List ℕ)) (input : InputCall)
+read_reported : (part : Part) (file : List ℕ) (left : Option (List ℕ)) (input : InputCall)
     → IsSourceOf known_of_memory part (Some file) left input
     → input.call.known ≡ through_range part.range (through_stream part.stream (Some file))
-read_told part file None input is = absurd is
-read_told part file (Some left) input is = is.is_part.told
+read_reported part file None input is = absurd is
+read_reported part file (Some left) input is = is.is_part.reported
 
 -- A run that does not end as a failure ends as the answer did.
 same_status :
     (printed new : Lines) (status result : Status)
-    → HandsOnHeldLines printed status new result
+    → FlushesBufferedLines printed status new result
     → result ≢ Fault
     → result ≡ status
 same_status printed new status result h runs = grind (arith, nat_tests)
 
 -- What a check that ended like this says about these bytes.
-abbrev Tells : Request → List ℕ → List ℕ → Status → Type 0
-Tells (ask.Check stl pes options national layout scope all) file bytes status =
+abbrev Reports : Request → List ℕ → List ℕ → Status → Type 0
+Reports (ask.Check stl pes options national layout scope all) file bytes status =
     (read : List ℕ)
     → through_range pes.range (through_stream pes.stream (Some bytes)) ≡ Some read
     → (status ≡ Done) ↔ IsAcceptedBy (drawing_within national layout scope) options file read
-Tells _ file bytes status = ⊤
+Reports _ file bytes status = ⊤
 
-tells :
+reports :
     (request : Request) (file bytes : List ℕ) (stl_left pes_left : Option (List ℕ))
     (Untouched : Type 0) (IsFile : InputCall → SinkCall → Type 0) (IsAlone : Lines → Type 0)
     (old new : Lines) (result : Status)
-    → EndsWith request (IsSourceOf known_of_memory whole_file (Some file) stl_left)
-    (IsSourceOf known_of_memory (part_asked request) (Some bytes) pes_left) Untouched IsFile IsAlone
+    → EndsWith request (IsSourceOf known_of_memory entire_file (Some file) stl_left)
+    (IsSourceOf known_of_memory (part_requested request) (Some bytes) pes_left) Untouched IsFile
+    IsAlone
     old new result
     → result ≢ Fault
-    → Tells request file bytes result
-tells
+    → Reports request file bytes result
+reports
     (ask.Check stl pes options national layout scope true) file bytes stl_left pes_left Untouched
     IsFile IsAlone old new result e runs =
     λ read read_is.
-    let same = same_status e.printed new e.status result e.handed_on runs in
+    let same = same_status e.printed new e.status result e.flushed runs in
     subst
     (λ s. (s ≡ Done) ↔ IsAcceptedBy (drawing_within national layout scope) options file read)
     (sym same)
-    (e.answers.ends.done_by file (read_told whole_file file stl_left e.first e.first_is) read
-    (read_told _ bytes pes_left e.second e.second_is ∙ read_is) (λ fails. runs (same ∙ fails)))
-tells
+    (e.answers.ends.done_by file (read_reported entire_file file stl_left e.first e.first_is) read
+    (read_reported _ bytes pes_left e.second e.second_is ∙ read_is) (λ fails. runs (same ∙ fails)))
+reports
     (ask.Check stl pes options national layout scope false) file bytes stl_left pes_left Untouched
     IsFile IsAlone old new result e runs =
     λ read read_is.
-    let same = same_status e.printed new e.status result e.handed_on runs in
+    let same = same_status e.printed new e.status result e.flushed runs in
     subst
     (λ s. (s ≡ Done) ↔ IsAcceptedBy (drawing_within national layout scope) options file read)
     (sym same)
-    (e.answers.ends.done_by file (read_told whole_file file stl_left e.first e.first_is) read
-    (read_told _ bytes pes_left e.second e.second_is ∙ read_is) (λ fails. runs (same ∙ fails)))
-tells ask.Help _ _ _ _ _ _ _ _ _ _ _ _ = tt
-tells ask.Version _ _ _ _ _ _ _ _ _ _ _ _ = tt
-tells (ask.Packet packet) _ _ _ _ _ _ _ _ _ _ _ _ = tt
-tells (ask.Packets pes) _ _ _ _ _ _ _ _ _ _ _ _ = tt
-tells (ask.Show stl) _ _ _ _ _ _ _ _ _ _ _ _ = tt
-tells (ask.Normal input output) _ _ _ _ _ _ _ _ _ _ _ _ = tt
-tells (ask.Schedule stl pes options serial national layout scope) _ _ _ _ _ _ _ _ _ _ _ _ = tt
-tells (ask.Listen pes listening) _ _ _ _ _ _ _ _ _ _ _ _ = tt
-tells (ask.Extract recording pes stream) _ _ _ _ _ _ _ _ _ _ _ _ = tt
-tells (ask.Survey recording options) _ _ _ _ _ _ _ _ _ _ _ _ = tt
+    (e.answers.ends.done_by file (read_reported entire_file file stl_left e.first e.first_is) read
+    (read_reported _ bytes pes_left e.second e.second_is ∙ read_is) (λ fails. runs (same ∙ fails)))
+reports ask.Help _ _ _ _ _ _ _ _ _ _ _ _ = tt
+reports ask.Version _ _ _ _ _ _ _ _ _ _ _ _ = tt
+reports (ask.Packet packet) _ _ _ _ _ _ _ _ _ _ _ _ = tt
+reports (ask.Packets pes) _ _ _ _ _ _ _ _ _ _ _ _ = tt
+reports (ask.Show stl) _ _ _ _ _ _ _ _ _ _ _ _ = tt
+reports (ask.Normal input output) _ _ _ _ _ _ _ _ _ _ _ _ = tt
+reports (ask.Schedule stl pes options serial national layout scope) _ _ _ _ _ _ _ _ _ _ _ _ = tt
+reports (ask.Listen pes listening) _ _ _ _ _ _ _ _ _ _ _ _ = tt
+reports (ask.Extract recording pes stream) _ _ _ _ _ _ _ _ _ _ _ _ = tt
+reports (ask.Survey recording options) _ _ _ _ _ _ _ _ _ _ _ _ = tt
 
 -- Two files that were opened are read.
 over_both :
@@ -113,17 +114,18 @@ over_both :
     (left : FilesLeft (List ℕ) Written) (IsAlone : Lines → Type 0) (old new : Lines)
     (result : Status)
     → opened ≡ ReadBoth first second
-    → EndsOver known_of_memory (λ was is. is ≡ was) request (devices_of (part_asked request) opened)
+    → EndsOver known_of_memory (λ was is. is ≡ was) request (devices_of (part_requested request)
+    opened)
     left IsAlone old new result
     → EndsOver known_of_memory (λ was is. is ≡ was) request
-    (devices_of (part_asked request) (ReadBoth first second)) left IsAlone old new result
+    (devices_of (part_requested request) (ReadBoth first second)) left IsAlone old new result
 over_both request opened first second left IsAlone old new result opened_is ends =
     grind (arith, nat_tests)
 
 -- A file has only one content.
 same_bytes :
-    (told : Option (List ℕ)) (a b : List ℕ) → told ≡ Some a → told ≡ Some b → a ≡ b
-same_bytes told a b one other = let e = sym one ∙ other in cc
+    (reported : Option (List ℕ)) (a b : List ℕ) → reported ≡ Some a → reported ≡ Some b → a ≡ b
+same_bytes reported a b one other = let e = sym one ∙ other in cc
 
 pub law_of_files_in_memory : (IsAlone : Lines → Type 0) → LawOfFilesInMemory IsAlone
 law_of_files_in_memory IsAlone
@@ -134,7 +136,7 @@ law_of_files_in_memory IsAlone
     subst
     (λ f. (status ≡ Done) ↔ IsAcceptedBy (drawing_within national layout scope) options f read)
     (same_bytes _ o.first file o.first_is file_is)
-    (tells (ask.Check stl pes options national layout scope all) o.first o.second h.left.first
+    (reports (ask.Check stl pes options national layout scope all) o.first o.second h.left.first
     h.left.second _ _ IsAlone old new status
     (over_both (ask.Check stl pes options national layout scope all) h.files o.first o.second h.left
     IsAlone old new status o.opened_is h.ends)

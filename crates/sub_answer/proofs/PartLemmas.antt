@@ -1,18 +1,18 @@
 -- A part of a source, by how it was made. Main lemmas: all_of_source, file_of_source,
--- stream_of_source, all_of_pieces, range_of_pieces.
+-- stream_of_source, all_of_pes_packets, range_of_pes_packets.
 use Rattle.std.proofs.lemmas.Bool.Decides.{nat_tests}
 use Rattle.std.proofs.Common.{◌≡◌, ◌∙◌, ap, arith, ℕ, List, Option, Some, None, true, false}
 use Rattle.std.specs.Prelude.{◌⊎◌, option_map}
 use Rattle.mpeg_ts.specs.Carried.{carried}
 use Rattle.mpeg_ts.specs.PacketSize.{bytes_of}
-use Rattle.ttx_pes.specs.PieceRange.{PieceRangeValue, first_index, in_range}
-use Rattle.sub_request.specs.declared.pes_packets.TransportStream.{TransportStream}
+use Rattle.ttx_pes.specs.PesPacketRange.{PesPacketRangeValue, first_index, in_range}
+use Rattle.sub_request.specs.declared.pes_selection.TransportStream.{TransportStream}
 use Rattle.sub_request.specs.declared.request.Request.{Request}
-use Rattle.sub_answer.specs.Answering.{InputCall, pieces_call, reads_pieces, whole_call}
+use Rattle.sub_answer.specs.Answering.{InputCall, pes_packets_call, reads_pes_packets, entire_call}
 use Rattle.sub_answer.specs.Part.{IsPartOf, IsRangeOf, number_in, through_range}
-use Rattle.sub_answer.specs.Part.{whole_file}
+use Rattle.sub_answer.specs.Part.{entire_file}
 use Rattle.sub_answer.specs.declared.part.Part.{Part}
-use Rattle.sub_answer.proofs.EndingLemmas.{whole_source}
+use Rattle.sub_answer.proofs.EndingLemmas.{entire_source}
 
 -- ---- of a source
 
@@ -20,24 +20,24 @@ module _ {D : Type 0} (remaining : D → Option (List ℕ)) (failure_count : D �
     (old left : D) (input : InputCall) where
   -- The whole source, if the request reads no PES packets.
   pub all_of_source : (request : Request) (p : Part)
-      → (p ≡ whole_file) ⊎ (reads_pieces request ≡ true)
-      → reads_pieces request ≡ false
-      → input ≡ whole_call remaining failure_count old left
+      → (p ≡ entire_file) ⊎ (reads_pes_packets request ≡ true)
+      → reads_pes_packets request ≡ false
+      → input ≡ entire_call remaining failure_count old left
       → IsPartOf p remaining failure_count old left input
-  all_of_source request p fits none is = grind (arith, nat_tests, whole_source)
+  all_of_source request p fits none is = grind (arith, nat_tests, entire_source)
 
   -- A range of a file.
-  pub file_of_source : {P : Type 0} (given behind : P → Option (List ℕ)) (count : P → ℕ)
+  pub file_of_source : {P : Type 0} (given following : P → Option (List ℕ)) (count : P → ℕ)
       (before after : P) (p : Part)
-      → IsRangeOf p.range given behind count before after input
+      → IsRangeOf p.range given following count before after input
       → p.stream ≡ None
       → given before ≡ remaining old
-      → behind after ≡ remaining left
+      → following after ≡ remaining left
       → count before ≡ failure_count old
       → count after ≡ failure_count left
       → IsPartOf p remaining failure_count old left input
-  file_of_source given behind count before after p is stream gives leaves first last = record {
-    told = rw stream (is.told ∙ ap (through_range p.range) gives);
+  file_of_source given following count before after p is stream gives leaves first last = record {
+    reported = rw stream (is.reported ∙ ap (through_range p.range) gives);
     number = rw stream (is.number ∙ ap (number_in p.range) gives);
     old_count = is.old_count ∙ first;
     new_count = is.new_count ∙ last;
@@ -45,16 +45,16 @@ module _ {D : Type 0} (remaining : D → Option (List ℕ)) (failure_count : D �
   }
 
   -- A range of what a transport stream carries.
-  pub stream_of_source : {P : Type 0} (given behind : P → Option (List ℕ)) (count : P → ℕ)
+  pub stream_of_source : {P : Type 0} (given following : P → Option (List ℕ)) (count : P → ℕ)
       (before after : P) (p : Part) (s : TransportStream)
-      → IsRangeOf p.range given behind count before after input
+      → IsRangeOf p.range given following count before after input
       → p.stream ≡ Some s
       → given before ≡ option_map (carried s.pid (bytes_of s.packet_size)) (remaining old)
       → count before ≡ failure_count old
       → count after ≡ failure_count left
       → IsPartOf p remaining failure_count old left input
-  stream_of_source given behind count before after p s is stream carries first last = record {
-    told = rw stream (is.told ∙ ap (through_range p.range) carries);
+  stream_of_source given following count before after p s is stream carries first last = record {
+    reported = rw stream (is.reported ∙ ap (through_range p.range) carries);
     number = rw stream (is.number ∙ ap (number_in p.range) carries);
     old_count = is.old_count ∙ first;
     new_count = is.new_count ∙ last;
@@ -63,15 +63,15 @@ module _ {D : Type 0} (remaining : D → Option (List ℕ)) (failure_count : D �
 
 -- ---- of PES packets
 
-module _ {P : Type 0} (given behind : P → Option (List ℕ)) (count : P → ℕ) (before after : P)
+module _ {P : Type 0} (given following : P → Option (List ℕ)) (count : P → ℕ) (before after : P)
     (input : InputCall) where
   -- All of them.
-  pub all_of_pieces : (first : P → Option ℕ) (passed : P → ℕ)
+  pub all_of_pes_packets : (first : P → Option ℕ) (skipped : P → ℕ)
       → first before ≡ Some 0
-      → input ≡ pieces_call given behind count first passed before after
-      → IsRangeOf None given behind count before after input
-  all_of_pieces first passed start is = record {
-    told = ap (λ (i : InputCall). i.call.known) is;
+      → input ≡ pes_packets_call given following count first skipped before after
+      → IsRangeOf None given following count before after input
+  all_of_pes_packets first skipped start is = record {
+    reported = ap (λ (i : InputCall). i.call.known) is;
     number = ap (λ (i : InputCall). i.number.known) is ∙ start;
     old_count = ap (λ (i : InputCall). i.call.old_count) is;
     new_count = ap (λ (i : InputCall). i.call.new_count) is;
@@ -79,15 +79,15 @@ module _ {P : Type 0} (given behind : P → Option (List ℕ)) (count : P → �
   }
 
   -- Those of a range, given the source of all.
-  pub range_of_pieces : (part : InputCall) (r : PieceRangeValue)
+  pub range_of_pes_packets : (part : InputCall) (r : PesPacketRangeValue)
       → input ≡ part
       → part.call.known ≡ option_map (in_range r) (given before)
       → part.number.known ≡ option_map (first_index r) (given before)
       → part.call.old_count ≡ count before
       → part.call.new_count ≡ count after
-      → IsRangeOf (Some r) given behind count before after input
-  range_of_pieces part r is told number old_count new_count = record {
-    told = ap (λ (i : InputCall). i.call.known) is ∙ told;
+      → IsRangeOf (Some r) given following count before after input
+  range_of_pes_packets part r is reported number old_count new_count = record {
+    reported = ap (λ (i : InputCall). i.call.known) is ∙ reported;
     number = ap (λ (i : InputCall). i.number.known) is ∙ number;
     old_count = ap (λ (i : InputCall). i.call.old_count) is ∙ old_count;
     new_count = ap (λ (i : InputCall). i.call.new_count) is ∙ new_count;

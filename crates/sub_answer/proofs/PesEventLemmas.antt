@@ -8,14 +8,14 @@ use Rattle.std.proofs.lemmas.Bool.Decides.{nat_tests}
 use Rattle.std.specs.Prelude.{IfOk, IfErr, IfSome, IsFalse, is_none}
 use Rattle.sub_io.specs.Device.{RisesIf, failed}
 use Rattle.sub_io.specs.Reading.{IfKnown}
-use Rattle.sub_io.specs.Telling.{Tells, TellsSome}
+use Rattle.sub_io.specs.Reporting.{Reports, ReportsSome}
 use Rattle.ttx_packet.specs.PageId.{PageIdValue}
 use Rattle.ttx_pes.specs.declared.fault.PesFault.TheVariants as pes_fault
 use Rattle.stl_rows.specs.Judged.{JudgedValue, known}
 use Rattle.stl_rows.specs.Programme.{ProgrammeValue}
 use Rattle.sub_plan.specs.FrameTime.{clock_of}
 use Rattle.sub_plan.specs.Options.{OptionsValue}
-use Rattle.sub_check.specs.CheckedFiles.{IsChecked, IsCheckedBy, TellsEvents}
+use Rattle.sub_check.specs.CheckedFiles.{IsChecked, IsCheckedBy, ReportsEvents}
 use Rattle.sub_check.specs.CheckedFiles.{all_events_by}
 use Rattle.sub_check.specs.CheckedFiles.{all_events_of, events_of_first_by, first_answer}
 use Rattle.sub_check.specs.CheckedFiles.{frames_read}
@@ -24,7 +24,7 @@ use Rattle.sub_rules.specs.Events.{latest}
 use Rattle.sub_rules.specs.Fault.{is_pes_read}
 use Rattle.sub_rules.specs.FrameRules.{frame_at, packets_before}
 use Rattle.sub_rules.specs.PacketRules.{header_count}
-use Rattle.sub_rules.specs.Pieces.{FailsAtPiece, piece_file_of}
+use Rattle.sub_rules.specs.PesPackets.{FailsAtPesPacket, pes_packet_file_of}
 use Rattle.sub_rules.specs.Transmission.{Transmission}
 use Rattle.sub_checker.specs.declared.accepted.Accepted.{Accepted}
 use Rattle.sub_rules.specs.declared.event.Event.{Event}
@@ -33,20 +33,25 @@ use Rattle.sub_rules.specs.declared.fault.CheckFault.TheVariants as fault
 use Rattle.sub_listing.specs.DeviceCall.{SourceCall}
 use Rattle.sub_listing.specs.FirstPacket.{FirstNumber, StartsAt}
 use Rattle.sub_answer.specs.EveryFault.{IsAnswer}
-use Rattle.sub_answer.specs.EveryFault.{TellsPes}
+use Rattle.sub_answer.specs.EveryFault.{ReportsPes}
 use Rattle.sub_listing.specs.EventLines.{most_counted}
 use Rattle.sub_listing.specs.Printer.{PrinterValue, PrintsEvent, PrintsEvents}
-use Rattle.sub_listing.proofs.PrinterLemmas.{as_told, prints-taken}
+use Rattle.sub_listing.proofs.PrinterLemmas.{as_reported, prints-taken}
 use Rattle.sub_listing.proofs.PrinterLemmas.{prints_all}
 
 -- If the bytes of a source are known, a value that they decide exists.
-pub decided : {A : Type 0} (Q : A → Type 0) (told : Option (List ℕ)) (given : List ℕ → A) (some : A)
+pub decided : {A : Type 0} (Q : A → Type 0) (reported : Option (List ℕ)) (given : List ℕ → A)
+    (some : A)
     → Q some
-    → IfKnown told (λ bytes. Q (given bytes))
-    → (x : A) × Q x × IfKnown told (λ bytes. x ≡ given bytes)
-decided Q None given some holds told = (some, holds, λ bytes heard. cc)
-decided Q (Some bytes) given some holds told =
-    (given bytes, told bytes refl, λ other heard. let same : bytes ≡ other = cc in ap given same)
+    → IfKnown reported (λ bytes. Q (given bytes))
+    → (x : A) × Q x × IfKnown reported (λ bytes. x ≡ given bytes)
+decided Q None given some holds reported = (some, holds, λ bytes heard. cc)
+decided Q (Some bytes) given some holds reported = (
+  given bytes,
+  reported bytes refl,
+  λ other heard. let same : bytes ≡ other = cc in ap given
+      same,
+)
 
 -- The first frame is not after the latest one.
 latest-first : (frames : Transmission) (n : ℕ)
@@ -93,7 +98,7 @@ read_at f is = cc
 
 -- The answer of `check_all` with any options, and if each header has to erase the page, which has
 -- to be right at the end of each frame, for a programme without refused subtitles. For
--- `tell_transmission`.
+-- `report_transmission`.
 pub all_answers : (judged : JudgedValue) (options : OptionsValue) (pes : Option (List ℕ))
     (r : Result (Option Accepted) CheckFault)
     → ((programme : ProgrammeValue)
@@ -126,50 +131,51 @@ events_known : (judged : JudgedValue) (programme : ProgrammeValue) (options : Op
 events_known judged programme options bytes is =
     ap (λ (j : JudgedValue). all_events_by j options bytes) is
 
-module _ {D : Type 0} (IsTold : D → Event → D → Type 0) (value : D → PrinterValue)
-    (one : (s t : D) (x : Event) → IsTold s x t → PrintsEvent (value s) x (value t))
+module _ {D : Type 0} (IsReported : D → Event → D → Type 0) (value : D → PrinterValue)
+    (one : (s t : D) (x : Event) → IsReported s x t → PrintsEvent (value s) x (value t))
     (judged : JudgedValue) (options : OptionsValue) (pes : SourceCall) (first : FirstNumber)
     (old new : D)
     (goes : (value old).failed ≡ false) (few : (value old).refused ≤ most_counted)
     (starts : StartsAt first pes (value old).first) where
-  put : (items : List Event) → Tells IsTold old new items
+  put : (items : List Event) → Reports IsReported old new items
       → PrintsEvents (value old) items (value new)
-  put items told =
-      as_told (value old) (value new) items
-      (prints_all IsTold value (λ (e : Event). e) one old new items goes few told)
+  put items reported =
+      as_reported (value old) (value new) items
+      (prints_all IsReported value (λ (e : Event). e) one old new items goes few reported)
 
   -- The source of the PES file failed.
   after_pes_error : (f : CheckFault)
       → is_pes_read f ≡ true
       → (value new).failed ≡ false
-      → TellsSome IsTold old new
-      → IfKnown pes.known (λ bytes. TellsEvents judged options bytes IsTold old new (Err f))
+      → ReportsSome IsReported old new
+      → IfKnown pes.known (λ bytes. ReportsEvents judged options bytes IsReported old new (Err f))
       → RisesIf pes.old_count (is_pes_read f) pes.new_count
       → ((index : ℕ)
       → (let r : Result (Option Accepted) CheckFault = Err f in r)
       ≡ Err (fault.Pes index pes_fault.Read)
-      → FailsAtPiece index pes.known pes.left)
-      → TellsPes judged options pes first (value old) (value new) (Err f)
-  after_pes_error f is quiet some told count fails = go (read_at f is).0 (read_at f is).1
+      → FailsAtPesPacket index pes.known pes.left)
+      → ReportsPes judged options pes first (value old) (value new) (Err f)
+  after_pes_error f is fault_free some reported count fails = go (read_at f is).0 (read_at f is).1
     where
       go : (n : ℕ) → f ≡ fault.Pes n pes_fault.Read
-          → TellsPes judged options pes first (value old) (value new) (Err f)
+          → ReportsPes judged options pes first (value old) (value new) (Err f)
       go n same =
           let events =
-          decided (λ (es : List Event). Tells IsTold old new es) pes.known
-          (λ bytes. events_of_first_by judged options bytes n) some.items some.told
+          decided (λ (es : List Event). Reports IsReported old new es) pes.known
+          (λ bytes. events_of_first_by judged options bytes n) some.items some.reported
           (λ bytes heard.
-          let here = told bytes heard in
+          let here = reported bytes heard in
           let at : here.0 ≡ n = let e = here.2 in cc in
-          subst (λ (m : ℕ). Tells IsTold old new
+          subst (λ (m : ℕ). Reports IsReported old new
           (events_of_first_by judged options bytes m)) at here.3) in
           let are : IfKnown pes.known (λ bytes.
-          (n ≤ length (piece_file_of (clock_of options) bytes).pieces)
+          (n ≤ length (pes_packet_file_of (clock_of options) bytes).pes_packets)
           × (events.0 ≡ events_of_first_by judged options bytes n)) =
           λ bytes heard.
-          let here = told bytes heard in
+          let here = reported bytes heard in
           let at : here.0 ≡ n = let e = here.2 in cc in (
-            subst (λ (m : ℕ). m ≤ length (piece_file_of (clock_of options) bytes).pieces) at here.1,
+            subst (λ (m : ℕ). m ≤ length (pes_packet_file_of (clock_of options) bytes).pes_packets)
+                at here.1,
             events.2 bytes heard,
           ) in
           record {
@@ -184,10 +190,10 @@ module _ {D : Type 0} (IsTold : D → Event → D → Type 0) (value : D → Pri
                 count;
             read = λ m e.
                 let at : n ≡ m = cc in
-                subst (λ (k : ℕ). FailsAtPiece k pes.known pes.left) at
+                subst (λ (k : ℕ). FailsAtPesPacket k pes.known pes.left) at
                 (fails n
                 (ap (λ g. let r : Result (Option Accepted) CheckFault = Err g in r) same));
-            cut = λ failing. absurd (true≢false (sym failing ∙ quiet));
+            cut = λ failing. absurd (true≢false (sym failing ∙ fault_free));
             checked = λ holds bytes known programme a given e. cc;
             listed = are;
           }
@@ -204,7 +210,7 @@ module _ {D : Type 0} (IsTold : D → Event → D → Type 0) (value : D → Pri
       (programme : ProgrammeValue)
       → judged ≡ known programme
       → IsAnswer programme options bytes (first_answer items a)))
-      → TellsPes judged options pes first (value old) (value new) given
+      → ReportsPes judged options pes first (value old) (value new) given
   read_pes items a given prints same count are verdict = record {
     events = items;
     answer = Ok a;
@@ -224,8 +230,8 @@ module _ {D : Type 0} (IsTold : D → Event → D → Type 0) (value : D → Pri
 
   -- The PES file was read.
   after_all : (given : Accepted)
-      → TellsSome IsTold old new
-      → IfKnown pes.known (λ bytes. TellsEvents judged options bytes IsTold old new
+      → ReportsSome IsReported old new
+      → IfKnown pes.known (λ bytes. ReportsEvents judged options bytes IsReported old new
       (Ok (Some given)))
       → IfKnown pes.known (λ bytes.
       (programme : ProgrammeValue)
@@ -233,52 +239,53 @@ module _ {D : Type 0} (IsTold : D → Event → D → Type 0) (value : D → Pri
       → IsAnswer programme options bytes
       (first_answer (all_events_of programme options bytes) given))
       → RisesIf pes.old_count false pes.new_count
-      → TellsPes judged options pes first (value old) (value new) (Ok (Some given))
-  after_all given some told first_is count =
+      → ReportsPes judged options pes first (value old) (value new) (Ok (Some given))
+  after_all given some reported first_is count =
       let events =
-      decided (λ (es : List Event). Tells IsTold old new es) pes.known
-      (all_events_by judged options) some.items some.told (λ bytes heard. (told bytes heard).0)
+      decided (λ (es : List Event). Reports IsReported old new es) pes.known
+      (all_events_by judged options) some.items some.reported
+      (λ bytes heard. (reported bytes heard).0)
       in
       read_pes events.0 given (Ok (Some given)) (put events.0 events.1) (λ holds. refl) count
-      (λ bytes heard. (events.2 bytes heard, (told bytes heard).1))
-      (λ quiet bytes heard programme is.
+      (λ bytes heard. (events.2 bytes heard, (reported bytes heard).1))
+      (λ fault_free bytes heard programme is.
       subst (λ (es : List Event). IsAnswer programme options bytes (first_answer es given))
       (sym (events.2 bytes heard ∙ events_known judged programme options bytes is))
       (first_is bytes heard programme is))
 
   -- The sink failed.
   after_stop : (value new).failed ≡ true
-      → TellsSome IsTold old new
-      → IfKnown pes.known (λ bytes. TellsEvents judged options bytes IsTold old new (Ok None))
+      → ReportsSome IsReported old new
+      → IfKnown pes.known (λ bytes. ReportsEvents judged options bytes IsReported old new (Ok None))
       → RisesIf pes.old_count false pes.new_count
-      → TellsPes judged options pes first (value old) (value new) (Ok None)
-  after_stop failing some told count =
+      → ReportsPes judged options pes first (value old) (value new) (Ok None)
+  after_stop failing some reported count =
       let counts = λ (bytes : List ℕ).
       some_counts options.page (frames_read options bytes) (length (frames_read options bytes)) refl
       in
       let events =
       decided (λ (x : List Event × Accepted). PrintsEvents (value old) x.0 (value new)) pes.known
       (λ bytes. (all_events_by judged options bytes, (counts bytes).0))
-      (some.items, record { frames = 0; transmissions = 0 }) (put some.items some.told)
+      (some.items, record { frames = 0; transmissions = 0 }) (put some.items some.reported)
       (λ bytes heard.
-      let p = told bytes heard in
+      let p = reported bytes heard in
       let whole = all_events_by judged options bytes in
-      as_told (value old) (value new) whole
+      as_reported (value old) (value new) whole
       (prints-taken (λ (e : Event). e) (value old) (value new) p.0 whole failing
-      (prints_all IsTold value (λ (e : Event). e) one old new (take p.0 whole) goes few p.2)))
+      (prints_all IsReported value (λ (e : Event). e) one old new (take p.0 whole) goes few p.2)))
       in
       read_pes events.0.0 events.0.1 (Ok None) events.1
       (λ holds. absurd (true≢false (sym failing ∙ holds))) count
       (λ bytes heard.
       rw (events.2 bytes heard) (refl, (counts bytes).1))
-      (λ quiet. absurd (true≢false (sym failing ∙ quiet)))
+      (λ fault_free. absurd (true≢false (sym failing ∙ fault_free)))
 
-  -- The PES file was read, or its source failed, or the sink. For `tell_transmission`.
+  -- The PES file was read, or its source failed, or the sink. For `report_transmission`.
   pub after_pes : (r : Result (Option Accepted) CheckFault) (stopped : Bool)
       → ((value new).failed ≡ true → stopped ≡ true)
       → ((value new).failed ≡ false → (value new).count ≡ (value old).count → stopped ≡ false)
-      → TellsSome IsTold old new
-      → IfKnown pes.known (λ bytes. TellsEvents judged options bytes IsTold old new r)
+      → ReportsSome IsReported old new
+      → IfKnown pes.known (λ bytes. ReportsEvents judged options bytes IsReported old new r)
       → IfKnown pes.known (λ bytes.
       (programme : ProgrammeValue)
       → judged ≡ known programme
@@ -290,28 +297,29 @@ module _ {D : Type 0} (IsTold : D → Event → D → Type 0) (value : D → Pri
       → RisesIf pes.old_count (failed is_pes_read r) pes.new_count
       → ((index : ℕ)
       → r ≡ Err (fault.Pes index pes_fault.Read)
-      → FailsAtPiece index pes.known pes.left)
-      → TellsPes judged options pes first (value old) (value new) r
-  after_pes (Ok (Some a)) stopped stops quiet some told first_is is goes_on only count fails =
-      after_all a some told first_is count
-  after_pes (Ok None) stopped stops quiet some told first_is is goes_on only count fails =
-      after_stop (failing (value new).failed refl) some told count
+      → FailsAtPesPacket index pes.known pes.left)
+      → ReportsPes judged options pes first (value old) (value new) r
+  after_pes (Ok (Some a)) stopped stops fault_free some reported first_is is goes_on only count
+      fails =
+      after_all a some reported first_is count
+  after_pes (Ok None) stopped stops fault_free some reported first_is is goes_on only count fails =
+      after_stop (failing (value new).failed refl) some reported count
     where
       failing : (b : Bool) → (value new).failed ≡ b → (value new).failed ≡ true
       failing true e = e
       failing false e =
-          absurd (true≢false (sym is ∙ quiet e ((put some.items some.told).put_count e)))
-  after_pes (Err f) stopped stops quiet some told first_is is goes_on only count fails =
-      after_pes_error f only (calm (value new).failed refl) some told count fails
+          absurd (true≢false (sym is ∙ fault_free e ((put some.items some.reported).put_count e)))
+  after_pes (Err f) stopped stops fault_free some reported first_is is goes_on only count fails =
+      after_pes_error f only (calm (value new).failed refl) some reported count fails
     where
       calm : (b : Bool) → (value new).failed ≡ b → (value new).failed ≡ false
       calm true e = absurd (true≢false (sym (stops e) ∙ goes_on))
       calm false e = e
 
--- The events, if the printer had another first number before. For `tell_transmission`.
+-- The events, if the printer had another first number before. For `report_transmission`.
 pub with_first : (judged : JudgedValue) (options : OptionsValue) (pes : SourceCall)
     (first : FirstNumber) (old new : PrinterValue) (number : ℕ)
     (given : Result (Option Accepted) CheckFault)
-    → TellsPes judged options pes first (record old { first = number }) new given
-    → TellsPes judged options pes first old new given
+    → ReportsPes judged options pes first (record old { first = number }) new given
+    → ReportsPes judged options pes first old new given
 with_first judged options pes first old new number given t = grind (arith, nat_tests)

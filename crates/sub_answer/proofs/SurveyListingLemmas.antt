@@ -1,5 +1,5 @@
 -- The output for a recording: complete, printed-done; cut off by the sink, printed-cut; and with
--- the line of a fault at its end, printed-told.
+-- the line of a fault at its end, printed-reported.
 use Rattle.std.proofs.Common.{◌≡◌, ◌≢◌, ℕ, ◌+◌, List, ◌++◌, Option, refl, ◌∙◌, ap, arith, inl, inr}
 use Rattle.std.proofs.KnownBytes.{Appends-trans}
 use Rattle.mpeg_ts.specs.declared.survey_options.SurveyOptions.{SurveyOptions}
@@ -15,7 +15,7 @@ use Rattle.ts_survey.specs.Listed as listed
 use Rattle.ts_survey.specs.Survey.{Grows}
 
 pub printed-done : (options : SurveyOptions) (recording : Option (List ℕ)) (out : SinkCall)
-    → listed.TellsSurvey options recording out.old out.new
+    → listed.ReportsSurvey options recording out.old out.new
     → out.new_count ≡ out.old_count
     → PrintsSurvey options recording out Done
 unfolding PrintsOrFails
@@ -40,47 +40,47 @@ printed-cut options recording out grows risen = record {
   line = λ other count. absurd (omega (arith, risen, count));
 }
 
-pub printed-told :
+pub printed-reported :
     (options : SurveyOptions) (recording : Option (List ℕ)) (out : SinkCall)
-    (mid : Option (List ℕ)) (count : ℕ) (told : FaultLine) (status : Status)
+    (mid : Option (List ℕ)) (count : ℕ) (reported : FaultLine) (status : Status)
     → Grows out.old mid
     → count ≡ out.old_count
-    → PrintsOrFails (record out { old = mid; old_count = count }) (fault_listing told) status
-    → status_of told.kind ≡ Fault
+    → PrintsOrFails (record out { old = mid; old_count = count }) (fault_listing reported) status
+    → status_of reported.kind ≡ Fault
     → status ≢ Done
     → status ≡ Fault
     → PrintsSurvey options recording out status
 unfolding PrintsOrFails
-printed-told _ _ out mid _ told status grows same (inl p) is_fault other fault = record {
-  listing = record { text = grows.0 ++ line_of told; status = status_of told.kind };
+printed-reported _ _ out mid _ reported status grows same (inl p) is_fault other fault = record {
+  listing = record { text = grows.0 ++ line_of reported; status = status_of reported.kind };
   printed = inl (
     p.0 ∙ same,
-    Appends-trans out.old mid out.new grows.0 (line_of told) grows.1 p.1,
+    Appends-trans out.old mid out.new grows.0 (line_of reported) grows.1 p.1,
     p.2,
   );
   done = λ is. absurd (other is);
   fault = λ not. fault;
   line = λ not kept. record {
     before = grows.0;
-    fault = told;
+    fault = reported;
     is_fault = is_fault;
-    told = refl;
+    reported = refl;
   };
 }
-printed-told _ _ out mid _ told status grows same (inr p) is_fault other fault = record {
-  listing = record { text = grows.0 ++ line_of told; status = status_of told.kind };
+printed-reported _ _ out mid _ reported status grows same (inr p) is_fault other fault = record {
+  listing = record { text = grows.0 ++ line_of reported; status = status_of reported.kind };
   printed = inr (
     p.0 ∙ ap (λ n. n + 1) same,
-    AppendsPrefix-second out.old mid out.new grows.0 (line_of told) grows.1 p.1,
+    AppendsPrefix-second out.old mid out.new grows.0 (line_of reported) grows.1 p.1,
     p.2,
   );
   done = λ is. absurd (other is);
   fault = λ not. fault;
   line = λ not kept. record {
     before = grows.0;
-    fault = told;
+    fault = reported;
     is_fault = is_fault;
-    told = refl;
+    reported = refl;
   };
 }
 

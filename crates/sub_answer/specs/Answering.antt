@@ -24,7 +24,7 @@ use Rattle.sub_listen.specs.declared.listening.ListenFault.{ListenFault}
 use Rattle.sub_listing.specs.DeviceCall.{Counts, SinkCall, SourceCall, read_call, source_call}
 use Rattle.sub_listing.specs.Extracting.{EndsExtract}
 use Rattle.sub_listing.specs.FirstPacket.{FirstNumber, PrintsFrom, StartsAt, first_number}
-use Rattle.sub_answer.specs.BothFiles.{TellsSources, TellsStatus}
+use Rattle.sub_answer.specs.BothFiles.{ReportsSources, IsStatusOfFiles}
 use Rattle.sub_answer.specs.EveryFault.{AnswersAll}
 use Rattle.sub_answer.specs.FaultListing.{accepted_line}
 use Rattle.sub_listing.specs.Faults.{check_line}
@@ -84,7 +84,7 @@ pub record AnswersCheck
   -- A failed source is reported at the block that was being read, with no fault before it, or at
   -- the PES packet in which it failed.
   pub sources :
-      TellsSources (FailsLoading drawing stl.known stl.left)
+      ReportsSources (FailsLoading drawing stl.known stl.left)
       (λ index. FailsAtPacket index pes.known pes.left)
       Untouched (failed is_subtitle_fault answer) stl pes answer
   -- If the bytes of the files are known, they decide the answer. What is accepted is robust, with
@@ -94,7 +94,7 @@ pub record AnswersCheck
   -- this at the end of at least one of its frames. A subtitle file without a programme is refused.
   pub checked : IfKnown stl.known (λ file. AreChecked drawing options file pes.known answer)
   pub ends :
-      TellsStatus drawing options stl pes out (PrintsMemory drawing stl.known out.old out.new)
+      IsStatusOfFiles drawing options stl pes out (PrintsMemory drawing stl.known out.old out.new)
       status
 
 -- The output shows the state of a receiver that received the frames of the PES file, and leaves the
@@ -140,25 +140,25 @@ pub record InputCall : Type 0 where
 abbrev pub input_call :
     {S : Type 0}
     → (S → Option (List ℕ)) → (S → ℕ) → (S → Option ℕ) → (S → ℕ) → S → S → InputCall
-input_call remaining failure_count number passed old new = record {
+input_call remaining failure_count number skipped old new = record {
   call = source_call remaining failure_count old new;
-  number = first_number number passed old new;
+  number = first_number number skipped old new;
 }
 
 -- A source that is read completely, from its first PES packet.
-abbrev pub whole_call : {S : Type 0} → (S → Option (List ℕ)) → (S → ℕ) → S → S → InputCall
-whole_call remaining failure_count old new =
+abbrev pub entire_call : {S : Type 0} → (S → Option (List ℕ)) → (S → ℕ) → S → S → InputCall
+entire_call remaining failure_count old new =
     input_call remaining failure_count (λ s. Some 0) (λ s. 0) old new
 
 -- PES packets in a call, given those still to come, what their device still has and its count of
 -- failures, and the number of the first one.
-abbrev pub pieces_call :
+abbrev pub pes_packets_call :
     {P : Type 0}
     → (P → Option (List ℕ)) → (P → Option (List ℕ)) → (P → ℕ) → (P → Option ℕ) → (P → ℕ) → P → P
     → InputCall
-pieces_call remaining left failure_count number passed old new = record {
+pes_packets_call remaining left failure_count number skipped old new = record {
   call = read_call remaining left failure_count old new;
-  number = first_number number passed old new;
+  number = first_number number skipped old new;
 }
 
 -- The device of an input failed in a call.
@@ -166,23 +166,23 @@ abbrev pub fails : InputCall → Type 0
 fails input = input.call.old_count < input.call.new_count
 
 -- The first input of the request gives PES packets: they are listed, received or written.
-abbrev pub reads_pieces : Request → Bool
-reads_pieces (ask.Packets pes) = true
-reads_pieces (ask.Listen pes listening) = true
-reads_pieces (ask.Extract recording pes stream) = true
-reads_pieces _ = false
+abbrev pub reads_pes_packets : Request → Bool
+reads_pes_packets (ask.Packets pes) = true
+reads_pes_packets (ask.Listen pes listening) = true
+reads_pes_packets (ask.Extract recording pes stream) = true
+reads_pes_packets _ = false
 
 -- The first input of the request is a source that does not give PES packets.
 abbrev pub reads_source : Request → Bool
-reads_source request = reads_one (files_of request) && not (reads_pieces request)
+reads_source request = reads_one (files_of request) && not (reads_pes_packets request)
 
 -- An input of the request gives PES packets: the first, or the second of a check.
-abbrev pub reads_some_pieces : Request → Bool
-reads_some_pieces request = reads_pieces request || reads_two (files_of request)
+abbrev pub reads_some_pes_packets : Request → Bool
+reads_some_pes_packets request = reads_pes_packets request || reads_two (files_of request)
 
 -- The first input of the request: a source, or one that gives PES packets.
 abbrev pub first_input : Request → InputCall → InputCall → InputCall
-first_input request source pieces = if reads_pieces request then pieces else source
+first_input request source pes_packets = if reads_pes_packets request then pes_packets else source
 
 -- The answer to a request: the output, the written file, and the status. `Untouched` says that no
 -- byte of the second source was read.
@@ -235,9 +235,9 @@ pub record CountsFaults
       < first.new_count + second.new_count + file.new_count + out.new_count
 
 -- If the status is `Done`, an output file holds no byte back.
-abbrev pub HandsOnWritten : Request → Status → ℕ → Type 0
-HandsOnWritten request status held =
-    writes_one (files_of request) ≡ true → status ≡ Done → held ≡ 0
+abbrev pub FlushesWritten : Request → Status → ℕ → Type 0
+FlushesWritten request status buffered =
+    writes_one (files_of request) ≡ true → status ≡ Done → buffered ≡ 0
 
 -- It is stored then.
 abbrev pub StoresWritten : Request → Status → Bool → Type 0
@@ -247,35 +247,37 @@ StoresWritten request status is_stored =
 -- A request whose output can be followed while its PES file or recording arrives: this holds if its
 -- source failed. That is the first source of `packets` and `survey`, and the second of `check
 -- --all`.
-abbrev pub HandsOnBefore : Request → Type 0 → Type 0 → Type 0 → Type 0
-HandsOnBefore (ask.Packets pes) FirstFails SecondFails IsAlone = FirstFails → IsAlone
-HandsOnBefore (ask.Survey recording options) FirstFails SecondFails IsAlone = FirstFails → IsAlone
-HandsOnBefore
+abbrev pub FlushesBefore : Request → Type 0 → Type 0 → Type 0 → Type 0
+FlushesBefore (ask.Packets pes) FirstFails SecondFails IsAlone = FirstFails → IsAlone
+FlushesBefore (ask.Survey recording options) FirstFails SecondFails IsAlone = FirstFails → IsAlone
+FlushesBefore
     (ask.Check stl pes options national layout scope true) FirstFails SecondFails IsAlone =
     SecondFails → IsAlone
-HandsOnBefore _ FirstFails SecondFails IsAlone = ⊤
+FlushesBefore _ FirstFails SecondFails IsAlone = ⊤
 
 -- A request that writes what its first source gives as soon as it has come: if that failed, the
 -- file holds nothing back.
 abbrev pub WritesBefore : Request → Type 0 → Type 0 → Type 0
-WritesBefore (ask.Extract recording pes stream) FirstFails HoldsNothing = FirstFails → HoldsNothing
-WritesBefore _ FirstFails HoldsNothing = ⊤
+WritesBefore (ask.Extract recording pes stream) FirstFails BuffersNothing = FirstFails →
+    BuffersNothing
+WritesBefore _ FirstFails BuffersNothing = ⊤
 
 -- A request was answered from a source and one that gives PES packets. `Untouched` says that no
--- byte of the PES packets was read, `HoldsNothing` that the file holds nothing back, `IsAlone` that
--- only the line of a fault is not flushed.
+-- byte of the PES packets was read, `BuffersNothing` that the file holds nothing back, `IsAlone`
+-- that only the line of a fault is not flushed.
 pub record AnswersOver
-    (request : Request) (source pieces : InputCall) (Untouched : Type 0) (file out : SinkCall)
-    (HoldsNothing IsAlone : Type 0) (status : Status)
+    (request : Request) (source pes_packets : InputCall) (Untouched : Type 0) (file out : SinkCall)
+    (BuffersNothing IsAlone : Type 0) (status : Status)
     : Type 0 where
   -- The output and the written file, command by command.
   pub answers :
-      Answers request (first_input request source pieces) pieces Untouched file out status
+      Answers request (first_input request source pes_packets) pes_packets Untouched file out status
   -- Before the source of a recording may ask its device, everything written has reached the device
   -- of the file.
   pub written :
-      WritesBefore request (fails (first_input request source pieces)) HoldsNothing
+      WritesBefore request (fails (first_input request source pes_packets)) BuffersNothing
   -- Before the source of the PES file or recording may ask its device, which may fail, all output
   -- has reached its device. So if it failed, only the line of its failure may be held back.
   pub followed :
-      HandsOnBefore request (fails (first_input request source pieces)) (fails pieces) IsAlone
+      FlushesBefore request (fails (first_input request source pes_packets)) (fails pes_packets)
+      IsAlone

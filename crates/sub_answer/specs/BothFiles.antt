@@ -17,7 +17,7 @@ use Rattle.sub_listing.specs.declared.status.Status.TheVariants.{Done, Fault}
 
 -- What an answer says about the sources of both files, given the meaning of a failure at a block or
 -- at a PES packet.
-pub record TellsSources
+pub record ReportsSources
     {Counts : Type 0} (FailsAtBlock FailsAtPes : ℕ → Type 0) (Untouched : Type 0)
     (is_of_subtitles : Bool) (stl pes : SourceCall) (answer : Result Counts CheckFault)
     : Type 0 where
@@ -32,7 +32,7 @@ pub record TellsSources
   pub before : is_of_subtitles ≡ true → Untouched
 
 -- What the status says about both files, given the output if an allocation was refused.
-pub record TellsStatus
+pub record IsStatusOfFiles
     (drawing : Drawing) (options : OptionsValue) (stl pes : SourceCall) (out : SinkCall)
     (PrintsMemory : Type 0) (status : Status)
     : Type 0 where

@@ -3,8 +3,8 @@
 use Rattle.std.specs.Prelude.{◌≡◌, ◌⊎◌, ℕ, ◌+◌, ◌<◌, List, [], ◌∷◌, ◌++◌, length, Option, Some}
 use Rattle.std.specs.Prelude.{Bool, None, false}
 use Rattle.std.specs.Io.KnownBytes.{Keeps, append_known, prepend_known}
-use Rattle.sub_io.specs.Buffered.{HandsOn, HeldBack, ReadAhead, failures_and_refused}
-use Rattle.sub_io.specs.Calls.{HoldsBack}
+use Rattle.sub_io.specs.Buffered.{Flushes, BufferState, ReadAhead, failures_and_refused}
+use Rattle.sub_io.specs.Calls.{PushesBuffered}
 use Rattle.sub_request.specs.Files.{files_of}
 use Rattle.sub_request.specs.declared.files.FileNames.{FileNames}
 use Rattle.sub_request.specs.declared.files.FileNames.TheVariants as names
@@ -18,90 +18,91 @@ use Rattle.sub_files.specs.declared.opening.Opened.TheVariants.{Extract, Nothing
 use Rattle.sub_files.specs.declared.opening.Opened.TheVariants.{ReadPes, ReadStl, Write}
 use Rattle.sub_listing.specs.DeviceCall.{SinkCall, sink_call}
 use Rattle.sub_listing.specs.Faults.{usage_line}
-use Rattle.sub_listing.specs.LastLine.{HoldsLastLine}
+use Rattle.sub_listing.specs.LastLine.{BuffersLastLineOnly}
 use Rattle.sub_listing.specs.Listing.{PrintsOrFails, fault_listing}
 use Rattle.sub_listing.specs.declared.status.Status.{Status}
 use Rattle.sub_listing.specs.declared.status.Status.TheVariants.{Done, Fault}
-use Rattle.sub_answer.specs.Answering.{Answers, HandsOnBefore, InputCall, StoresWritten}
+use Rattle.sub_answer.specs.Answering.{Answers, FlushesBefore, InputCall, StoresWritten}
 use Rattle.sub_answer.specs.Answering.{WritesBefore, fails}
-use Rattle.sub_answer.specs.Part.{IsPartOf, part_asked, whole_file}
+use Rattle.sub_answer.specs.Part.{IsPartOf, part_requested, entire_file}
 use Rattle.sub_answer.specs.declared.part.Part.{Part}
 
 -- A sink behind a buffer: the bytes written to it, those that the buffer still has, and its count
 -- of failures.
 pub record Lines : Type 0 where
   pub taken : Option (List ℕ)
-  pub held : List ℕ
+  pub buffered : List ℕ
   pub count : ℕ
 
 -- The same from a sink.
 abbrev pub lines_in : {O : Type 0}
     → (O → Option (List ℕ)) → (O → List ℕ) → (O → ℕ) → O → Lines
-lines_in contents held_back failure_count o =
-    record { taken = contents o; held = held_back o; count = failure_count o }
+lines_in contents buffer_state failure_count o =
+    record { taken = contents o; buffered = buffer_state o; count = failure_count o }
 
 -- The count of bytes that are held back is correct.
-abbrev pub CountsHeld : {O : Type 0} → (O → ℕ) → (O → List ℕ) → Type 0
-CountsHeld {O} held held_back = (o : O) → held o ≡ length (held_back o)
+abbrev pub CountsBuffered : {O : Type 0} → (O → ℕ) → (O → List ℕ) → Type 0
+CountsBuffered {O} buffered buffer_state = (o : O) → buffered o ≡ length (buffer_state o)
 
 -- A buffer, given the contents of the sink behind it and its count of failures.
-abbrev pub lines_of : {D : Type 0} → (D → Option (List ℕ)) → (D → ℕ) → HeldBack D → Lines
+abbrev pub lines_of : {D : Type 0} → (D → Option (List ℕ)) → (D → ℕ) → BufferState D → Lines
 lines_of contents failure_count k = record {
-  taken = append_known (contents k.device) k.held;
-  held = k.held;
+  taken = append_known (contents k.device) k.buffered;
+  buffered = k.buffered;
   count = failures_and_refused (failure_count k.device) k.refused;
 }
 
 -- A buffer in a call, given the contents of the sink behind it and its count of failures.
 abbrev pub buffered_call : {D : Type 0}
-    → (D → Option (List ℕ)) → (D → ℕ) → HeldBack D → HeldBack D → SinkCall
+    → (D → Option (List ℕ)) → (D → ℕ) → BufferState D → BufferState D → SinkCall
 buffered_call contents failure_count old new =
     sink_call (λ k. (lines_of contents failure_count k).taken)
     (λ k. (lines_of contents failure_count k).count) old new
 
 -- The buffer is flushed for a run that would end with this status: it ends with it, and the sink
 -- has all bytes; or one more call has failed, and it ends with `Fault`.
-pub record HandsOnHeldLines (old : Lines) (status : Status) (new : Lines) (result : Status)
+pub record FlushesBufferedLines (old : Lines) (status : Status) (new : Lines) (result : Status)
     : Type 0 where
   pub kept : Keeps old.taken new.taken
   pub ends :
-      ((result ≡ status) × (new.held ≡ []) × (new.count ≡ old.count))
+      ((result ≡ status) × (new.buffered ≡ []) × (new.count ≡ old.count))
       ⊎ ((result ≡ Fault) × (new.count ≡ old.count + 1))
 
 -- Everything printed before the line of a fault was flushed, and since then only this line was
 -- written. The sink is given by its contents, the bytes that it holds back, its count of failures,
 -- and its pushes.
-pub record HoldsLineAlone
-    {O : Type 0} (contents : O → Option (List ℕ)) (held_back : O → List ℕ) (failure_count : O → ℕ)
+pub record BuffersOneLineOnly
+    {O : Type 0} (contents : O → Option (List ℕ)) (buffer_state : O → List ℕ)
+    (failure_count : O → ℕ)
     (IsPush : O → List ℕ → Option ℕ → O → Type 0) (lines : Lines)
     : Type 0 where
   pub sink : O
-  pub lines_are : lines ≡ lines_in contents held_back failure_count sink
-  pub last : HoldsLastLine contents (λ o. length (held_back o)) IsPush sink
+  pub lines_are : lines ≡ lines_in contents buffer_state failure_count sink
+  pub last : BuffersLastLineOnly contents (λ o. length (buffer_state o)) IsPush sink
 
 -- The same for a buffer, given the contents of the sink behind it, its count of failures, and its
 -- pushes.
-abbrev pub BufferHoldsLineAlone :
+abbrev pub BufferHoldsOneLineOnly :
     {D : Type 0}
     → (D → Option (List ℕ)) → (D → ℕ) → (D → List ℕ → Option ℕ → D → Type 0) → Lines → Type 0
-BufferHoldsLineAlone contents failure_count IsPush =
-    HoldsLineAlone (λ k. append_known (contents k.device) k.held) (λ k. k.held)
-    (λ k. failures_and_refused (failure_count k.device) k.refused) (HoldsBack IsPush)
+BufferHoldsOneLineOnly contents failure_count IsPush =
+    BuffersOneLineOnly (λ k. append_known (contents k.device) k.buffered) (λ k. k.buffered)
+    (λ k. failures_and_refused (failure_count k.device) k.refused) (PushesBuffered IsPush)
 
 -- No byte is held back, and no call has failed since.
-pub record HoldsNothing
-    {O : Type 0} (held_back : O → List ℕ) (failure_count : O → ℕ) (old new : O) : Type 0 where
-  pub none : held_back new ≡ []
+pub record BuffersNothing
+    {O : Type 0} (buffer_state : O → List ℕ) (failure_count : O → ℕ) (old new : O) : Type 0 where
+  pub none : buffer_state new ≡ []
   pub count : failure_count new ≡ failure_count old
 
 -- The last action was to flush the lines, while the file was in this state.
-pub record HandsOnBeside
-    {O F : Type 0} (IsHandedOn : O → HeldBack F → Status → O → Status → Type 0)
-    (file : HeldBack F) (new : O) (result : Status)
+pub record FlushesWithFile
+    {O F : Type 0} (IsFlushed : O → BufferState F → Status → O → Status → Type 0)
+    (file : BufferState F) (new : O) (result : Status)
     : Type 0 where
   pub printed : O
   pub status : Status
-  pub call : IsHandedOn printed file status new result
+  pub call : IsFlushed printed file status new result
 
 -- A request was answered from sources and to a file with these properties in their calls, and then
 -- the lines were flushed. `Untouched` says that no byte of the second source was read, and
@@ -131,8 +132,8 @@ pub record EndsWith
   -- Before the source of the PES file or recording may ask its device, which may fail, all output
   -- has reached its device. So if it failed, only the line of its failure may be held back.
   pub followed :
-      old.held ≡ [] → HandsOnBefore request (fails first) (fails second) (IsAlone printed)
-  pub handed_on : HandsOnHeldLines printed status new result
+      old.buffered ≡ [] → FlushesBefore request (fails first) (fails second) (IsAlone printed)
+  pub flushed : FlushesBufferedLines printed status new result
 
 -- The source has no bytes.
 abbrev pub IsEmptySource : InputCall → Type 0
@@ -146,16 +147,17 @@ IsEmptyFile first call = call.old ≡ Some []
 -- source, given its contents and count of failures. It was closed as they left it.
 pub record IsClosedAfter
     {D : Type 0} (contents : D → Option (List ℕ)) (failure_count : D → ℕ) (IsClose : D → D → Type 0)
-    (request : Request) (old new : HeldBack D) (first : InputCall) (call : SinkCall)
+    (request : Request) (old new : BufferState D) (first : InputCall) (call : SinkCall)
     : Type 0 where
-  pub left : HeldBack D
+  pub left : BufferState D
   pub call_is : call ≡ buffered_call contents failure_count old left
   pub closed : IsClose left.device new.device
   -- The bytes in the buffer are unchanged.
-  pub held_is : new.held ≡ left.held
+  pub buffered_is : new.buffered ≡ left.buffered
   -- Before the source of a recording may ask its device, which may fail, everything written has
   -- reached the device of the file. So if it failed, nothing is held back.
-  pub written : WritesBefore request (first.call.old_count < first.call.new_count) (left.held ≡ [])
+  pub written : WritesBefore request (first.call.old_count < first.call.new_count)
+      (left.buffered ≡ [])
 
 -- A file of which this part is read, in the calls of an answer, which leave it in this state: an
 -- empty buffer is before it, and no other device.
@@ -167,8 +169,10 @@ pub record IsReadFrom
   pub new : ReadAhead I
   pub left_is : left ≡ new.device
   pub is_part :
-      IsPartOf part (λ s. prepend_known s.held (remaining s.device)) (λ s. failure_count s.device)
-      (let buffer : ReadAhead I = record { device = file; held = []; room = room } in buffer) new
+      IsPartOf part (λ s. prepend_known s.buffered (remaining s.device))
+      (λ s. failure_count s.device)
+      (let buffer : ReadAhead I = record { device = file; buffered = []; room = room } in buffer)
+      new
       input
 
 -- A file that is written, in the calls of the answer to a request, together with those of its first
@@ -181,15 +185,16 @@ pub record IsWrittenTo
     (first : InputCall) (call : SinkCall)
     : Type 0 where
   pub room : ℕ
-  pub new : HeldBack O
+  pub new : BufferState O
   pub left_is : left ≡ new.device
   pub closed :
       IsClosedAfter contents failure_count IsClose request
-      (record { device = file; held = []; room = room; failed = false; refused = 0 }) new first call
+      (record { device = file; buffered = []; room = room; failed = false; refused = 0 }) new first
+      call
   pub whole :
       result ≡ Done
-      → HandsOn failure_count
-      (record { device = file; held = []; room = room; failed = false; refused = 0 }) new
+      → Flushes failure_count
+      (record { device = file; buffered = []; room = room; failed = false; refused = 0 }) new
   pub stored : StoresWritten request result (is_stored new.device)
 
 -- What is known of input and output files: the bytes that are still to be read, and those that were
@@ -253,11 +258,11 @@ source_and_file part source file =
 
 -- Which they are. This part is read of a file of PES packets and of a recording.
 abbrev pub devices_of : {I O : Type 0} → Part → Opened I O → Devices I O
-devices_of part Nothing = sources whole_file None None
-devices_of part (ReadStl stl) = sources whole_file (Some stl) None
+devices_of part Nothing = sources entire_file None None
+devices_of part (ReadStl stl) = sources entire_file (Some stl) None
 devices_of part (ReadPes pes) = sources part (Some pes) None
-devices_of part (ReadBoth stl pes) = sources whole_file (Some stl) (Some pes)
-devices_of part (Write stl output) = source_and_file whole_file stl output
+devices_of part (ReadBoth stl pes) = sources entire_file (Some stl) (Some pes)
+devices_of part (Write stl output) = source_and_file entire_file stl output
 devices_of part (Extract recording output) = source_and_file part recording output
 
 -- The opened files are those that the names request.
@@ -300,7 +305,7 @@ abbrev pub EndsOver :
     → (Lines → Type 0) → Lines → Lines → Status → Type 0
 EndsOver known IsClose request devices left IsAlone old new result =
     EndsWith request (IsSourceOf known devices.part devices.first left.first)
-    (IsSourceOf known (part_asked request) devices.second left.second)
+    (IsSourceOf known (part_requested request) devices.second left.second)
     (left.second ≡ devices.second)
     (IsSinkOf known IsClose request result devices.file left.file) IsAlone old new result
 
@@ -327,11 +332,12 @@ pub record Ends
   pub opened :
       OpensBy (λ calls. AreMade (calls ++ let_go left)) (files_of request) (Some files)
   pub ends :
-      EndsOver known IsClose request (devices_of (part_asked request) files) left IsAlone old new
+      EndsOver known IsClose request (devices_of (part_requested request) files) left IsAlone old
+      new
       result
 
 -- The line of a fault was printed, and then flushed.
-pub record Says (fault : UsageFault) (old new : Lines) (result : Status) : Type 0 where
+pub record PrintsFault (fault : UsageFault) (old new : Lines) (result : Status) : Type 0 where
   pub printed : Lines
   pub line :
       PrintsOrFails (record {
@@ -341,4 +347,4 @@ pub record Says (fault : UsageFault) (old new : Lines) (result : Status) : Type 
         new_count = printed.count;
       })
       (fault_listing (usage_line fault)) Fault
-  pub handed_on : HandsOnHeldLines printed Fault new result
+  pub flushed : FlushesBufferedLines printed Fault new result

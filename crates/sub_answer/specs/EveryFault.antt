@@ -7,7 +7,7 @@ use Rattle.sub_io.specs.Device.{RisesIf}
 use Rattle.sub_io.specs.Reading.{IfKnown}
 use Rattle.ttx_pes.specs.declared.fault.PesFault.TheVariants.{Read}
 use Rattle.stl_file.specs.Reader.{block_of_byte, findings_for}
-use Rattle.stl_rows.specs.EveryFault.{EndsSubtitleAfter, faults, is_told_before}
+use Rattle.stl_rows.specs.EveryFault.{EndsSubtitleAfter, faults, is_reported_before}
 use Rattle.stl_rows.specs.Judged.{JudgedValue, JudgesBy, judges, known}
 use Rattle.stl_rows.specs.Loading.{loaded}
 use Rattle.stl_rows.specs.Programme.{ProgrammeValue}
@@ -21,13 +21,13 @@ use Rattle.sub_check.specs.CheckedFiles.{IsChecked, IsCheckedBy, all_events_by}
 use Rattle.sub_check.specs.CheckedFiles.{events_of_first_by, first_answer, frames_read}
 use Rattle.sub_checker.specs.ReadCounts.{CountsRead}
 use Rattle.sub_rules.specs.Fault.{is_failure, is_subtitle_fault}
-use Rattle.sub_rules.specs.Pieces.{FailsAtPiece, piece_file_of}
+use Rattle.sub_rules.specs.PesPackets.{FailsAtPesPacket, pes_packet_file_of}
 use Rattle.sub_checker.specs.declared.accepted.Accepted.{Accepted}
 use Rattle.sub_rules.specs.declared.event.Event.{Event}
 use Rattle.sub_rules.specs.declared.fault.CheckFault.{CheckFault}
 use Rattle.sub_rules.specs.declared.fault.CheckFault.TheVariants.{Pes, Subtitles}
 use Rattle.sub_listing.specs.DeviceCall.{SinkCall, SourceCall}
-use Rattle.sub_answer.specs.BothFiles.{TellsSources, TellsStatus}
+use Rattle.sub_answer.specs.BothFiles.{ReportsSources, IsStatusOfFiles}
 use Rattle.sub_answer.specs.FaultListing.{all_listing}
 use Rattle.sub_listing.specs.EventLines.{event_lines, refusals, subtitle_events}
 use Rattle.sub_listing.specs.Faults.{load_line}
@@ -49,10 +49,10 @@ is_of_subtitles (Err f) = is_subtitle_fault f
 -- allocation was refused, it was for a subtitle that ends there, which has no event.
 abbrev pub AreListedBefore : Drawing → List ℕ → List Event → ℕ → LoadFaultKind → Type 0
 AreListedBefore drawing file events block (File stl_fault.Read) =
-    events ≡ subtitle_events (filter (is_told_before block) (faults drawing file))
+    events ≡ subtitle_events (filter (is_reported_before block) (faults drawing file))
 AreListedBefore drawing file events block Memory =
-    (events ≡ subtitle_events (filter (is_told_before block) (faults drawing file)))
-    × EndsSubtitleAfter drawing None (filter (is_told_before block) (faults drawing file)) block
+    (events ≡ subtitle_events (filter (is_reported_before block) (faults drawing file)))
+    × EndsSubtitleAfter drawing None (filter (is_reported_before block) (faults drawing file)) block
     (findings_for drawing.scope file)
 AreListedBefore drawing file events block kind = ⊥
 
@@ -64,7 +64,7 @@ AreListedOfPes judged options bytes events (Ok a) =
     (events ≡ all_events_by judged options bytes)
     × CountsRead options.page (frames_read options bytes) a
 AreListedOfPes judged options bytes events (Err n) =
-    (n ≤ length (piece_file_of (clock_of options) bytes).pieces)
+    (n ≤ length (pes_packet_file_of (clock_of options) bytes).pes_packets)
     × (events ≡ events_of_first_by judged options bytes n)
 
 -- The events of both files, if a transmission can be judged by the subtitle file: all faults of
@@ -137,7 +137,7 @@ read_answer (Err n) = Err (Pes n Read)
 
 -- The events of the PES file reported to a printer, and the answer, which is the given one unless
 -- its sink failed.
-pub record TellsPes
+pub record ReportsPes
     (judged : JudgedValue) (options : OptionsValue) (pes : SourceCall) (first : FirstNumber)
     (old new : PrinterValue) (given : Result (Option Accepted) CheckFault)
     : Type 0 where
@@ -148,7 +148,7 @@ pub record TellsPes
   pub starts : StartsAt first pes number
   pub prints : PrintsEvents (record old { first = number }) events new
   pub count : RisesIf pes.old_count (is_err answer) pes.new_count
-  pub read : (n : ℕ) → answer ≡ Err n → FailsAtPiece n pes.known pes.left
+  pub read : (n : ℕ) → answer ≡ Err n → FailsAtPesPacket n pes.known pes.left
   pub cut : new.failed ≡ true → IsOk answer
   -- If no subtitle was refused, the first event decides the answer of `check`.
   pub checked :
@@ -163,15 +163,16 @@ pub record TellsPes
 -- What the answer says about the sources of both files: a failure is reported at the block that was
 -- being read, or at the PES packet in which it happened. If the subtitle file is refused or can't
 -- be read, no PES byte is read.
-abbrev pub TellsBothSources :
+abbrev pub ReportsBothSources :
     SourceCall → SourceCall → Type 0 → Result (Option Accepted) CheckFault → Type 0
-TellsBothSources stl pes Untouched answer =
-    TellsSources (FailsAtBlock stl.known stl.left) (λ index. FailsAtPiece index pes.known pes.left)
+ReportsBothSources stl pes Untouched answer =
+    ReportsSources (FailsAtBlock stl.known stl.left) (λ index. FailsAtPesPacket index pes.known
+    pes.left)
     Untouched (is_of_subtitles answer) stl pes answer
 
 -- The events of both files reported to a printer, and the answer, which is the given one unless
 -- its sink failed.
-pub record TellsBoth
+pub record ReportsBoth
     (drawing : Drawing) (options : OptionsValue) (stl pes : SourceCall) (first : FirstNumber)
     (Untouched : Type 0) (old new : PrinterValue) (given : Result (Option Accepted) CheckFault)
     : Type 0 where
@@ -181,7 +182,7 @@ pub record TellsBoth
   pub number : ℕ
   pub starts : is_of_subtitles answer ≡ false → StartsAt first pes number
   pub prints : PrintsEvents (record old { first = number }) events new
-  pub sources : TellsBothSources stl pes Untouched answer
+  pub sources : ReportsBothSources stl pes Untouched answer
   pub ended : IfErr answer (λ f. is_failure f ≡ true)
   pub cut : new.failed ≡ true → IsOk answer
   pub unjudged :
@@ -210,7 +211,7 @@ pub record AnswersAll
   -- The lines of the events and the last line are printed, or `out` failed and has a prefix of
   -- them.
   pub printed : PrintsOrFails out (all_listing number events answer) status
-  pub sources : TellsBothSources stl pes Untouched answer
+  pub sources : ReportsBothSources stl pes Untouched answer
   -- If the bytes of the files are known, they decide the events.
   pub listed :
       IfKnown stl.known (λ file. AreListed drawing options file pes.known events answer)
@@ -226,5 +227,6 @@ pub record AnswersAll
       → IfKnown stl.known (λ file.
       IfKnown pes.known (λ bytes. IsVerdict drawing options file bytes events answer))
   pub ends :
-      TellsStatus drawing options stl pes out (PrintsMemoryLast drawing stl.known out.old out.new)
+      IsStatusOfFiles drawing options stl pes out (PrintsMemoryLast drawing stl.known out.old
+      out.new)
       status

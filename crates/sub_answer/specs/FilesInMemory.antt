@@ -5,7 +5,7 @@ use Rattle.sub_io.specs.Memory.{Written}
 use Rattle.stl_rows.specs.Layout.{drawing_within}
 use Rattle.sub_request.specs.declared.request.Request.{Request}
 use Rattle.sub_request.specs.declared.request.Request.TheVariants as ask
-use Rattle.sub_files.specs.FileCalls.{CallsInTurn}
+use Rattle.sub_files.specs.FileCalls.{CallsInOrder}
 use Rattle.sub_files.specs.MemoryFiles.{IsMemoryCall, MemFilesValue, bytes_at}
 use Rattle.sub_check.specs.CheckedFiles.{IsAcceptedBy}
 use Rattle.sub_listing.specs.declared.status.Status.{Status}
@@ -21,15 +21,15 @@ known_of_memory =
 
 -- The status of a check is `Done` exactly if the bytes of the subtitle file that it names, and
 -- those that it reads of the PES file, are accepted.
-abbrev pub TellsAccepted : Request → MemFilesValue → Status → Type 0
-TellsAccepted (ask.Check stl pes options national layout scope all) files status =
+abbrev pub DecidesAccepted : Request → MemFilesValue → Status → Type 0
+DecidesAccepted (ask.Check stl pes options national layout scope all) files status =
     (subtitles bytes read : List ℕ)
     → bytes_at stl.now files ≡ Some subtitles
     → bytes_at pes.name.now files ≡ Some bytes
     → through_range pes.range (through_stream pes.stream (Some bytes)) ≡ Some read
     → (status ≡ Done)
     ↔ IsAcceptedBy (drawing_within national layout scope) options subtitles read
-TellsAccepted _ files status = ⊤
+DecidesAccepted _ files status = ⊤
 
 -- If a request was answered with files in memory, as `open_and_answer` says, whatever standard
 -- output is, its status says this, unless output fails or an allocation is refused. So the clauses
@@ -37,7 +37,7 @@ TellsAccepted _ files status = ⊤
 abbrev pub LawOfFilesInMemory : (Lines → Type 0) → Type 0
 LawOfFilesInMemory IsAlone =
     (request : Request) (before after : MemFilesValue) (old new : Lines) (status : Status)
-    → Ends (CallsInTurn IsMemoryCall before after) known_of_memory (λ was is. is ≡ was) request
+    → Ends (CallsInOrder IsMemoryCall before after) known_of_memory (λ was is. is ≡ was) request
     IsAlone old new status
     → status ≢ Fault
-    → TellsAccepted request before status
+    → DecidesAccepted request before status

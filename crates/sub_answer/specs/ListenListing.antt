@@ -7,7 +7,7 @@ use Rattle.sub_listen.specs.Run.{HearsFile}
 use Rattle.sub_rules.specs.Transmission.{Transmission}
 use Rattle.sub_request.specs.declared.listening.Listening.{Listening}
 use Rattle.sub_listen.specs.declared.listening.ListenFault.{ListenFault}
-use Rattle.sub_listing.specs.DisplayLines.{IsSeenWhole, display_text}
+use Rattle.sub_listing.specs.DisplayLines.{IsSeenComplete, display_text}
 use Rattle.sub_listing.specs.Faults.{check_line}
 use Rattle.sub_listing.specs.Listing.{Listing, done, fault_listing}
 use Rattle.sub_listing.specs.FaultLine.{line_as, counted_from}
@@ -54,4 +54,4 @@ pub record Listens
   pub hears :
       HearsFile leaves l frames unread known left l.options.page (tuned_with old_page) end result
   pub listing_is : listing ≡ listing_of first l.options.asks_complete end result
-  pub page_is : IfOk result (λ _. IsSeenWhole l.options.asks_complete end)
+  pub page_is : IfOk result (λ _. IsSeenComplete l.options.asks_complete end)

@@ -15,7 +15,7 @@ pub record EndsInFault (text : List ℕ) : Type 0 where
   pub before : List ℕ
   pub fault : FaultLine
   pub is_fault : status_of fault.kind ≡ Fault
-  pub told : text ≡ before ++ line_of fault
+  pub reported : text ≡ before ++ line_of fault
 
 -- Lines were printed, all of them or, if the sink failed, a prefix. With `Done` they are those of
 -- the recording, surveyed as requested. Otherwise the status is `Fault`, and unless the sink

@@ -9,15 +9,17 @@ mod listen;
 mod survey;
 
 ghost use Rattle.std.specs.Prelude.{◌≡◌, ◌<◌, false};
-ghost use Rattle.sub_answer.specs.Answering.{Answers, AnswersOver, CountsFaults, HandsOnBefore};
-ghost use Rattle.sub_answer.specs.Answering.{HandsOnWritten, WritesBefore, drawing_of, pieces_call};
-ghost use Rattle.sub_answer.specs.Answering.{StoresWritten, reads_pieces, reads_some_pieces};
-ghost use Rattle.sub_answer.specs.Answering.{reads_source, whole_call};
+ghost use Rattle.sub_answer.specs.Answering.{Answers, AnswersOver, CountsFaults, FlushesBefore};
+ghost use Rattle.sub_answer.specs.Answering.{FlushesWritten, WritesBefore, drawing_of};
+ghost use Rattle.sub_answer.specs.Answering.{pes_packets_call};
+ghost use Rattle.sub_answer.specs.Answering.{StoresWritten, reads_pes_packets};
+ghost use Rattle.sub_answer.specs.Answering.{reads_some_pes_packets};
+ghost use Rattle.sub_answer.specs.Answering.{reads_source, entire_call};
 ghost use Rattle.sub_listing.specs.DeviceCall.{CanFail, CountsFault, read_call, sink_call};
 ghost use Rattle.sub_listing.specs.DeviceCall.{source_call};
 ghost use Rattle.sub_listing.specs.Faults.{usage_line};
 ghost use Rattle.sub_request.specs.Files.{files_of, reads_one, reads_two, writes_one};
-ghost use Rattle.sub_listing.specs.LastLine.{HoldsLastLine};
+ghost use Rattle.sub_listing.specs.LastLine.{BuffersLastLineOnly};
 ghost use Rattle.sub_listing.specs.Listing.{PrintsOrFails, fault_listing};
 
 use check::print_verdict;
@@ -33,7 +35,7 @@ use sub_listing::{
 };
 use sub_request::{Request, UsageFault};
 use survey::print_survey;
-use ttx_pes::{FilePieces, NumberedPieces};
+use ttx_pes::{FilePesPackets, NumberedPesPackets};
 
 /// Answers a request that `Request::parse` returned.
 ///
@@ -56,8 +58,8 @@ pub fn answer<S: Source, T: Source, F: Close, K: Flush>(
 
     // The output and the written file, command by command.
     ensures answers { Answers request.now
-        (whole_call S.remaining S.failure_count first.old first.new)
-        (whole_call T.remaining T.failure_count second.old second.new)
+        (entire_call S.remaining S.failure_count first.old first.new)
+        (entire_call T.remaining T.failure_count second.old second.new)
         (second.new ≡ second.old)
         (sink_call F.contents F.failure_count file.old file.new)
         (sink_call K.contents K.failure_count out.old out.new) result }
@@ -76,35 +78,35 @@ pub fn answer<S: Source, T: Source, F: Close, K: Flush>(
         (sink_call K.contents K.failure_count out.old out.new) result }
 
     // If the status is `Done`, an output file holds no byte back, and is stored.
-    ensures held { HandsOnWritten request.now result (F.held file.new) }
+    ensures buffered { FlushesWritten request.now result (F.buffered file.new) }
     ensures stored { StoresWritten request.now result (F.is_stored file.new) }
 
     // Before the source of the PES file or recording may ask its device, which may fail, all output
     // has reached the device of `out`. So if it failed, only the line of its failure may be held
     // back.
-    ensures followed { K.held out.old ≡ 0 → HandsOnBefore request.now
+    ensures followed { K.buffered out.old ≡ 0 → FlushesBefore request.now
         (S.failure_count first.old < S.failure_count first.new)
         (T.failure_count second.old < T.failure_count second.new)
-        (HoldsLastLine K.contents K.held K.is_push out.new) }
+        (BuffersLastLineOnly K.contents K.buffered K.is_push out.new) }
 
     // Before the source of a recording may ask its device, everything written has reached the
     // device of `file`.
-    ensures written { F.held file.old ≡ 0 → WritesBefore request.now
-        (S.failure_count first.old < S.failure_count first.new) (F.held file.new ≡ 0) }
+    ensures written { F.buffered file.old ≡ 0 → WritesBefore request.now
+        (S.failure_count first.old < S.failure_count first.new) (F.buffered file.new ≡ 0) }
 {
-    if reads_pieces(request) {
+    if reads_pes_packets(request) {
         let mut nothing = MemSource::new(&[]);
-        let mut pieces = FilePieces::new(first);
-        return answer_over(alloc, request, &mut nothing, &mut pieces, file, out);
+        let mut pes_packets = FilePesPackets::new(first);
+        return answer_over(alloc, request, &mut nothing, &mut pes_packets, file, out);
     }
-    let mut pieces = FilePieces::new(second);
-    answer_over(alloc, request, first, &mut pieces, file, out)
+    let mut pes_packets = FilePesPackets::new(second);
+    answer_over(alloc, request, first, &mut pes_packets, file, out)
 }
 
 /// Returns whether the first input of a request gives PES packets: they are listed, received or
 /// written.
-pub fn reads_pieces(request: &Request<'_>) -> bool
-    ensures { result ≡ reads_pieces request.now }
+pub fn reads_pes_packets(request: &Request<'_>) -> bool
+    ensures { result ≡ reads_pes_packets request.now }
 {
     match request {
         Request::Packets { .. } | Request::Listen { .. } | Request::Extract { .. } => true,
@@ -118,7 +120,7 @@ pub fn reads_pieces(request: &Request<'_>) -> bool
 /// `first` is the subtitle file, or the recording that is surveyed, and `pes` gives the PES packets
 /// that are listed, received, checked or written. Devices that the request does not name are not
 /// used. Returns `Fault` if a device failed or memory ran out; what was printed before stays.
-pub fn answer_over<S: Source, P: NumberedPieces, F: Close, K: Flush>(
+pub fn answer_over<S: Source, P: NumberedPesPackets, F: Close, K: Flush>(
     alloc: Global,
     request: &Request<'_>,
     first: &mut S,
@@ -134,17 +136,18 @@ pub fn answer_over<S: Source, P: NumberedPieces, F: Close, K: Flush>(
     // The output and the written file, command by command, and what is flushed before a source has
     // to wait.
     ensures answers { AnswersOver request.now
-        (whole_call S.remaining S.failure_count first.old first.new)
-        (pieces_call P.remaining P.left P.failure_count P.first P.passed pes.old pes.new)
+        (entire_call S.remaining S.failure_count first.old first.new)
+        (pes_packets_call P.remaining P.left P.failure_count P.first P.skipped pes.old pes.new)
         (pes.new ≡ pes.old)
         (sink_call F.contents F.failure_count file.old file.new)
         (sink_call K.contents K.failure_count out.old out.new)
-        (F.held file.old ≡ 0 → F.held file.new ≡ 0)
-        (K.held out.old ≡ 0 → HoldsLastLine K.contents K.held K.is_push out.new) result }
+        (F.buffered file.old ≡ 0 → F.buffered file.new ≡ 0)
+        (K.buffered out.old ≡ 0 → BuffersLastLineOnly K.contents K.buffered K.is_push out.new)
+        result }
 
     // Devices that are not named stay as they are.
     ensures first { reads_source request.now ≡ false → first.new ≡ first.old }
-    ensures pes { reads_some_pieces request.now ≡ false → pes.new ≡ pes.old }
+    ensures pes { reads_some_pes_packets request.now ≡ false → pes.new ≡ pes.old }
     ensures device { P.device pes.new ≡ P.device pes.old }
     ensures file { writes_one (files_of request.now) ≡ false → file.new ≡ file.old }
 
@@ -156,7 +159,7 @@ pub fn answer_over<S: Source, P: NumberedPieces, F: Close, K: Flush>(
         (sink_call K.contents K.failure_count out.old out.new) result }
 
     // If the status is `Done`, an output file holds no byte back, and is stored.
-    ensures held { HandsOnWritten request.now result (F.held file.new) }
+    ensures buffered { FlushesWritten request.now result (F.buffered file.new) }
     ensures stored { StoresWritten request.now result (F.is_stored file.new) }
 {
     let drawing = drawing_of(request);

@@ -3,21 +3,22 @@
 //!
 //! Functions of their own pass an empty device for each one that the request does not name.
 ghost use Rattle.std.specs.Prelude.{◌≡◌, ⊤, false, true, []};
-ghost use Rattle.sub_io.specs.Buffered.{HandsOn, failures_and_refused};
+ghost use Rattle.sub_io.specs.Buffered.{Flushes, failures_and_refused};
 ghost use Rattle.sub_io.specs.Device.{CanFail};
-ghost use Rattle.sub_answer.specs.Answering.{StoresWritten, first_input, pieces_call};
-ghost use Rattle.sub_answer.specs.Answering.{reads_pieces, whole_call};
-ghost use Rattle.sub_answer.specs.Ending.{BufferHoldsLineAlone, EndsWith, HandsOnBeside};
-ghost use Rattle.sub_answer.specs.Ending.{HoldsLineAlone, HoldsNothing, IsClosedAfter};
-ghost use Rattle.sub_answer.specs.Ending.{IsEmptyFile, IsEmptySource, Says, lines_in, lines_of};
+ghost use Rattle.sub_answer.specs.Answering.{StoresWritten, first_input, pes_packets_call};
+ghost use Rattle.sub_answer.specs.Answering.{reads_pes_packets, entire_call};
+ghost use Rattle.sub_answer.specs.Ending.{BufferHoldsOneLineOnly, EndsWith, FlushesWithFile};
+ghost use Rattle.sub_answer.specs.Ending.{BuffersOneLineOnly, BuffersNothing, IsClosedAfter};
+ghost use Rattle.sub_answer.specs.Ending.{IsEmptyFile, IsEmptySource, PrintsFault, lines_in};
+ghost use Rattle.sub_answer.specs.Ending.{lines_of};
 
 use crate::answering::{answer_over, say};
-use crate::handing_on::{HandOn, hand_on_all};
+use crate::flushing::{FlushPending, flush_all};
 use std::alloc::Global;
 use sub_io::{BufferedSink, Close, MemSink, MemSource, Sink, Source};
 use sub_listing::Status;
 use sub_request::{Request, UsageFault};
-use ttx_pes::{FilePieces, NumberedPieces};
+use ttx_pes::{FilePesPackets, NumberedPesPackets};
 
 /// Answers a request that reads no file.
 pub fn answer_alone<K: Sink>(
@@ -27,17 +28,17 @@ pub fn answer_alone<K: Sink>(
 ) -> Status
     requires { failures_and_refused (K.failure_count out.old.device) out.old.refused ≡ 0 }
     ensures { EndsWith request.now IsEmptySource IsEmptySource ⊤ IsEmptyFile
-        (BufferHoldsLineAlone K.contents K.failure_count K.is_push)
+        (BufferHoldsOneLineOnly K.contents K.failure_count K.is_push)
         (lines_of K.contents K.failure_count out.old)
         (lines_of K.contents K.failure_count out.new) result }
 {
     let (mut first, mut nothing) = (MemSource::new(&[]), MemSource::new(&[]));
-    let mut pes = FilePieces::new(&mut nothing);
+    let mut pes = FilePesPackets::new(&mut nothing);
     answer_pair(alloc, request, &mut first, &mut pes, out)
 }
 
 /// Answers a request that reads a source, and the PES packets of another one.
-pub fn answer_pair<S: Source, P: NumberedPieces, K: Sink>(
+pub fn answer_pair<S: Source, P: NumberedPesPackets, K: Sink>(
     alloc: Global,
     request: &Request<'_>,
     first: &mut S,
@@ -49,82 +50,82 @@ pub fn answer_pair<S: Source, P: NumberedPieces, K: Sink>(
     requires out { failures_and_refused (K.failure_count out.old.device) out.old.refused ≡ 0 }
     ensures ends { EndsWith request.now
         (λ input. input ≡ first_input request.now
-        (whole_call S.remaining S.failure_count first.old first.new)
-        (pieces_call P.remaining P.left P.failure_count P.first P.passed pes.old pes.new))
+        (entire_call S.remaining S.failure_count first.old first.new)
+        (pes_packets_call P.remaining P.left P.failure_count P.first P.skipped pes.old pes.new))
         (λ input. input
-        ≡ pieces_call P.remaining P.left P.failure_count P.first P.passed pes.old pes.new)
+        ≡ pes_packets_call P.remaining P.left P.failure_count P.first P.skipped pes.old pes.new)
         (pes.new ≡ pes.old) IsEmptyFile
-        (BufferHoldsLineAlone K.contents K.failure_count K.is_push)
+        (BufferHoldsOneLineOnly K.contents K.failure_count K.is_push)
         (lines_of K.contents K.failure_count out.old)
         (lines_of K.contents K.failure_count out.new) result }
     ensures device { P.device pes.new ≡ P.device pes.old }
 {
     let (mut nowhere, mut room) = ([0; 0], [0; 1]);
     let mut file = BufferedSink::new(MemSink::new(&mut nowhere), &mut room);
-    answer_and_hand_on(alloc, request, first, pes, &mut file, out)
+    answer_and_flush(alloc, request, first, pes, &mut file, out)
 }
 
 /// Answers a request that reads a source and no PES packets, and may write a file.
-pub fn answer_source<S: Source, F: Close, O: HandOn<F>>(
+pub fn answer_source<S: Source, F: Close, O: FlushPending<F>>(
     alloc: Global,
     request: &Request<'_>,
     first: &mut S,
     file: &mut BufferedSink<'_, F>,
     out: &mut O,
 ) -> Status
-    requires reads { reads_pieces request.now ≡ false }
+    requires reads { reads_pes_packets request.now ≡ false }
     requires first { CanFail (S.failure_count first.old) }
     requires file { (failures_and_refused (F.failure_count file.old.device) file.old.refused ≡ 0)
-        × (file.old.held ≡ []) }
+        × (file.old.buffered ≡ []) }
     requires out { O.failure_count out.old ≡ 0 }
     ensures closed { F.is_closed file.new.device ≡ true }
-    ensures after { HandsOnBeside O.is_handed_on file.new out.new result }
+    ensures after { FlushesWithFile O.is_flushed file.new out.new result }
     ensures ends { EndsWith request.now
-        (λ input. input ≡ whole_call S.remaining S.failure_count first.old first.new)
+        (λ input. input ≡ entire_call S.remaining S.failure_count first.old first.new)
         IsEmptySource ⊤
         (IsClosedAfter F.contents F.failure_count F.is_close request.now file.old file.new)
-        (HoldsLineAlone O.contents O.held_back O.failure_count O.is_push)
-        (lines_in O.contents O.held_back O.failure_count out.old)
-        (lines_in O.contents O.held_back O.failure_count out.new) result }
-    ensures done { result ≡ Status.Done → HandsOn F.failure_count file.old file.new
-        × HoldsNothing O.held_back O.failure_count out.old out.new }
+        (BuffersOneLineOnly O.contents O.buffer_state O.failure_count O.is_push)
+        (lines_in O.contents O.buffer_state O.failure_count out.old)
+        (lines_in O.contents O.buffer_state O.failure_count out.new) result }
+    ensures done { result ≡ Status.Done → Flushes F.failure_count file.old file.new
+        × BuffersNothing O.buffer_state O.failure_count out.old out.new }
     ensures stored { StoresWritten request.now result (F.is_stored file.new.device) }
 {
     let mut nothing = MemSource::new(&[]);
-    let mut pes = FilePieces::new(&mut nothing);
-    answer_and_hand_on(alloc, request, first, &mut pes, file, out)
+    let mut pes = FilePesPackets::new(&mut nothing);
+    answer_and_flush(alloc, request, first, &mut pes, file, out)
 }
 
 /// Answers a request that reads only PES packets, and may write a file.
-pub fn answer_pieces<P: NumberedPieces, F: Close, O: HandOn<F>>(
+pub fn answer_pes_packets<P: NumberedPesPackets, F: Close, O: FlushPending<F>>(
     alloc: Global,
     request: &Request<'_>,
     pes: &mut P,
     file: &mut BufferedSink<'_, F>,
     out: &mut O,
 ) -> Status
-    requires reads { reads_pieces request.now ≡ true }
+    requires reads { reads_pes_packets request.now ≡ true }
     requires pes { CanFail (P.failure_count pes.old) }
     requires file { (failures_and_refused (F.failure_count file.old.device) file.old.refused ≡ 0)
-        × (file.old.held ≡ []) }
+        × (file.old.buffered ≡ []) }
     requires out { O.failure_count out.old ≡ 0 }
     ensures closed { F.is_closed file.new.device ≡ true }
-    ensures after { HandsOnBeside O.is_handed_on file.new out.new result }
+    ensures after { FlushesWithFile O.is_flushed file.new out.new result }
     ensures ends { EndsWith request.now
         (λ input. input
-        ≡ pieces_call P.remaining P.left P.failure_count P.first P.passed pes.old pes.new)
+        ≡ pes_packets_call P.remaining P.left P.failure_count P.first P.skipped pes.old pes.new)
         IsEmptySource ⊤
         (IsClosedAfter F.contents F.failure_count F.is_close request.now file.old file.new)
-        (HoldsLineAlone O.contents O.held_back O.failure_count O.is_push)
-        (lines_in O.contents O.held_back O.failure_count out.old)
-        (lines_in O.contents O.held_back O.failure_count out.new) result }
+        (BuffersOneLineOnly O.contents O.buffer_state O.failure_count O.is_push)
+        (lines_in O.contents O.buffer_state O.failure_count out.old)
+        (lines_in O.contents O.buffer_state O.failure_count out.new) result }
     ensures device { P.device pes.new ≡ P.device pes.old }
-    ensures done { result ≡ Status.Done → HandsOn F.failure_count file.old file.new
-        × HoldsNothing O.held_back O.failure_count out.old out.new }
+    ensures done { result ≡ Status.Done → Flushes F.failure_count file.old file.new
+        × BuffersNothing O.buffer_state O.failure_count out.old out.new }
     ensures stored { StoresWritten request.now result (F.is_stored file.new.device) }
 {
     let mut nothing = MemSource::new(&[]);
-    answer_and_hand_on(alloc, request, &mut nothing, pes, file, out)
+    answer_and_flush(alloc, request, &mut nothing, pes, file, out)
 }
 
 // Answers a request with these devices, closes the file as the answer left it, and then flushes the
@@ -132,7 +133,7 @@ pub fn answer_pieces<P: NumberedPieces, F: Close, O: HandOn<F>>(
 //
 // If the status is 0, nothing is held back of the file or the lines, and no call of either sink has
 // failed: the devices behind them have all bytes, and an output file is stored.
-fn answer_and_hand_on<S: Source, P: NumberedPieces, F: Close, O: HandOn<F>>(
+fn answer_and_flush<S: Source, P: NumberedPesPackets, F: Close, O: FlushPending<F>>(
     alloc: Global,
     request: &Request<'_>,
     first: &mut S,
@@ -143,38 +144,38 @@ fn answer_and_hand_on<S: Source, P: NumberedPieces, F: Close, O: HandOn<F>>(
     requires first { CanFail (S.failure_count first.old) }
     requires pes { CanFail (P.failure_count pes.old) }
     requires file { (failures_and_refused (F.failure_count file.old.device) file.old.refused ≡ 0)
-        × (file.old.held ≡ []) }
+        × (file.old.buffered ≡ []) }
     requires out { O.failure_count out.old ≡ 0 }
     ensures ends { EndsWith request.now
         (λ input. input ≡ first_input request.now
-        (whole_call S.remaining S.failure_count first.old first.new)
-        (pieces_call P.remaining P.left P.failure_count P.first P.passed pes.old pes.new))
+        (entire_call S.remaining S.failure_count first.old first.new)
+        (pes_packets_call P.remaining P.left P.failure_count P.first P.skipped pes.old pes.new))
         (λ input. input
-        ≡ pieces_call P.remaining P.left P.failure_count P.first P.passed pes.old pes.new)
+        ≡ pes_packets_call P.remaining P.left P.failure_count P.first P.skipped pes.old pes.new)
         (pes.new ≡ pes.old)
         (IsClosedAfter F.contents F.failure_count F.is_close request.now file.old file.new)
-        (HoldsLineAlone O.contents O.held_back O.failure_count O.is_push)
-        (lines_in O.contents O.held_back O.failure_count out.old)
-        (lines_in O.contents O.held_back O.failure_count out.new) result }
+        (BuffersOneLineOnly O.contents O.buffer_state O.failure_count O.is_push)
+        (lines_in O.contents O.buffer_state O.failure_count out.old)
+        (lines_in O.contents O.buffer_state O.failure_count out.new) result }
     ensures device { P.device pes.new ≡ P.device pes.old }
-    ensures done { result ≡ Status.Done → HandsOn F.failure_count file.old file.new
-        × HoldsNothing O.held_back O.failure_count out.old out.new }
+    ensures done { result ≡ Status.Done → Flushes F.failure_count file.old file.new
+        × BuffersNothing O.buffer_state O.failure_count out.old out.new }
     ensures stored { StoresWritten request.now result (F.is_stored file.new.device) }
     ensures closed { F.is_closed file.new.device ≡ true }
     // The lines were flushed when the file was in its last state, and so after it was closed.
-    ensures after { HandsOnBeside O.is_handed_on file.new out.new result }
+    ensures after { FlushesWithFile O.is_flushed file.new out.new result }
 {
     let status = answer_over(alloc, request, first, pes, file, out);
     file.close();
-    out.hand_on(status, file)
+    out.flush_pending(status, file)
 }
 
 /// Prints the line of a fault if no request is answered, and flushes it.
-pub fn say_and_hand_on<K: Sink>(fault: &UsageFault, out: &mut BufferedSink<'_, K>) -> Status
+pub fn say_and_flush<K: Sink>(fault: &UsageFault, out: &mut BufferedSink<'_, K>) -> Status
     requires { failures_and_refused (K.failure_count out.old.device) out.old.refused ≡ 0 }
-    ensures says { Says fault.now (lines_of K.contents K.failure_count out.old)
+    ensures says { PrintsFault fault.now (lines_of K.contents K.failure_count out.old)
         (lines_of K.contents K.failure_count out.new) result }
     ensures status { result ≡ Status.Fault }
 {
-    hand_on_all(say(fault, out), out)
+    flush_all(say(fault, out), out)
 }

@@ -1,7 +1,7 @@
 //! The clauses about runs with files apply to files whose bytes are known.
 //!
 //! The function does nothing: its contract is a law about the definitions of `specs/`.
-ghost use Rattle.sub_answer.specs.Ending.{BufferHoldsLineAlone};
+ghost use Rattle.sub_answer.specs.Ending.{BufferHoldsOneLineOnly};
 ghost use Rattle.sub_answer.specs.FilesInMemory.{LawOfFilesInMemory};
 
 use sub_io::Sink;
@@ -10,5 +10,5 @@ use sub_io::Sink;
 /// accepted, unless output fails or an allocation is refused.
 pub fn law_of_files_in_memory<K: Sink>()
     ensures { LawOfFilesInMemory
-        (BufferHoldsLineAlone K.contents K.failure_count K.is_push) }
+        (BufferHoldsOneLineOnly K.contents K.failure_count K.is_push) }
 {}

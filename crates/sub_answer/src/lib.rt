@@ -13,14 +13,14 @@
 
 mod answering;
 mod ending;
-mod handing_on;
+mod flushing;
 mod laws;
 mod over_files;
 mod part;
 mod parts;
 
 pub use answering::{answer, answer_over, say};
-pub use ending::say_and_hand_on;
+pub use ending::say_and_flush;
 pub use laws::law_of_files_in_memory;
 pub use over_files::open_and_answer;
 pub use sub_listing::{InputFault, Status, read_input};

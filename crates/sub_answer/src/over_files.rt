@@ -3,16 +3,16 @@
 ghost use Rattle.std.specs.Prelude.{◌≡◌, ◌⊎◌, ◌≤◌, ⊤, IfErr, IfOk, None, Some, false, length, true};
 ghost use Rattle.sub_io.specs.Buffered.{failures_and_refused};
 ghost use Rattle.sub_request.specs.Files.{files_of};
-ghost use Rattle.sub_files.specs.FileCalls.{CallsInTurn};
+ghost use Rattle.sub_files.specs.FileCalls.{CallsInOrder};
 ghost use Rattle.sub_files.specs.Opening.{AreUnused, IsUnopened};
-ghost use Rattle.sub_answer.specs.Answering.{reads_pieces};
-ghost use Rattle.sub_answer.specs.Ending.{BufferHoldsLineAlone, Ends, EndsAndLetsGo, EndsWith};
+ghost use Rattle.sub_answer.specs.Answering.{reads_pes_packets};
+ghost use Rattle.sub_answer.specs.Ending.{BufferHoldsOneLineOnly, Ends, EndsAndLetsGo, EndsWith};
 ghost use Rattle.sub_answer.specs.Ending.{Fits, IsEmptyFile, IsEmptySource, devices_of};
 ghost use Rattle.sub_answer.specs.Ending.{known_of_files, lines_of, source_and_file, sources};
 ghost use Rattle.sub_answer.specs.Part as specs;
 
 use crate::ending::{answer_alone, answer_source};
-use crate::part::{Part, part_asked, whole_file};
+use crate::part::{Part, entire_file, part_requested};
 use crate::parts::{answer_part, answer_second_part};
 use std::alloc::Global;
 use sub_files::{CreatedFile, FileSystem, Opened, PesFile, StlFile, open, room, size_of_rooms};
@@ -35,15 +35,15 @@ pub fn open_and_answer<D: FileSystem, K: Sink>(
     out: &mut BufferedSink<'_, K>,
 ) -> Result<Status, UsageFault>
     requires { failures_and_refused (K.failure_count out.old.device) out.old.refused ≡ 0 }
-    ensures ends { IfOk result (Ends (CallsInTurn D.is_call files.old files.new)
+    ensures ends { IfOk result (Ends (CallsInOrder D.is_call files.old files.new)
         (known_of_files D.Input.remaining D.Input.failure_count
         D.Output.contents D.Output.failure_count D.Output.is_stored)
         D.Output.is_close request.now
-        (BufferHoldsLineAlone K.contents K.failure_count K.is_push)
+        (BufferHoldsOneLineOnly K.contents K.failure_count K.is_push)
         (lines_of K.contents K.failure_count out.old)
         (lines_of K.contents K.failure_count out.new)) }
     ensures unanswered { IfErr result (λ _. out.new ≡ out.old) }
-    ensures fault { IfErr result (IsUnopened (CallsInTurn D.is_call files.old files.new)
+    ensures fault { IfErr result (IsUnopened (CallsInOrder D.is_call files.old files.new)
         (files_of request.now)) }
 {
     let names = request.files();
@@ -73,22 +73,22 @@ fn answer_opened<D: FileSystem, K: Sink>(
     requires out { failures_and_refused (K.failure_count out.old.device) out.old.refused ≡ 0 }
     requires unused { AreUnused D.Input.failure_count D.Output.failure_count opened }
     requires fits { Fits (files_of request.now) opened }
-    ensures { EndsAndLetsGo (CallsInTurn D.is_call files.old files.new)
+    ensures { EndsAndLetsGo (CallsInOrder D.is_call files.old files.new)
         (known_of_files D.Input.remaining D.Input.failure_count
         D.Output.contents D.Output.failure_count D.Output.is_stored)
-        D.Output.is_close request.now (devices_of (specs.part_asked request.now) opened)
-        (BufferHoldsLineAlone K.contents K.failure_count K.is_push)
+        D.Output.is_close request.now (devices_of (specs.part_requested request.now) opened)
+        (BufferHoldsOneLineOnly K.contents K.failure_count K.is_push)
         (lines_of K.contents K.failure_count out.old)
         (lines_of K.contents K.failure_count out.new) result }
 {
     match opened {
         Opened::Nothing => read_nothing(alloc, request, out),
         Opened::ReadStl(stl) => {
-            let whole = whole_file();
+            let whole = entire_file();
             read_one(alloc, files, request, whole, stl.into_file(), rooms, out)
         }
         Opened::ReadPes(pes) => {
-            let part = part_asked(request);
+            let part = part_requested(request);
             read_one(alloc, files, request, part, pes.into_file(), rooms, out)
         }
         Opened::ReadBoth(stl, pes) => read_both(alloc, files, request, stl, pes, rooms, out),
@@ -109,7 +109,7 @@ fn read_nothing<K: Sink>(
 ) -> Status
     requires { failures_and_refused (K.failure_count out.old.device) out.old.refused ≡ 0 }
     ensures { EndsWith request.now IsEmptySource IsEmptySource ⊤ IsEmptyFile
-        (BufferHoldsLineAlone K.contents K.failure_count K.is_push)
+        (BufferHoldsOneLineOnly K.contents K.failure_count K.is_push)
         (lines_of K.contents K.failure_count out.old)
         (lines_of K.contents K.failure_count out.new) result }
 {
@@ -126,15 +126,15 @@ fn read_one<D: FileSystem, K: Sink>(
     room: &mut [u8],
     out: &mut BufferedSink<'_, K>,
 ) -> Status
-    requires fits { (part ≡ specs.whole_file) ⊎ (reads_pieces request.now ≡ true) }
+    requires fits { (part ≡ specs.entire_file) ⊎ (reads_pes_packets request.now ≡ true) }
     requires room { 2 ≤ length room.old }
     requires out { failures_and_refused (K.failure_count out.old.device) out.old.refused ≡ 0 }
     requires unused { D.Input.failure_count file ≡ 0 }
-    ensures { EndsAndLetsGo (CallsInTurn D.is_call files.old files.new)
+    ensures { EndsAndLetsGo (CallsInOrder D.is_call files.old files.new)
         (known_of_files D.Input.remaining D.Input.failure_count
         D.Output.contents D.Output.failure_count D.Output.is_stored)
         D.Output.is_close request.now (sources part (Some file) None)
-        (BufferHoldsLineAlone K.contents K.failure_count K.is_push)
+        (BufferHoldsOneLineOnly K.contents K.failure_count K.is_push)
         (lines_of K.contents K.failure_count out.old)
         (lines_of K.contents K.failure_count out.new) result }
 {
@@ -156,15 +156,15 @@ fn read_both<D: FileSystem, K: Sink>(
     rooms: &mut [u8],
     out: &mut BufferedSink<'_, K>,
 ) -> Status
-    requires reads { reads_pieces request.now ≡ false }
+    requires reads { reads_pes_packets request.now ≡ false }
     requires rooms { 2 ≤ length rooms.old }
     requires out { failures_and_refused (K.failure_count out.old.device) out.old.refused ≡ 0 }
     requires unused { (D.Input.failure_count stl ≡ 0) × (D.Input.failure_count pes ≡ 0) }
-    ensures { EndsAndLetsGo (CallsInTurn D.is_call files.old files.new)
+    ensures { EndsAndLetsGo (CallsInOrder D.is_call files.old files.new)
         (known_of_files D.Input.remaining D.Input.failure_count
         D.Output.contents D.Output.failure_count D.Output.is_stored)
-        D.Output.is_close request.now (sources specs.whole_file (Some stl) (Some pes))
-        (BufferHoldsLineAlone K.contents K.failure_count K.is_push)
+        D.Output.is_close request.now (sources specs.entire_file (Some stl) (Some pes))
+        (BufferHoldsOneLineOnly K.contents K.failure_count K.is_push)
         (lines_of K.contents K.failure_count out.old)
         (lines_of K.contents K.failure_count out.new) result }
 {
@@ -176,7 +176,7 @@ fn read_both<D: FileSystem, K: Sink>(
         alloc,
         request,
         &mut first,
-        part_asked(request),
+        part_requested(request),
         second,
         out,
     );
@@ -195,15 +195,15 @@ fn read_and_write<D: FileSystem, K: Sink>(
     rooms: &mut [u8],
     out: &mut BufferedSink<'_, K>,
 ) -> Status
-    requires reads { reads_pieces request.now ≡ false }
+    requires reads { reads_pes_packets request.now ≡ false }
     requires rooms { 2 ≤ length rooms.old }
     requires out { failures_and_refused (K.failure_count out.old.device) out.old.refused ≡ 0 }
     requires unused { (D.Input.failure_count stl ≡ 0) × (D.Output.failure_count output ≡ 0) }
-    ensures { EndsAndLetsGo (CallsInTurn D.is_call files.old files.new)
+    ensures { EndsAndLetsGo (CallsInOrder D.is_call files.old files.new)
         (known_of_files D.Input.remaining D.Input.failure_count
         D.Output.contents D.Output.failure_count D.Output.is_stored)
-        D.Output.is_close request.now (source_and_file specs.whole_file stl output)
-        (BufferHoldsLineAlone K.contents K.failure_count K.is_push)
+        D.Output.is_close request.now (source_and_file specs.entire_file stl output)
+        (BufferHoldsOneLineOnly K.contents K.failure_count K.is_push)
         (lines_of K.contents K.failure_count out.old)
         (lines_of K.contents K.failure_count out.new) result }
 {
@@ -227,16 +227,16 @@ fn read_and_extract<D: FileSystem, K: Sink>(
     rooms: &mut [u8],
     out: &mut BufferedSink<'_, K>,
 ) -> Status
-    requires reads { reads_pieces request.now ≡ true }
+    requires reads { reads_pes_packets request.now ≡ true }
     requires rooms { 2 ≤ length rooms.old }
     requires out { failures_and_refused (K.failure_count out.old.device) out.old.refused ≡ 0 }
     requires unused { (D.Input.failure_count recording ≡ 0) × (D.Output.failure_count output ≡ 0) }
-    ensures { EndsAndLetsGo (CallsInTurn D.is_call files.old files.new)
+    ensures { EndsAndLetsGo (CallsInOrder D.is_call files.old files.new)
         (known_of_files D.Input.remaining D.Input.failure_count
         D.Output.contents D.Output.failure_count D.Output.is_stored)
         D.Output.is_close request.now
-        (source_and_file (specs.part_asked request.now) recording output)
-        (BufferHoldsLineAlone K.contents K.failure_count K.is_push)
+        (source_and_file (specs.part_requested request.now) recording output)
+        (BufferHoldsOneLineOnly K.contents K.failure_count K.is_push)
         (lines_of K.contents K.failure_count out.old)
         (lines_of K.contents K.failure_count out.new) result }
 {
@@ -244,7 +244,7 @@ fn read_and_extract<D: FileSystem, K: Sink>(
     let (room, other) = rooms.split_at_mut(half);
     let first = BufferedSource::new(recording.into_file(), room);
     let mut file = BufferedSink::new(output.into_file(), other);
-    let part = part_asked(request);
+    let part = part_requested(request);
     let (status, first) = answer_part(alloc, request, part, first, &mut file, out);
     files.let_go_input(first.into_inner());
     files.let_go_output(file.into_inner());

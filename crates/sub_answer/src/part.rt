@@ -3,7 +3,7 @@ ghost use Rattle.std.specs.Prelude.{◌≡◌};
 ghost use Rattle.sub_answer.specs.Part as specs;
 
 use sub_request::{Request, TransportStream};
-use ttx_pes::PieceRange;
+use ttx_pes::PesPacketRange;
 
 /// The part of a file of PES packets, or of a recording, that is read.
 #[derive(Clone, Copy)]
@@ -11,12 +11,12 @@ pub struct Part {
     /// The transport packets that carry the PES packets; `None` if they are in the file directly.
     pub stream: Option<TransportStream>,
     /// The selected PES packets; `None` for all.
-    pub range: Option<PieceRange>,
+    pub range: Option<PesPacketRange>,
 }
 
 /// Returns the part that a request reads of its PES file or recording; the whole of any other file.
-pub fn part_asked(request: &Request<'_>) -> Part
-    ensures { result ≡ specs.part_asked request.now }
+pub fn part_requested(request: &Request<'_>) -> Part
+    ensures { result ≡ specs.part_requested request.now }
 {
     match request {
         Request::Packets { pes } => Part {
@@ -35,13 +35,13 @@ pub fn part_asked(request: &Request<'_>) -> Part
             stream: Some(*stream),
             range: None,
         },
-        _ => whole_file(),
+        _ => entire_file(),
     }
 }
 
 /// Returns the whole of a file that is no transport stream.
-pub fn whole_file() -> Part
-    ensures { result ≡ specs.whole_file }
+pub fn entire_file() -> Part
+    ensures { result ≡ specs.entire_file }
 {
     Part {
         stream: None,

@@ -1,6 +1,7 @@
 -- The events for the whole file decide the answers of `check`, `answered`, `accepted_none`,
--- `refused_first`, and of `check_all`, `checked_first`, `tells_events`. If no subtitle was refused:
--- `tells_known`.
+-- `refused_first`, and of `check_all`, `checked_first`, `reports_events`. If no subtitle was
+-- refused:
+-- `reports_known`.
 use Rattle.std.proofs.Common.{◌≡◌, ℕ, List, Option, Some, None}
 use Rattle.std.proofs.Common.{Result, Ok, Err, IfOk, false, refl}
 use Rattle.std.proofs.Common.{subst}
@@ -10,19 +11,19 @@ use Rattle.stl_rows.specs.Judged.{JudgedValue, known}
 use Rattle.stl_rows.specs.Programme.{IsProgramme, ProgrammeValue}
 use Rattle.sub_plan.specs.FrameTime.{clock_of}
 use Rattle.sub_plan.specs.Options.{OptionsValue, IsOptions}
-use Rattle.sub_rules.specs.Events.{first_told}
+use Rattle.sub_rules.specs.Events.{first_reported}
 use Rattle.sub_rules.specs.Fault.{is_pes_read}
 use Rattle.sub_rules.specs.FrameRules.{criteria_of, criteria_of_judged}
-use Rattle.sub_rules.specs.Pieces.{piece_file_of}
+use Rattle.sub_rules.specs.PesPackets.{pes_packet_file_of}
 use Rattle.sub_rules.specs.declared.event.Event.{Event}
 use Rattle.sub_rules.specs.declared.fault.CheckFault.{CheckFault}
-use Rattle.sub_checker.specs.PesFileEvents.{TellsFile}
+use Rattle.sub_checker.specs.PesFileEvents.{ReportsFile}
 use Rattle.sub_checker.specs.declared.accepted.Accepted.{Accepted}
-use Rattle.sub_check.specs.CheckedFiles.{IsChecked, IsCheckedBy, TellsEvents, all_events_of}
+use Rattle.sub_check.specs.CheckedFiles.{IsChecked, IsCheckedBy, ReportsEvents, all_events_of}
 use Rattle.sub_check.specs.CheckedFiles.{answer_by, first_answer}
-use Rattle.sub_check.specs.FirstTold.{IsRuleFault}
-use Rattle.sub_check.proofs.FirstToldLemmas.{no_read, of_rule}
-use Rattle.sub_check.proofs.RuleToldLemmas.{first_of_rule}
+use Rattle.sub_check.specs.FirstReported.{IsRuleFault}
+use Rattle.sub_check.proofs.FirstReportedLemmas.{no_read, of_rule}
+use Rattle.sub_check.proofs.RuleReportedLemmas.{first_of_rule}
 use Rattle.sub_check.proofs.VerdictLemmas.{Decides, IsAllRead, ReadsSoFar, checked_at_once}
 use Rattle.sub_check.proofs.VerdictLemmas.{checked_by}
 
@@ -54,14 +55,14 @@ module _ (programme : ProgrammeValue) (options : OptionsValue) (fine : IsOptions
   pub accepted_none :
       (a : Accepted)
       → IsAllRead programme options bytes a
-      → first_told (all_events_of programme options bytes) ≡ None
+      → first_reported (all_events_of programme options bytes) ≡ None
       → IsAnswered programme options bytes (Ok a)
   accepted_none a read none = answered (Ok a) (λ own. (read, none)) (λ pes is. cc)
 
   -- Otherwise the first one is the answer.
   pub refused_first :
       (f : CheckFault)
-      → first_told (all_events_of programme options bytes) ≡ Some f
+      → first_reported (all_events_of programme options bytes) ≡ Some f
       → IsAnswered programme options bytes (Err f)
   refused_first f first =
       let own : IsRuleFault f = of_rule f (first_of_rule programme options bytes f first) in
@@ -73,9 +74,9 @@ module _ (programme : ProgrammeValue) (options : OptionsValue) (fine : IsOptions
       → IsAllRead programme options bytes a
       → IsAnswered programme options bytes
       (first_answer (all_events_of programme options bytes) a)
-  answered_first a read = go (first_told (all_events_of programme options bytes)) refl
+  answered_first a read = go (first_reported (all_events_of programme options bytes)) refl
     where
-      go : (o : Option CheckFault) → first_told (all_events_of programme options bytes) ≡ o
+      go : (o : Option CheckFault) → first_reported (all_events_of programme options bytes) ≡ o
           → IsAnswered programme options bytes (answer_by o a)
       go None none = accepted_none a read none
       go (Some f) first = refused_first f first
@@ -86,18 +87,18 @@ module _ (programme : ProgrammeValue) (options : OptionsValue) (fine : IsOptions
 -- `check_all`.
 pub checked_first :
     (programme : ProgrammeValue) (options : OptionsValue) (bytes : List ℕ)
-    {D : Type 0} (IsTold : D → Event → D → Type 0) (old new : D)
+    {D : Type 0} (IsReported : D → Event → D → Type 0) (old new : D)
     (r : Result (Option Accepted) CheckFault)
     → IsOptions options
     → IsProgramme programme.drawing programme.records
-    → TellsFile (criteria_of programme options) (clock_of options) bytes IsTold old new r
+    → ReportsFile (criteria_of programme options) (clock_of options) bytes IsReported old new r
     → IfOk r (λ counts. IfSome counts (λ a. IsAnswered programme options bytes
     (first_answer (all_events_of programme options bytes) a)))
-checked_first programme options bytes IsTold old new (Ok (Some a)) fine p told =
-    let file = piece_file_of (clock_of options) bytes in
-    answered_first programme options fine p bytes a (told file.pieces file.unread refl).1
-checked_first programme options bytes IsTold old new (Ok None) fine p told = tt
-checked_first programme options bytes IsTold old new (Err f) fine p told = tt
+checked_first programme options bytes IsReported old new (Ok (Some a)) fine p reported =
+    let file = pes_packet_file_of (clock_of options) bytes in
+    answered_first programme options fine p bytes a (reported file.pes_packets file.unread refl).1
+checked_first programme options bytes IsReported old new (Ok None) fine p reported = tt
+checked_first programme options bytes IsReported old new (Err f) fine p reported = tt
 
 -- Both parts of the answer.
 pub answers_by : (programme : ProgrammeValue) (options : OptionsValue) (bytes : List ℕ)
@@ -123,31 +124,33 @@ answers_at_once programme options bytes (Ok None) none at_once all = tt
 answers_at_once programme options bytes (Err f) none at_once all = tt
 
 -- The events for the file as one value. For `check_all`.
-pub tells_events :
+pub reports_events :
     (judged : JudgedValue) (options : OptionsValue) (bytes : List ℕ)
-    {D : Type 0} (IsTold : D → Event → D → Type 0) (old new : D)
+    {D : Type 0} (IsReported : D → Event → D → Type 0) (old new : D)
     (r : Result (Option Accepted) CheckFault)
-    → TellsFile (criteria_of_judged judged options) (clock_of options) bytes IsTold old new r
-    → TellsEvents judged options bytes IsTold old new r
-tells_events judged options bytes IsTold old new (Ok (Some a)) told =
-    let file = piece_file_of (clock_of options) bytes in
-    let whole = told file.pieces file.unread refl in (whole.0, whole.1.counts)
-tells_events judged options bytes IsTold old new (Ok None) told =
-    let file = piece_file_of (clock_of options) bytes in told file.pieces file.unread refl
-tells_events judged options bytes IsTold old new (Err f) told =
-    let file = piece_file_of (clock_of options) bytes in told file.pieces file.unread refl
+    → ReportsFile (criteria_of_judged judged options) (clock_of options) bytes IsReported old new r
+    → ReportsEvents judged options bytes IsReported old new r
+reports_events judged options bytes IsReported old new (Ok (Some a)) reported =
+    let file = pes_packet_file_of (clock_of options) bytes in
+    let whole = reported file.pes_packets file.unread refl in (whole.0, whole.1.counts)
+reports_events judged options bytes IsReported old new (Ok None) reported =
+    let file = pes_packet_file_of (clock_of options) bytes in reported file.pes_packets file.unread
+    refl
+reports_events judged options bytes IsReported old new (Err f) reported =
+    let file = pes_packet_file_of (clock_of options) bytes in reported file.pes_packets file.unread
+    refl
 
 -- If no subtitle was refused, the events are those for its programme. For `check` and `check_all`.
-pub tells_known :
+pub reports_known :
     (judged : JudgedValue) (programme : ProgrammeValue) (options : OptionsValue)
-    (bytes : List ℕ) {D : Type 0} (IsTold : D → Event → D → Type 0) (old new : D)
+    (bytes : List ℕ) {D : Type 0} (IsReported : D → Event → D → Type 0) (old new : D)
     (r : Result (Option Accepted) CheckFault)
     → judged ≡ known programme
-    → TellsFile (criteria_of_judged judged options) (clock_of options) bytes IsTold old new r
-    → TellsFile (criteria_of programme options) (clock_of options) bytes IsTold old new r
-tells_known judged programme options bytes IsTold old new r is told =
-    subst (λ (j : JudgedValue). TellsFile (criteria_of_judged j options) (clock_of options) bytes
-    IsTold old new r) is told
+    → ReportsFile (criteria_of_judged judged options) (clock_of options) bytes IsReported old new r
+    → ReportsFile (criteria_of programme options) (clock_of options) bytes IsReported old new r
+reports_known judged programme options bytes IsReported old new r is reported =
+    subst (λ (j : JudgedValue). ReportsFile (criteria_of_judged j options) (clock_of options) bytes
+    IsReported old new r) is reported
 
 -- `check` accepts such a programme as its argument.
 pub programme_known : (judged : JudgedValue) (programme : ProgrammeValue)

@@ -7,7 +7,7 @@ use Rattle.std.specs.Prelude.{IsTrue}
 use Rattle.sub_io.specs.Device.{failed}
 use Rattle.stl_file.specs.Subtitle.{SubtitleValue}
 use Rattle.stl_rows.specs.EveryFault.{faults}
-use Rattle.stl_rows.specs.Loading.{LawOfLoading, TellsFault, loaded, unless_told}
+use Rattle.stl_rows.specs.Loading.{LawOfLoading, ReportsFault, loaded, unless_reported}
 use Rattle.stl_rows.specs.Programme.{ProgrammeValue}
 use Rattle.stl_rows.specs.declared.fault.LoadFault.{LoadFault}
 use Rattle.stl_rows.specs.declared.fault.LoadFaultKind.{LoadFaultKind}
@@ -42,7 +42,8 @@ looked_at :
 looked_at answer looked fine = grind (arith, nat_tests)
 
 -- A file without faults gives this programme.
-one_given : (faults : List LoadFault) (p q : ProgrammeValue) → unless_told faults p ≡ Ok q → p ≡ q
+one_given : (faults : List LoadFault) (p q : ProgrammeValue) → unless_reported faults p ≡ Ok q → p ≡
+    q
 one_given faults p q h = grind (arith, nat_tests)
 
 -- The programme of a file has the requested drawing.
@@ -200,21 +201,21 @@ module _ (drawing : Drawing) (options : OptionsValue) (stl pes : List ℕ)
 own_fault :
     (drawing : Drawing) (stl : List ℕ) (programme : ProgrammeValue) (block : ℕ)
     (kind : LoadFaultKind)
-    → TellsFault drawing stl block kind
+    → ReportsFault drawing stl block kind
     → is_failure_kind kind ≡ false
     → loaded drawing stl ≡ Ok programme
     → ⊥
-own_fault drawing stl programme block kind told fine is = grind (arith, nat_tests)
+own_fault drawing stl programme block kind reported fine is = grind (arith, nat_tests)
 
 -- Both files, if the subtitle file was refused. For `check_files`.
 module _ (drawing : Drawing) (options : OptionsValue) (stl pes : List ℕ) (f : LoadFault)
-    (loading : LawOfLoading) (told : TellsFault drawing stl f.block f.kind) where
+    (loading : LawOfLoading) (reported : ReportsFault drawing stl f.block f.kind) where
   pub files_refused : AreAccepted drawing options stl pes (Err (fault.Subtitles f))
   files_refused = record {
     accepted = λ fine. (
       λ ok. cc,
       λ g.
-          absurd (own_fault drawing stl _ f.block f.kind told fine
+          absurd (own_fault drawing stl _ f.block f.kind reported fine
           (accepted-loads drawing options stl pes loading g).1),
     );
     serves = λ subtitles transmission mean ok. cc;
@@ -225,7 +226,7 @@ module _ (drawing : Drawing) (options : OptionsValue) (stl pes : List ℕ) (f : 
     accepted = λ fine. (
       λ ok. cc,
       λ g.
-          absurd (own_fault drawing stl _ f.block f.kind told fine
+          absurd (own_fault drawing stl _ f.block f.kind reported fine
           (accepted-loads_by drawing options stl pes loading g).1),
     );
     serves = λ subtitles transmission mean ok. cc;

@@ -3,7 +3,7 @@ pub mod AcceptedWithinLemmas
 pub mod AnsweredLemmas
 pub mod FilesLemmas
 pub mod FirstFaultLemmas
-pub mod FirstToldLemmas
+pub mod FirstReportedLemmas
 pub mod ReadOnLemmas
-pub mod RuleToldLemmas
+pub mod RuleReportedLemmas
 pub mod VerdictLemmas

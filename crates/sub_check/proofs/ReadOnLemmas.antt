@@ -1,76 +1,78 @@
 -- The frames and events of a PES file up to its first skipped PES packet, compared with those of
--- reading on: main lemmas: `read_whole`, `first_of_taken`, `all_are_sent`.
+-- reading on: main lemmas: `read_to_the_end`, `first_of_taken`, `all_are_sent`.
 use Rattle.std.proofs.Common.{◌≡◌, ℕ, suc, ◌≤◌, List, [], ◌∷◌, ◌++◌, length, take, drop, Option}
 use Rattle.std.proofs.Common.{Some, None, refl, sym, ap, ◌∙◌}
 use Rattle.std.proofs.lemmas.List.{length-take-le, take-append-drop}
 use Rattle.stl_rows.specs.Programme.{ProgrammeValue}
 use Rattle.sub_plan.specs.FrameTime.{Clock, clock_of}
 use Rattle.sub_plan.specs.Options.{OptionsValue}
-use Rattle.sub_rules.specs.Events.{first_told}
+use Rattle.sub_rules.specs.Events.{first_reported}
 use Rattle.sub_rules.specs.FrameRules.{Unread, criteria_of}
 use Rattle.sub_rules.specs.PesReading.{ReadsAs, file_at}
-use Rattle.sub_rules.specs.PieceEvents.{steps_of_each}
-use Rattle.sub_rules.specs.Pieces.{PesFileValue, Piece, frames_of, piece_file_of, read_until_passed}
-use Rattle.sub_rules.specs.Pieces.Piece.{Passed, Sent}
+use Rattle.sub_rules.specs.PesPacketEvents.{steps_of_each}
+use Rattle.sub_rules.specs.PesPackets.{PesFileValue, PesPacket, frames_of, pes_packet_file_of}
+use Rattle.sub_rules.specs.PesPackets.{read_until_skipped}
+use Rattle.sub_rules.specs.PesPackets.PesPacket.{Skipped, Sent}
 use Rattle.sub_rules.specs.Transmission.{Transmission}
 use Rattle.sub_rules.specs.declared.event.Event.{Event}
 use Rattle.sub_rules.specs.declared.fault.CheckFault.{CheckFault}
 use Rattle.sub_rules.proofs.StepEventLemmas.{first_of_two}
-use Rattle.sub_rules.proofs.PieceEventLemmas.{announced_first}
-use Rattle.sub_laws.proofs.UntoldLemmas.{each_sent, first_none}
-use Rattle.sub_check.specs.CheckedFiles.{events_of_first_pieces}
-use Rattle.sub_rules.specs.PieceEvents.{events_of_pieces}
-use Rattle.sub_rules.specs.Trusted.{told_after}
+use Rattle.sub_rules.proofs.PesPacketEventLemmas.{announced_first}
+use Rattle.sub_laws.proofs.UnreportedLemmas.{each_sent, first_none}
+use Rattle.sub_check.specs.CheckedFiles.{events_of_first_pes_packets}
+use Rattle.sub_rules.specs.PesPacketEvents.{events_of_pes_packets}
+use Rattle.sub_rules.specs.Trusted.{reported_after}
 
 -- If the PES packets are read to the end of the file, none of them is skipped.
-all_sent : (pieces : List Piece) (unread : Option Unread)
-    → (read_until_passed pieces unread).unread ≡ None
-    → ((read_until_passed pieces unread).frames ≡ frames_of pieces)
-    × (length (frames_of pieces) ≡ length pieces)
+all_sent : (pes_packets : List PesPacket) (unread : Option Unread)
+    → (read_until_skipped pes_packets unread).unread ≡ None
+    → ((read_until_skipped pes_packets unread).frames ≡ frames_of pes_packets)
+    × (length (frames_of pes_packets) ≡ length pes_packets)
     × (unread ≡ None)
-unfolding read_until_passed frames_of
+unfolding read_until_skipped frames_of
 all_sent [] unread none = (refl, refl, none)
-all_sent (Sent s ∷ pieces) unread none =
-    let rest = all_sent pieces unread none in
+all_sent (Sent s ∷ pes_packets) unread none =
+    let rest = all_sent pes_packets unread none in
     (ap (λ (fs : Transmission). s ∷ fs) rest.0, ap suc rest.1, rest.2)
-all_sent (Passed u ∷ pieces) unread none = cc
+all_sent (Skipped u ∷ pes_packets) unread none = cc
 
 -- If a file is read to its end, its frames are those of its PES packets, each of which is sent.
-pub read_whole : (clock : Clock) (bytes : List ℕ) (frames : Transmission)
+pub read_to_the_end : (clock : Clock) (bytes : List ℕ) (frames : Transmission)
     → ReadsAs clock 0 bytes frames None
-    → (frames_of (piece_file_of clock bytes).pieces ≡ frames)
-    × (length (frames_of (piece_file_of clock bytes).pieces)
-    ≡ length (piece_file_of clock bytes).pieces)
-    × ((piece_file_of clock bytes).unread ≡ None)
+    → (frames_of (pes_packet_file_of clock bytes).pes_packets ≡ frames)
+    × (length (frames_of (pes_packet_file_of clock bytes).pes_packets)
+    ≡ length (pes_packet_file_of clock bytes).pes_packets)
+    × ((pes_packet_file_of clock bytes).unread ≡ None)
 unfolding file_at
-read_whole clock bytes frames reads =
-    let file = piece_file_of clock bytes in
-    let sent = all_sent file.pieces file.unread (ap (λ (f : PesFileValue). f.unread) reads) in
+read_to_the_end clock bytes frames reads =
+    let file = pes_packet_file_of clock bytes in
+    let sent = all_sent file.pes_packets file.unread (ap (λ (f : PesFileValue). f.unread) reads) in
     (sym sent.0 ∙ ap (λ (f : PesFileValue). f.frames) reads, sent.1, sent.2)
 
 -- The first fault of the first PES packets is the first of all.
-first_of_some : (xs ys : List Event) (f : CheckFault) → first_told xs ≡ Some f
-    → first_told (xs ++ ys) ≡ Some f
+first_of_some : (xs ys : List Event) (f : CheckFault) → first_reported xs ≡ Some f
+    → first_reported (xs ++ ys) ≡ Some f
 first_of_some xs ys f is = first_of_two xs ys ∙ rw is refl
 
-pub first_of_taken : (n : ℕ) (xs : List Event) (f : CheckFault) → first_told (take n xs) ≡ Some f
-    → first_told xs ≡ Some f
+pub first_of_taken : (n : ℕ) (xs : List Event) (f : CheckFault) → first_reported (take n xs) ≡ Some
+    f
+    → first_reported xs ≡ Some f
 first_of_taken n xs f is =
-    ap first_told (sym (take-append-drop n xs)) ∙ first_of_some (take n xs) (drop n xs) f is
+    ap first_reported (sym (take-append-drop n xs)) ∙ first_of_some (take n xs) (drop n xs) f is
 
 -- ---- the first PES packets without faults
 
 -- The first n PES packets are n frames if they have no fault.
 pub all_are_sent : (programme : ProgrammeValue) (options : OptionsValue) (bytes : List ℕ) (n : ℕ)
-    → n ≤ length (piece_file_of (clock_of options) bytes).pieces
-    → first_told (events_of_first_pieces programme options bytes n) ≡ None
-    → length (frames_of (take n (piece_file_of (clock_of options) bytes).pieces)) ≡ n
-unfolding events_of_pieces
+    → n ≤ length (pes_packet_file_of (clock_of options) bytes).pes_packets
+    → first_reported (events_of_first_pes_packets programme options bytes n) ≡ None
+    → length (frames_of (take n (pes_packet_file_of (clock_of options) bytes).pes_packets)) ≡ n
+unfolding events_of_pes_packets
 all_are_sent programme options bytes n l none =
-    let file = piece_file_of (clock_of options) bytes in
+    let file = pes_packet_file_of (clock_of options) bytes in
     let g = criteria_of programme options file.unread in
-    let done = take n file.pieces in
+    let done = take n file.pes_packets in
     let steps = steps_of_each g [] 0 done in
     each_sent g [] 0 done
-    ((first_none [] steps).0 (sym (announced_first (told_after [] steps)) ∙ none))
-    ∙ length-take-le n file.pieces l
+    ((first_none [] steps).0 (sym (announced_first (reported_after [] steps)) ∙ none))
+    ∙ length-take-le n file.pes_packets l

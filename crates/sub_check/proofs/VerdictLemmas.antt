@@ -12,20 +12,20 @@ use Rattle.std.specs.List.{concat}
 use Rattle.std.specs.Prelude.{IfErr, IfSome, IsTrue}
 use Rattle.sub_io.specs.Device.{failed}
 use Rattle.ttx_packet.specs.PacketAddress.{IsPacket}
-use Rattle.ttx_pes.specs.PesPacket.{IsPesPacket}
+use Rattle.ttx_pes.specs.PesGrammar.{IsValidPesPacket}
 use Rattle.ttx_pes.specs.declared.fault.PesFault.TheVariants as Pes
 use Rattle.stl_rows.specs.Programme.{IsProgramme, ProgrammeValue}
 use Rattle.sub_plan.specs.FrameTime.{clock_of}
 use Rattle.sub_plan.specs.Options.{OptionsValue, IsOptions}
 use Rattle.sub_plan.specs.Schedule.{plan}
-use Rattle.sub_rules.specs.Events.{first_told}
+use Rattle.sub_rules.specs.Events.{first_reported}
 use Rattle.sub_rules.specs.Fault.{is_pes_read}
 use Rattle.sub_rules.specs.FrameRules.{Criteria, criteria_of}
 use Rattle.sub_rules.specs.Good.{Good}
 use Rattle.sub_rules.specs.PesFrames.{Carries, CarriesBy, IsReadAs}
 use Rattle.sub_rules.specs.PesReading.{pes_file_of}
-use Rattle.sub_rules.specs.Pieces.{PieceFileValue, frames_of, joined}
-use Rattle.sub_rules.specs.Pieces.{piece_file_of}
+use Rattle.sub_rules.specs.PesPackets.{PesPacketFileValue, frames_of, joined}
+use Rattle.sub_rules.specs.PesPackets.{pes_packet_file_of}
 use Rattle.sub_rules.specs.Repeats.{GoodBy}
 use Rattle.sub_rules.specs.Transmission.{EachPacket, SentFrame, Transmission}
 use Rattle.sub_rules.specs.WrongContent.{IsWrongEverywhere}
@@ -45,22 +45,22 @@ use Rattle.sub_laws.proofs.JoinedRisingLemmas.{joined-rising}
 use Rattle.sub_laws.proofs.PesFileLemmas.{carried_is_read, law_of_exact_frames}
 use Rattle.sub_laws.proofs.PlanLemmas.{law_of_plan_read}
 use Rattle.sub_laws.proofs.PrefixLemmas.{first-same, last-same}
-use Rattle.sub_laws.proofs.ReadFileLemmas.{file_pieces_sound, sent_whole}
+use Rattle.sub_laws.proofs.ReadFileLemmas.{file_pes_packets_sound, sent_complete}
 use Rattle.sub_laws.proofs.RisingEndLemmas.{latest_at}
 use Rattle.sub_laws.proofs.RobustLemmas.{law_of_good}
-use Rattle.sub_laws.proofs.UntoldLemmas.{pieces_unrefused}
-use Rattle.sub_laws.proofs.ToldLemmas.{none_refused}
-use Rattle.sub_laws.proofs.ToldWithinLemmas.{none_told_repeats}
+use Rattle.sub_laws.proofs.UnreportedLemmas.{pes_packets_unrefused}
+use Rattle.sub_laws.proofs.ReportedLemmas.{none_refused}
+use Rattle.sub_laws.proofs.ReportedWithinLemmas.{none_reported_repeats}
 use Rattle.sub_check.specs.CheckedFiles.{HasCounts, IsChecked, IsCheckedBy, all_events_of}
-use Rattle.sub_check.specs.CheckedFiles.{events_of_first_pieces, frames_read}
-use Rattle.sub_check.proofs.FirstToldLemmas.{different_of_first, each_whole}
-use Rattle.sub_check.proofs.ReadOnLemmas.{read_whole}
+use Rattle.sub_check.specs.CheckedFiles.{events_of_first_pes_packets, frames_read}
+use Rattle.sub_check.proofs.FirstReportedLemmas.{different_of_first, each_complete}
+use Rattle.sub_check.proofs.ReadOnLemmas.{read_to_the_end}
 
 -- All PES packets of the bytes were read.
 abbrev pub IsAllRead : ProgrammeValue → OptionsValue → List ℕ → Accepted → Type 0
 IsAllRead programme options bytes a =
-    let file = piece_file_of (clock_of options) bytes in
-    IsReadOn (criteria_of programme options file.unread) (clock_of options) bytes file.pieces a
+    let file = pes_packet_file_of (clock_of options) bytes in
+    IsReadOn (criteria_of programme options file.unread) (clock_of options) bytes file.pes_packets a
 
 -- What the check of a file shows: an accepted file has no fault, and the returned fault is the
 -- first.
@@ -68,22 +68,22 @@ abbrev pub Decides : ProgrammeValue → OptionsValue → List ℕ → Result Acc
 Decides programme options bytes result =
     MatchResult result
     (λ a. IsAllRead programme options bytes a
-    × (first_told (all_events_of programme options bytes) ≡ None))
-    (λ f. first_told (all_events_of programme options bytes) ≡ Some f)
+    × (first_reported (all_events_of programme options bytes) ≡ None))
+    (λ f. first_reported (all_events_of programme options bytes) ≡ Some f)
 
 -- What it shows if the source failed within a PES packet: those before have no fault.
 abbrev pub ReadsSoFar : ProgrammeValue → OptionsValue → List ℕ → Result Accepted CheckFault → Type 0
 ReadsSoFar programme options bytes result =
     (pes : ℕ)
     → result ≡ Err (fault.Pes pes Pes.Read)
-    → (pes ≤ length (piece_file_of (clock_of options) bytes).pieces)
-    × (first_told (events_of_first_pieces programme options bytes pes) ≡ None)
+    → (pes ≤ length (pes_packet_file_of (clock_of options) bytes).pes_packets)
+    × (first_reported (events_of_first_pes_packets programme options bytes pes) ≡ None)
 
 module _ (programme : ProgrammeValue) (options : OptionsValue) (is : IsOptions options)
     (p : IsProgramme programme.drawing programme.records) (bytes : List ℕ) where
   -- The file, and the frames of its PES packets.
-  abbrev file : PieceFileValue
-  file = piece_file_of (clock_of options) bytes
+  abbrev file : PesPacketFileValue
+  file = pes_packet_file_of (clock_of options) bytes
 
   abbrev g : Criteria
   g = criteria_of programme options file.unread
@@ -94,32 +94,32 @@ module _ (programme : ProgrammeValue) (options : OptionsValue) (is : IsOptions o
   whole : EachPacket IsPacket sent
   whole =
       All-from_recursion (λ (s : SentFrame). All IsPacket s.packets) sent
-      (each_whole sent
-      (joined_after-read IsPacket options.within [] (frames_of file.pieces) tt
-      (sent_whole file.pieces (file_pieces_sound (clock_of options) 0 bytes).each)))
+      (each_complete sent
+      (joined_after-read IsPacket options.within [] (frames_of file.pes_packets) tt
+      (sent_complete file.pes_packets (file_pes_packets_sound (clock_of options) 0 bytes).each)))
 
   -- There is no fault exactly if each PES packet is sent, the frames are good, and nothing is left.
-  told_none :
-      (first_told (all_events_of programme options bytes) ≡ None)
-      ↔ ((length (frames_of file.pieces) ≡ length file.pieces)
+  reported_none :
+      (first_reported (all_events_of programme options bytes) ≡ None)
+      ↔ ((length (frames_of file.pes_packets) ≡ length file.pes_packets)
       × GoodBy options.keeps programme sent options
       × (file.unread ≡ None))
-  told_none =
-      let none = pieces_unrefused g file.pieces in
+  reported_none =
+      let none = pes_packets_unrefused g file.pes_packets in
       let law =
-      none_told_repeats programme options file.unread sent p is.least whole in (
+      none_reported_repeats programme options file.unread sent p is.least whole in (
         λ e.
             let parts = none.0 e in
             let good = law.0 (none_refused g sent whole parts.1) in
             (parts.0, good.0, good.1),
-        λ all. none.1 (all.0, ap first_told (law.1 (all.1, all.2))),
+        λ all. none.1 (all.0, ap first_reported (law.1 (all.1, all.2))),
       )
 
   -- The bytes carry these frames then.
   carried :
       (a : Accepted)
       → IsAllRead programme options bytes a
-      → length (frames_of file.pieces) ≡ length file.pieces
+      → length (frames_of file.pes_packets) ≡ length file.pes_packets
       → GoodBy options.keeps programme sent options
       → file.unread ≡ None
       → CarriesBy (clock_of options) options.within bytes sent
@@ -129,14 +129,14 @@ module _ (programme : ProgrammeValue) (options : OptionsValue) (is : IsOptions o
       record {
         values = taken.values;
         packets = taken.packets;
-        sendings = frames_of file.pieces;
+        sendings = frames_of file.pes_packets;
         each = taken.each;
         few = omega (
           arith,
           few,
           all,
-          AllZip-long IsPesPacket taken.values taken.packets taken.each,
-          AllZip-long (IsReadAs (clock_of options)) taken.values (frames_of file.pieces)
+          AllZip-long IsValidPesPacket taken.values taken.packets taken.each,
+          AllZip-long (IsReadAs (clock_of options)) taken.values (frames_of file.pes_packets)
               taken.read,
         );
         is_whole = taken.joined ∙ append-nil (concat taken.packets);
@@ -150,22 +150,22 @@ module _ (programme : ProgrammeValue) (options : OptionsValue) (is : IsOptions o
       (frames : Transmission)
       → CarriesBy (clock_of options) options.within bytes frames
       → (frames ≡ sent)
-      × (length (frames_of file.pieces) ≡ length file.pieces)
+      × (length (frames_of file.pes_packets) ≡ length file.pes_packets)
       × (file.unread ≡ None)
   carried_sent frames carries =
       let reads = carried_is_read (clock_of options) options.within bytes frames carries in
-      let all = read_whole (clock_of options) bytes carries.sendings reads in
+      let all = read_to_the_end (clock_of options) bytes carries.sendings reads in
       (carries.are ∙ ap (joined options.within) (sym all.0), all.1, all.2)
 
   -- A good transmission is not refused.
   not_refused :
       (f : CheckFault)
-      → first_told (all_events_of programme options bytes) ≡ Some f
-      → length (frames_of file.pieces) ≡ length file.pieces
+      → first_reported (all_events_of programme options bytes) ≡ Some f
+      → length (frames_of file.pes_packets) ≡ length file.pes_packets
       → GoodBy options.keeps programme sent options
       → file.unread ≡ None
       → ⊥
-  not_refused f first all good none = none-some f (sym (told_none.1 (all, good, none)) ∙ first)
+  not_refused f first all good none = none-some f (sym (reported_none.1 (all, good, none)) ∙ first)
 
   -- The file is accepted exactly if the bytes carry a good transmission.
   accepted_from :
@@ -176,7 +176,7 @@ module _ (programme : ProgrammeValue) (options : OptionsValue) (is : IsOptions o
       × CarriesBy (clock_of options) options.within bytes transmission
       × GoodBy options.keeps programme transmission options)
   accepted_from (Ok a) decides =
-      let (all, good, none) = told_none.0 decides.1 in
+      let (all, good, none) = reported_none.0 decides.1 in
       (λ ok. (sent, carried a decides.0 all good none, good), λ any. refl)
   accepted_from (Err f) decides = (
     λ ok. cc,
@@ -196,9 +196,9 @@ module _ (programme : ProgrammeValue) (options : OptionsValue) (is : IsOptions o
       → GoodBy options.keeps programme frames options
   accepted_is frames (Ok a) decides carries ok =
       let (same, all, none) = carried_sent frames carries in
-      let told = decides refl in
+      let reported = decides refl in
       subst (λ (t : Transmission). GoodBy options.keeps programme t options) (sym same)
-      (told_none.0 told.1).1
+      (reported_none.0 reported.1).1
   accepted_is frames (Err f) decides carries ok = cc
 
   -- The counts of an accepted file.
@@ -225,16 +225,16 @@ module _ (programme : ProgrammeValue) (options : OptionsValue) (is : IsOptions o
       → IfOk result (HasCounts options.page frames)
   counts_from frames (Ok a) decides carries =
       let (same, all, none) = carried_sent frames carries in
-      let told = decides refl in
+      let reported = decides refl in
       subst (λ (t : Transmission). HasCounts options.page t a) (sym same)
-      (sent_counts sent a (told_none.0 told.1).1 told.0.counts)
+      (sent_counts sent a (reported_none.0 reported.1).1 reported.0.counts)
   counts_from frames (Err f) decides carries = tt
 
   -- The returned fault is the first.
   first_from :
       (result : Result Accepted CheckFault)
       → Decides programme options bytes result
-      → IfErr result (λ f. first_told (all_events_of programme options bytes) ≡ Some f)
+      → IfErr result (λ f. first_reported (all_events_of programme options bytes) ≡ Some f)
   first_from (Ok a) decides = tt
   first_from (Err f) decides = decides
 
@@ -253,7 +253,7 @@ module _ (programme : ProgrammeValue) (options : OptionsValue) (is : IsOptions o
       let reads =
       ap (pes_file_of (clock_of options)) written
       ∙ law_of_plan_read programme options serial p is in
-      let all = read_whole (clock_of options) bytes frames reads in
+      let all = read_to_the_end (clock_of options) bytes frames reads in
       let same : sent ≡ frames =
       ap (joined options.within) all.0 ∙ joined-rising options.within frames good.rules.rising in
       absurd
@@ -265,13 +265,13 @@ module _ (programme : ProgrammeValue) (options : OptionsValue) (is : IsOptions o
       (decides : failed is_pes_read result ≡ false → Decides programme options bytes result)
       (so_far : ReadsSoFar programme options bytes result) where
     -- The cell at which the page is refused is that of the first fault.
-    cell_told : (frame row column : ℕ)
+    cell_reported : (frame row column : ℕ)
         → result ≡ Err (fault.Content frame row column)
-        → first_told (all_events_of programme options bytes)
+        → first_reported (all_events_of programme options bytes)
         ≡ Some (fault.Content frame row column)
-    cell_told frame row column e =
+    cell_reported frame row column e =
         subst
-        (λ r. IfErr r (λ f. first_told (all_events_of programme options bytes) ≡ Some f)) e
+        (λ r. IfErr r (λ f. first_reported (all_events_of programme options bytes) ≡ Some f)) e
         (first_from result (decides (ap (failed is_pes_read) e)))
 
     -- The answer for a PES file follows.
@@ -286,7 +286,7 @@ module _ (programme : ProgrammeValue) (options : OptionsValue) (is : IsOptions o
       read = so_far;
       content = λ frame row column e.
           different_of_first programme options bytes frame row column
-          (cell_told frame row column e);
+          (cell_reported frame row column e);
       schedule = λ serial written some slow looked fine.
           plan_accepted serial result written some slow (decides fine);
     }

@@ -9,15 +9,15 @@ use Rattle.stl_file.specs.File.{IsFileFor}
 use Rattle.stl_file.specs.Subtitle.{SubtitleValue}
 use Rattle.stl_rows.specs.DrawnPage.{drawn}
 use Rattle.stl_rows.specs.Judged.{JudgedValue}
-use Rattle.stl_rows.specs.Loading.{loaded, TellsFault}
+use Rattle.stl_rows.specs.Loading.{loaded, ReportsFault}
 use Rattle.stl_rows.specs.Programme.{AreInOrder, ProgrammeValue}
 use Rattle.stl_rows.specs.declared.layout.Drawing.{Drawing}
 use Rattle.sub_plan.specs.FrameTime.{clock_of}
 use Rattle.sub_plan.specs.Options.{OptionsValue}
 use Rattle.sub_plan.specs.Schedule.{plan}
-use Rattle.sub_io.specs.Telling.{Tells, TellsPrefix}
+use Rattle.sub_io.specs.Reporting.{Reports, ReportsPrefix}
 use Rattle.ttx_packet.specs.PageId.{PageIdValue}
-use Rattle.sub_rules.specs.Events.{first_told}
+use Rattle.sub_rules.specs.Events.{first_reported}
 use Rattle.sub_rules.specs.FrameRules.{criteria_of, criteria_of_judged, is_due_undecided}
 use Rattle.sub_rules.specs.PacketRules.{header_count}
 use Rattle.sub_rules.specs.Transmission.{SentFrame, first_frame, last_frame, Transmission}
@@ -33,9 +33,9 @@ use Rattle.sub_laws.specs.Repeats.{HasPromisesBy}
 use Rattle.sub_rules.specs.PesFrames.{Carries, CarriesBy}
 use Rattle.sub_rules.specs.PesReading.{pes_file_of}
 use Rattle.sub_laws.specs.Stretch.{HasPromises}
-use Rattle.sub_laws.specs.UndueContent.{IsDifferentEverywhere}
-use Rattle.sub_rules.specs.PieceEvents.{all_of_pieces, events_of_pieces}
-use Rattle.sub_rules.specs.Pieces.{frames_of, joined, piece_file_of}
+use Rattle.sub_laws.specs.UnexpectedContent.{IsDifferentEverywhere}
+use Rattle.sub_rules.specs.PesPacketEvents.{all_of_pes_packets, events_of_pes_packets}
+use Rattle.sub_rules.specs.PesPackets.{frames_of, joined, pes_packet_file_of}
 use Rattle.sub_rules.specs.WrongContent.{IsWrongEverywhere}
 use Rattle.sub_checker.specs.ReadCounts.{CountsRead}
 use Rattle.sub_checker.specs.declared.accepted.Accepted.{Accepted}
@@ -45,9 +45,9 @@ use Rattle.sub_rules.specs.declared.fault.CheckFault.TheVariants as fault
 -- ---- faults and counts of an answer
 
 -- If the answer refuses the subtitle file, its fault is that of the file.
-abbrev pub TellsSubtitles : Drawing → List ℕ → Result Accepted CheckFault → Type 0
-TellsSubtitles drawing file (Err (fault.Subtitles f)) = TellsFault drawing file f.block f.kind
-TellsSubtitles drawing file _ = ⊤
+abbrev pub ReportsSubtitles : Drawing → List ℕ → Result Accepted CheckFault → Type 0
+ReportsSubtitles drawing file (Err (fault.Subtitles f)) = ReportsFault drawing file f.block f.kind
+ReportsSubtitles drawing file _ = ⊤
 
 -- The counts of an accepted transmission: the frames of the day from the first to the last, and the
 -- headers of the page.
@@ -147,19 +147,19 @@ pub record AreAcceptedBy
 -- skipped PES packets; trusted frames are included.
 abbrev pub all_events_of : ProgrammeValue → OptionsValue → List ℕ → List Event
 all_events_of programme options bytes =
-    let file = piece_file_of (clock_of options) bytes in
-    all_of_pieces (criteria_of programme options file.unread) file.pieces
+    let file = pes_packet_file_of (clock_of options) bytes in
+    all_of_pes_packets (criteria_of programme options file.unread) file.pes_packets
 
 -- The frames of its PES packets; if `within` is not 0, consecutive packets of one frame are merged.
 abbrev pub frames_read : OptionsValue → List ℕ → Transmission
 frames_read options bytes =
-    joined options.within (frames_of (piece_file_of (clock_of options) bytes).pieces)
+    joined options.within (frames_of (pes_packet_file_of (clock_of options) bytes).pes_packets)
 
 -- The events for its first n PES packets.
-abbrev pub events_of_first_pieces : ProgrammeValue → OptionsValue → List ℕ → ℕ → List Event
-events_of_first_pieces programme options bytes n =
-    let file = piece_file_of (clock_of options) bytes in
-    events_of_pieces (criteria_of programme options file.unread) (take n file.pieces)
+abbrev pub events_of_first_pes_packets : ProgrammeValue → OptionsValue → List ℕ → ℕ → List Event
+events_of_first_pes_packets programme options bytes n =
+    let file = pes_packet_file_of (clock_of options) bytes in
+    events_of_pes_packets (criteria_of programme options file.unread) (take n file.pes_packets)
 
 -- The answer for the bytes of a PES file, checked against a programme with any options. An answer
 -- that refuses the subtitle file, for a failed source or allocation, says nothing about these
@@ -193,14 +193,14 @@ pub record IsCheckedBy
   pub first :
       failed is_subtitle_fault answer ≡ false
       → failed is_pes_read answer ≡ false
-      → IfErr answer (λ f. first_told (all_events_of programme options bytes) ≡ Some f)
+      → IfErr answer (λ f. first_reported (all_events_of programme options bytes) ≡ Some f)
   -- A failure of the source is reported for the PES packet that could not be read: those before it
   -- were read, and there is no fault among their events.
   pub read :
       (pes : ℕ)
       → answer ≡ Err (fault.Pes pes Read)
-      → (pes ≤ length (piece_file_of (clock_of options) bytes).pieces)
-      × (first_told (events_of_first_pieces programme options bytes pes) ≡ None)
+      → (pes ≤ length (pes_packet_file_of (clock_of options) bytes).pes_packets)
+      × (first_reported (events_of_first_pes_packets programme options bytes pes) ≡ None)
   -- If the page is refused at a cell, it is wrong there, and receivers that start at the first
   -- packet, and receive each bit correctly, show the kept code there. If the page still has time to
   -- become right, that code is not due there at any frame within these before.
@@ -260,7 +260,7 @@ pub record AreChecked
     : Type 0 where
   -- If the answer refuses the subtitle file, its fault is the first of the file, or its source
   -- failed or an allocation was refused.
-  pub subtitles : TellsSubtitles drawing file answer
+  pub subtitles : ReportsSubtitles drawing file answer
   -- A subtitle file that gives no programme is refused.
   pub refused :
       ((programme : ProgrammeValue) → loaded drawing file ≢ Ok programme)
@@ -284,7 +284,7 @@ answer_by (Some f) a = Err f
 
 -- The answer of `check`, given all events.
 abbrev pub first_answer : List Event → Accepted → Result Accepted CheckFault
-first_answer events a = answer_by (first_told events) a
+first_answer events a = answer_by (first_reported events) a
 
 -- ---- a PES file, against what can be judged of a subtitle file
 
@@ -292,41 +292,41 @@ first_answer events a = answer_by (first_told events) a
 -- no subtitle was refused, they are the events for its programme.
 abbrev pub all_events_by : JudgedValue → OptionsValue → List ℕ → List Event
 all_events_by judged options bytes =
-    let file = piece_file_of (clock_of options) bytes in
-    all_of_pieces (criteria_of_judged judged options file.unread) file.pieces
+    let file = pes_packet_file_of (clock_of options) bytes in
+    all_of_pes_packets (criteria_of_judged judged options file.unread) file.pes_packets
 
 -- The events for its first n PES packets.
 abbrev pub events_of_first_by : JudgedValue → OptionsValue → List ℕ → ℕ → List Event
 events_of_first_by judged options bytes n =
-    let file = piece_file_of (clock_of options) bytes in
-    events_of_pieces (criteria_of_judged judged options file.unread) (take n file.pieces)
+    let file = pes_packet_file_of (clock_of options) bytes in
+    events_of_pes_packets (criteria_of_judged judged options file.unread) (take n file.pes_packets)
 
 -- Frames that are reported as trusted may stay on air as they are, whatever is on air elsewhere: in
 -- the part of the transmission in which the frames rise, receivers recover there.
-abbrev pub TellsWhatMayStay : JudgedValue → OptionsValue → List ℕ → Type 0
-TellsWhatMayStay judged options bytes =
-    let file = piece_file_of (clock_of options) bytes in
+abbrev pub ReportsWhatMayStay : JudgedValue → OptionsValue → List ℕ → Type 0
+ReportsWhatMayStay judged options bytes =
+    let file = pes_packet_file_of (clock_of options) bytes in
     (from to : ℕ)
     → Contains (all_events_by judged options bytes) (Trusted from to)
-    → StaysAsRead (criteria_of_judged judged options file.unread) file.pieces from to
+    → StaysAsRead (criteria_of_judged judged options file.unread) file.pes_packets from to
     (λ on_air. MayStay judged.programme on_air options from to)
 
 -- So they may with any options, whatever `within` is, and whether repeats may keep the page or not:
 -- for receivers that may forget the page, too.
-abbrev pub TellsWhatMayStayBy : JudgedValue → OptionsValue → List ℕ → Type 0
-TellsWhatMayStayBy judged options bytes =
-    let file = piece_file_of (clock_of options) bytes in
+abbrev pub ReportsWhatMayStayBy : JudgedValue → OptionsValue → List ℕ → Type 0
+ReportsWhatMayStayBy judged options bytes =
+    let file = pes_packet_file_of (clock_of options) bytes in
     (from to : ℕ)
     → Contains (all_events_by judged options bytes) (Trusted from to)
-    → StaysAsRead (criteria_of_judged judged options file.unread) file.pieces from to
+    → StaysAsRead (criteria_of_judged judged options file.unread) file.pes_packets from to
     (λ on_air. MayStayBy judged.programme on_air options from to)
 
 -- At each of these frames the due page is known, and it was known at each of the `within` frames
 -- before, from the first frame that was read.
-abbrev pub TellsWhatIsKnown : JudgedValue → OptionsValue → List ℕ → Type 0
-TellsWhatIsKnown judged options bytes =
-    let file = piece_file_of (clock_of options) bytes in
-    let read = rising_of (criteria_of_judged judged options file.unread) file.pieces in
+abbrev pub ReportsWhatIsKnown : JudgedValue → OptionsValue → List ℕ → Type 0
+ReportsWhatIsKnown judged options bytes =
+    let file = pes_packet_file_of (clock_of options) bytes in
+    let read = rising_of (criteria_of_judged judged options file.unread) file.pes_packets in
     (from to : ℕ)
     → Contains (all_events_by judged options bytes) (Trusted from to)
     → (frame : ℕ)
@@ -337,8 +337,8 @@ TellsWhatIsKnown judged options bytes =
 
 -- The events for the first PES packets, wherever the source fails, are a prefix of all events. So
 -- the promises for trusted frames hold for those that were reported before.
-abbrev pub BeginsWhatIsTold : JudgedValue → OptionsValue → List ℕ → Type 0
-BeginsWhatIsTold judged options bytes =
+abbrev pub BeginsWhatIsReported : JudgedValue → OptionsValue → List ℕ → Type 0
+BeginsWhatIsReported judged options bytes =
     (n : ℕ)
     → (rest : List Event)
     × (all_events_by judged options bytes
@@ -347,15 +347,15 @@ BeginsWhatIsTold judged options bytes =
 -- The events reported to a device for the bytes of a PES file, checked against what can be
 -- judged. If it did not say stop: all events, and the answer has the counts. Otherwise: a prefix of
 -- the events, and no counts. If the source failed: the events of the PES packets before.
-abbrev pub TellsEvents : {D : Type 0} → JudgedValue → OptionsValue → List ℕ
+abbrev pub ReportsEvents : {D : Type 0} → JudgedValue → OptionsValue → List ℕ
     → (D → Event → D → Type 0) → D → D → Result (Option Accepted) CheckFault → Type 0
-TellsEvents judged options bytes IsTold old new (Ok (Some a)) =
-    Tells IsTold old new (all_events_by judged options bytes)
+ReportsEvents judged options bytes IsReported old new (Ok (Some a)) =
+    Reports IsReported old new (all_events_by judged options bytes)
     × CountsRead options.page (frames_read options bytes) a
-TellsEvents judged options bytes IsTold old new (Ok None) =
-    TellsPrefix IsTold old new (all_events_by judged options bytes)
-TellsEvents judged options bytes IsTold old new (Err f) =
+ReportsEvents judged options bytes IsReported old new (Ok None) =
+    ReportsPrefix IsReported old new (all_events_by judged options bytes)
+ReportsEvents judged options bytes IsReported old new (Err f) =
     (n : ℕ)
-    × (n ≤ length (piece_file_of (clock_of options) bytes).pieces)
+    × (n ≤ length (pes_packet_file_of (clock_of options) bytes).pes_packets)
     × (f ≡ fault.Pes n Read)
-    × Tells IsTold old new (events_of_first_by judged options bytes n)
+    × Reports IsReported old new (events_of_first_by judged options bytes n)

@@ -1,7 +1,7 @@
 pub mod AcceptedKeeping
 pub mod AcceptedWithin
 pub mod CheckedFiles
-pub mod FirstTold
+pub mod FirstReported
 pub use Rattle.sub_rules.specs.Transmission
 pub use Rattle.sub_rules.specs.PesFrames
 pub use Rattle.sub_rules.specs.PesReading
@@ -26,6 +26,6 @@ pub use Rattle.sub_trusted.specs.TrustedFrames
 pub use Rattle.sub_laws.specs.Laws
 pub use Rattle.sub_laws.specs.Planned
 pub use Rattle.sub_laws.specs.BrokenPlaces
-pub use Rattle.sub_laws.specs.UndueContent
+pub use Rattle.sub_laws.specs.UnexpectedContent
 pub use Rattle.sub_checker.specs.ReadCounts
 pub use Rattle.sub_packets.specs.SentAgain

@@ -3,7 +3,7 @@ ghost use Rattle.std.specs.Prelude.{◌≡◌, ℕ, Err, IfErr, IfOk, IfSome, Is
 ghost use Rattle.std.specs.Prelude.{true};
 ghost use Rattle.sub_io.specs.Device.{CanFail, CountsIf, failed};
 ghost use Rattle.sub_io.specs.Reading.{IfKnown};
-ghost use Rattle.sub_io.specs.Telling.{TellsSome};
+ghost use Rattle.sub_io.specs.Reporting.{ReportsSome};
 ghost use Rattle.ttx_pes.specs.Reader.{FailsAtPacket};
 ghost use Rattle.stl_rows.specs.Judged.{known};
 ghost use Rattle.stl_rows.specs.Programme.{IsProgramme, ProgrammeValue};
@@ -11,28 +11,29 @@ ghost use Rattle.sub_plan.specs.FrameTime.{clock_of};
 ghost use Rattle.sub_plan.specs.Options.{IsOptions};
 ghost use Rattle.sub_rules.specs.Fault.{is_pes_read, is_pes_write, is_subtitle_fault};
 ghost use Rattle.sub_rules.specs.FrameRules.{criteria_of};
-ghost use Rattle.sub_rules.specs.Pieces.{FailsAtPiece};
-ghost use Rattle.sub_checker.specs.PesFileEvents.{FailsReadingOn, TellsFile};
-ghost use Rattle.sub_check.specs.CheckedFiles.{BeginsWhatIsTold, IsChecked, IsCheckedBy};
-ghost use Rattle.sub_check.specs.CheckedFiles.{TellsEvents, TellsWhatIsKnown, TellsWhatMayStay};
-ghost use Rattle.sub_check.specs.CheckedFiles.{TellsWhatMayStayBy};
+ghost use Rattle.sub_rules.specs.PesPackets.{FailsAtPesPacket};
+ghost use Rattle.sub_checker.specs.PesFileEvents.{FailsReadingOn, ReportsFile};
+ghost use Rattle.sub_check.specs.CheckedFiles.{BeginsWhatIsReported, IsChecked, IsCheckedBy};
+ghost use Rattle.sub_check.specs.CheckedFiles.{ReportsEvents, ReportsWhatIsKnown};
+ghost use Rattle.sub_check.specs.CheckedFiles.{ReportsWhatMayStay};
+ghost use Rattle.sub_check.specs.CheckedFiles.{ReportsWhatMayStayBy};
 ghost use Rattle.sub_check.specs.CheckedFiles.{all_events_of};
 ghost use Rattle.sub_check.specs.CheckedFiles.{first_answer};
 
 use crate::first_fault::FirstFault;
 use stl_rows::{Judging, Programme};
-use sub_checker::{Accepted, tell_pieces};
+use sub_checker::{Accepted, report_pes_packets};
 use sub_io::LiveAudience;
 use sub_plan::Options;
 use sub_rules::{CheckFault, Event};
-use ttx_pes::{PesFault, Pieces};
+use ttx_pes::{PesFault, PesPackets};
 
 /// Checks the PES packets of a file against a programme, as `check` does those of a source.
 ///
 /// # Errors
 ///
 /// Returns the faults of `check`.
-pub fn check_pieces<P: Pieces>(
+pub fn check_pes_packets<P: PesPackets>(
     programme: &Programme,
     source: &mut P,
     options: &Options,
@@ -59,7 +60,7 @@ pub fn check_pieces<P: Pieces>(
     ensures count { CountsIf P.failure_count source.old (failed is_pes_read result) source.new }
 {
     let mut first = FirstFault::new();
-    match tell_known(programme, source, options, &mut first) {
+    match report_known(programme, source, options, &mut first) {
         Err(fault) => Err(fault),
         Ok(Some(counts)) => Ok(counts),
         Ok(None) => Err(first.into_fault()),
@@ -68,7 +69,7 @@ pub fn check_pieces<P: Pieces>(
 
 // Reports everything that is broken in a PES file, checked against a programme whose subtitle file
 // has no refused subtitles.
-fn tell_known<P: Pieces, A: LiveAudience<Event>>(
+fn report_known<P: PesPackets, A: LiveAudience<Event>>(
     programme: &Programme,
     source: &mut P,
     options: &Options,
@@ -76,10 +77,10 @@ fn tell_known<P: Pieces, A: LiveAudience<Event>>(
 ) -> Result<Option<Accepted>, CheckFault>
     requires failures { CanFail (P.failure_count source.old) }
     requires goes_on { A.has_stopped audience.old ≡ false }
-    requires still { A.is_waiting audience.old ≡ false }
+    requires still { A.has_pending_reports audience.old ≡ false }
     ensures exact { IfKnown (P.remaining source.old) (λ bytes.
-        TellsFile (criteria_of programme.now options.now) (clock_of options.now) bytes
-        A.is_told audience.old audience.new result) }
+        ReportsFile (criteria_of programme.now options.now) (clock_of options.now) bytes
+        A.is_reported audience.old audience.new result) }
     ensures stopped { IfOk result (λ counts. A.has_stopped audience.new ≡ is_none counts) }
     ensures goes_on { IfErr result (λ _. A.has_stopped audience.new ≡ false) }
     ensures read { (pes : ℕ) → result ≡ Err (CheckFault.Pes pes PesFault.Read)
@@ -90,7 +91,7 @@ fn tell_known<P: Pieces, A: LiveAudience<Event>>(
     ensures device { P.device source.new ≡ P.device source.old }
     ensures count { CountsIf P.failure_count source.old (failed is_pes_read result) source.new }
 {
-    tell_pieces(&Judging::known(programme), source, options, audience)
+    report_pes_packets(&Judging::known(programme), source, options, audience)
 }
 
 /// Checks the PES packets of a file against what can be judged of a subtitle file, and reports
@@ -100,7 +101,7 @@ fn tell_known<P: Pieces, A: LiveAudience<Event>>(
 ///
 /// Returns `Pes` with `Read` if a device failed. The events of all packets before that have been
 /// reported.
-pub fn check_all_pieces<P: Pieces, A: LiveAudience<Event>>(
+pub fn check_all_pes_packets<P: PesPackets, A: LiveAudience<Event>>(
     judging: &Judging<'_>,
     source: &mut P,
     options: &Options,
@@ -108,10 +109,11 @@ pub fn check_all_pieces<P: Pieces, A: LiveAudience<Event>>(
 ) -> Result<Option<Accepted>, CheckFault>
     requires failures { CanFail (P.failure_count source.old) }
     requires goes_on { A.has_stopped audience.old ≡ false }
-    requires still { A.is_waiting audience.old ≡ false }
+    requires still { A.has_pending_reports audience.old ≡ false }
     // If the bytes of the source are known, they decide what is reported.
-    ensures told { IfKnown (P.remaining source.old) (λ bytes.
-        TellsEvents judging.now options.now bytes A.is_told audience.old audience.new result) }
+    ensures reported { IfKnown (P.remaining source.old) (λ bytes.
+        ReportsEvents judging.now options.now bytes A.is_reported audience.old audience.new
+        result) }
     // If all events were reported and no subtitle was refused, `check` returns the first fault
     // among them, or else these counts.
     ensures first { (programme : ProgrammeValue)
@@ -131,33 +133,34 @@ pub fn check_all_pieces<P: Pieces, A: LiveAudience<Event>>(
     // whatever is on air elsewhere.
     ensures trusted { IsFalse options.now.keeps → options.now.within ≡ 0
         → IfKnown (P.remaining source.old) (λ bytes.
-        TellsWhatMayStay judging.now options.now bytes) }
+        ReportsWhatMayStay judging.now options.now bytes) }
     // So they may with any options: with frames of delay, and for receivers that may forget the
     // page if repeats may keep it.
     ensures trusted_by { IfKnown (P.remaining source.old) (λ bytes.
-        TellsWhatMayStayBy judging.now options.now bytes) }
+        ReportsWhatMayStayBy judging.now options.now bytes) }
     // At trusted frames the due page is known.
     ensures known { IfKnown (P.remaining source.old) (λ bytes.
-        TellsWhatIsKnown judging.now options.now bytes) }
+        ReportsWhatIsKnown judging.now options.now bytes) }
     // The events before a failure of the source are a prefix of all events.
     ensures begins { IfKnown (P.remaining source.old) (λ bytes.
-        BeginsWhatIsTold judging.now options.now bytes) }
+        BeginsWhatIsReported judging.now options.now bytes) }
     // No counts are returned exactly if the audience said stop.
     ensures stopped { IfOk result (λ counts. A.has_stopped audience.new ≡ is_none counts) }
     // Whatever the source contains, some events were reported, and the audience had not said stop
     // if the source failed.
-    ensures some { TellsSome A.is_told audience.old audience.new }
+    ensures some { ReportsSome A.is_reported audience.old audience.new }
     ensures goes_on { IfErr result (λ _. A.has_stopped audience.new ≡ false) }
     // A failure of the source is reported for the PES packet in which it happened; the packets
     // before it were consumed. There is no other `Err`.
     ensures read { (pes : ℕ) → result ≡ Err (CheckFault.Pes pes PesFault.Read)
-        → FailsAtPiece pes (P.remaining source.old) (P.left source.new) }
+        → FailsAtPesPacket pes (P.remaining source.old) (P.left source.new) }
     ensures only { IfErr result (λ f. is_pes_read f ≡ true) }
     // Before the source may ask its device, which may fail, all reports are flushed. So if it
     // failed, none is held back.
-    ensures asked { A.held audience.old ≡ 0 → IfErr result (λ _. A.held audience.new ≡ 0) }
+    ensures requested { A.buffered audience.old ≡ 0 → IfErr result (λ _. A.buffered audience.new ≡
+        0) }
     ensures device { P.device source.new ≡ P.device source.old }
     ensures count { CountsIf P.failure_count source.old (failed is_pes_read result) source.new }
 {
-    tell_pieces(judging, source, options, audience)
+    report_pes_packets(judging, source, options, audience)
 }

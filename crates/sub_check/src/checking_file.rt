@@ -3,25 +3,26 @@ ghost use Rattle.std.specs.Prelude.{◌≡◌, ℕ, Err, IfErr, IfOk, IfSome, Is
 ghost use Rattle.std.specs.Prelude.{false, is_none, true};
 ghost use Rattle.sub_io.specs.Device.{CanFail, CountsIf, failed};
 ghost use Rattle.sub_io.specs.Reading.{IfKnown};
-ghost use Rattle.sub_io.specs.Telling.{TellsSome};
+ghost use Rattle.sub_io.specs.Reporting.{ReportsSome};
 ghost use Rattle.ttx_pes.specs.Reader.{FailsAtPacket};
 ghost use Rattle.stl_rows.specs.Judged.{known};
 ghost use Rattle.stl_rows.specs.Programme.{ProgrammeValue};
 ghost use Rattle.sub_rules.specs.Fault.{is_pes_read, is_pes_write, is_subtitle_fault};
-ghost use Rattle.sub_rules.specs.Pieces.{FailsAtPiece};
-ghost use Rattle.sub_check.specs.CheckedFiles.{BeginsWhatIsTold, IsChecked, IsCheckedBy};
-ghost use Rattle.sub_check.specs.CheckedFiles.{TellsEvents, TellsWhatIsKnown, TellsWhatMayStay};
-ghost use Rattle.sub_check.specs.CheckedFiles.{TellsWhatMayStayBy};
+ghost use Rattle.sub_rules.specs.PesPackets.{FailsAtPesPacket};
+ghost use Rattle.sub_check.specs.CheckedFiles.{BeginsWhatIsReported, IsChecked, IsCheckedBy};
+ghost use Rattle.sub_check.specs.CheckedFiles.{ReportsEvents, ReportsWhatIsKnown};
+ghost use Rattle.sub_check.specs.CheckedFiles.{ReportsWhatMayStay};
+ghost use Rattle.sub_check.specs.CheckedFiles.{ReportsWhatMayStayBy};
 ghost use Rattle.sub_check.specs.CheckedFiles.{all_events_of};
 ghost use Rattle.sub_check.specs.CheckedFiles.{first_answer};
 
-use crate::checking::{check_all_pieces, check_pieces};
+use crate::checking::{check_all_pes_packets, check_pes_packets};
 use stl_rows::{Judging, Programme};
 use sub_checker::Accepted;
 use sub_io::{LiveAudience, Source};
 use sub_plan::Options;
 use sub_rules::{CheckFault, Event};
-use ttx_pes::{FilePieces, PesFault};
+use ttx_pes::{FilePesPackets, PesFault};
 
 /// Checks a PES file against a programme. The file is accepted exactly if it carries a good
 /// transmission of the programme, with complete pages if the options require them. Otherwise the
@@ -72,8 +73,8 @@ pub fn check<S: Source>(
     ensures no_write { failed is_pes_write result ≡ false }
     ensures count { CountsIf S.failure_count source.old (failed is_pes_read result) source.new }
 {
-    let mut pieces = FilePieces::new(source);
-    check_pieces(programme, &mut pieces, options)
+    let mut pes_packets = FilePesPackets::new(source);
+    check_pes_packets(programme, &mut pes_packets, options)
 }
 
 /// Checks a PES file like `check`, but against what can be judged of a subtitle file, and reports
@@ -110,10 +111,11 @@ pub fn check_all<S: Source, A: LiveAudience<Event>>(
 ) -> Result<Option<Accepted>, CheckFault>
     requires failures { CanFail (S.failure_count source.old) }
     requires goes_on { A.has_stopped audience.old ≡ false }
-    requires still { A.is_waiting audience.old ≡ false }
+    requires still { A.has_pending_reports audience.old ≡ false }
     // If the bytes of the source are known, they decide what is reported.
-    ensures told { IfKnown (S.remaining source.old) (λ bytes.
-        TellsEvents judging.now options.now bytes A.is_told audience.old audience.new result) }
+    ensures reported { IfKnown (S.remaining source.old) (λ bytes.
+        ReportsEvents judging.now options.now bytes A.is_reported audience.old audience.new
+        result) }
     // If all events were reported and no subtitle was refused, `check` returns the first fault
     // among them, or else these counts.
     ensures first { (programme : ProgrammeValue)
@@ -133,33 +135,34 @@ pub fn check_all<S: Source, A: LiveAudience<Event>>(
     // whatever is on air elsewhere.
     ensures trusted { IsFalse options.now.keeps → options.now.within ≡ 0
         → IfKnown (S.remaining source.old) (λ bytes.
-        TellsWhatMayStay judging.now options.now bytes) }
+        ReportsWhatMayStay judging.now options.now bytes) }
     // So they may with any options: with frames of delay, and for receivers that may forget the
     // page if repeats may keep it.
     ensures trusted_by { IfKnown (S.remaining source.old) (λ bytes.
-        TellsWhatMayStayBy judging.now options.now bytes) }
+        ReportsWhatMayStayBy judging.now options.now bytes) }
     // At trusted frames the due page is known.
     ensures known { IfKnown (S.remaining source.old) (λ bytes.
-        TellsWhatIsKnown judging.now options.now bytes) }
+        ReportsWhatIsKnown judging.now options.now bytes) }
     // The events before a failure of the source are a prefix of all events.
     ensures begins { IfKnown (S.remaining source.old) (λ bytes.
-        BeginsWhatIsTold judging.now options.now bytes) }
+        BeginsWhatIsReported judging.now options.now bytes) }
     // No counts are returned exactly if the audience said stop.
     ensures stopped { IfOk result (λ counts. A.has_stopped audience.new ≡ is_none counts) }
     // Whatever the source contains, some events were reported, and the audience had not said stop
     // if the source failed.
-    ensures some { TellsSome A.is_told audience.old audience.new }
+    ensures some { ReportsSome A.is_reported audience.old audience.new }
     ensures goes_on { IfErr result (λ _. A.has_stopped audience.new ≡ false) }
     // A failure of the source is reported for the PES packet in which it happened; the packets
     // before it were consumed. There is no other `Err`.
     ensures read { (pes : ℕ) → result ≡ Err (CheckFault.Pes pes PesFault.Read)
-        → FailsAtPiece pes (S.remaining source.old) (S.remaining source.new) }
+        → FailsAtPesPacket pes (S.remaining source.old) (S.remaining source.new) }
     ensures only { IfErr result (λ f. is_pes_read f ≡ true) }
     // Before the source may ask its device, which may fail, all reports are flushed. So if it
     // failed, none is held back.
-    ensures asked { A.held audience.old ≡ 0 → IfErr result (λ _. A.held audience.new ≡ 0) }
+    ensures requested { A.buffered audience.old ≡ 0 → IfErr result (λ _. A.buffered audience.new ≡
+        0) }
     ensures count { CountsIf S.failure_count source.old (failed is_pes_read result) source.new }
 {
-    let mut pieces = FilePieces::new(source);
-    check_all_pieces(judging, &mut pieces, options, audience)
+    let mut pes_packets = FilePesPackets::new(source);
+    check_all_pes_packets(judging, &mut pes_packets, options, audience)
 }

@@ -1,7 +1,7 @@
 //! The audience that `check` passes to the checker.
 ghost use Rattle.std.specs.Prelude.{◌≡◌, Option, None, Some, IfSome, is_some, false, not, true};
 ghost use Rattle.std.proofs.Common.{refl, subst, sym};
-ghost use Rattle.sub_check.specs.FirstTold.{IsRuleFault, KeepsFirstFault, is_of_rule};
+ghost use Rattle.sub_check.specs.FirstReported.{IsRuleFault, KeepsFirstFault, is_of_rule};
 ghost use Rattle.sub_rules.specs.declared.fault.CheckFault.{CheckFault};
 
 use std::marker::Model;
@@ -47,15 +47,15 @@ impl FirstFault {
 }
 
 impl Audience<Event> for FirstFault {
-    ghost is_told = { KeepsFirstFault };
+    ghost is_reported = { KeepsFirstFault };
 
     ghost has_stopped = { λ f. is_some f };
 
     // Keeps the event if it is a fault of a rule.
-    #[tactic(auto, using(sub_io::proofs::TellingLemmas::tellings))]
-    fn tell(&mut self, item: Event) -> Result<(), Stopped> {
+    #[tactic(auto, using(sub_io::proofs::ReportingLemmas::tellings))]
+    fn report(&mut self, item: Event) -> Result<(), Stopped> {
         match item {
-            Event::Told(fault) if is_of_rule(&fault) => {
+            Event::Reported(fault) if is_of_rule(&fault) => {
                 self.fault = Some(fault);
                 Err(Stopped)
             }
@@ -65,19 +65,19 @@ impl Audience<Event> for FirstFault {
 }
 
 impl Live for FirstFault {
-    ghost is_waiting = { λ _. false };
+    ghost has_pending_reports = { λ _. false };
 
-    ghost held = { λ _. 0 };
+    ghost buffered = { λ _. 0 };
 
-    ghost is_handed_on = { λ old ok new. (new ≡ old) × (is_some new ≡ not ok) };
+    ghost is_flushed = { λ old ok new. (new ≡ old) × (is_some new ≡ not ok) };
 
     // Never waits: it keeps the fault in memory.
-    fn waits(&self) -> bool {
+    fn has_pending(&self) -> bool {
         false
     }
 
     // There is nothing to flush.
-    fn hand_on(&mut self) -> Result<(), Stopped> {
+    fn flush_pending(&mut self) -> Result<(), Stopped> {
         if self.fault.is_some() {
             return Err(Stopped);
         }
@@ -86,11 +86,11 @@ impl Live for FirstFault {
 }
 
 impl LiveAudience<Event> for FirstFault {
-    ghost stays_told = { record {
-      told = λ before old new item ok told waits on.
-          subst (λ d. KeepsFirstFault before item d) (sym on.0) told;
+    ghost stays_reported = { record {
+      reported = λ before old new item ok reported has_pending on.
+          subst (λ d. KeepsFirstFault before item d) (sym on.0) reported;
       stopped = λ old new ok on. on.1;
-      waits = λ before new item told still. refl;
+      has_pending = λ before new item reported still. refl;
     } };
 }
 

@@ -11,22 +11,23 @@ use Rattle.sub_plan.specs.Schedule.{due_in}
 use Rattle.ttx_page.specs.PacketKind.{kind}
 use Rattle.ttx_page.specs.Span.{holds_beginning, holds_header}
 use Rattle.sub_checker.specs.Checker.{CheckerValue, HasHeard, after_end, after_headers, end_steps}
-use Rattle.sub_checker.specs.Checker.{later_by, stands}
+use Rattle.sub_checker.specs.Checker.{later_by, active_faults_of}
 use Rattle.sub_checker.specs.CheckedFrames.{AfterEnd, AfterPackets, BeforePackets, Remembers}
-use Rattle.sub_rules.specs.Events.{covers, first_header_events, is_gap, packets_told}
-use Rattle.sub_rules.specs.Events.{since_frames, standing_at}
+use Rattle.sub_rules.specs.Events.{covers, first_header_events, is_gap, packets_reported}
+use Rattle.sub_rules.specs.Events.{first_unfinished_in_frames, active_faults_at}
 use Rattle.sub_rules.specs.FrameRules.{Criteria, frame_at, packets_before, packets_of_frame}
 use Rattle.sub_rules.specs.PacketRules.{header_count}
-use Rattle.sub_rules.specs.PieceEvents.{steps_at_end, steps_of_packets}
+use Rattle.sub_rules.specs.PesPacketEvents.{steps_at_end, steps_of_packets}
 use Rattle.sub_rules.specs.Transmission.{SentFrame, Transmission}
 use Rattle.sub_rules.specs.declared.packet_rule.Watched.{Watched}
-use Rattle.sub_rules.specs.Trusted.{stands_none}
-use Rattle.sub_rules.specs.Trusted.CheckStep.{Ends, Says}
-use Rattle.sub_rules.specs.declared.event.Event.TheVariants.{Told}
+use Rattle.sub_rules.specs.Trusted.{has_no_active_faults}
+use Rattle.sub_rules.specs.Trusted.CheckStep.{Ends, Emits}
+use Rattle.sub_rules.specs.declared.event.Event.TheVariants.{Reported}
 use Rattle.sub_rules.specs.declared.fault.CheckFault.TheVariants as fault
 use Rattle.sub_rules.proofs.FrameLists.{joined_more}
 use Rattle.sub_rules.proofs.PacketLists.{header_count-append, holds-count}
-use Rattle.sub_checker.proofs.FrameEndLemmas.{frame_on, since_are, since_last, stands_are}
+use Rattle.sub_checker.proofs.FrameEndLemmas.{frame_on, first_unfinished_are, first_unfinished_last}
+use Rattle.sub_checker.proofs.FrameEndLemmas.{active_faults_are_at}
 use Rattle.sub_checker.proofs.FrameEndLemmas.{steps_are}
 
 -- ---- the packets of a frame
@@ -37,9 +38,10 @@ pub packets_are :
     → BeforePackets g frames n last c
     → packets_of_frame frames n ≡ ps
     → steps_of_packets g frames n
-    ≡ map Says (packets_told c.listener.watched c.frame 0 (packets_before frames n) ps (length ps))
+    ≡ map Emits (packets_reported c.listener.watched c.frame 0 (packets_before frames n) ps
+    (length ps))
 packets_are g frames n last ps c arrives are =
-    let watched = ap (λ (t : Criteria). t.watched) arrives.waits.known.criteria_are in
+    let watched = ap (λ (t : Criteria). t.watched) arrives.has_pending.known.criteria_are in
     rw (sym watched, arrives.frame_is, sym are) refl
 
 -- When the repeat bound is exceeded next, given the headers among more packets.
@@ -64,7 +66,7 @@ module _ (g : Criteria) (frames : Transmission) (n : ℕ) (last ps : List (List 
 
     has_header : holds_header (kind g.watched.page) ps ≡ nat_lt 0 hears.headers
     has_header =
-        let watched = ap (λ (t : Criteria). t.watched) arrives.waits.known.criteria_are in
+        let watched = ap (λ (t : Criteria). t.watched) arrives.has_pending.known.criteria_are in
         let count = hears.count in
         grind (arith, holds-count)
 
@@ -73,7 +75,7 @@ module _ (g : Criteria) (frames : Transmission) (n : ℕ) (last ps : List (List 
 
     known_then : Remembers g frames (suc n) ps here
     known_then =
-        let known = arrives.waits.known in
+        let known = arrives.has_pending.known in
         let knows = hears.knows in
         let count = hears.count in
         let watched = hears.watched in
@@ -89,7 +91,7 @@ module _ (g : Criteria) (frames : Transmission) (n : ℕ) (last ps : List (List 
         let number = get_or-map (λ (x : SentFrame). x.frame) frames n none 0 there in
         let packets = get_or-map (λ (x : SentFrame). x.packets) frames n none [] there in
         let at = arrives.frame_is in
-        let every = ap (λ (t : Criteria). t.every) arrives.waits.known.criteria_are in
+        let every = ap (λ (t : Criteria). t.every) arrives.has_pending.known.criteria_are in
         ap (λ (k : ℕ). list_any (covers g f) (take k frames)) next
         ∙ list_any_more (covers g f) frames n none there
         ∙ ap (λ (b : Bool). list_any (covers g f) (take n frames) || b)
@@ -101,7 +103,7 @@ module _ (g : Criteria) (frames : Transmission) (n : ℕ) (last ps : List (List 
         rw (any_is f)
         (late_core (nat_le (frame_at frames 0 + g.every) (f + 1))
         (list_any (covers g f) (take n frames)) (nat_lt 0 hears.headers) c.late_at c.frame c.every f
-        (arrives.waits.begun.late_is f))
+        (arrives.has_pending.begun.late_is f))
 
     -- The state after the packets. For `take_next`.
     pub heard_here : (e : CheckerValue) → e ≡ record here {
@@ -110,17 +112,17 @@ module _ (g : Criteria) (frames : Transmission) (n : ℕ) (last ps : List (List 
     heard_here e is =
         rw is (record {
           known = assumption known_then;
-          begun = record { first_is = arrives.waits.begun.first_is; late_is = late_then };
-          standing_is = arrives.waits.standing_is;
-          last_is = arrives.waits.last_is;
-          since_is = arrives.waits.since_is;
+          begun = record { first_is = arrives.has_pending.begun.first_is; late_is = late_then };
+          active_faults_is = arrives.has_pending.active_faults_is;
+          last_is = arrives.has_pending.last_is;
+          first_unfinished_is = arrives.has_pending.first_unfinished_is;
           number = refl;
           frame_is = arrives.frame_is;
           latest_is = arrives.latest_is;
           begins =
               hears.begins
               ∙ ap (λ (w : Watched). holds_beginning w.keeps (kind w.page) ps)
-              (sym (ap (λ (t : Criteria). t.watched) arrives.waits.known.criteria_are))
+              (sym (ap (λ (t : Criteria). t.watched) arrives.has_pending.known.criteria_are))
               ∙ ap (holds_beginning g.watched.keeps (kind g.watched.page)) (sym are);
         })
 
@@ -143,13 +145,13 @@ module _ (g : Criteria) (frames : Transmission) (n : ℕ) (last : List (List ℕ
         grind (arith, nat_tests, header_count-append, holds-count)
 
     -- The missing header of the first frame is reported. For `end_sent`.
-    pub first_told : (has lacks : Bool)
+    pub first_reported : (has lacks : Bool)
         → has ≡ holds_header (kind g.watched.page) (packets_of_frame frames n)
         → lacks ≡ ((c.counts.frames == 1) && not has)
         → first_header_events g frames n
-        ≡ cond lacks (Told (fault.NoFirstHeader c.frame) ∷ []) []
+        ≡ cond lacks (Reported (fault.NoFirstHeader c.frame) ∷ []) []
     unfolding first_header_events
-    first_told has lacks holds e =
+    first_reported has lacks holds e =
         let number = is.number in
         let at = is.frame_is in
         go n number at holds
@@ -157,7 +159,7 @@ module _ (g : Criteria) (frames : Transmission) (n : ℕ) (last : List (List ℕ
         go : (k : ℕ) → c.counts.frames ≡ suc k → c.frame ≡ frame_at frames k
             → has ≡ holds_header (kind g.watched.page) (packets_of_frame frames k)
             → first_header_events g frames k
-            ≡ cond lacks (Told (fault.NoFirstHeader c.frame) ∷ []) []
+            ≡ cond lacks (Reported (fault.NoFirstHeader c.frame) ∷ []) []
         go zero number at holds = grind (arith, nat_tests)
         go (suc k) number at holds = grind (arith, nat_tests)
 
@@ -166,14 +168,15 @@ module _ (g : Criteria) (frames : Transmission) (n : ℕ) (last : List (List ℕ
       pub ending_steps : end_steps c ≡ steps_at_end g frames n (suc n) (frame_at frames n)
       ending_steps =
           steps_are g frames n (suc n) (frame_at frames n) last c is.known is.begun is.frame_is due
-          is.standing_is is.last_is is.since_is (frame_on g frames n) (omega arith)
+          is.active_faults_is is.last_is is.first_unfinished_is (frame_on g frames n) (omega arith)
           is.latest_is
 
-      stands_then : stands c
-          ≡ standing_at g frames (suc n) (frame_at frames n)
-      stands_then =
-          stands_are g frames n (suc n) (frame_at frames n) last c is.known is.begun is.frame_is due
-          is.standing_is is.last_is is.since_is (frame_on g frames n) (omega arith)
+      active_faults_then : active_faults_of c
+          ≡ active_faults_at g frames (suc n) (frame_at frames n)
+      active_faults_then =
+          active_faults_are_at g frames n (suc n) (frame_at frames n) last c is.known is.begun
+          is.frame_is due
+          is.active_faults_is is.last_is is.first_unfinished_is (frame_on g frames n) (omega arith)
           is.latest_is
 
       -- The reporter's step at the end. For `end_sent`.
@@ -182,22 +185,29 @@ module _ (g : Criteria) (frames : Transmission) (n : ℕ) (last : List (List ℕ
           → f ≡ d.frame
           → begins
           ≡ holds_beginning g.watched.keeps (kind g.watched.page) (packets_of_frame frames n)
-          → none ≡ stands_none d.standing
+          → none ≡ has_no_active_faults d.active_faults
           → Ends f begins none
           ≡ Ends (frame_at frames n)
           (holds_beginning g.watched.keeps (kind g.watched.page) (packets_of_frame frames n))
-          (stands_none (standing_at g frames (suc n) (frame_at frames n)))
-      end_step f begins none d end at holds stand =
-          let stood = ap (λ (v : CheckerValue). stands_none v.standing) end
-          ∙ ap stands_none stands_then in
-          rw (at ∙ ap (λ (v : CheckerValue). v.frame) end ∙ is.frame_is, holds, stand ∙ stood) refl
+          (has_no_active_faults (active_faults_at g frames (suc n) (frame_at frames n)))
+      end_step f begins none d end at holds no_faults_now =
+          let no_faults_before = ap (λ (v : CheckerValue). has_no_active_faults v.active_faults) end
+          ∙ ap has_no_active_faults active_faults_then in
+          rw (
+            at ∙ ap (λ (v : CheckerValue). v.frame) end ∙ is.frame_is,
+            holds,
+            no_faults_now ∙
+                no_faults_before,
+          ) refl
 
-      since_then : 0 < g.within → (after_end c).since ≡ since_frames g frames (suc n)
-      since_then l =
-          since_are g frames n (suc n) (frame_at frames n) last c is.known is.begun is.frame_is due
-          is.standing_is is.last_is is.since_is (frame_on g frames n) (omega arith)
+      first_unfinished_then : 0 < g.within → (after_end c).first_unfinished ≡
+          first_unfinished_in_frames g frames (suc n)
+      first_unfinished_then l =
+          first_unfinished_are g frames n (suc n) (frame_at frames n) last c is.known is.begun
+          is.frame_is due
+          is.active_faults_is is.last_is is.first_unfinished_is (frame_on g frames n) (omega arith)
           is.latest_is l
-          ∙ since_last g frames n
+          ∙ first_unfinished_last g frames n
 
       -- The state after the end. For `end_sent`.
       pub follows_then : AfterEnd g frames (suc n) last (after_end c)
@@ -206,9 +216,10 @@ module _ (g : Criteria) (frames : Transmission) (n : ℕ) (last : List (List ℕ
         none = λ e. absurd (omega (arith, e));
         begun = λ l. record { first_is = is.begun.first_is; late_is = is.begun.late_is };
         latest_is = λ l. is.latest_is;
-        standing_is = λ l. stands_then ∙ ap (λ (k : ℕ). standing_at g frames (suc n)
+        active_faults_is = λ l. active_faults_then ∙ ap (λ (k : ℕ). active_faults_at g frames
+            (suc n)
             (frame_at frames k)) (omega arith);
         last_is = λ l. is.frame_is ∙ ap (frame_at frames) (omega arith);
-        since_is = since_then;
+        first_unfinished_is = first_unfinished_then;
         number = is.number;
       }

@@ -1,5 +1,5 @@
 -- Reaching a frame of the list. The first frame: `arrives_first`. The frames of the day before a
--- later one: `gap_steps`, `gap_waits`, `gap_ended`. The later one itself: `arrives_next`. More
+-- later one: `gap_steps`, `gap_pending`, `gap_ended`. The later one itself: `arrives_next`. More
 -- frames of the list change nothing: `AfterEnd-prefix`.
 use Rattle.std.proofs.lemmas.Bool.Decides.{nat_tests}
 use Rattle.std.proofs.Common.{◌≡◌, ℕ, zero, suc, ◌+◌, ◌-◌, ◌<◌, ◌≤◌, Bool, false, nat_le, cond}
@@ -10,26 +10,29 @@ use Rattle.std.proofs.lemmas.List.{append-nil}
 use Rattle.stl_rows.specs.Programme.{first_in}
 use Rattle.sub_plan.specs.Schedule.{due_in}
 use Rattle.sub_checker.specs.Checker.{CheckerValue, after_end, at_first, at_frame, at_next}
-use Rattle.sub_checker.specs.Checker.{end_steps, nothing_counted, stands}
+use Rattle.sub_checker.specs.Checker.{end_steps, nothing_counted, active_faults_of}
 use Rattle.sub_checker.specs.declared.counts.Counts.{Counts}
-use Rattle.sub_checker.specs.CheckedFrames.{AfterEnd, BeforeEnd, BeforePackets, BetweenPieces}
+use Rattle.sub_checker.specs.CheckedFrames.{AfterEnd, BeforeEnd, BeforePackets, BetweenPesPackets}
 use Rattle.sub_checker.specs.CheckedFrames.{HasBegun, Remembers, criteria_kept, reaching_steps}
 use Rattle.sub_packets.specs.Listener.{KnowsLast}
 use Rattle.sub_rules.specs.Events.{end_before, gap_length, is_early, is_gap, latest}
-use Rattle.sub_rules.specs.Events.{nothing_stands, order_events, since_before, since_frames}
-use Rattle.sub_rules.specs.Events.{standing_at, standing_before, unfinished_since}
+use Rattle.sub_rules.specs.Events.{no_active_faults, order_events, first_unfinished_before}
+use Rattle.sub_rules.specs.Events.{first_unfinished_in_frames}
+use Rattle.sub_rules.specs.Events.{active_faults_at, active_faults_before, unfinished_since}
 use Rattle.sub_rules.specs.FrameRules.{Criteria, frame_at}
-use Rattle.sub_rules.specs.PieceEvents.{steps_at_end, steps_of_gap}
+use Rattle.sub_rules.specs.PesPacketEvents.{steps_at_end, steps_of_gap}
 use Rattle.sub_rules.specs.Transmission.{Transmission}
-use Rattle.sub_rules.specs.Trusted.CheckStep.{Says}
-use Rattle.sub_rules.specs.declared.event.Event.TheVariants.{Told}
+use Rattle.sub_rules.specs.Trusted.CheckStep.{Emits}
+use Rattle.sub_rules.specs.declared.event.Event.TheVariants.{Reported}
 use Rattle.sub_rules.specs.declared.fault.CheckFault.TheVariants as fault
-use Rattle.sub_rules.proofs.EndLemmas.{standing_before_is}
+use Rattle.sub_rules.proofs.EndLemmas.{active_faults_before_is}
 use Rattle.sub_rules.proofs.PrefixEventLemmas.{frame_at-prefix, latest-prefix}
-use Rattle.sub_rules.proofs.PrefixEventLemmas.{packets_before-prefix, standing_at-prefix}
+use Rattle.sub_rules.proofs.PrefixEventLemmas.{packets_before-prefix, active_faults_at-prefix}
 use Rattle.sub_rules.proofs.PrefixEventLemmas.{unfinished_since-prefix}
-use Rattle.sub_checker.proofs.FrameEndLemmas.{end_before_high, end_before_low, gap_on, since_are}
-use Rattle.sub_checker.proofs.FrameEndLemmas.{since_high, since_last, since_low, stands_are}
+use Rattle.sub_checker.proofs.FrameEndLemmas.{end_before_high, end_before_low, gap_on}
+use Rattle.sub_checker.proofs.FrameEndLemmas.{first_unfinished_are}
+use Rattle.sub_checker.proofs.FrameEndLemmas.{first_unfinished_high, first_unfinished_last}
+use Rattle.sub_checker.proofs.FrameEndLemmas.{first_unfinished_low, active_faults_are_at}
 use Rattle.sub_checker.proofs.FrameEndLemmas.{steps_are}
 
 -- ---- before the first frame
@@ -41,26 +44,27 @@ pub AfterEnd-none :
     → KnowsLast [] last c.listener
     → c.counts.headers ≡ 0
     → c.counts.frames ≡ 0
-    → c.since ≡ None
-    → c.standing ≡ nothing_stands
+    → c.first_unfinished ≡ None
+    → c.active_faults ≡ no_active_faults
     → AfterEnd g frames 0 last c
-unfolding since_frames
-AfterEnd-none g frames last c criteria knows none sent since stood = grind (arith, nat_tests)
+unfolding first_unfinished_in_frames
+AfterEnd-none g frames last c criteria knows none sent first_unfinished no_faults_before = grind
+    (arith, nat_tests)
 
-pub BetweenPieces-none :
+pub BetweenPesPackets-none :
     (g : Criteria) (last : List (List ℕ)) (c : CheckerValue)
     → g ≡ criteria_kept c g.unread
     → KnowsLast [] last c.listener
     → c.counts ≡ nothing_counted
-    → c.since ≡ None
-    → c.standing ≡ nothing_stands
-    → BetweenPieces g [] last c
-BetweenPieces-none g last c criteria knows counts since stood =
+    → c.first_unfinished ≡ None
+    → c.active_faults ≡ no_active_faults
+    → BetweenPesPackets g [] last c
+BetweenPesPackets-none g last c criteria knows counts first_unfinished no_faults_before =
     let shut : c.counts.is_open ≡ false = ap (λ (n : Counts). n.is_open) counts in
     record {
       closed = λ _.
           AfterEnd-none g [] last c criteria knows (ap (λ (n : Counts). n.headers) counts)
-          (ap (λ (n : Counts). n.frames) counts) since stood;
+          (ap (λ (n : Counts). n.frames) counts) first_unfinished no_faults_before;
       none = λ _ _. refl;
       some = λ e. absurd (true≢false (sym e ∙ shut));
       within = λ e. absurd (true≢false (sym e ∙ shut));
@@ -79,55 +83,56 @@ pub arrives_first :
     → AfterEnd g frames 0 last c
     → frame_at frames 0 ≡ f
     → BeforePackets g frames 0 last (at_first f c)
-unfolding is_gap latest standing_before since_before since_frames
+unfolding is_gap latest active_faults_before first_unfinished_before first_unfinished_in_frames
 arrives_first g frames f last c follows is = grind (arith, nat_tests, remembers_at)
 
 -- The steps before the first frame. For `begin`.
 pub first_reaching :
     (g : Criteria) (frames : Transmission) (f : ℕ) (last : List (List ℕ)) (c : CheckerValue)
-    (out : Option ℕ) (told : Bool)
+    (out : Option ℕ) (reported : Bool)
     → AfterEnd g frames 0 last c
     → frame_at frames 0 ≡ f
     → out ≡ first_in c.programme.records
-    → told ≡ is_early out f
-    → reaching_steps g frames 0 ≡ map Says (cond told (Told (fault.Early f) ∷ []) [])
+    → reported ≡ is_early out f
+    → reaching_steps g frames 0 ≡ map Emits (cond reported (Reported (fault.Early f) ∷ []) [])
 unfolding order_events steps_of_gap gap_length
-first_reaching g frames f last c out told follows is from e = grind (arith, nat_tests, append-nil)
+first_reaching g frames f last c out reported follows is from e = grind
+    (arith, nat_tests, append-nil)
 
 -- ---- the frames of the day before another one
 
 -- The state before the next end, if no frame of the day lies between.
-pub follows_waits :
+pub follows_pending :
     (g : Criteria) (frames : Transmission) (n f : ℕ) (last : List (List ℕ)) (c : CheckerValue)
     → AfterEnd g frames n last c
     → 0 < n
     → f ≤ c.latest + 1
     → BeforeEnd g frames n f last c
-follows_waits g frames n f last c follows some l =
-    grind (arith, nat_tests, end_before_low, standing_before_is, since_low)
+follows_pending g frames n f last c follows some l =
+    grind (arith, nat_tests, end_before_low, active_faults_before_is, first_unfinished_low)
 
 -- A state before the end of f is also one before any end up to f.
-waits_lower :
+pending_lower :
     (g : Criteria) (frames : Transmission) (n f e : ℕ) (last : List (List ℕ)) (c : CheckerValue)
     → BeforeEnd g frames n f last c
     → 0 < n
     → f ≤ latest frames n + 1
     → e ≤ latest frames n + 1
     → BeforeEnd g frames n e last c
-waits_lower g frames n f e last c waits some l m =
-    grind (arith, nat_tests, end_before_low, standing_before_is, since_low)
+pending_lower g frames n f e last c has_pending some l m =
+    grind (arith, nat_tests, end_before_low, active_faults_before_is, first_unfinished_low)
 
 -- One more end. For `cross_gap`.
 module _ (g : Criteria) (frames : Transmission) (n f : ℕ) (last : List (List ℕ))
     (v b : CheckerValue)
-    (waits : BeforeEnd g frames n f last v) (some : 0 < n) (later : latest frames n < f)
+    (has_pending : BeforeEnd g frames n f last v) (some : 0 < n) (later : latest frames n < f)
     (moved : b ≡ at_frame f v) (known : v.latest ≡ latest frames n)
     (due : b.listener.comparison.due ≡ due_in b.programme b.frame)
   where
     known_there : Remembers g frames n last b
     known_there =
         subst (Remembers g frames n last) (sym moved)
-        (remembers_at g frames n f last v waits.known)
+        (remembers_at g frames n f last v has_pending.known)
 
     at_there : b.frame ≡ f
     at_there = ap (λ (c : CheckerValue). c.frame) moved
@@ -138,42 +143,54 @@ module _ (g : Criteria) (frames : Transmission) (n f : ℕ) (last : List (List �
     begun_there : HasBegun g frames n b
     begun_there = grind (arith, nat_tests)
 
-    stood_there : b.standing ≡ standing_before g frames n f
-    stood_there = ap (λ (c : CheckerValue). c.standing) moved ∙ waits.standing_is
+    active_before_there : b.active_faults ≡ active_faults_before g frames n f
+    active_before_there = ap (λ (c : CheckerValue). c.active_faults) moved ∙
+        has_pending.active_faults_is
 
     before_there : 0 < n → b.last ≡ end_before frames n f
-    before_there l = ap (λ (c : CheckerValue). c.last) moved ∙ waits.last_is l
+    before_there l = ap (λ (c : CheckerValue). c.last) moved ∙ has_pending.last_is l
 
-    since_there : 0 < g.within → b.since ≡ since_before g frames n f
-    since_there l = ap (λ (c : CheckerValue). c.since) moved ∙ waits.since_is l
+    first_unfinished_there : 0 < g.within → b.first_unfinished ≡ first_unfinished_before g frames n
+        f
+    first_unfinished_there l = ap (λ (c : CheckerValue). c.first_unfinished) moved ∙
+        has_pending.first_unfinished_is l
 
     pub gap_steps : end_steps b ≡ steps_at_end g frames n n f
     gap_steps =
-        steps_are g frames n n f last b known_there begun_there at_there due stood_there
-        before_there since_there (gap_on g frames n f some later) some latest_there
+        steps_are g frames n n f last b known_there begun_there at_there due active_before_there
+        before_there first_unfinished_there (gap_on g frames n f some later) some latest_there
 
-    stands_there : stands b ≡ standing_at g frames n f
-    stands_there =
-        stands_are g frames n n f last b known_there begun_there at_there due stood_there
-        before_there since_there (gap_on g frames n f some later) some latest_there
+    active_faults_there : active_faults_of b ≡ active_faults_at g frames n f
+    active_faults_there =
+        active_faults_are_at g frames n n f last b known_there begun_there at_there due
+        active_before_there
+        before_there first_unfinished_there (gap_on g frames n f some later) some latest_there
 
-    since_then : 0 < g.within
-        → (after_end b).since ≡ unfinished_since g frames n f
-    since_then =
-        since_are g frames n n f last b known_there begun_there at_there due stood_there
-        before_there since_there (gap_on g frames n f some later) some latest_there
+    first_unfinished_then : 0 < g.within
+        → (after_end b).first_unfinished ≡ unfinished_since g frames n f
+    first_unfinished_then =
+        first_unfinished_are g frames n n f last b known_there begun_there at_there due
+        active_before_there
+        before_there first_unfinished_there (gap_on g frames n f some later) some latest_there
 
     number_there : b.counts.frames ≡ n
-    number_there = ap (λ (c : CheckerValue). c.counts.frames) moved ∙ waits.number
+    number_there = ap (λ (c : CheckerValue). c.counts.frames) moved ∙ has_pending.number
 
-    pub gap_waits : (e : ℕ) → e ≡ f + 1
+    pub gap_pending : (e : ℕ) → e ≡ f + 1
         → BeforeEnd g frames n e last (after_end b)
-    gap_waits e is = record {
+    gap_pending e is = record {
       known = assumption known_there;
       begun = record { first_is = begun_there.first_is; late_is = begun_there.late_is };
-      standing_is = grind (arith, nat_tests, stands_there, end_before_high, standing_before_is);
+      active_faults_is = grind (
+        arith,
+        nat_tests,
+        active_faults_there,
+        end_before_high,
+        active_faults_before_is,
+      );
       last_is = λ l. grind (arith, nat_tests, end_before_high, at_there);
-      since_is = λ l. since_then l ∙ sym (since_high g frames n f e some is);
+      first_unfinished_is = λ l. first_unfinished_then l ∙ sym (first_unfinished_high g frames n f e
+          some is);
       number = number_there;
     }
 
@@ -206,7 +223,7 @@ pub gap_ended :
     → to ≤ f
     → (known + 1 < f → f ≤ to)
     → (to - (latest frames n + 1) ≡ f - (latest frames n + 1)) × BeforeEnd g frames n to last c
-gap_ended g frames n f to known last c waits some is later done upto =
+gap_ended g frames n f to known last c has_pending some is later done upto =
     by (cases_lt (known + 1) f)
   where
     by : (known + 1 < f) ⊎ (f ≤ known + 1)
@@ -214,11 +231,11 @@ gap_ended g frames n f to known last c waits some is later done upto =
     by (inl l) =
         let same : f ≡ to = omega (arith, upto l, done) in (
           ap (λ (k : ℕ). k - (latest frames n + 1)) (sym same),
-          subst (λ (k : ℕ). BeforeEnd g frames n k last c) same waits,
+          subst (λ (k : ℕ). BeforeEnd g frames n k last c) same has_pending,
         )
     by (inr l) = (
       omega (arith, is, l, done),
-      waits_lower g frames n f to last c waits some (omega (arith, is, l))
+      pending_lower g frames n f to last c has_pending some (omega (arith, is, l))
           (omega (arith, is, l, done)),
     )
 
@@ -230,39 +247,40 @@ pub arrives_next :
     → c.latest ≡ latest frames n
     → BeforePackets g frames n last (at_next f c)
 unfolding latest
-arrives_next g frames n f last c waits is latest_is = grind (arith, nat_tests, remembers_at)
+arrives_next g frames n f last c has_pending is latest_is = grind (arith, nat_tests, remembers_at)
 
 -- The events of its order. For `go_to`.
 pub order_are :
-    (g : Criteria) (frames : Transmission) (n f last pes : ℕ) (told : Bool)
+    (g : Criteria) (frames : Transmission) (n f last pes : ℕ) (reported : Bool)
     → 0 < n
     → frame_at frames n ≡ f
     → last ≡ frame_at frames (n - 1)
     → pes ≡ n
-    → told ≡ nat_le f last
-    → order_events g frames n ≡ cond told (Told (fault.Order pes) ∷ []) []
+    → reported ≡ nat_le f last
+    → order_events g frames n ≡ cond reported (Reported (fault.Order pes) ∷ []) []
 unfolding order_events
-order_are g frames zero f last pes told some is at number late = absurd (omega arith)
-order_are g frames (suc n) f last pes told some is at number late = grind (arith, nat_tests)
+order_are g frames zero f last pes reported some is at number late = absurd (omega arith)
+order_are g frames (suc n) f last pes reported some is at number late = grind (arith, nat_tests)
 
 -- ---- more frames of the list
 
 gap_prefix : (g : Criteria) (done more : Transmission) (f : ℕ) → 0 < length done
     → is_gap g (done ++ more) (length done) f ≡ is_gap g done (length done) f
-unfolding is_gap standing_at
+unfolding is_gap active_faults_at
 gap_prefix g done more f some =
-    ap (λ s. s.gap) (standing_at-prefix g g.unread done more (length done) f some (omega arith))
+    ap (λ s. s.gap) (active_faults_at-prefix g g.unread done more (length done) f some
+    (omega arith))
 
-since_prefix : (g : Criteria) (done more : Transmission) (n : ℕ) → n ≤ length done
-    → since_frames g (done ++ more) n ≡ since_frames g done n
-unfolding since_frames
-since_prefix g done more zero l = refl
-since_prefix g done more (suc i) l =
-    sym (since_last g (done ++ more) i)
+first_unfinished_prefix : (g : Criteria) (done more : Transmission) (n : ℕ) → n ≤ length done
+    → first_unfinished_in_frames g (done ++ more) n ≡ first_unfinished_in_frames g done n
+unfolding first_unfinished_in_frames
+first_unfinished_prefix g done more zero l = refl
+first_unfinished_prefix g done more (suc i) l =
+    sym (first_unfinished_last g (done ++ more) i)
     ∙ ap (unfinished_since g (done ++ more) (suc i))
     (frame_at-prefix g g.unread done more i (omega arith))
     ∙ unfinished_since-prefix g g.unread done more (suc i) (frame_at done i) l
-    ∙ since_last g done i
+    ∙ first_unfinished_last g done i
 
 -- The state after some frames stays valid if more frames are sent.
 pub AfterEnd-prefix : (g : Criteria) (done more : Transmission) (last : List (List ℕ))
@@ -287,13 +305,14 @@ AfterEnd-prefix g done more last c follows =
           };
       latest_is = λ l.
           follows.latest_is l ∙ sym (latest-prefix g g.unread done more n (omega arith));
-      standing_is = λ l.
-          follows.standing_is l
-          ∙ sym (standing_at-prefix g g.unread done more n _ l (omega arith)
-          ∙ ap (standing_at g done n)
+      active_faults_is = λ l.
+          follows.active_faults_is l
+          ∙ sym (active_faults_at-prefix g g.unread done more n _ l (omega arith)
+          ∙ ap (active_faults_at g done n)
           (frame_at-prefix g g.unread done more (n - 1) (omega arith)));
       last_is = λ l.
           follows.last_is l ∙ sym (frame_at-prefix g g.unread done more (n - 1) (omega arith));
-      since_is = λ l. follows.since_is l ∙ sym (since_prefix g done more n (omega arith));
+      first_unfinished_is = λ l. follows.first_unfinished_is l ∙ sym (first_unfinished_prefix g done
+          more n (omega arith));
       number = follows.number;
     }

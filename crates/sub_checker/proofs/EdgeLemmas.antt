@@ -5,7 +5,7 @@ use Rattle.std.proofs.Common.{List, refl, ap, ◌∙◌, arith}
 use Rattle.stl_file.specs.Subtitle.{SubtitleValue}
 use Rattle.stl_file.specs.TimeCode.{day}
 use Rattle.stl_rows.specs.declared.layout.Drawing.{Drawing}
-use Rattle.stl_rows.specs.DuePage.{due, TellsNextEdge}
+use Rattle.stl_rows.specs.DuePage.{due, ReportsNextEdge}
 use Rattle.stl_rows.specs.Judged.{JudgedValue}
 use Rattle.stl_rows.specs.Programme.{ProgrammeValue}
 use Rattle.stl_rows.proofs.DuePageLemmas.{edges_alone}
@@ -16,35 +16,35 @@ use Rattle.sub_packets.specs.declared.listener.Listener.{Listener}
 -- The due page stays the same until its next change.
 due_until :
     (drawing : Drawing) (records : List SubtitleValue) (frame : ℕ) (edge : Option ℕ) (k : ℕ)
-    → TellsNextEdge records frame edge
+    → ReportsNextEdge records frame edge
     → is_before (frame + k) edge ≡ true
     → due drawing records (frame + k) ≡ due drawing records frame
-due_until drawing records frame edge zero tells before = ap (due drawing records) (omega arith)
-due_until drawing records frame None (suc k) tells before =
+due_until drawing records frame edge zero reports before = ap (due drawing records) (omega arith)
+due_until drawing records frame None (suc k) reports before =
     edges_alone drawing records (frame + suc k) (omega arith)
-    (λ is. let l = tells (frame + suc k) is in omega arith)
+    (λ is. let l = reports (frame + suc k) is in omega arith)
     ∙ ap (due drawing records) (omega arith)
-    ∙ due_until drawing records frame None k tells refl
-due_until drawing records frame (Some e) (suc k) tells before =
+    ∙ due_until drawing records frame None k reports refl
+due_until drawing records frame (Some e) (suc k) reports before =
     let l : frame + suc k < e = grind (arith, nat_tests) in
     edges_alone drawing records (frame + suc k) (omega arith)
-    (λ is. let m = tells.least (frame + suc k) is (omega arith) in omega (arith, l))
+    (λ is. let m = reports.least (frame + suc k) is (omega arith) in omega (arith, l))
     ∙ ap (due drawing records) (omega arith)
-    ∙ due_until drawing records frame (Some e) k tells (grind (arith, nat_tests))
+    ∙ due_until drawing records frame (Some e) k reports (grind (arith, nat_tests))
 
 -- The next change stays the same until then.
 same_edge :
     (records : List SubtitleValue) (frame f : ℕ) (edge : Option ℕ)
-    → TellsNextEdge records frame edge
+    → ReportsNextEdge records frame edge
     → frame ≤ f
     → is_before f edge ≡ true
-    → TellsNextEdge records f edge
-same_edge records frame f None tells low before = λ e is. let l = tells e is in omega arith
-same_edge records frame f (Some edge) tells low before =
+    → ReportsNextEdge records f edge
+same_edge records frame f None reports low before = λ e is. let l = reports e is in omega arith
+same_edge records frame f (Some edge) reports low before =
     record {
-      is_edge = tells.is_edge;
+      is_edge = reports.is_edge;
       after = grind (arith, nat_tests);
-      least = λ e is l. tells.least e is (omega arith);
+      least = λ e is l. reports.least e is (omega arith);
     }
 
 -- `IsAtFrame` stays true until the next change of the due page. For `move_to`.

@@ -1,6 +1,7 @@
--- The end of a frame, from the state: its faults and steps, `steps_are`, `stands_are`, `since_are`;
--- since which frame the page has been wrong, `gap_on`, `frame_on`; ends without faults,
--- `quiet_once`, `quiet_within`.
+-- The end of a frame, from the state: its faults and steps, `steps_are`, `active_faults_are_at`,
+-- `first_unfinished_are`; since which frame the page has been wrong, `gap_on`, `frame_on`; ends
+-- without faults,
+-- `fault_free_once`, `fault_free_within`.
 use Rattle.std.proofs.lemmas.Bool.Decides.{nat_tests}
 use Rattle.std.proofs.Common.{◌≡◌, ℕ, zero, suc, ◌+◌, ◌-◌, ◌<◌, ◌≤◌, Bool, false, ◌||◌}
 use Rattle.std.proofs.Common.{cond, List, [], ◌∷◌, ◌++◌, map, Option, Some, None, refl, sym}
@@ -10,24 +11,27 @@ use Rattle.ttx_page.specs.Page.{Rows}
 use Rattle.sub_plan.specs.Schedule.{due_in}
 use Rattle.sub_checker.specs.Checker.{CheckerValue, after_end, back_steps, differs_now, end_steps}
 use Rattle.sub_checker.specs.Checker.{is_overdue_at, is_undecided_by, is_unfinished_now, late_now}
-use Rattle.sub_checker.specs.Checker.{IsQuietEnd, since_now, stands, undecided_now, undue_now}
+use Rattle.sub_checker.specs.Checker.{IsFaultFreeEnd, first_unfinished_now, active_faults_of}
+use Rattle.sub_checker.specs.Checker.{undecided_now, unexpected_now}
 use Rattle.sub_packets.specs.KeptPage.{is_incomplete_kept}
-use Rattle.sub_packets.proofs.KeptPageLemmas.{incomplete_heard, undue_heard, wrong_heard}
+use Rattle.sub_packets.proofs.KeptPageLemmas.{incomplete_heard, unexpected_heard, wrong_heard}
 use Rattle.sub_checker.specs.CheckedFrames.{HasBegun, Remembers}
 use Rattle.sub_rules.specs.Events.{end_before, end_events, end_rules, events_at_end, is_silent}
-use Rattle.sub_rules.specs.Events.{gap_length, nothing_stands, silent_for, is_incomplete, is_late}
-use Rattle.sub_rules.specs.Events.{is_overdue, is_unfinished, latest, since_before, since_frames}
-use Rattle.sub_rules.specs.Events.{since_in_gap, standing_at, standing_before, undecided_within}
-use Rattle.sub_rules.specs.Events.{undue_cell, unfinished_from, unfinished_since, wrong_after}
+use Rattle.sub_rules.specs.Events.{gap_length, no_active_faults, silent_for, is_incomplete, is_late}
+use Rattle.sub_rules.specs.Events.{is_overdue, is_unfinished, latest, first_unfinished_before}
+use Rattle.sub_rules.specs.Events.{first_unfinished_in_frames}
+use Rattle.sub_rules.specs.Events.{first_unfinished_in_gap, active_faults_at, active_faults_before}
+use Rattle.sub_rules.specs.Events.{undecided_within}
+use Rattle.sub_rules.specs.Events.{unexpected_cell, unfinished_from, unfinished_since, wrong_after}
 use Rattle.sub_rules.specs.Events.{wrong_cell}
 use Rattle.sub_rules.specs.FrameRules.{Criteria, frame_at, packets_before}
-use Rattle.sub_rules.specs.PieceEvents.{steps_at_end, steps_before}
+use Rattle.sub_rules.specs.PesPacketEvents.{steps_at_end, steps_before}
 use Rattle.sub_rules.specs.Transmission.{Transmission}
 use Rattle.sub_rules.specs.Trusted.{CheckStep}
-use Rattle.sub_rules.specs.Trusted.CheckStep.{AtEnd, Says}
+use Rattle.sub_rules.specs.Trusted.CheckStep.{AtEnd, Emits}
 use Rattle.sub_rules.specs.declared.event.Event.{Event}
 use Rattle.sub_rules.proofs.EndRuleLemmas.{end_from_none}
-use Rattle.sub_rules.specs.declared.standing.Standing.{Standing}
+use Rattle.sub_rules.specs.declared.active_faults.ActiveFaults.{ActiveFaults}
 
 -- ---- since which frame the page has been wrong
 
@@ -37,49 +41,54 @@ pub gap_on :
     → 0 < n
     → latest frames n < f
     → unfinished_since g frames n f
-    ≡ unfinished_from (since_before g frames n f) (is_unfinished g frames n f) f
-unfolding unfinished_since since_before since_in_gap
+    ≡ unfinished_from (first_unfinished_before g frames n f) (is_unfinished g frames n f) f
+unfolding unfinished_since first_unfinished_before first_unfinished_in_gap
 gap_on g frames n f some later = grind (arith, nat_tests)
 
 -- At the end of the last of the first frames.
-pub since_last : (g : Criteria) (frames : Transmission) (n : ℕ)
-    → unfinished_since g frames (suc n) (frame_at frames n) ≡ since_frames g frames (suc n)
-unfolding unfinished_since since_in_gap latest
-since_last g frames n =
+pub first_unfinished_last : (g : Criteria) (frames : Transmission) (n : ℕ)
+    → unfinished_since g frames (suc n) (frame_at frames n) ≡ first_unfinished_in_frames g frames
+    (suc n)
+unfolding unfinished_since first_unfinished_in_gap latest
+first_unfinished_last g frames n =
     let none : frame_at frames n - latest frames (suc n) ≡ 0 = grind (arith, nat_tests) in
-    ap (since_in_gap g frames (suc n) (since_frames g frames (suc n))) none
+    ap (first_unfinished_in_gap g frames (suc n) (first_unfinished_in_frames g frames (suc n))) none
 
 -- Up to the end before it.
 before_last : (g : Criteria) (frames : Transmission) (n : ℕ)
-    → since_in_gap g frames n (since_frames g frames n) (gap_length frames n)
-    ≡ since_before g frames n (frame_at frames n)
-unfolding since_before unfinished_since since_in_gap since_frames gap_length
+    → first_unfinished_in_gap g frames n (first_unfinished_in_frames g frames n)
+    (gap_length frames n)
+    ≡ first_unfinished_before g frames n (frame_at frames n)
+unfolding first_unfinished_before unfinished_since first_unfinished_in_gap
+    first_unfinished_in_frames gap_length
 before_last g frames zero = refl
 before_last g frames (suc n) =
-    ap (since_in_gap g frames (suc n) (since_frames g frames (suc n))) (omega arith)
+    ap (first_unfinished_in_gap g frames (suc n) (first_unfinished_in_frames g frames (suc n)))
+    (omega arith)
 
 pub frame_on : (g : Criteria) (frames : Transmission) (n : ℕ)
     → unfinished_since g frames (suc n) (frame_at frames n)
-    ≡ unfinished_from (since_before g frames n (frame_at frames n))
+    ≡ unfinished_from (first_unfinished_before g frames n (frame_at frames n))
     (is_unfinished g frames (suc n) (frame_at frames n)) (frame_at frames n)
-unfolding since_frames
-frame_on g frames n = grind (arith, nat_tests, since_last, before_last)
+unfolding first_unfinished_in_frames
+frame_on g frames n = grind (arith, nat_tests, first_unfinished_last, before_last)
 
 -- At the end before, if no frame of the day lies between.
-pub since_low : (g : Criteria) (frames : Transmission) (n f : ℕ)
+pub first_unfinished_low : (g : Criteria) (frames : Transmission) (n f : ℕ)
     → f ≤ latest frames n + 1
-    → since_before g frames n f ≡ since_frames g frames n
-unfolding since_before unfinished_since since_in_gap since_frames
-since_low g frames n f low = grind (arith, nat_tests)
+    → first_unfinished_before g frames n f ≡ first_unfinished_in_frames g frames n
+unfolding first_unfinished_before unfinished_since first_unfinished_in_gap
+    first_unfinished_in_frames
+first_unfinished_low g frames n f low = grind (arith, nat_tests)
 
 -- At the end before, if one does.
-pub since_high : (g : Criteria) (frames : Transmission) (n f e : ℕ)
+pub first_unfinished_high : (g : Criteria) (frames : Transmission) (n f e : ℕ)
     → 0 < n
     → e ≡ f + 1
-    → since_before g frames n e ≡ unfinished_since g frames n f
-unfolding since_before
-since_high g frames zero f e some is = absurd (omega arith)
-since_high g frames (suc n) f e some is =
+    → first_unfinished_before g frames n e ≡ unfinished_since g frames n f
+unfolding first_unfinished_before
+first_unfinished_high g frames zero f e some is = absurd (omega arith)
+first_unfinished_high g frames (suc n) f e some is =
     ap (unfinished_since g frames (suc n)) (omega (arith, is))
 
 -- ---- the end before
@@ -98,12 +107,12 @@ end_before_high frames n f l = grind (arith, nat_tests)
 
 -- The events at the end of a frame, from the state.
 ends_are :
-    (g : Criteria) (frames : Transmission) (i n f : ℕ) (old new : Standing) (last : ℕ)
-    → old ≡ standing_before g frames i f
+    (g : Criteria) (frames : Transmission) (i n f : ℕ) (old new : ActiveFaults) (last : ℕ)
+    → old ≡ active_faults_before g frames i f
     → (0 < i → last ≡ end_before frames i f)
-    → new ≡ standing_at g frames n f
+    → new ≡ active_faults_at g frames n f
     → end_events old last new f ≡ events_at_end g frames i n f
-unfolding standing_before
+unfolding active_faults_before
 ends_are g frames zero n f old new last is at now = rw (is, now) (end_from_none _ _ _ _)
 ends_are g frames (suc i) n f old new last is at now = rw (is, now, at (omega arith)) refl
 
@@ -115,10 +124,11 @@ silent_at g frames zero f some = absurd (omega arith)
 silent_at g frames (suc n) f some = refl
 
 -- Whether the page is overdue, from the state.
-pub overdue_is : (g : Criteria) (c : CheckerValue) (first : ℕ) (since : Option ℕ) (f : ℕ)
+pub overdue_is : (g : Criteria) (c : CheckerValue) (first : ℕ) (first_unfinished : Option ℕ) (f : ℕ)
     (last : List (List ℕ)) (frames : Transmission) (n : ℕ)
     → Remembers g frames n last c
-    → is_overdue g first since f ≡ is_overdue_at c.programme c.within first since f
+    → is_overdue g first first_unfinished f ≡ is_overdue_at c.programme c.within first
+    first_unfinished f
 overdue_is g c first None f last frames n known = refl
 overdue_is g c first (Some s) f last frames n known =
     ap (λ (t : Criteria). is_overdue t first (Some s) f) known.criteria_are
@@ -127,9 +137,9 @@ overdue_is g c first (Some s) f last frames n known =
 pub back_are :
     (g : Criteria) (frames : Transmission) (i n f : ℕ) (last : List (List ℕ)) (c : CheckerValue)
     → Remembers g frames n last c
-    → (0 < g.within → c.since ≡ since_before g frames i f)
-    → back_steps c ≡ steps_before g (since_before g frames i f)
-back_are g frames i n f last c known since = grind (arith, nat_tests)
+    → (0 < g.within → c.first_unfinished ≡ first_unfinished_before g frames i f)
+    → back_steps c ≡ steps_before g (first_unfinished_before g frames i f)
+back_are g frames i n f last c known first_unfinished = grind (arith, nat_tests)
 
 -- If `within` is 0, there is no `GoesBack` step.
 pub back_none : (c : CheckerValue) → c.within ≡ 0 → back_steps c ≡ []
@@ -143,11 +153,11 @@ module _ (g : Criteria) (frames : Transmission) (i n f : ℕ) (last : List (List
     (c : CheckerValue)
     (known : Remembers g frames n last c) (begun : HasBegun g frames n c) (at : c.frame ≡ f)
     (due : c.listener.comparison.due ≡ due_in c.programme c.frame)
-    (stood : c.standing ≡ standing_before g frames i f)
+    (no_faults_before : c.active_faults ≡ active_faults_before g frames i f)
     (before : 0 < i → c.last ≡ end_before frames i f)
-    (since : 0 < g.within → c.since ≡ since_before g frames i f)
+    (first_unfinished : 0 < g.within → c.first_unfinished ≡ first_unfinished_before g frames i f)
     (on : unfinished_since g frames n f
-    ≡ unfinished_from (since_before g frames i f) (is_unfinished g frames n f) f)
+    ≡ unfinished_from (first_unfinished_before g frames i f) (is_unfinished g frames n f) f)
     (some : 0 < n) (latest_is : c.latest ≡ latest frames n)
   where
     -- The packets received so far.
@@ -178,8 +188,8 @@ module _ (g : Criteria) (frames : Transmission) (i n f : ℕ) (last : List (List
     unfinished_is = rw (wrong_is, incomplete_is) refl
 
     -- Since which frame the page has been wrong.
-    since_is : 0 < g.within → since_now c ≡ unfinished_since g frames n f
-    since_is l = rw (since l, unfinished_is, at) (sym on)
+    first_unfinished_is : 0 < g.within → first_unfinished_now c ≡ unfinished_since g frames n f
+    first_unfinished_is l = rw (first_unfinished l, unfinished_is, at) (sym on)
 
     late_is : late_now c ≡ is_late g frames n f
     unfolding is_late
@@ -187,7 +197,7 @@ module _ (g : Criteria) (frames : Transmission) (i n f : ℕ) (last : List (List
         late_by c.within _ _
         (λ l.
         ap (λ (s : Option ℕ). is_overdue_at c.programme c.within c.first s c.frame)
-        (since_is (rw within_is l))
+        (first_unfinished_is (rw within_is l))
         ∙ rw (begun.first_is, at) (sym (overdue_is g c (frame_at frames 0)
         (unfinished_since g frames n f) f last frames n known)))
         ∙ ap (λ (w : ℕ). w == 0
@@ -198,13 +208,13 @@ module _ (g : Criteria) (frames : Transmission) (i n f : ℕ) (last : List (List
         rw (begun.first_is, at)
         (ap (λ (t : Criteria). undecided_within t frames f) (sym known.criteria_are))
 
-    undue_is : undue_now c ≡ undue_cell g frames n f
-    undue_is =
+    unexpected_is : unexpected_now c ≡ unexpected_cell g frames n f
+    unexpected_is =
         ap (λ (o : Option (ℕ × ℕ)). cond (undecided_now c) None o)
-        (undue_heard so_far c.listener known.knows.knows (due_in c.programme) c.first c.frame
+        (unexpected_heard so_far c.listener known.knows.knows (due_in c.programme) c.first c.frame
         c.within)
         ∙ rw (begun.first_is, at)
-        (ap (λ (t : Criteria). undue_cell t frames n f) (sym known.criteria_are))
+        (ap (λ (t : Criteria). unexpected_cell t frames n f) (sym known.criteria_are))
 
     silent_is : silent_for c.pace c.latest c.frame ≡ is_silent g frames n f
     silent_is =
@@ -213,14 +223,14 @@ module _ (g : Criteria) (frames : Transmission) (i n f : ℕ) (last : List (List
         ∙ sym (silent_at g frames n f some))
 
     -- The active faults.
-    pub stands_are : stands c ≡ standing_at g frames n f
-    unfolding standing_at
-    stands_are =
+    pub active_faults_are_at : active_faults_of c ≡ active_faults_at g frames n f
+    unfolding active_faults_at
+    active_faults_are_at =
         rw (
           silent_is,
           late_is,
           wrong_is,
-          undue_is,
+          unexpected_is,
           undecided_is,
           incomplete_is,
           begun.late_is f,
@@ -230,84 +240,90 @@ module _ (g : Criteria) (frames : Transmission) (i n f : ℕ) (last : List (List
     -- The steps at the end.
     pub steps_are : end_steps c ≡ steps_at_end g frames i n f
     steps_are =
-        ap₂ (λ (back ms : List CheckStep). back ++ ms ++ map Says (end_events c.standing c.last
-        (stands c) c.frame)) (back_are g frames i n f last c known since) firsts
-        ∙ ap (λ (es : List Event). steps_before g (since_before g frames i f)
+        ap₂ (λ (back ms : List CheckStep). back ++ ms ++ map Emits (end_events c.active_faults
+        c.last
+        (active_faults_of c) c.frame)) (back_are g frames i n f last c known first_unfinished)
+        firsts
+        ∙ ap (λ (es : List Event). steps_before g (first_unfinished_before g frames i f)
         ++ (cond (g.within == 0) []
-        (AtEnd f (unfinished_since g frames n f) (is_late g frames n f) ∷ [])) ++ map Says es)
-        (ap (end_events c.standing c.last (stands c)) at
-        ∙ ends_are g frames i n f c.standing (stands c) c.last
-        stood before stands_are)
+        (AtEnd f (unfinished_since g frames n f) (is_late g frames n f) ∷ [])) ++ map Emits es)
+        (ap (end_events c.active_faults c.last (active_faults_of c)) at
+        ∙ ends_are g frames i n f c.active_faults (active_faults_of c) c.last
+        no_faults_before before active_faults_are_at)
       where
-        by : (w : ℕ) → (0 < w → since_now c ≡ unfinished_since g frames n f)
-            → cond (w == 0) [] (AtEnd c.frame (since_now c) (late_now c) ∷ [])
+        by : (w : ℕ) → (0 < w → first_unfinished_now c ≡ unfinished_since g frames n f)
+            → cond (w == 0) [] (AtEnd c.frame (first_unfinished_now c) (late_now c) ∷ [])
             ≡ cond (w == 0) []
             (AtEnd f (unfinished_since g frames n f) (is_late g frames n f) ∷ [])
         by zero same = refl
         by (suc w) same = rw (late_is, same (omega arith), at) refl
 
         firsts : cond (c.within == 0) []
-            (AtEnd c.frame (since_now c) (late_now c) ∷ [])
+            (AtEnd c.frame (first_unfinished_now c) (late_now c) ∷ [])
             ≡ cond (g.within == 0) []
             (AtEnd f (unfinished_since g frames n f) (is_late g frames n f) ∷ [])
         firsts =
-            by c.within (λ l. since_is (rw within_is l))
+            by c.within (λ l. first_unfinished_is (rw within_is l))
             ∙ ap (λ (w : ℕ). cond (w == 0) []
             (AtEnd f (unfinished_since g frames n f) (is_late g frames n f) ∷ [])) (sym within_is)
 
     -- Since which frame the page has been wrong, as the new state has it.
-    pub since_are : 0 < g.within → (after_end c).since ≡ unfinished_since g frames n f
-    since_are l = by c.within (rw (sym within_is) l)
+    pub first_unfinished_are : 0 < g.within → (after_end c).first_unfinished ≡ unfinished_since g
+        frames n f
+    first_unfinished_are l = by c.within (rw (sym within_is) l)
       where
         by : (w : ℕ) → 0 < w
-            → cond (w == 0) c.since (since_now c) ≡ unfinished_since g frames n f
+            → cond (w == 0) c.first_unfinished (first_unfinished_now c) ≡ unfinished_since g frames
+            n f
         by zero m = absurd (omega arith)
         by (suc w) m =
             let not_each : (suc w == 0) ≡ false = grind (arith, nat_tests) in
-            rw not_each (since_is l)
+            rw not_each (first_unfinished_is l)
 
 -- ---- the end, from the parts that the code computes
 
 -- If `within` is 0.
-pub once_steps : (d c : CheckerValue) (s : Standing)
+pub once_steps : (d c : CheckerValue) (s : ActiveFaults)
     → d ≡ c
     → c.within ≡ 0
-    → s ≡ stands c
+    → s ≡ active_faults_of c
     → end_steps c
-    ≡ map Says (end_events d.standing d.last s d.frame)
+    ≡ map Emits (end_events d.active_faults d.last s d.frame)
 once_steps d c s same each is = grind (arith, nat_tests, back_none)
 
 -- If `within` is not 0.
-pub within_steps : (d c : CheckerValue) (s : Standing)
-    (since : Option ℕ) (late : Bool)
+pub within_steps : (d c : CheckerValue) (s : ActiveFaults)
+    (first_unfinished : Option ℕ) (late : Bool)
     → d ≡ c
     → 0 < c.within
-    → s ≡ stands c
-    → since ≡ since_now c
+    → s ≡ active_faults_of c
+    → first_unfinished ≡ first_unfinished_now c
     → late ≡ late_now c
     → end_steps c
-    ≡ (back_steps d ++ AtEnd d.frame since late ∷ [])
-    ++ map Says (end_events d.standing d.last s d.frame)
-within_steps d c s since late same some is since_is late_is = grind (arith, nat_tests)
+    ≡ (back_steps d ++ AtEnd d.frame first_unfinished late ∷ [])
+    ++ map Emits (end_events d.active_faults d.last s d.frame)
+within_steps d c s first_unfinished late same some is first_unfinished_is late_is = grind
+    (arith, nat_tests)
 
 -- If no fault was active and none is, there are no events.
-none_told : (old new : Standing) (before f : ℕ)
-    → old ≡ nothing_stands
-    → new ≡ nothing_stands
+none_reported : (old new : ActiveFaults) (before f : ℕ)
+    → old ≡ no_active_faults
+    → new ≡ no_active_faults
     → end_events old before new f ≡ []
 unfolding end_events end_rules
-none_told old new before f none none_now = rw (none, none_now) refl
+none_reported old new before f none none_now = rw (none, none_now) refl
 
-pub quiet_once : (v c : CheckerValue) → v ≡ c → v.within ≡ 0 → IsQuietEnd c → end_steps c ≡ []
-quiet_once v c same each quiet =
-    let stood = quiet.stood in
-    let stand = quiet.stand in
-    grind (arith, nat_tests, none_told)
+pub fault_free_once : (v c : CheckerValue) → v ≡ c → v.within ≡ 0 → IsFaultFreeEnd c → end_steps c ≡
+    []
+fault_free_once v c same each fault_free =
+    let no_faults_before = fault_free.no_faults_before in
+    let no_faults_now = fault_free.no_faults_now in
+    grind (arith, nat_tests, none_reported)
 
-pub quiet_within : (v c : CheckerValue) → v ≡ c → 0 < v.within → IsQuietEnd c
+pub fault_free_within : (v c : CheckerValue) → v ≡ c → 0 < v.within → IsFaultFreeEnd c
     → end_steps c ≡ back_steps (record v { last = v.frame }) ++ AtEnd v.frame None false ∷ []
-quiet_within v c same some quiet =
-    let stood = quiet.stood in
-    let stand = quiet.stand in
-    let since = quiet.since in
-    grind (arith, nat_tests, none_told, append-nil)
+fault_free_within v c same some fault_free =
+    let no_faults_before = fault_free.no_faults_before in
+    let no_faults_now = fault_free.no_faults_now in
+    let first_unfinished = fault_free.first_unfinished in
+    grind (arith, nat_tests, none_reported, append-nil)

@@ -11,16 +11,17 @@ use Rattle.ttx_page.specs.PacketKind.{begins_text, is_this_page, kind}
 use Rattle.ttx_page.specs.Span.{holds_beginning, holds_header}
 use Rattle.sub_checker.specs.Checker.{CheckerValue, HasHeard, after_headers}
 use Rattle.sub_checker.specs.CheckedFrames.{AfterPackets, Remembers, StaysOpen}
-use Rattle.sub_rules.specs.Events.{covers, end_before, is_gap, latest, packets_told}
-use Rattle.sub_rules.specs.Events.{since_before, standing_before}
+use Rattle.sub_rules.specs.Events.{covers, end_before, is_gap, latest, packets_reported}
+use Rattle.sub_rules.specs.Events.{first_unfinished_before, active_faults_before}
 use Rattle.sub_rules.specs.FrameRules.{Criteria, frame_at, packets_before, packets_of_frame}
 use Rattle.sub_rules.specs.PacketRules.{header_count}
-use Rattle.sub_rules.specs.PieceEvents.{steps_of_more}
-use Rattle.sub_rules.specs.Pieces.{with_packets}
+use Rattle.sub_rules.specs.PesPacketEvents.{steps_of_more}
+use Rattle.sub_rules.specs.PesPackets.{with_packets}
 use Rattle.sub_rules.specs.Transmission.{SentFrame, Transmission}
 use Rattle.sub_rules.specs.declared.packet_rule.Watched.{Watched}
-use Rattle.sub_rules.specs.Trusted.CheckStep.{Says}
-use Rattle.sub_rules.proofs.FirstFrameLemmas.{latest-same, since_before-same, standing_before-same}
+use Rattle.sub_rules.specs.Trusted.CheckStep.{Emits}
+use Rattle.sub_rules.proofs.FirstFrameLemmas.{latest-same, first_unfinished_before-same}
+use Rattle.sub_rules.proofs.FirstFrameLemmas.{active_faults_before-same}
 use Rattle.sub_rules.proofs.JoinedLemmas.{with_packets-all, with_packets-before}
 use Rattle.sub_rules.proofs.JoinedLemmas.{with_packets-frame_at, with_packets-frames}
 use Rattle.sub_rules.proofs.JoinedLemmas.{with_packets-last, with_packets-length}
@@ -36,7 +37,7 @@ pub more_are :
     → StaysOpen g sent n last c
     → length sent ≡ suc n
     → steps_of_more g sent ps
-    ≡ map Says (packets_told c.listener.watched c.frame c.counts.packets
+    ≡ map Emits (packets_reported c.listener.watched c.frame c.counts.packets
     (packets_before sent (suc n)) ps (length ps))
 more_are g sent n last ps c opens all = grind (arith, nat_tests)
 
@@ -73,8 +74,10 @@ module _ (g : Criteria) (sent : Transmission) (n : ℕ) (last ps : List (List �
     before_same : (f : ℕ) → end_before longer n f ≡ end_before sent n f
     before_same f = rw (latest_is n, at (n - 1)) refl
 
-    stood_since : (f : ℕ) → since_before g longer n f ≡ since_before g sent n f
-    stood_since f = since_before-same g longer sent n numbers same n f (omega arith)
+    active_before_since : (f : ℕ) → first_unfinished_before g longer n f ≡ first_unfinished_before g
+        sent n f
+    active_before_since f = first_unfinished_before-same g longer sent n numbers same n f
+        (omega arith)
 
     long : length longer ≡ suc n
     long = with_packets-length ps sent ∙ all
@@ -160,12 +163,13 @@ module _ (g : Criteria) (sent : Transmission) (n : ℕ) (last ps : List (List �
         rw e_is (record {
           known = assumption known_then;
           begun = record { first_is = is.begun.first_is ∙ sym (at 0); late_is = late_then };
-          standing_is =
-              is.standing_is
-              ∙ sym (standing_before-same g longer sent n numbers same n _ (omega arith)
-              ∙ ap (standing_before g sent n) (at n));
+          active_faults_is =
+              is.active_faults_is
+              ∙ sym (active_faults_before-same g longer sent n numbers same n _ (omega arith)
+              ∙ ap (active_faults_before g sent n) (at n));
           last_is = λ l. is.last_is l ∙ sym (before_same _ ∙ ap (end_before sent n) (at n));
-          since_is = λ l. is.since_is l ∙ sym (stood_since _ ∙ ap (since_before g sent n) (at n));
+          first_unfinished_is = λ l. is.first_unfinished_is l ∙ sym (active_before_since _ ∙ ap
+              (first_unfinished_before g sent n) (at n));
           number = is.number;
           frame_is = is.frame_is ∙ sym (at n);
           latest_is = is.latest_is ∙ sym (latest_is (suc n));

@@ -8,7 +8,7 @@ use Rattle.std.proofs.Common.{inl, inr, nat_lt, subst}
 use Rattle.std.proofs.lemmas.Bool.{cases_lt}
 use Rattle.stl_file.specs.Subtitle.{SubtitleValue}
 use Rattle.stl_file.specs.TimeCode.{day}
-use Rattle.stl_rows.specs.DuePage.{IsEdge, TellsNextEdge}
+use Rattle.stl_rows.specs.DuePage.{IsEdge, ReportsNextEdge}
 use Rattle.stl_rows.specs.Judged.{JudgedValue, has_refused, is_undecided_from, is_undecided_in}
 use Rattle.stl_rows.specs.Judged.{with_bits}
 use Rattle.sub_rules.specs.Events.{was_undecided}
@@ -50,7 +50,7 @@ pub undecided_same : (j : JudgedValue) (f g : ℕ)
     → is_undecided_in j f ≡ is_undecided_in j g
 unfolding is_undecided_in
 undecided_same j f g le none =
-    from_same j.programme.records j.behind_other j.is_before_other 0 f g le
+    from_same j.programme.records j.after_other j.is_before_other 0 f g le
     (λ low. absurd (omega (arith, low))) none
 
 -- A frame before one that precedes the next change precedes it too.
@@ -60,17 +60,17 @@ earlier e f (Some next) le before = grind (arith, nat_tests)
 
 -- From a frame up to the next change.
 until_edge : (j : JudgedValue) (frame f : ℕ) (edge : Option ℕ)
-    → TellsNextEdge j.programme.records frame edge
+    → ReportsNextEdge j.programme.records frame edge
     → frame ≤ f
     → is_before f edge ≡ true
     → is_undecided_in j f ≡ is_undecided_in j frame
-until_edge j frame f None tells low before =
+until_edge j frame f None reports low before =
     sym (undecided_same j frame f low
-    (λ e edge after until. let l = tells e edge in omega (arith, l, after)))
-until_edge j frame f (Some next) tells low before =
+    (λ e edge after until. let l = reports e edge in omega (arith, l, after)))
+until_edge j frame f (Some next) reports low before =
     let l : f < next = grind (arith, nat_tests) in
     sym (undecided_same j frame f low
-    (λ e edge after until. let m = tells.least e edge after in omega (arith, l, m, until)))
+    (λ e edge after until. let m = reports.least e edge after in omega (arith, l, m, until)))
 
 -- ---- the last frames
 
@@ -128,7 +128,7 @@ none_below : (f : ℕ) → nat_lt f 0 ≡ false
 none_below f = grind (arith, nat_tests)
 
 module _ (j : JudgedValue) (first within frame : ℕ) (edge : Option ℕ)
-    (tells : TellsNextEdge j.programme.records frame edge) where
+    (reports : ReportsNextEdge j.programme.records frame edge) where
   -- If no subtitle was refused. For `known_from`.
   pub known_none : has_refused j ≡ false
       → IsKnownFrom (is_due_undecided j) first within frame edge 0
@@ -145,7 +145,7 @@ module _ (j : JudgedValue) (first within frame : ℕ) (edge : Option ℕ)
         → IsKnownFrom (is_due_undecided j) first within frame edge k
     known_not k high here f low small before =
         let there = was-some (is_due_undecided j) first f within f (inr refl) (omega arith)
-        (omega arith) (any_refused_is f ∙ until_edge j frame f edge tells low before ∙ here) in
+        (omega arith) (any_refused_is f ∙ until_edge j frame f edge reports low before ∙ here) in
         rw there (grind (arith, nat_tests))
 
     -- If it was unknown last at frame `last`.
@@ -157,21 +157,21 @@ module _ (j : JudgedValue) (first within frame : ℕ) (edge : Option ℕ)
         → IsKnownFrom (is_due_undecided j) first within frame edge (last + within + 1)
     known_last last some less here none f low small before = by (cases_lt (last + within) f)
       where
-        since : (e : ℕ) → last < e → e ≤ f → is_due_undecided j e ≡ false
-        since e after until = any_refused_is e ∙ go (cases_lt e frame)
+        first_unfinished : (e : ℕ) → last < e → e ≤ f → is_due_undecided j e ≡ false
+        first_unfinished e after until = any_refused_is e ∙ go (cases_lt e frame)
           where
             go : (e < frame) ⊎ (frame ≤ e) → is_undecided_in j e ≡ false
             go (inl l) = none e after (omega arith)
             go (inr l) =
-                until_edge j frame e edge tells l (earlier e f edge until before)
+                until_edge j frame e edge reports l (earlier e f edge until before)
                 ∙ none frame less (omega arith)
 
         by : (last + within < f) ⊎ (f ≤ last + within)
             → nat_lt f (last + within + 1) ≡ was_undecided (is_due_undecided j) first f within
         by (inl l) =
             rw (was-none (is_due_undecided j) first f within
-            (since f (omega arith) (omega arith))
-            (λ e m reach until. since e (omega (arith, l, reach)) until))
+            (first_unfinished f (omega arith) (omega arith))
+            (λ e m reach until. first_unfinished e (omega (arith, l, reach)) until))
             (grind (arith, nat_tests))
         by (inr l) =
             rw (was-some (is_due_undecided j) first f within last (inl some) l (omega arith)
@@ -191,7 +191,7 @@ module _ (j : JudgedValue) (first within frame : ℕ) (edge : Option ℕ)
         at : (e : ℕ) → frame ≤ e → e ≤ f → is_due_undecided j e ≡ false
         at e l until =
             any_refused_is e
-            ∙ until_edge j frame e edge tells l (earlier e f edge until before)
+            ∙ until_edge j frame e edge reports l (earlier e f edge until before)
             ∙ here
 
         each : (e : ℕ) → first ≤ e → f ≤ e + within → e ≤ f → is_due_undecided j e ≡ false

@@ -6,17 +6,18 @@ use Rattle.ttx_page.specs.PacketKind.{kind}
 use Rattle.ttx_page.specs.Span.{holds_beginning}
 use Rattle.sub_rules.specs.Transmission.{Transmission}
 use Rattle.sub_checker.specs.Checker.{CheckerValue, goes_back_now, is_undecided_by}
-use Rattle.sub_rules.specs.Events.{end_before, gap_length, is_gap, latest, nothing_stands}
-use Rattle.sub_rules.specs.Events.{order_events, since_before, since_frames, standing_at}
-use Rattle.sub_rules.specs.Events.{standing_before}
+use Rattle.sub_rules.specs.Events.{end_before, gap_length, is_gap, latest, no_active_faults}
+use Rattle.sub_rules.specs.Events.{order_events, first_unfinished_before}
+use Rattle.sub_rules.specs.Events.{first_unfinished_in_frames, active_faults_at}
+use Rattle.sub_rules.specs.Events.{active_faults_before}
 use Rattle.sub_packets.specs.Listener.{KnowsLast}
 use Rattle.sub_rules.specs.FrameRules.{Criteria, Unread, criteria_with, frame_at, packets_before}
 use Rattle.sub_rules.specs.FrameRules.{packets_of_frame}
 use Rattle.sub_rules.specs.PacketRules.{header_count}
-use Rattle.sub_rules.specs.PieceEvents.{steps_of_arrival, steps_of_closing, steps_of_ending}
-use Rattle.sub_rules.specs.PieceEvents.{steps_of_gap, steps_of_packets, steps_of_waiting}
+use Rattle.sub_rules.specs.PesPacketEvents.{steps_of_arrival, steps_of_closing, steps_of_ending}
+use Rattle.sub_rules.specs.PesPacketEvents.{steps_of_gap, steps_of_packets, steps_of_pending_end}
 use Rattle.sub_rules.specs.Trusted.{CheckStep}
-use Rattle.sub_rules.specs.Trusted.CheckStep.{GoesBack, Says}
+use Rattle.sub_rules.specs.Trusted.CheckStep.{GoesBack, Emits}
 use Rattle.sub_checker.specs.Relay.{at_step}
 use Rattle.sub_checker.specs.declared.reporter.Reporter.{Reporter}
 
@@ -49,13 +50,14 @@ pub record AfterEnd
     (g : Criteria) (frames : Transmission) (n : ℕ) (last : List (List ℕ)) (c : CheckerValue)
     : Type 0 where
   pub known : Remembers g frames n last c
-  pub none : n ≡ 0 → c.standing ≡ nothing_stands
+  pub none : n ≡ 0 → c.active_faults ≡ no_active_faults
   pub begun : 0 < n → HasBegun g frames n c
   pub latest_is : 0 < n → c.latest ≡ latest frames n
-  pub standing_is :
-      0 < n → c.standing ≡ standing_at g frames n (frame_at frames (n - 1))
+  pub active_faults_is :
+      0 < n → c.active_faults ≡ active_faults_at g frames n (frame_at frames (n - 1))
   pub last_is : 0 < n → c.last ≡ frame_at frames (n - 1)
-  pub since_is : 0 < g.within → c.since ≡ since_frames g frames n
+  pub first_unfinished_is : 0 < g.within → c.first_unfinished ≡ first_unfinished_in_frames g frames
+      n
   pub number : c.counts.frames ≡ n
 
 -- The state after the first n frames, if the end of frame f is the next to be checked.
@@ -64,16 +66,16 @@ pub record BeforeEnd
     : Type 0 where
   pub known : Remembers g frames n last c
   pub begun : HasBegun g frames n c
-  pub standing_is : c.standing ≡ standing_before g frames n f
+  pub active_faults_is : c.active_faults ≡ active_faults_before g frames n f
   pub last_is : 0 < n → c.last ≡ end_before frames n f
-  pub since_is : 0 < g.within → c.since ≡ since_before g frames n f
+  pub first_unfinished_is : 0 < g.within → c.first_unfinished ≡ first_unfinished_before g frames n f
   pub number : c.counts.frames ≡ n
 
 -- That state at frame n of the list, before its packets.
 pub record BeforePackets
     (g : Criteria) (frames : Transmission) (n : ℕ) (last : List (List ℕ)) (c : CheckerValue)
     : Type 0 where
-  pub waits : BeforeEnd g frames n (frame_at frames n) last c
+  pub has_pending : BeforeEnd g frames n (frame_at frames n) last c
   pub frame_is : c.frame ≡ frame_at frames n
   pub latest_is : c.latest ≡ latest frames (suc n)
 
@@ -83,9 +85,10 @@ pub record AfterPackets
     : Type 0 where
   pub known : Remembers g frames (suc n) last c
   pub begun : HasBegun g frames (suc n) c
-  pub standing_is : c.standing ≡ standing_before g frames n (frame_at frames n)
+  pub active_faults_is : c.active_faults ≡ active_faults_before g frames n (frame_at frames n)
   pub last_is : 0 < n → c.last ≡ end_before frames n (frame_at frames n)
-  pub since_is : 0 < g.within → c.since ≡ since_before g frames n (frame_at frames n)
+  pub first_unfinished_is : 0 < g.within → c.first_unfinished ≡ first_unfinished_before g frames n
+      (frame_at frames n)
   pub number : c.counts.frames ≡ suc n
   pub frame_is : c.frame ≡ frame_at frames n
   pub latest_is : c.latest ≡ latest frames (suc n)
@@ -103,7 +106,7 @@ pub record StaysOpen
 
 -- The state between two PES packets: after the end of the last frame, or, if `within` is not 0,
 -- before it.
-pub record BetweenPieces (g : Criteria) (sent : Transmission) (last : List (List ℕ))
+pub record BetweenPesPackets (g : Criteria) (sent : Transmission) (last : List (List ℕ))
     (c : CheckerValue) : Type 0
   where
     pub closed : c.counts.is_open ≡ false → AfterEnd g sent (length sent) last c
@@ -117,7 +120,7 @@ pub record BetweenPieces (g : Criteria) (sent : Transmission) (last : List (List
 -- The steps before frame i of the list begins.
 abbrev pub reaching_steps : Criteria → Transmission → ℕ → List CheckStep
 reaching_steps g frames i =
-    map Says (order_events g frames i) ++ steps_of_gap g frames i (gap_length frames i)
+    map Emits (order_events g frames i) ++ steps_of_gap g frames i (gap_length frames i)
 
 -- The steps of frame i of the list, without its end if that comes later.
 abbrev pub next_steps : Criteria → Transmission → ℕ → List CheckStep
@@ -128,8 +131,8 @@ next_steps g frames i =
 
 -- The steps after the last of `pes` PES packets.
 abbrev pub last_steps : Criteria → Transmission → ℕ → List CheckStep
-last_steps g list pes = steps_of_waiting g list ++ steps_of_closing g list pes (length list)
+last_steps g list pes = steps_of_pending_end g list ++ steps_of_closing g list pes (length list)
 
 -- Says since which frame the page has been wrong, if that is needed.
 unfoldable pub back_reporter : {D : Type 0} {g : _} → CheckerValue → Reporter D g → Reporter D g
-back_reporter c s = if goes_back_now c then at_step (GoesBack c.since) s else s
+back_reporter c s = if goes_back_now c then at_step (GoesBack c.first_unfinished) s else s

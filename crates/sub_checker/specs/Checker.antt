@@ -6,18 +6,18 @@ use Rattle.std.specs.Prelude.{Bool, false, true, if◌then◌else◌}
 use Rattle.stl_file.specs.TimeCode.{day}
 use Rattle.stl_rows.specs.Programme.{ProgrammeValue}
 use Rattle.ttx_pes.specs.DataUnit.{UnitValue}
-use Rattle.sub_rules.specs.Events.{end_events, is_missed, nothing_stands, silent_for}
+use Rattle.sub_rules.specs.Events.{end_events, is_missed, no_active_faults, silent_for}
 use Rattle.sub_rules.specs.Events.{unfinished_from, was_undecided}
-use Rattle.stl_rows.specs.DuePage.{TellsNextEdge, tci_of_ending}
+use Rattle.stl_rows.specs.DuePage.{ReportsNextEdge, tci_of_ending}
 use Rattle.stl_rows.specs.Judged.{JudgedValue, has_refused}
 use Rattle.sub_rules.specs.FrameRules.{is_due_undecided}
 use Rattle.sub_rules.specs.PacketRules.{header_count, packets_of_units}
 use Rattle.sub_rules.specs.Transmission.{SentFrame}
 use Rattle.sub_rules.specs.Trusted.{CheckStep}
-use Rattle.sub_rules.specs.Trusted.CheckStep.{AtEnd, GoesBack, Says}
+use Rattle.sub_rules.specs.Trusted.CheckStep.{AtEnd, GoesBack, Emits}
 use Rattle.sub_rules.specs.declared.sending.Sending.{Sending}
-use Rattle.sub_rules.specs.declared.standing.Standing.{Standing}
-use Rattle.sub_packets.specs.KeptPage.{is_incomplete_kept, undue_kept, wrong_kept}
+use Rattle.sub_rules.specs.declared.active_faults.ActiveFaults.{ActiveFaults}
+use Rattle.sub_packets.specs.KeptPage.{is_incomplete_kept, unexpected_kept, wrong_kept}
 use Rattle.sub_packets.specs.Listener.{KnowsLast, begins_frame}
 use Rattle.sub_packets.specs.declared.listener.Listener.{Listener}
 use Rattle.sub_checker.specs.declared.counts.Counts.{Counts}
@@ -78,8 +78,8 @@ pub record CheckerValue : Type 0 where
   pub latest : ℕ
   pub frame : ℕ
   pub last : ℕ
-  pub standing : Standing
-  pub since : Option ℕ
+  pub active_faults : ActiveFaults
+  pub first_unfinished : Option ℕ
   pub late_at : ℕ
   pub counts : Counts
 
@@ -135,8 +135,9 @@ pub record HasHeard
 -- The page should have been right by the end of frame f, given the frame since which it is wrong.
 abbrev pub is_overdue_at : ProgrammeValue → ℕ → ℕ → Option ℕ → ℕ → Bool
 is_overdue_at programme within first None f = false
-is_overdue_at programme within first (Some since) f =
-    nat_le (since + within) f || is_missed (tci_of_ending programme.records (f + 1)) first since
+is_overdue_at programme within first (Some first_unfinished) f =
+    nat_le (first_unfinished + within) f || is_missed (tci_of_ending programme.records (f + 1))
+    first first_unfinished
 
 -- The due page is unknown at this frame, because a subtitle was refused.
 abbrev pub is_undecided_by : CheckerValue → ℕ → Bool
@@ -152,28 +153,29 @@ undecided_now c = was_undecided (is_undecided_by c) c.first c.frame c.within
 
 -- The first cell whose code was due at none of the last `within` frames. `None` if the due page is
 -- unknown at one of them.
-abbrev pub undue_now : CheckerValue → Option (ℕ × ℕ)
-undue_now c =
+abbrev pub unexpected_now : CheckerValue → Option (ℕ × ℕ)
+unexpected_now c =
     if undecided_now c
     then None
-    else undue_kept c.listener (due_in c.programme) c.first c.frame c.within
+    else unexpected_kept c.listener (due_in c.programme) c.first c.frame c.within
 
 -- The page is wrong or incomplete.
 abbrev pub is_unfinished_now : CheckerValue → Bool
 is_unfinished_now c = is_some (differs_now c) || is_incomplete_kept c.listener
 
 -- The frame since which it is.
-abbrev pub since_now : CheckerValue → Option ℕ
-since_now c = unfinished_from c.since (is_unfinished_now c) c.frame
+abbrev pub first_unfinished_now : CheckerValue → Option ℕ
+first_unfinished_now c = unfinished_from c.first_unfinished (is_unfinished_now c) c.frame
 
 -- The page has to be right by now: `within` is 0, or that many frames have passed.
 abbrev pub late_now : CheckerValue → Bool
-late_now c = c.within == 0 || is_overdue_at c.programme c.within c.first (since_now c) c.frame
+late_now c = c.within == 0 || is_overdue_at c.programme c.within c.first (first_unfinished_now c)
+    c.frame
 
 -- The faults that are active at the end of the current frame.
-abbrev pub stands : CheckerValue → Standing
-stands c = record {
-  content = if late_now c then differs_now c else undue_now c;
+abbrev pub active_faults_of : CheckerValue → ActiveFaults
+active_faults_of c = record {
+  content = if late_now c then differs_now c else unexpected_now c;
   gap = nat_le c.late_at (c.frame + 1);
   incomplete = late_now c && is_incomplete_kept c.listener;
   undecided = undecided_now c;
@@ -187,35 +189,35 @@ goes_back_now c = c.any_refused && not (c.within == 0)
 
 -- That step, if it is needed.
 abbrev pub back_steps : CheckerValue → List CheckStep
-back_steps c = if goes_back_now c then GoesBack c.since ∷ [] else []
+back_steps c = if goes_back_now c then GoesBack c.first_unfinished ∷ [] else []
 
 -- The steps at the end of the current frame.
 abbrev pub end_steps : CheckerValue → List CheckStep
 end_steps c =
     back_steps c
-    ++ (if c.within == 0 then [] else AtEnd c.frame (since_now c) (late_now c) ∷ [])
-    ++ map Says (end_events c.standing c.last (stands c) c.frame)
+    ++ (if c.within == 0 then [] else AtEnd c.frame (first_unfinished_now c) (late_now c) ∷ [])
+    ++ map Emits (end_events c.active_faults c.last (active_faults_of c) c.frame)
 
 -- The state after that end.
 abbrev pub after_end : CheckerValue → CheckerValue
 after_end c = record c {
-  standing = stands c;
+  active_faults = active_faults_of c;
   last = c.frame;
-  since = if c.within == 0 then c.since else since_now c;
+  first_unfinished = if c.within == 0 then c.first_unfinished else first_unfinished_now c;
 }
 
 -- No fault is active at this end, and none was at the end before.
-pub record IsQuietEnd (c : CheckerValue) : Type 0 where
-  pub stood : c.standing ≡ nothing_stands
-  pub stand : stands c ≡ nothing_stands
-  pub since : since_now c ≡ None
+pub record IsFaultFreeEnd (c : CheckerValue) : Type 0 where
+  pub no_faults_before : c.active_faults ≡ no_active_faults
+  pub no_faults_now : active_faults_of c ≡ no_active_faults
+  pub first_unfinished : first_unfinished_now c ≡ None
 
 -- The page was wrong at the last end, but still has time to become right.
 abbrev pub is_pending_now : CheckerValue → Bool
 is_pending_now c =
     not (c.within == 0)
-    && is_some c.since
-    && not (is_overdue_at c.programme c.within c.first c.since c.last)
+    && is_some c.first_unfinished
+    && not (is_overdue_at c.programme c.within c.first c.first_unfinished c.last)
 
 -- ---- the invariant
 
@@ -244,7 +246,7 @@ pub record IsAtFrame
     (edge : Option ℕ)
     : Type 0 where
   pub due_is : listener.comparison.due ≡ due_in programme frame
-  pub edge_is : TellsNextEdge programme.records frame edge
+  pub edge_is : ReportsNextEdge programme.records frame edge
   pub first_before : first ≤ latest
   pub in_day : latest < day
   pub last_in_day : last < day

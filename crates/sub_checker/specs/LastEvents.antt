@@ -2,11 +2,11 @@
 use Rattle.std.specs.Prelude.{◌≡◌, ℕ, zero, suc, ◌+◌, ◌<◌, ◌||◌, Bool, List, [], ◌∷◌, ◌++◌}
 use Rattle.std.specs.Prelude.{Option, Some, None, if◌then◌else◌}
 use Rattle.stl_rows.specs.Programme.{last_out}
-use Rattle.sub_io.specs.Telling.{Tells, TellsPrefix}
+use Rattle.sub_io.specs.Reporting.{Reports, ReportsPrefix}
 use Rattle.sub_checker.specs.Checker.{CheckerValue, is_pending_now}
 use Rattle.sub_checker.specs.declared.accepted.Accepted.{Accepted}
 use Rattle.sub_rules.specs.declared.event.Event.{Event}
-use Rattle.sub_rules.specs.declared.event.Event.TheVariants.{Told}
+use Rattle.sub_rules.specs.declared.event.Event.TheVariants.{Reported}
 use Rattle.sub_rules.specs.Events.{endings, is_short, unread_fault}
 use Rattle.sub_rules.specs.FrameRules.{Unread}
 use Rattle.sub_rules.specs.declared.fault.CheckFault.{CheckFault}
@@ -30,12 +30,12 @@ last_fault pes given c =
 -- The events of an optional fault.
 abbrev pub fault_events : Option CheckFault → List Event
 fault_events None = []
-fault_events (Some f) = Told f ∷ []
+fault_events (Some f) = Reported f ∷ []
 
 -- The events after the last end, from the state of the checker: the active faults end there, and
 -- then the last fault follows.
 abbrev pub closing_now : ℕ → Option CheckFault → CheckerValue → List Event
-closing_now pes given c = endings c.standing c.last ++ fault_events (last_fault pes given c)
+closing_now pes given c = endings c.active_faults c.last ++ fault_events (last_fault pes given c)
 
 -- The fault that ended reading, from the unread rest.
 abbrev pub ending_fault : ℕ → Option Unread → Option CheckFault
@@ -50,7 +50,7 @@ pub record AreCounted (c : CheckerValue) (a : Accepted) : Type 0 where
 
 -- All of these were reported to the device and the counts are returned, or it said stop and a
 -- prefix was reported.
-abbrev pub FinishesTelling : {A D : Type 0}
+abbrev pub FinishesReporting : {A D : Type 0}
     → (D → A → D → Type 0) → D → D → List A → Option Accepted → Type 0
-FinishesTelling IsTold old new items (Some a) = Tells IsTold old new items
-FinishesTelling IsTold old new items None = TellsPrefix IsTold old new items
+FinishesReporting IsReported old new items (Some a) = Reports IsReported old new items
+FinishesReporting IsReported old new items None = ReportsPrefix IsReported old new items

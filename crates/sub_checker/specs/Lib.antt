@@ -1,9 +1,9 @@
 pub mod CheckedFrames
 pub mod Checker
 pub mod LastEvents
-pub mod Latch
-pub mod NextPieces
-pub mod PassedPieces
+pub mod FusedAudience
+pub mod NextPesPackets
+pub mod SkippedPesPackets
 pub mod PesFileEvents
 pub mod ReadCounts
 pub mod Relay

@@ -2,7 +2,7 @@
 use Rattle.std.specs.Prelude.{◌≡◌, ℕ, ◌+◌, ◌<◌, List, ◌++◌, length, All}
 use Rattle.std.specs.List.{AllByRecursion, AllZip, concat}
 use Rattle.ttx_packet.specs.PageId.{PageIdValue}
-use Rattle.ttx_pes.specs.PesPacket.{IsPesPacket, PesValue}
+use Rattle.ttx_pes.specs.PesGrammar.{IsValidPesPacket, PesValue}
 use Rattle.sub_plan.specs.FrameTime.{Clock}
 use Rattle.sub_rules.specs.Events.{latest}
 use Rattle.sub_rules.specs.FrameRules.{frame_at, packets_before}
@@ -21,8 +21,8 @@ pub record CountsRead (page : PageIdValue) (frames : Transmission) (a : Accepted
       a.transmissions ≡ header_count page (packets_before frames (length frames))
 
 -- Each packet has 42 bytes.
-abbrev pub AreWhole : Transmission → Type 0
-AreWhole frames =
+abbrev pub AreComplete : Transmission → Type 0
+AreComplete frames =
     AllByRecursion (λ (s : SentFrame). All (λ packet. length packet ≡ 42) s.packets) frames
 
 -- The bytes are joined PES packets that carry these frames according to the clock, followed by the
@@ -32,6 +32,6 @@ pub record AreTaken
     : Type 0 where
   pub values : List PesValue
   pub packets : List (List ℕ)
-  pub each : AllZip IsPesPacket values packets
+  pub each : AllZip IsValidPesPacket values packets
   pub read : AllZip (IsReadAs clock) values frames
   pub joined : bytes ≡ concat packets ++ rest

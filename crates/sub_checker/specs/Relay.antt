@@ -1,16 +1,16 @@
 -- The events that are relayed to a device for a list of steps, with trusted frames and the ends of
 -- runs of skipped PES packets. Only contracts of private functions use it.
 use Rattle.std.specs.Prelude.{◌≡◌, List, [], ◌∷◌}
-use Rattle.sub_io.specs.Telling.{Tells}
-use Rattle.sub_rules.specs.PieceEvents.{all_announced, no_run, passed_after_all}
+use Rattle.sub_io.specs.Reporting.{Reports}
+use Rattle.sub_rules.specs.PesPacketEvents.{all_announced, no_run, skipped_after_all}
 use Rattle.sub_rules.specs.Trusted.{CheckStep}
-use Rattle.sub_rules.specs.Trusted.CheckStep.{Says}
+use Rattle.sub_rules.specs.Trusted.CheckStep.{Emits}
 use Rattle.sub_rules.specs.declared.event.Event.{Event}
-use Rattle.sub_checker.specs.Latch.{IsLatched}
-use Rattle.sub_checker.specs.PassedPieces.{as_run, kept_run}
+use Rattle.sub_checker.specs.FusedAudience.{IsFused}
+use Rattle.sub_checker.specs.SkippedPesPackets.{as_run, kept_run}
 use Rattle.sub_checker.specs.declared.reporter.Relay.{Relay}
 use Rattle.sub_checker.specs.declared.reporter.Reporter.{Reporter}
-use Rattle.sub_checker.specs.TrustTracker.{after_step, new_tracker, told_by, tracker_after}
+use Rattle.sub_checker.specs.TrustTracker.{after_step, new_tracker, reported_by, tracker_after}
 
 -- The state before the first step.
 abbrev pub nothing_relayed : Relay
@@ -18,13 +18,13 @@ nothing_relayed = record { tracker = new_tracker; run = kept_run no_run }
 
 -- The events of a list of steps.
 unfoldable pub relayed : Relay → List CheckStep → List Event
-relayed p ms = all_announced (as_run p.run) (told_by p.tracker ms)
+relayed p ms = all_announced (as_run p.run) (reported_by p.tracker ms)
 
 -- The state after them.
 unfoldable pub relay_after : Relay → List CheckStep → Relay
 relay_after p ms = record {
   tracker = tracker_after p.tracker ms;
-  run = kept_run (passed_after_all (as_run p.run) (told_by p.tracker ms));
+  run = kept_run (skipped_after_all (as_run p.run) (reported_by p.tracker ms));
 }
 
 -- The state after a step without events.
@@ -34,13 +34,13 @@ at_step m s = record s { relay = record s.relay { tracker = after_step m s.relay
 -- The reporter relayed the events of these steps to the latch before its device, and has the state
 -- after them.
 pub record ReporterRelays
-    {D : Type 0} {g : _} (IsTold : D → Event → D → Type 0)
+    {D : Type 0} {g : _} (IsReported : D → Event → D → Type 0)
     (old : Reporter D g) (steps : List CheckStep) (new : Reporter D g)
     : Type 0 where
-  pub told : Tells (IsLatched IsTold) old.latch new.latch (relayed old.relay steps)
+  pub reported : Reports (IsFused IsReported) old.fused new.fused (relayed old.relay steps)
   pub kept : new.relay ≡ relay_after old.relay steps
 
 -- The reporter relayed one event.
 abbrev pub IsRelayed : {D : Type 0} {g : _}
     → (D → Event → D → Type 0) → Reporter D g → Event → Reporter D g → Type 0
-IsRelayed IsTold old e new = ReporterRelays IsTold old (Says e ∷ []) new
+IsRelayed IsReported old e new = ReporterRelays IsReported old (Emits e ∷ []) new

@@ -1,23 +1,24 @@
 -- The checker's state for trusted frames. Only contracts of private functions use it.
 use Rattle.std.specs.Prelude.{ℕ, suc, ◌&&◌, ◌||◌, true, false, not, Bool, List, [], ◌∷◌, ◌++◌}
 use Rattle.std.specs.Prelude.{Option, Some, None, is_none, is_some, unwrap_or, if◌then◌else◌}
-use Rattle.sub_rules.specs.Fault.{doubted_frame, fault_row}
+use Rattle.sub_rules.specs.Fault.{invalidated_frame, fault_row}
 use Rattle.sub_rules.specs.Trusted.{CheckStep, at_pes, trusted}
-use Rattle.sub_rules.specs.Trusted.CheckStep.{AtEnd, AtPes, Begins, Closes, Ends, GoesBack, Says}
+use Rattle.sub_rules.specs.Trusted.CheckStep.{AtEnd, AtPes, Begins, Closes, Ends, GoesBack, Emits}
 use Rattle.sub_rules.specs.declared.event.Event.{Event}
-use Rattle.sub_rules.specs.declared.event.Event.TheVariants.{Told}
+use Rattle.sub_rules.specs.declared.event.Event.TheVariants.{Reported}
 use Rattle.sub_rules.specs.declared.fault.CheckFault.TheVariants as fault
 use Rattle.sub_checker.specs.declared.trust_tracker.TrustTracker.{TrustTracker}
 
 -- The first frame that is no longer trusted once this event is reported. `last` is the frame of the
 -- last PES packet; `late` is the frame since which an overdue page is wrong.
-unfoldable pub doubted : ℕ → Option ℕ → Event → Option ℕ
-doubted last late (Told f) = doubted_frame last late (fault_row f).doubts (fault_row f).place
-doubted last late event = None
+unfoldable pub invalidated : ℕ → Option ℕ → Event → Option ℕ
+invalidated last late (Reported f) = invalidated_frame last late (fault_row f).invalidates
+    (fault_row f).place
+invalidated last late event = None
 
 -- The event reports that the frames do not rise.
 unfoldable pub is_order : Event → Bool
-is_order (Told (fault.Order pes)) = true
+is_order (Reported (fault.Order pes)) = true
 is_order event = false
 
 -- The trusted frames that are reported when trust ends at a frame: those of the run before it, but
@@ -37,56 +38,57 @@ run_after run None = run
 run_after run (Some f) = None
 
 -- The first frame of the run at whose end the page was right. The current frame f is part of the
--- run, and the page is right there if `since` is `None`.
-abbrev pub first_whole : Option ℕ → Option ℕ → ℕ → Option ℕ
-first_whole (Some whole) since f = Some whole
-first_whole None None f = Some f
-first_whole None (Some since) f = None
+-- run, and the page is right there if `first_unfinished` is `None`.
+abbrev pub first_correct : Option ℕ → Option ℕ → ℕ → Option ℕ
+first_correct (Some whole) first_unfinished f = Some whole
+first_correct None None f = Some f
+first_correct None (Some first_unfinished) f = None
 
 -- The same, at the end of a frame with which a run continues or begins.
-abbrev pub whole_in : Option ℕ → Option ℕ → Option ℕ → ℕ → Option ℕ
-whole_in None whole since f = first_whole None since f
-whole_in (Some from) whole since f = first_whole whole since f
+abbrev pub first_correct_in : Option ℕ → Option ℕ → Option ℕ → ℕ → Option ℕ
+first_correct_in None whole first_unfinished f = first_correct None first_unfinished f
+first_correct_in (Some from) whole first_unfinished f = first_correct whole first_unfinished f
 
 -- The frame since which the page has been wrong, if it is overdue.
-abbrev pub late_since : TrustTracker → Option ℕ
-late_since t = if t.is_late then t.since else None
+abbrev pub late_first_unfinished : TrustTracker → Option ℕ
+late_first_unfinished t = if t.is_late then t.first_unfinished else None
 
 -- The first frame that is not trusted at the end of the file.
 abbrev pub closing_frame : TrustTracker → Bool → ℕ
 closing_frame t are_left =
-    unwrap_or t.since (if are_left then unwrap_or t.back t.last else suc t.last)
+    unwrap_or t.first_unfinished (if are_left then unwrap_or t.back t.last else suc t.last)
 
 -- The events of a step. At the end of the file the trusted frames of the last run are reported only
 -- if anything else is.
-unfoldable pub told_with : CheckStep → TrustTracker → List Event
-told_with (Says e) t =
-    trusted_before t.run t.whole t.back (doubted t.last (late_since t) e) ++ at_pes t.pes e ∷ []
-told_with (Closes are_left more) t =
-    if t.told || more then trusted t.run t.whole (closing_frame t are_left) else []
-told_with step t = []
+unfoldable pub reported_with : CheckStep → TrustTracker → List Event
+reported_with (Emits e) t =
+    trusted_before t.run t.whole t.back (invalidated t.last (late_first_unfinished t) e) ++ at_pes
+    t.pes e ∷ []
+reported_with (Closes are_left more) t =
+    if t.reported || more then trusted t.run t.whole (closing_frame t are_left) else []
+reported_with step t = []
 
 -- The state after it.
 unfoldable pub after_step : CheckStep → TrustTracker → TrustTracker
 after_step (AtPes pes) t = record t { pes = pes }
-after_step (Says e) t = record t {
-  run = run_after t.run (doubted t.last (late_since t) e);
+after_step (Emits e) t = record t {
+  run = run_after t.run (invalidated t.last (late_first_unfinished t) e);
   rises = t.rises && not (is_order e);
-  is_clean = t.is_clean && is_none (doubted t.last (late_since t) e);
-  told = true;
+  is_clean = t.is_clean && is_none (invalidated t.last (late_first_unfinished t) e);
+  reported = true;
 }
 after_step (Begins f) t = record t { last = f; is_clean = t.rises }
-after_step (AtEnd f since late) t = record t {
-  since = since;
+after_step (AtEnd f first_unfinished late) t = record t {
+  first_unfinished = first_unfinished;
   is_late = late;
-  whole = if is_some t.run then first_whole t.whole since f else t.whole;
+  whole = if is_some t.run then first_correct t.whole first_unfinished f else t.whole;
 }
 after_step (Ends f has_beginning none) t = record t {
   run = if t.is_clean && none then run_begun t.run has_beginning f else None;
-  whole = whole_in t.run t.whole t.since f;
+  whole = first_correct_in t.run t.whole t.first_unfinished f;
 }
 after_step (Closes are_left more) t = record t { run = None }
-after_step (GoesBack since) t = record t { back = since }
+after_step (GoesBack first_unfinished) t = record t { back = first_unfinished }
 
 -- The state before the first step.
 abbrev pub new_tracker : TrustTracker
@@ -97,16 +99,16 @@ new_tracker = record {
   last = 0;
   rises = true;
   is_clean = true;
-  since = None;
+  first_unfinished = None;
   is_late = false;
   back = None;
-  told = false;
+  reported = false;
 }
 
 -- The events of a list of steps.
-unfoldable pub told_by : TrustTracker → List CheckStep → List Event
-told_by t [] = []
-told_by t (m ∷ ms) = told_with m t ++ told_by (after_step m t) ms
+unfoldable pub reported_by : TrustTracker → List CheckStep → List Event
+reported_by t [] = []
+reported_by t (m ∷ ms) = reported_with m t ++ reported_by (after_step m t) ms
 
 -- The state after a list of steps.
 unfoldable pub tracker_after : TrustTracker → List CheckStep → TrustTracker

@@ -15,7 +15,7 @@ use stl_rows::{Judging, Programme};
 use sub_io::Audience;
 use sub_packets::Listener;
 use sub_plan::Options;
-use sub_rules::{Event, Standing, Watched};
+use sub_rules::{ActiveFaults, Event, Watched};
 
 /// The state of the check.
 #[derive(Drop)]
@@ -47,10 +47,10 @@ pub(crate) struct Checker<'a> {
     pub known_from: u64,
     // The frame whose end was checked last, and the faults that were active there.
     pub last: u32,
-    pub standing: Standing,
+    pub active_faults: ActiveFaults,
     // The first frame from which on the page has been wrong without a break; used if `within` is
     // not 0.
-    pub since: Option<u32>,
+    pub first_unfinished: Option<u32>,
     // One more than the first frame at whose end the repeat bound is exceeded.
     pub late_at: u32,
     pub counts: Counts,
@@ -73,8 +73,8 @@ impl<'a> Model for Checker<'a> {
       latest = c.latest;
       frame = c.frame;
       last = c.last;
-      standing = c.standing;
-      since = c.since;
+      active_faults = c.active_faults;
+      first_unfinished = c.first_unfinished;
       late_at = c.late_at;
       counts = c.counts;
     } };
@@ -87,7 +87,7 @@ impl<'a> Model for Checker<'a> {
 
 impl<'a> Checker<'a> {
     ghost use Rattle.sub_checker.specs.Checker.{AreFew, at_first, at_frame, at_next, after_headers};
-    ghost use Rattle.sub_checker.specs.CheckedFrames.{BetweenPieces, back_reporter};
+    ghost use Rattle.sub_checker.specs.CheckedFrames.{BetweenPesPackets, back_reporter};
     ghost use Rattle.sub_checker.specs.Relay.{at_step};
     ghost use Rattle.sub_rules.specs.Trusted.CheckStep.{Begins};
     ghost use Rattle.sub_checker.specs.LastEvents.{AreCounted};
@@ -96,7 +96,7 @@ impl<'a> Checker<'a> {
     pub fn new(judging: &'a Judging<'a>, options: &Options) -> Self
         ensures none { AreFew 0 result.counts }
         ensures keeps { (last : List (List ℕ)) (unread : Option Unread)
-            → BetweenPieces (criteria_of_judged judging.now options.now unread) [] last result }
+            → BetweenPesPackets (criteria_of_judged judging.now options.now unread) [] last result }
         ensures options { IsOptions options.now }
         ensures programme { IsProgramme judging.now.programme.drawing
             judging.now.programme.records }
@@ -125,8 +125,8 @@ impl<'a> Checker<'a> {
             near: 0,
             known_from: known_from(judging, has_refused, 0, 0, within),
             last: 0,
-            standing: Standing::none(),
-            since: None,
+            active_faults: ActiveFaults::none(),
+            first_unfinished: None,
             late_at: 0,
             counts: Counts::new(),
         }
@@ -199,7 +199,7 @@ impl<'a> Checker<'a> {
         ensures back { reporter.new ≡ back_reporter self.now reporter.old }
     {
         if self.has_refused && self.within > 0 {
-            reporter.go_back(self.since);
+            reporter.go_back(self.first_unfinished);
         }
     }
 

@@ -1,21 +1,21 @@
 //! Reports what follows the last PES packet of a file.
 ghost use Rattle.std.specs.Prelude.{◌≡◌, ℕ, IfSome, List, is_none, length, not};
 ghost use Rattle.std.specs.Prelude.{◌||◌};
-ghost use Rattle.sub_io.specs.Telling.{TellsSome};
-ghost use Rattle.sub_checker.specs.Latch.{IsLatched};
+ghost use Rattle.sub_io.specs.Reporting.{ReportsSome};
+ghost use Rattle.sub_checker.specs.FusedAudience.{IsFused};
 ghost use Rattle.sub_rules.specs.FrameRules.{Criteria};
-ghost use Rattle.sub_rules.specs.PieceEvents.{steps_of_closing};
+ghost use Rattle.sub_rules.specs.PesPacketEvents.{steps_of_closing};
 ghost use Rattle.sub_rules.specs.Transmission.{Transmission};
-ghost use Rattle.sub_rules.specs.Trusted.{tells_none};
-ghost use Rattle.sub_checker.specs.CheckedFrames.{AfterEnd, BetweenPieces, last_steps};
+ghost use Rattle.sub_rules.specs.Trusted.{reports_none};
+ghost use Rattle.sub_checker.specs.CheckedFrames.{AfterEnd, BetweenPesPackets, last_steps};
 ghost use Rattle.sub_checker.specs.Relay.{ReporterRelays};
 ghost use Rattle.sub_checker.specs.PesFileEvents.{finished};
-ghost use Rattle.sub_checker.specs.LastEvents.{FinishesTelling, closing_now, ending_fault};
+ghost use Rattle.sub_checker.specs.LastEvents.{FinishesReporting, closing_now, ending_fault};
 ghost use Rattle.sub_checker.specs.ReadCounts.{CountsRead};
 
 use crate::accepted::Accepted;
 use crate::checker::Checker;
-use crate::reporter::{Reporter, tell_some};
+use crate::reporter::{Reporter, report_some};
 use sub_io::Audience;
 use sub_rules::{CheckFault, Event};
 
@@ -28,25 +28,27 @@ pub(crate) fn finish<A: Audience<Event>>(
     fault: Option<CheckFault>,
     reporter: &mut Reporter<'_, A>,
 ) -> Option<Accepted>
-    ensures stopped { reporter.new.latch.stopped ≡ is_none result }
+    ensures stopped { reporter.new.fused.stopped ≡ is_none result }
     ensures same { (g : Criteria) (list : Transmission) (last : List (List ℕ))
-        → BetweenPieces g list last checker.old
-        → reporter.new.latch.device.ghost_name ≡ reporter.old.latch.device.ghost_name }
+        → BetweenPesPackets g list last checker.old
+        → reporter.new.fused.device.ghost_name ≡ reporter.old.fused.device.ghost_name }
     ensures some { (g : Criteria) (list : Transmission) (last : List (List ℕ))
-        → BetweenPieces g list last checker.old
-        → TellsSome A.is_told reporter.old.latch.device.now reporter.new.latch.device.now }
-    ensures told { (g : Criteria) (list : Transmission) (last : List (List ℕ))
-        → BetweenPieces g list last checker.old
+        → BetweenPesPackets g list last checker.old
+        → ReportsSome A.is_reported reporter.old.fused.device.now reporter.new.fused.device.now }
+    ensures reported { (g : Criteria) (list : Transmission) (last : List (List ℕ))
+        → BetweenPesPackets g list last checker.old
         → fault ≡ ending_fault pes g.unread
-        → FinishesTelling A.is_told reporter.old.latch.device.now reporter.new.latch.device.now
+        → FinishesReporting A.is_reported reporter.old.fused.device.now
+        reporter.new.fused.device.now
         (finished reporter.old.relay (last_steps g list pes)) result }
     ensures counts { (g : Criteria) (list : Transmission) (last : List (List ℕ))
-        → BetweenPieces g list last checker.old → IfSome result (CountsRead g.watched.page list) }
+        → BetweenPesPackets g list last checker.old → IfSome result (CountsRead g.watched.page
+        list) }
 {
     let read = checker.read();
     end_and_close(checker, pes, fault, reporter);
-    tell_some(reporter.relay.run.ended(), &mut reporter.latch);
-    if reporter.latch.stopped {
+    report_some(reporter.relay.run.ended(), &mut reporter.fused);
+    if reporter.fused.stopped {
         return None;
     }
     Some(read)
@@ -61,14 +63,14 @@ fn end_and_close<A: Audience<Event>>(
     reporter: &mut Reporter<'_, A>,
 )
     ensures some { (g : Criteria) (list : Transmission) (last : List (List ℕ))
-        → BetweenPieces g list last checker.old
-        → TellsSome (IsLatched A.is_told) reporter.old.latch reporter.new.latch }
-    ensures told { (g : Criteria) (list : Transmission) (last : List (List ℕ))
-        → BetweenPieces g list last checker.old
+        → BetweenPesPackets g list last checker.old
+        → ReportsSome (IsFused A.is_reported) reporter.old.fused reporter.new.fused }
+    ensures reported { (g : Criteria) (list : Transmission) (last : List (List ℕ))
+        → BetweenPesPackets g list last checker.old
         → fault ≡ ending_fault pes g.unread
-        → ReporterRelays A.is_told reporter.old (last_steps g list pes) reporter.new }
+        → ReporterRelays A.is_reported reporter.old (last_steps g list pes) reporter.new }
 {
-    checker.end_waiting(reporter);
+    checker.end_pending_frame(reporter);
     close(checker, pes, fault, reporter);
 }
 
@@ -79,24 +81,24 @@ fn close<A: Audience<Event>>(
     fault: Option<CheckFault>,
     reporter: &mut Reporter<'_, A>,
 )
-    ensures some { TellsSome (IsLatched A.is_told) reporter.old.latch reporter.new.latch }
-    ensures told { (g : Criteria) (list : Transmission) (last : List (List ℕ))
+    ensures some { ReportsSome (IsFused A.is_reported) reporter.old.fused reporter.new.fused }
+    ensures reported { (g : Criteria) (list : Transmission) (last : List (List ℕ))
         → AfterEnd g list (length list) last checker.now
         → fault ≡ ending_fault pes g.unread
-        → ReporterRelays A.is_told reporter.old (steps_of_closing g list pes (length list))
+        → ReporterRelays A.is_reported reporter.old (steps_of_closing g list pes (length list))
         reporter.new }
 {
     reporter.go_to(pes);
-    let more = tells_trusted(checker, pes, fault);
+    let more = reports_trusted(checker, pes, fault);
     reporter.close(fault.is_some(), more);
     checker.close(pes, fault, reporter);
 }
 
 // Returns whether the trusted frames of the last run have to be reported even if nothing was
 // reported before: subtitles were refused, or something is reported at the end of the file.
-fn tells_trusted(checker: &Checker<'_>, pes: u32, fault: Option<CheckFault>) -> bool
+fn reports_trusted(checker: &Checker<'_>, pes: u32, fault: Option<CheckFault>) -> bool
     ensures { result
-        ≡ (checker.now.any_refused || not (tells_none (closing_now pes fault checker.now))) }
+        ≡ (checker.now.any_refused || not (reports_none (closing_now pes fault checker.now))) }
 {
-    checker.has_refused || checker.tells_last(pes, fault)
+    checker.has_refused || checker.reports_last(pes, fault)
 }

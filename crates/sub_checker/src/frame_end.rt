@@ -1,11 +1,11 @@
 //! The end of a frame: which faults are active there, and which changes are reported.
 //!
 //! ```text
-//! end_waiting    the last frame, if its end is still open
+//! end_pending_frame    the last frame, if its end is still open
 //!   end_open
 //!     end_sent   a frame of PES packets: does the first one have a header?
 //! end_of_frame   any frame of the day; `end_sent` calls it too
-//!   end_quietly  no fault was active, and none is
+//!   end_without_faults  no fault was active, and none is
 //!   end_otherwise
 //!     end_at_once, end_within   depending on whether `within` is 0
 //! ```
@@ -13,13 +13,15 @@ ghost use Rattle.std.specs.Prelude.{◌≡◌, ◌==◌, ◌&&◌, ℕ, suc, ◌
 ghost use Rattle.std.specs.Prelude.{false, is_err, length, nat_le, not, true};
 ghost use Rattle.stl_file.specs.TimeCode.{day};
 ghost use Rattle.sub_checker.specs.Checker.{AreFew, after_end, differs_now, end_steps};
-ghost use Rattle.sub_checker.specs.Checker.{is_overdue_at, is_undecided_by, late_now, IsQuietEnd};
-ghost use Rattle.sub_checker.specs.Checker.{since_now, stands, undecided_now, undue_now};
-ghost use Rattle.sub_checker.specs.CheckedFrames.{AfterEnd, AfterPackets, BetweenPieces};
+ghost use Rattle.sub_checker.specs.Checker.{is_overdue_at, is_undecided_by, late_now};
+ghost use Rattle.sub_checker.specs.Checker.{IsFaultFreeEnd};
+ghost use Rattle.sub_checker.specs.Checker.{first_unfinished_now, active_faults_of, undecided_now};
+ghost use Rattle.sub_checker.specs.Checker.{unexpected_now};
+ghost use Rattle.sub_checker.specs.CheckedFrames.{AfterEnd, AfterPackets, BetweenPesPackets};
 ghost use Rattle.sub_checker.specs.Relay.{ReporterRelays};
 ghost use Rattle.sub_rules.specs.Events.{silent_for};
 ghost use Rattle.sub_rules.specs.FrameRules.{Criteria, packets_of_frame};
-ghost use Rattle.sub_rules.specs.PieceEvents.{steps_of_ending, steps_of_waiting};
+ghost use Rattle.sub_rules.specs.PesPacketEvents.{steps_of_ending, steps_of_pending_end};
 ghost use Rattle.sub_rules.specs.Transmission.{Transmission};
 ghost use Rattle.sub_plan.specs.Schedule.{due_in};
 ghost use Rattle.ttx_page.specs.PacketKind.{kind};
@@ -28,18 +30,18 @@ ghost use Rattle.ttx_page.specs.Span.{holds_header};
 use crate::checker::Checker;
 use crate::late_end::{is_overdue, unfinished_from};
 use crate::reporter::Reporter;
-use crate::rule_changes::tell_change;
+use crate::rule_changes::report_change;
 use sub_io::Audience;
-use sub_packets::tell_if;
-use sub_rules::{CheckFault, Event, Standing};
+use sub_packets::report_if;
+use sub_rules::{ActiveFaults, CheckFault, Event};
 
 /// The state at an end, if `within` is not 0.
 #[derive(Drop)]
 pub(crate) struct EndWithin {
     /// The active faults.
-    pub standing: Standing,
+    pub active_faults: ActiveFaults,
     /// The first frame from which on the page has been wrong up to this end.
-    pub since: Option<u32>,
+    pub first_unfinished: Option<u32>,
     /// The page has to be right by now.
     pub is_late: bool,
 }
@@ -48,11 +50,11 @@ impl<'a> Checker<'a> {
     // Returns `true` if a few comparisons show that no fault was active at the last end and that
     // none is at the current frame, which is the usual case.
     #[inline(always)]
-    #[tactic(auto, using(crate::proofs::WholeLemmas::quiet_stands))]
-    fn is_quiet(&self) -> bool
-        ensures { IsTrue result → IsQuietEnd self.now }
+    #[tactic(auto, using(crate::proofs::CompletePacketLemmas::fault_free_has_none_active))]
+    fn is_fault_free(&self) -> bool
+        ensures { IsTrue result → IsFaultFreeEnd self.now }
     {
-        if !self.standing.has_none() {
+        if !self.active_faults.has_none() {
             return false;
         }
         if !self.listener.is_known_right() {
@@ -65,16 +67,16 @@ impl<'a> Checker<'a> {
     }
 
     // Returns the active faults at the current frame, if `within` is 0.
-    fn standing_now(&self) -> Standing
+    fn active_faults_now(&self) -> ActiveFaults
         requires each { self.now.within ≡ 0 }
-        ensures { result ≡ stands self.now }
+        ensures { result ≡ active_faults_of self.now }
     {
         let undecided = self.is_undecided();
         let content = self.first_wrong(undecided);
         let gap = self.has_gap();
         let incomplete = self.listener.is_incomplete();
         let silent = self.is_silent();
-        Standing {
+        ActiveFaults {
             content,
             gap,
             incomplete,
@@ -134,23 +136,27 @@ impl<'a> Checker<'a> {
     // overdue, a cell may still have a code that was due within these frames.
     fn end_now(&self) -> EndWithin
         requires within { 0 < self.now.within }
-        ensures standing { result.standing ≡ stands self.now }
-        ensures since { result.since ≡ since_now self.now }
+        ensures active_faults { result.active_faults ≡ active_faults_of self.now }
+        ensures first_unfinished { result.first_unfinished ≡ first_unfinished_now self.now }
         ensures late { result.is_late ≡ late_now self.now }
     {
         let differing = self.first_wrong(self.is_undecided_here());
         let is_open = self.listener.is_incomplete();
-        let since = unfinished_from(self.since, differing.is_some() || is_open, self.frame);
-        let is_late = self.is_overdue(since, self.frame);
+        let first_unfinished = unfinished_from(
+            self.first_unfinished,
+            differing.is_some() || is_open,
+            self.frame,
+        );
+        let is_late = self.is_overdue(first_unfinished, self.frame);
         let content = if is_late {
             differing
         } else {
-            self.first_undue(differing)
+            self.first_unexpected(differing)
         };
         let gap = self.has_gap();
         let undecided = self.is_undecided();
         let silent = self.is_silent();
-        let standing = Standing {
+        let active_faults = ActiveFaults {
             content,
             gap,
             incomplete: is_late && is_open,
@@ -158,8 +164,8 @@ impl<'a> Checker<'a> {
             silent,
         };
         EndWithin {
-            standing,
-            since,
+            active_faults,
+            first_unfinished,
             is_late,
         }
     }
@@ -167,8 +173,8 @@ impl<'a> Checker<'a> {
     // Returns the first cell with a code that was due at none of the last `within` frames; `None`
     // if one of these pages is unknown. If no cell differs from the current due page, there is
     // none.
-    fn first_undue(&self, differing: Option<(u8, u8)>) -> Option<(u8, u8)>
-        ensures { differing ≡ differs_now self.now → result ≡ undue_now self.now }
+    fn first_unexpected(&self, differing: Option<(u8, u8)>) -> Option<(u8, u8)>
+        ensures { differing ≡ differs_now self.now → result ≡ unexpected_now self.now }
     {
         let frame = self.frame;
         if differing.is_none() {
@@ -178,30 +184,38 @@ impl<'a> Checker<'a> {
             return None;
         }
         self.listener
-            .first_undue(self.programme, self.first, frame, self.within)
+            .first_unexpected(self.programme, self.first, frame, self.within)
     }
 
     /// Returns whether the page should have been right by the end of `frame`, given the frame
-    /// `since` which it is wrong.
-    pub fn is_overdue(&self, since: Option<u32>, frame: u32) -> bool
+    /// `first_unfinished` which it is wrong.
+    pub fn is_overdue(&self, first_unfinished: Option<u32>, frame: u32) -> bool
         requires day { frame < day }
         ensures { result
-            ≡ is_overdue_at self.now.programme self.now.within self.now.first since frame }
+            ≡ is_overdue_at self.now.programme self.now.within self.now.first first_unfinished
+            frame }
     {
-        is_overdue(self.programme, self.within, self.first, since, frame)
+        is_overdue(
+            self.programme,
+            self.within,
+            self.first,
+            first_unfinished,
+            frame,
+        )
     }
 
     // Ends the current frame if no fault was active and none is.
     #[inline(always)]
-    fn end_quietly<A: Audience<Event>>(&mut self, reporter: &mut Reporter<'_, A>)
-        requires quiet { IsQuietEnd self.old }
-        ensures told { ReporterRelays A.is_told reporter.old (end_steps self.old) reporter.new }
+    fn end_without_faults<A: Audience<Event>>(&mut self, reporter: &mut Reporter<'_, A>)
+        requires fault_free { IsFaultFreeEnd self.old }
+        ensures reported { ReporterRelays A.is_reported reporter.old (end_steps self.old)
+            reporter.new }
         ensures ended { self.new ≡ after_end self.old }
     {
         self.last = self.frame;
         if self.within > 0 {
             self.go_back(reporter);
-            self.since = None;
+            self.first_unfinished = None;
             reporter.at_end(self.frame, None, false);
         }
     }
@@ -210,13 +224,20 @@ impl<'a> Checker<'a> {
     #[inline(always)]
     fn end_at_once<A: Audience<Event>>(&mut self, reporter: &mut Reporter<'_, A>)
         requires each { self.old.within ≡ 0 }
-        ensures told { ReporterRelays A.is_told reporter.old (end_steps self.old) reporter.new }
+        ensures reported { ReporterRelays A.is_reported reporter.old (end_steps self.old)
+            reporter.new }
         ensures ended { self.new ≡ after_end self.old }
     {
         let frame = self.frame;
-        let standing = self.standing_now();
-        tell_change(&self.standing, self.last, &standing, frame, reporter);
-        self.standing = standing;
+        let active_faults = self.active_faults_now();
+        report_change(
+            &self.active_faults,
+            self.last,
+            &active_faults,
+            frame,
+            reporter,
+        );
+        self.active_faults = active_faults;
         self.last = frame;
     }
 
@@ -225,16 +246,23 @@ impl<'a> Checker<'a> {
     #[inline(never)]
     fn end_within<A: Audience<Event>>(&mut self, reporter: &mut Reporter<'_, A>)
         requires within { 0 < self.old.within }
-        ensures told { ReporterRelays A.is_told reporter.old (end_steps self.old) reporter.new }
+        ensures reported { ReporterRelays A.is_reported reporter.old (end_steps self.old)
+            reporter.new }
         ensures ended { self.new ≡ after_end self.old }
     {
         let frame = self.frame;
         let end = self.end_now();
         self.go_back(reporter);
-        reporter.at_end(frame, end.since, end.is_late);
-        tell_change(&self.standing, self.last, &end.standing, frame, reporter);
-        self.standing = end.standing;
-        self.since = end.since;
+        reporter.at_end(frame, end.first_unfinished, end.is_late);
+        report_change(
+            &self.active_faults,
+            self.last,
+            &end.active_faults,
+            frame,
+            reporter,
+        );
+        self.active_faults = end.active_faults;
+        self.first_unfinished = end.first_unfinished;
         self.last = frame;
     }
 
@@ -242,12 +270,13 @@ impl<'a> Checker<'a> {
     #[inline(always)]
     pub fn end_of_frame<A: Audience<Event>>(&mut self, reporter: &mut Reporter<'_, A>)
         ensures due { self.old.listener.comparison.due ≡ due_in self.old.programme self.old.frame }
-        ensures told { ReporterRelays A.is_told reporter.old (end_steps self.old) reporter.new }
+        ensures reported { ReporterRelays A.is_reported reporter.old (end_steps self.old)
+            reporter.new }
         ensures ended { self.new ≡ after_end self.old }
     {
         // Most ends are without faults, and the work for `within` would cost each of them time.
-        if self.within == 0 && self.is_quiet() {
-            self.end_quietly(reporter);
+        if self.within == 0 && self.is_fault_free() {
+            self.end_without_faults(reporter);
             return;
         }
         self.end_otherwise(reporter);
@@ -257,11 +286,12 @@ impl<'a> Checker<'a> {
     // out of `end_of_frame`, which is in each loop over frames.
     #[inline(never)]
     fn end_otherwise<A: Audience<Event>>(&mut self, reporter: &mut Reporter<'_, A>)
-        ensures told { ReporterRelays A.is_told reporter.old (end_steps self.old) reporter.new }
+        ensures reported { ReporterRelays A.is_reported reporter.old (end_steps self.old)
+            reporter.new }
         ensures ended { self.new ≡ after_end self.old }
     {
-        if self.is_quiet() {
-            self.end_quietly(reporter);
+        if self.is_fault_free() {
+            self.end_without_faults(reporter);
             return;
         }
         if self.within == 0 {
@@ -276,27 +306,31 @@ impl<'a> Checker<'a> {
     #[inline(always)]
     pub fn end_sent<A: Audience<Event>>(&mut self, has_header: bool, reporter: &mut Reporter<'_, A>)
         ensures counts { self.new.counts ≡ self.old.counts }
-        ensures told { (g : Criteria) (frames : Transmission) (n : ℕ) (last : List (List ℕ))
+        ensures reported { (g : Criteria) (frames : Transmission) (n : ℕ) (last : List (List ℕ))
             → AfterPackets g frames n last self.old → n < length frames
             → has_header ≡ holds_header (kind g.watched.page) (packets_of_frame frames n)
-            → ReporterRelays A.is_told reporter.old (steps_of_ending g frames n) reporter.new
+            → ReporterRelays A.is_reported reporter.old (steps_of_ending g frames n) reporter.new
             × AfterEnd g frames (suc n) last self.new }
     {
-        let is_told = lacks_first(self.counts.frames, has_header);
+        let is_reported = lacks_first(self.counts.frames, has_header);
         let fault = CheckFault::NoFirstHeader { frame: self.frame };
-        tell_if(is_told, Event::Told(fault), reporter);
+        report_if(is_reported, Event::Reported(fault), reporter);
         self.end_of_frame(reporter);
-        reporter.end_frame(self.frame, self.listener.begun, self.standing.has_none());
+        reporter.end_frame(
+            self.frame,
+            self.listener.begun,
+            self.active_faults.has_none(),
+        );
     }
 
     /// Ends the last frame if its end is still open.
     #[inline(always)]
-    pub fn end_waiting<A: Audience<Event>>(&mut self, reporter: &mut Reporter<'_, A>)
+    pub fn end_pending_frame<A: Audience<Event>>(&mut self, reporter: &mut Reporter<'_, A>)
         ensures closed { self.new.counts.is_open ≡ false }
         ensures few { (pes : ℕ) → AreFew pes self.old.counts → AreFew pes self.new.counts }
-        ensures told { (g : Criteria) (sent : Transmission) (last : List (List ℕ))
-            → BetweenPieces g sent last self.old
-            → ReporterRelays A.is_told reporter.old (steps_of_waiting g sent) reporter.new
+        ensures reported { (g : Criteria) (sent : Transmission) (last : List (List ℕ))
+            → BetweenPesPackets g sent last self.old
+            → ReporterRelays A.is_reported reporter.old (steps_of_pending_end g sent) reporter.new
             × AfterEnd g sent (length sent) last self.new }
     {
         if !self.counts.is_open {
@@ -311,9 +345,9 @@ impl<'a> Checker<'a> {
         requires opened { self.old.counts.is_open ≡ true }
         ensures closed { self.new.counts.is_open ≡ false }
         ensures few { (pes : ℕ) → AreFew pes self.old.counts → AreFew pes self.new.counts }
-        ensures told { (g : Criteria) (sent : Transmission) (last : List (List ℕ))
-            → BetweenPieces g sent last self.old
-            → ReporterRelays A.is_told reporter.old (steps_of_waiting g sent) reporter.new
+        ensures reported { (g : Criteria) (sent : Transmission) (last : List (List ℕ))
+            → BetweenPesPackets g sent last self.old
+            → ReporterRelays A.is_reported reporter.old (steps_of_pending_end g sent) reporter.new
             × AfterEnd g sent (length sent) last self.new }
     {
         self.counts.is_open = false;

@@ -3,7 +3,7 @@ ghost use Rattle.std.specs.Prelude.{◌≡◌, ℕ, ◌<◌, List};
 ghost use Rattle.stl_file.specs.TimeCode.{day};
 ghost use Rattle.sub_rules.specs.Events.{gap_length, is_early};
 ghost use Rattle.sub_rules.specs.FrameRules.{Criteria, frame_at};
-ghost use Rattle.sub_rules.specs.PieceEvents.{steps_of_gap};
+ghost use Rattle.sub_rules.specs.PesPacketEvents.{steps_of_gap};
 ghost use Rattle.sub_rules.specs.Transmission.{Transmission};
 ghost use Rattle.sub_checker.specs.CheckedFrames.{AfterEnd, BeforeEnd, BeforePackets};
 ghost use Rattle.sub_checker.specs.CheckedFrames.{reaching_steps};
@@ -12,7 +12,7 @@ ghost use Rattle.sub_checker.specs.Relay.{ReporterRelays};
 use crate::checker::Checker;
 use crate::reporter::Reporter;
 use sub_io::Audience;
-use sub_packets::tell_if;
+use sub_packets::report_if;
 use sub_rules::{CheckFault, Event};
 
 impl<'a> Checker<'a> {
@@ -21,9 +21,9 @@ impl<'a> Checker<'a> {
         requires day { frame < day }
         ensures counts { self.new.counts ≡ self.old.counts }
         ensures frame { self.new.frame ≡ frame }
-        ensures told { (g : Criteria) (frames : Transmission) (n : ℕ) (last : List (List ℕ))
+        ensures reported { (g : Criteria) (frames : Transmission) (n : ℕ) (last : List (List ℕ))
             → AfterEnd g frames n last self.old → frame_at frames n ≡ frame
-            → ReporterRelays A.is_told reporter.old (reaching_steps g frames n) reporter.new
+            → ReporterRelays A.is_reported reporter.old (reaching_steps g frames n) reporter.new
             × BeforePackets g frames n last self.new }
     {
         if self.counts.frames == 0 {
@@ -38,13 +38,17 @@ impl<'a> Checker<'a> {
         requires day { frame < day }
         ensures counts { self.new.counts ≡ self.old.counts }
         ensures frame { self.new.frame ≡ frame }
-        ensures told { (g : Criteria) (frames : Transmission) (last : List (List ℕ))
+        ensures reported { (g : Criteria) (frames : Transmission) (last : List (List ℕ))
             → AfterEnd g frames 0 last self.old → frame_at frames 0 ≡ frame
-            → ReporterRelays A.is_told reporter.old (reaching_steps g frames 0) reporter.new
+            → ReporterRelays A.is_reported reporter.old (reaching_steps g frames 0) reporter.new
             × BeforePackets g frames 0 last self.new }
     {
-        let is_told = is_early(self.programme.first_in(), frame);
-        tell_if(is_told, Event::Told(CheckFault::Early { frame }), reporter);
+        let is_reported = is_early(self.programme.first_in(), frame);
+        report_if(
+            is_reported,
+            Event::Reported(CheckFault::Early { frame }),
+            reporter,
+        );
         self.start(frame);
     }
 
@@ -53,14 +57,18 @@ impl<'a> Checker<'a> {
         requires day { frame < day }
         ensures counts { self.new.counts ≡ self.old.counts }
         ensures frame { self.new.frame ≡ frame }
-        ensures told { (g : Criteria) (frames : Transmission) (n : ℕ) (last : List (List ℕ))
+        ensures reported { (g : Criteria) (frames : Transmission) (n : ℕ) (last : List (List ℕ))
             → AfterEnd g frames n last self.old → 0 < n → frame_at frames n ≡ frame
-            → ReporterRelays A.is_told reporter.old (reaching_steps g frames n) reporter.new
+            → ReporterRelays A.is_reported reporter.old (reaching_steps g frames n) reporter.new
             × BeforePackets g frames n last self.new }
     {
         let pes = self.counts.frames;
-        let is_told = frame <= self.last;
-        tell_if(is_told, Event::Told(CheckFault::Order { pes }), reporter);
+        let is_reported = frame <= self.last;
+        report_if(
+            is_reported,
+            Event::Reported(CheckFault::Order { pes }),
+            reporter,
+        );
         self.cross_gap(frame, reporter);
         self.arrive(frame);
     }
@@ -70,9 +78,10 @@ impl<'a> Checker<'a> {
         requires day { to < day }
         ensures counts { self.new.counts ≡ self.old.counts }
         ensures latest { self.new.latest ≡ self.old.latest }
-        ensures told { (g : Criteria) (frames : Transmission) (n : ℕ) (last : List (List ℕ))
+        ensures reported { (g : Criteria) (frames : Transmission) (n : ℕ) (last : List (List ℕ))
             → AfterEnd g frames n last self.old → 0 < n → frame_at frames n ≡ to
-            → ReporterRelays A.is_told reporter.old (steps_of_gap g frames n (gap_length frames n))
+            → ReporterRelays A.is_reported reporter.old
+            (steps_of_gap g frames n (gap_length frames n))
             reporter.new
             × BeforeEnd g frames n to last self.new }
     {

@@ -1,34 +1,34 @@
 //! Events after the last frame.
 ghost use Rattle.std.specs.Prelude.{◌≡◌, not};
-ghost use Rattle.sub_io.specs.Telling.{Tells};
+ghost use Rattle.sub_io.specs.Reporting.{Reports};
 ghost use Rattle.sub_rules.specs.Events.{is_short};
-ghost use Rattle.sub_rules.specs.Trusted.{tells_none};
+ghost use Rattle.sub_rules.specs.Trusted.{reports_none};
 ghost use Rattle.sub_checker.specs.Checker.{is_pending_now};
 ghost use Rattle.sub_checker.specs.LastEvents.{closing_now, fault_events, last_fault};
 
 use crate::checker::Checker;
-use crate::rule_changes::tell_change;
+use crate::rule_changes::report_change;
 use sub_packets::Taker;
-use sub_rules::{CheckFault, Event, Standing};
+use sub_rules::{ActiveFaults, CheckFault, Event};
 
 impl<'a> Checker<'a> {
     /// Reports what follows the end of the last frame and `pes` PES packets: the ends of the active
     /// faults, and then the last fault. `fault` is what ended reading, if anything did.
     pub fn close<A: Taker>(&self, pes: u32, fault: Option<CheckFault>, taker: &mut A)
-        ensures { Tells A.is_told taker.old taker.new
+        ensures { Reports A.is_reported taker.old taker.new
             (closing_now pes fault self.now) }
     {
-        let none = Standing::none();
-        tell_change(&self.standing, self.last, &none, self.last, taker);
-        tell_fault(self.last_fault(pes, fault), taker);
+        let none = ActiveFaults::none();
+        report_change(&self.active_faults, self.last, &none, self.last, taker);
+        report_fault(self.last_fault(pes, fault), taker);
     }
 
     /// Returns whether `close` reports anything.
-    pub fn tells_last(&self, pes: u32, fault: Option<CheckFault>) -> bool
-        ensures { result ≡ not (tells_none (closing_now pes fault self.now)) }
+    pub fn reports_last(&self, pes: u32, fault: Option<CheckFault>) -> bool
+        ensures { result ≡ not (reports_none (closing_now pes fault self.now)) }
     {
-        let is_told = self.last_fault(pes, fault).is_some();
-        is_told || !self.standing.has_none()
+        let is_reported = self.last_fault(pes, fault).is_some();
+        is_reported || !self.active_faults.has_none()
     }
 
     // Returns the fault that is reported last, after `pes` PES packets.
@@ -56,17 +56,19 @@ impl<'a> Checker<'a> {
     fn is_pending(&self) -> bool
         ensures { result ≡ is_pending_now self.now }
     {
-        self.within > 0 && self.since.is_some() && !self.is_overdue(self.since, self.last)
+        self.within > 0
+            && self.first_unfinished.is_some()
+            && !self.is_overdue(self.first_unfinished, self.last)
     }
 }
 
-#[tactic(auto, using(sub_io::proofs::TellingLemmas::tellings))]
-fn tell_fault<A: Taker>(fault: Option<CheckFault>, taker: &mut A)
-    ensures { Tells A.is_told taker.old taker.new
+#[tactic(auto, using(sub_io::proofs::ReportingLemmas::tellings))]
+fn report_fault<A: Taker>(fault: Option<CheckFault>, taker: &mut A)
+    ensures { Reports A.is_reported taker.old taker.new
         (fault_events fault) }
 {
     if let Some(fault) = fault {
-        taker.tell(Event::Told(fault));
+        taker.report(Event::Reported(fault));
     }
 }
 

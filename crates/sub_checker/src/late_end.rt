@@ -6,45 +6,49 @@ ghost use Rattle.sub_checker.specs.Checker.{is_overdue_at};
 
 use stl_rows::Programme;
 
-/// Returns the first frame of the run of frames with a wrong page that ends at `frame`. `since` is
-/// the value at the end before.
-pub(crate) fn unfinished_from(since: Option<u32>, unfinished: bool, frame: u32) -> Option<u32>
-    ensures { result ≡ unfinished_from since unfinished frame }
+/// Returns the first frame of the run of frames with a wrong page that ends at `frame`.
+/// `first_unfinished` is the value at the end before.
+pub(crate) fn unfinished_from(
+    first_unfinished: Option<u32>,
+    unfinished: bool,
+    frame: u32,
+) -> Option<u32>
+    ensures { result ≡ unfinished_from first_unfinished unfinished frame }
 {
     if unfinished {
-        Some(since.unwrap_or(frame))
+        Some(first_unfinished.unwrap_or(frame))
     } else {
         None
     }
 }
 
-/// Returns whether the page should have been right by the end of a frame, given the frame `since`
-/// which it is wrong: `within` frames have passed, or a subtitle has ended that was never shown
-/// right.
+/// Returns whether the page should have been right by the end of a frame, given the frame
+/// `first_unfinished` which it is wrong: `within` frames have passed, or a subtitle has ended that
+/// was never shown right.
 pub(crate) fn is_overdue(
     programme: &Programme,
     within: u32,
     first: u32,
-    since: Option<u32>,
+    first_unfinished: Option<u32>,
     frame: u32,
 ) -> bool
     requires day { frame < day }
-    ensures { result ≡ is_overdue_at programme.now within first since frame }
+    ensures { result ≡ is_overdue_at programme.now within first first_unfinished frame }
 {
-    let Some(since) = since else {
+    let Some(first_unfinished) = first_unfinished else {
         return false;
     };
-    u64::from(since) + u64::from(within) <= u64::from(frame)
-        || is_missed(programme.tci_of_ending(frame + 1), first, since)
+    u64::from(first_unfinished) + u64::from(within) <= u64::from(frame)
+        || is_missed(programme.tci_of_ending(frame + 1), first, first_unfinished)
 }
 
 // Returns whether the page was wrong at the end of each frame of the subtitle that ends, given its
 // TCI.
-fn is_missed(tci: Option<u32>, first: u32, since: u32) -> bool
-    ensures { result ≡ is_missed tci first since }
+fn is_missed(tci: Option<u32>, first: u32, first_unfinished: u32) -> bool
+    ensures { result ≡ is_missed tci first first_unfinished }
 {
     match tci {
-        Some(tci) => since <= tci || (since == first && tci < first),
+        Some(tci) => first_unfinished <= tci || (first_unfinished == first && tci < first),
         None => false,
     }
 }

@@ -5,29 +5,29 @@
 //! receivers.
 //!
 //! ```text
-//! tell_pieces(&Judging::known(&programme), &mut source, &options, &mut audience)?;
+//! report_pes_packets(&Judging::known(&programme), &mut source, &options, &mut audience)?;
 //! // Accepted { frames: 51, .. }
 //! ```
 #![tactic(auto)]
 
 mod accepted;
-mod awaited_piece;
+mod arrived_frame;
 mod checker;
 mod counts;
 mod file_end;
+mod flush_before_read;
 mod frame_end;
 mod frame_gap;
+mod fused;
+mod fused_taker;
 mod last_events;
-mod latch;
-mod latch_taker;
 mod late_end;
-mod passed_run;
 mod pes_file;
-mod pes_packet;
 mod reporter;
 mod rule_changes;
+mod skipped_run;
 mod trust_tracker;
 mod undecided;
 
 pub use accepted::Accepted;
-pub use pes_file::tell_pieces;
+pub use pes_file::report_pes_packets;

@@ -1,10 +1,10 @@
 //! Reports which rules of a frame's end became broken or are no longer broken.
 ghost use Rattle.std.specs.Prelude.{◌≡◌, ◌==◌, ◌&&◌, ℕ};
-ghost use Rattle.sub_io.specs.Telling.{Tells};
+ghost use Rattle.sub_io.specs.Reporting.{Reports};
 ghost use Rattle.sub_rules.specs.Events.{broken_at, end_events, end_fault, end_rules, rule_events};
 
-use sub_packets::{Taker, tell_if};
-use sub_rules::{CheckFault, EndRule, Event, Standing};
+use sub_packets::{Taker, report_if};
+use sub_rules::{ActiveFaults, CheckFault, EndRule, Event};
 
 // The rules, in the order of their reports.
 const RULES: [EndRule; 5] = [
@@ -18,39 +18,39 @@ const RULES: [EndRule; 5] = [
 /// Reports the changes from the active faults `old` at the end of frame `before` to those at the
 /// end of `frame`, rule by rule.
 #[inline(never)]
-pub(crate) fn tell_change<A: Taker>(
-    old: &Standing,
+pub(crate) fn report_change<A: Taker>(
+    old: &ActiveFaults,
     before: u32,
-    new: &Standing,
+    new: &ActiveFaults,
     frame: u32,
     taker: &mut A,
 )
-    ensures { Tells A.is_told taker.old taker.new
+    ensures { Reports A.is_reported taker.old taker.new
         (end_events old.now before new.now frame) }
 {
     for rule in &RULES {
-        tell_of(*rule, old, before, new, frame, taker);
+        report_of(*rule, old, before, new, frame, taker);
     }
 }
 
 // Reports the change of one rule.
-fn tell_of<A: Taker>(
+fn report_of<A: Taker>(
     rule: EndRule,
-    old: &Standing,
+    old: &ActiveFaults,
     before: u32,
-    new: &Standing,
+    new: &ActiveFaults,
     frame: u32,
     taker: &mut A,
 )
-    ensures { Tells A.is_told taker.old taker.new
+    ensures { Reports A.is_reported taker.old taker.new
         (rule_events rule (broken_at rule old.now) before (broken_at rule new.now) frame) }
 {
-    tell_rule(rule, old.at(rule), before, new.at(rule), frame, taker)
+    report_rule(rule, old.at(rule), before, new.at(rule), frame, taker)
 }
 
 // Reports that a rule is no longer broken, or that it is broken now or at another cell.
-#[tactic(auto, using(sub_io::proofs::TellingLemmas::tellings))]
-fn tell_rule<A: Taker>(
+#[tactic(auto, using(sub_io::proofs::ReportingLemmas::tellings))]
+fn report_rule<A: Taker>(
     rule: EndRule,
     old: Option<(u8, u8)>,
     before: u32,
@@ -58,7 +58,7 @@ fn tell_rule<A: Taker>(
     frame: u32,
     taker: &mut A,
 )
-    ensures { Tells A.is_told taker.old taker.new
+    ensures { Reports A.is_reported taker.old taker.new
         (rule_events rule old before new frame) }
 {
     let ended = Event::Ended {
@@ -66,19 +66,19 @@ fn tell_rule<A: Taker>(
         frame: before,
     };
     let Some(cell) = new else {
-        tell_if(old.is_some(), ended, taker);
+        report_if(old.is_some(), ended, taker);
         return;
     };
-    let told = Event::Told(fault_of(rule, frame, cell));
+    let reported = Event::Reported(fault_of(rule, frame, cell));
     let Some(old_cell) = old else {
-        taker.tell(told);
+        taker.report(reported);
         return;
     };
     if is_same_cell(old_cell, cell) {
         return;
     }
-    taker.tell(ended);
-    taker.tell(told);
+    taker.report(ended);
+    taker.report(reported);
 }
 
 // Returns the fault of a rule that is broken at this cell.

@@ -1,11 +1,11 @@
 //! Tracks the frames that may be trusted to be right on air, from one step to the next.
 ghost use Rattle.std.specs.Prelude.{◌≡◌, ◌≤◌, ◌&&◌, is_some};
-ghost use Rattle.sub_io.specs.Telling.{first_alone};
+ghost use Rattle.sub_io.specs.Reporting.{first_alone};
 ghost use Rattle.sub_rules.specs.Trusted.{at_pes, trusted};
 ghost use Rattle.sub_rules.specs.Trusted.CheckStep.{AtEnd, AtPes, Begins, Closes, Ends, GoesBack};
-ghost use Rattle.sub_rules.specs.Trusted.CheckStep.{Says};
-ghost use Rattle.sub_checker.specs.TrustTracker.{after_step, doubted, first_whole, is_order};
-ghost use Rattle.sub_checker.specs.TrustTracker.{late_since, new_tracker, told_with};
+ghost use Rattle.sub_rules.specs.Trusted.CheckStep.{Emits};
+ghost use Rattle.sub_checker.specs.TrustTracker.{after_step, invalidated, first_correct, is_order};
+ghost use Rattle.sub_checker.specs.TrustTracker.{late_first_unfinished, new_tracker, reported_with};
 ghost use Rattle.sub_checker.specs.TrustTracker.{trusted_before};
 
 use sub_rules::{CheckFault, Event};
@@ -27,14 +27,14 @@ pub(crate) struct TrustTracker {
     pub is_clean: bool,
     /// The first frame from which on the page has been wrong up to the last end, if `within` is not
     /// 0.
-    pub since: Option<u32>,
+    pub first_unfinished: Option<u32>,
     /// The page is overdue at the last end.
     pub is_late: bool,
     /// The first frame of those up to the frame before with a wrong page, if such frames are not
     /// trusted however a run ends.
     pub back: Option<u32>,
     /// Something was reported.
-    pub told: bool,
+    pub reported: bool,
 }
 
 impl TrustTracker {
@@ -49,10 +49,10 @@ impl TrustTracker {
             last: 0,
             rises: true,
             is_clean: true,
-            since: None,
+            first_unfinished: None,
             is_late: false,
             back: None,
-            told: false,
+            reported: false,
         }
     }
 
@@ -77,42 +77,42 @@ impl TrustTracker {
 
     /// Sets the frame since which the page has been wrong, up to the frame before.
     #[tactic(auto, unfolding(crate::specs::TrustTracker::after_step))]
-    pub fn go_back(&mut self, since: Option<u32>)
-        ensures { self.new ≡ after_step (GoesBack since) self.old }
+    pub fn go_back(&mut self, first_unfinished: Option<u32>)
+        ensures { self.new ≡ after_step (GoesBack first_unfinished) self.old }
     {
-        self.back = since;
+        self.back = first_unfinished;
     }
 
     /// Says that the next events belong to the end of a frame: since when the page is wrong, and
     /// whether it is overdue.
     #[tactic(auto, unfolding(crate::specs::TrustTracker::after_step))]
-    pub fn at_end(&mut self, frame: u32, since: Option<u32>, is_late: bool)
-        ensures { self.new ≡ after_step (AtEnd frame since is_late) self.old }
+    pub fn at_end(&mut self, frame: u32, first_unfinished: Option<u32>, is_late: bool)
+        ensures { self.new ≡ after_step (AtEnd frame first_unfinished is_late) self.old }
     {
-        self.since = since;
+        self.first_unfinished = first_unfinished;
         self.is_late = is_late;
         if self.run.is_some() {
-            self.whole = first_whole(self.whole, since, frame);
+            self.whole = first_correct(self.whole, first_unfinished, frame);
         }
     }
 
     /// Ends a frame of PES packets. `has_beginning`: it has a header of the page that can begin a
-    /// run. `none_stands`: no fault is active.
+    /// run. `none_active`: no fault is active.
     #[inline(always)]
     #[tactic(auto, unfolding(crate::specs::TrustTracker::after_step))]
-    pub fn end_frame(&mut self, frame: u32, has_beginning: bool, none_stands: bool)
-        ensures { self.new ≡ after_step (Ends frame has_beginning none_stands) self.old }
+    pub fn end_frame(&mut self, frame: u32, has_beginning: bool, none_active: bool)
+        ensures { self.new ≡ after_step (Ends frame has_beginning none_active) self.old }
     {
-        if self.stays_whole() && none_stands {
+        if self.stays_correct() && none_active {
             return;
         }
-        self.end_another(frame, has_beginning, none_stands);
+        self.end_another(frame, has_beginning, none_active);
     }
 
     // Returns whether the run continues with a right page, and no packet of this frame broke a rule
     // that receivers depend on.
     #[inline(always)]
-    fn stays_whole(&self) -> bool
+    fn stays_correct(&self) -> bool
         ensures { result
             ≡ (is_some self.now.run && is_some self.now.whole && self.now.is_clean) }
     {
@@ -122,12 +122,12 @@ impl TrustTracker {
     // Ends a frame after which the state may change.
     #[inline(never)]
     #[tactic(auto, unfolding(crate::specs::TrustTracker::after_step))]
-    fn end_another(&mut self, frame: u32, has_beginning: bool, none_stands: bool)
-        ensures { self.new ≡ after_step (Ends frame has_beginning none_stands) self.old }
+    fn end_another(&mut self, frame: u32, has_beginning: bool, none_active: bool)
+        ensures { self.new ≡ after_step (Ends frame has_beginning none_active) self.old }
     {
         let before = if self.run.is_some() { self.whole } else { None };
-        self.whole = first_whole(before, self.since, frame);
-        if !(self.is_clean && none_stands) {
+        self.whole = first_correct(before, self.first_unfinished, frame);
+        if !(self.is_clean && none_active) {
             self.run = None;
         } else if has_beginning && self.run.is_none() {
             self.run = Some(frame);
@@ -140,11 +140,15 @@ impl TrustTracker {
     pub fn say(&mut self, event: &Event) -> Option<Event>
         ensures before { first_alone result
             ≡ trusted_before self.old.run self.old.whole self.old.back
-            (doubted self.old.last (late_since self.old) event.now) }
-        ensures kept { self.new ≡ after_step (Says event.now) self.old }
+            (invalidated self.old.last (late_first_unfinished self.old) event.now) }
+        ensures kept { self.new ≡ after_step (Emits event.now) self.old }
     {
-        let late = if self.is_late { self.since } else { None };
-        let frame = doubted(self.last, late, event);
+        let late = if self.is_late {
+            self.first_unfinished
+        } else {
+            None
+        };
+        let frame = invalidated(self.last, late, event);
         let run = self.run;
         if frame.is_some() {
             self.run = None;
@@ -153,7 +157,7 @@ impl TrustTracker {
         if is_order(event) {
             self.rises = false;
         }
-        self.told = true;
+        self.reported = true;
         match frame {
             Some(frame) => trusted(run, self.whole, u64::from(self.back.unwrap_or(frame))),
             None => None,
@@ -164,30 +168,31 @@ impl TrustTracker {
     /// reported. The last frame is not trusted if bytes are left after it, nor are the last frames
     /// if the page is wrong at their ends.
     #[tactic(auto, unfolding(crate::specs::TrustTracker::after_step))]
-    pub fn close(&mut self, are_left: bool, tells_more: bool) -> Option<Event>
-        ensures told { first_alone result ≡ told_with (Closes are_left tells_more) self.old }
-        ensures kept { self.new ≡ after_step (Closes are_left tells_more) self.old }
+    pub fn close(&mut self, are_left: bool, reports_more: bool) -> Option<Event>
+        ensures reported { first_alone result ≡ reported_with (Closes are_left reports_more)
+            self.old }
+        ensures kept { self.new ≡ after_step (Closes are_left reports_more) self.old }
     {
-        let last = self.trusted_last(are_left, tells_more);
+        let last = self.trusted_last(are_left, reports_more);
         self.run = None;
         last
     }
 
     // Returns the trusted frames of the last run at the end of the file.
-    #[tactic(auto, unfolding(crate::specs::TrustTracker::told_with))]
-    fn trusted_last(&self, are_left: bool, tells_more: bool) -> Option<Event>
-        ensures { first_alone result ≡ told_with (Closes are_left tells_more) self.now }
+    #[tactic(auto, unfolding(crate::specs::TrustTracker::reported_with))]
+    fn trusted_last(&self, are_left: bool, reports_more: bool) -> Option<Event>
+        ensures { first_alone result ≡ reported_with (Closes are_left reports_more) self.now }
     {
         let end = if are_left {
             u64::from(self.back.unwrap_or(self.last))
         } else {
             u64::from(self.last) + 1
         };
-        let end = match self.since {
-            Some(since) => u64::from(since),
+        let end = match self.first_unfinished {
+            Some(first_unfinished) => u64::from(first_unfinished),
             None => end,
         };
-        if self.told || tells_more {
+        if self.reported || reports_more {
             trusted(self.run, self.whole, end)
         } else {
             None
@@ -200,20 +205,24 @@ impl TrustTracker {
         ensures { result ≡ at_pes self.now.pes event }
     {
         match event {
-            Event::Told(fault) => Event::Told(fault.at_pes(self.pes)),
+            Event::Reported(fault) => Event::Reported(fault.at_pes(self.pes)),
             _ => event,
         }
     }
 }
 
 // Returns the first frame of the run at whose end the page was right; `frame` is part of the run.
-fn first_whole(whole: Option<u32>, since: Option<u32>, frame: u32) -> Option<u32>
-    ensures { result ≡ first_whole whole since frame }
+fn first_correct(whole: Option<u32>, first_unfinished: Option<u32>, frame: u32) -> Option<u32>
+    ensures { result ≡ first_correct whole first_unfinished frame }
 {
     if whole.is_some() {
         return whole;
     }
-    if since.is_none() { Some(frame) } else { None }
+    if first_unfinished.is_none() {
+        Some(frame)
+    } else {
+        None
+    }
 }
 
 // Returns the trusted frames of the run before `frame`, if there are any.
@@ -233,13 +242,13 @@ fn trusted(run: Option<u32>, whole: Option<u32>, frame: u64) -> Option<Event>
 
 // Returns the first frame that is no longer trusted once the event is reported. `last` is the frame
 // of the last PES packet; `late` is the frame since which an overdue page is wrong.
-#[tactic(auto, unfolding(crate::specs::TrustTracker::doubted))]
-fn doubted(last: u32, late: Option<u32>, event: &Event) -> Option<u32>
-    ensures { result ≡ doubted last late event.now }
+#[tactic(auto, unfolding(crate::specs::TrustTracker::invalidated))]
+fn invalidated(last: u32, late: Option<u32>, event: &Event) -> Option<u32>
+    ensures { result ≡ invalidated last late event.now }
 {
     match event {
-        Event::Told(fault) => (*fault).row().doubted(last, late),
-        Event::Ended { .. } | Event::PassedUntil(_) | Event::Trusted { .. } => None,
+        Event::Reported(fault) => (*fault).row().invalidated(last, late),
+        Event::Ended { .. } | Event::SkippedUntil(_) | Event::Trusted { .. } => None,
     }
 }
 
@@ -249,7 +258,7 @@ fn is_order(event: &Event) -> bool
     ensures { result ≡ is_order event.now }
 {
     match event {
-        Event::Told(CheckFault::Order { .. }) => true,
+        Event::Reported(CheckFault::Order { .. }) => true,
         _ => false,
     }
 }

@@ -1,7 +1,7 @@
 //! From which frame on the due page is known again, and was known within the last frames.
 ghost use Rattle.std.specs.Prelude.{◌≡◌, ℕ, ◌+◌, ◌<◌, ◌≤◌, MatchOption, Option};
 ghost use Rattle.std.specs.Prelude.{false, true};
-ghost use Rattle.stl_rows.specs.DuePage.{TellsNextEdge};
+ghost use Rattle.stl_rows.specs.DuePage.{ReportsNextEdge};
 ghost use Rattle.stl_rows.specs.Judged.{has_refused, is_undecided_in};
 ghost use Rattle.sub_rules.specs.FrameRules.{is_due_undecided};
 ghost use Rattle.sub_checker.specs.Checker.{IsKnownFrom};
@@ -19,7 +19,7 @@ pub(crate) fn known_from(
     within: u32,
 ) -> u64
     requires { any_refused ≡ has_refused judging.now }
-    ensures { (edge : Option ℕ) → TellsNextEdge judging.now.programme.records frame edge
+    ensures { (edge : Option ℕ) → ReportsNextEdge judging.now.programme.records frame edge
         → IsKnownFrom (is_due_undecided judging.now) first within frame edge result }
 {
     if !any_refused {

@@ -12,7 +12,7 @@ use Rattle.sub_rules.specs.FrameRules.{criteria_of}
 use Rattle.sub_rules.specs.Good.{Good}
 use Rattle.sub_rules.specs.Transmission.{Transmission}
 use Rattle.sub_rules.proofs.TestLemmas.{all_below, below, each_packet, packets_decided}
-use Rattle.sub_laws.proofs.ToldLemmas.{none_told}
+use Rattle.sub_laws.proofs.ReportedLemmas.{none_reported}
 use Rattle.sub_rules.proofs.FrameEvents.{events}
 
 -- A packet has 42 bytes.
@@ -47,6 +47,6 @@ pub good_by_events :
     → are_packets frames ≡ true
     → events (criteria_of programme o None) frames ≡ []
     → Good programme frames o
-good_by_events programme frames o none at_once some whole quiet =
+good_by_events programme frames o none at_once some whole fault_free =
     let packets = (packets_decided is_packet IsPacket packet_decided frames).0 whole in
-    ((none_told programme o None frames none at_once some packets).0 quiet).0
+    ((none_reported programme o None frames none at_once some packets).0 fault_free).0

@@ -12,7 +12,7 @@ use Rattle.ttx_page.specs.Page.{blank, blank_row}
 use Rattle.sub_rules.specs.PacketTests.{are_code_words, breaks, is_word_below, packet_rules}
 use Rattle.ttx_packet.specs.RowPacket.{first_even_byte}
 use Rattle.ttx_page.specs.Differing.{columns_differing}
-use Rattle.sub_rules.specs.Events.{first_cell, is_gap, is_incomplete, is_late, standing_at}
+use Rattle.sub_rules.specs.Events.{first_cell, is_gap, is_incomplete, is_late, active_faults_at}
 use Rattle.sub_rules.specs.Events.{wrong_after}
 use Rattle.ttx_page.specs.PacketKind.{kind}
 use Rattle.stl_rows.specs.DuePage.{due}
@@ -39,7 +39,7 @@ header_with_two_wrong_bits =
 -- What each is needed for.
 pub examples_of_needed_parts : ExamplesOfNeededParts
 unfolding are_code_words is_word_below first_even_byte breaks columns_differing is_gap
-    packet_rules standing_at is_late wrong_after first_cell is_incomplete
+    packet_rules active_faults_at is_late wrong_after first_cell is_incomplete
     kind address header coded_header decoded is_near is_odd count_ones ones_in due blank
     blank_row sub_set
 examples_of_needed_parts = record {

@@ -18,20 +18,20 @@ use Rattle.ttx_page.proofs.ComputedReceiver.{heard_so, near_packets, packets_tes
 use Rattle.stl_rows.specs.Programme.{ProgrammeValue}
 use Rattle.sub_plan.specs.Options.{OptionsValue}
 use Rattle.sub_plan.specs.Schedule.{due_in}
-use Rattle.sub_rules.specs.Events.{standing_at}
+use Rattle.sub_rules.specs.Events.{active_faults_at}
 use Rattle.sub_rules.specs.FrameRules.{Criteria, criteria_of, frame_at, packets_before}
 use Rattle.sub_rules.specs.FrameRules.{packets_of_frame}
 use Rattle.sub_rules.specs.PacketTests.{breaks, is_same_bit, packet_rules}
 use Rattle.sub_rules.specs.Transmission.{IsRising, SentFrame, Transmission, first_frame}
 use Rattle.sub_rules.specs.Transmission.{last_frame, on_air, packets_of}
 use Rattle.sub_rules.specs.declared.packet_rule.PacketRule.{PacketRule}
-use Rattle.sub_laws.specs.CleanStretch.{AtEnds, AtPackets, IsUntold, is_needed}
+use Rattle.sub_laws.specs.CleanStretch.{AtEnds, AtPackets, IsUnreported, is_needed}
 use Rattle.sub_laws.specs.Robust.{IsListening, Robust}
-use Rattle.sub_examples.specs.Examples.{IsNeeded, IsUntoldBut, each, no_subtitles, number_of}
+use Rattle.sub_examples.specs.Examples.{IsNeeded, IsUnreportedBut, each, no_subtitles, number_of}
 use Rattle.sub_rules.proofs.TestLemmas.{all_below, at_most, each_below, each_of, fails, holds}
 use Rattle.sub_rules.proofs.TestLemmas.{implied, same_bit}
 use Rattle.sub_laws.proofs.FirstFoundLemmas.{each_rule}
-use Rattle.sub_laws.proofs.StandingLemmas.{all_known}
+use Rattle.sub_laws.proofs.ActiveFaultsLemmas.{all_known}
 use Rattle.sub_laws.proofs.StretchLemmas.{robust_of_recovers}
 
 -- A receiver without a header, with a page of question marks.
@@ -210,15 +210,15 @@ rising_decided (s ∷ frames) =
     (λ t. Decides-ltb s.frame t.frame) frames) (rising_decided frames))
 
 -- The stretch has no fault that a receiver depends on except this one.
-abbrev told_alone : ℕ → Criteria → Transmission → ℕ → ℕ → Bool
-told_alone number g frames a b =
+abbrev reported_alone : ℕ → Criteria → Transmission → ℕ → ℕ → Bool
+reported_alone number g frames a b =
     (number == 62 || rises frames)
     && (list_all
     (λ r. number == number_of r || (not (is_needed r) || unbroken r g frames a b))
     packet_rules
     && ((number == 72
-    || ends_pass (λ n f. is_none (standing_at g frames n f).content) frames a b)
-    && (number == 73 || ends_pass (λ n f. not (standing_at g frames n f).gap) frames a b)))
+    || ends_pass (λ n f. is_none (active_faults_at g frames n f).content) frames a b)
+    && (number == 73 || ends_pass (λ n f. not (active_faults_at g frames n f).gap) frames a b)))
 
 -- A test passes, or another number is meant.
 unless : (n m : ℕ) (b : Bool) → (n == m || b) ≡ true → n ≢ m → b ≡ true
@@ -230,18 +230,19 @@ unless n m b e other = elim (or_cases (n == m) b e) [
 none_by_test : {A : Type 0} (o : Option A) → is_none o ≡ true → o ≡ None
 none_by_test o e = grind arith
 
-untold_but :
+unreported_but :
     (number : ℕ) (g : Criteria) (frames : Transmission) (a b : ℕ)
-    → told_alone number g frames a b ≡ true
-    → IsUntoldBut number g frames a b
-untold_but number g frames a b e =
+    → reported_alone number g frames a b ≡ true
+    → IsUnreportedBut number g frames a b
+unreported_but number g frames a b e =
     let PacketsPass : PacketRule → Bool =
     λ r. number == number_of r || (not (is_needed r) || unbroken r g frames a b) in
     let order = and_parts (number == 62 || rises frames) _ e in
     let packets = and_parts (list_all PacketsPass packet_rules) _ order.1 in
     let ends =
     and_parts
-    (number == 72 || ends_pass (λ n f. is_none (standing_at g frames n f).content) frames a b) _
+    (number == 72 || ends_pass (λ n f. is_none (active_faults_at g frames n f).content) frames a b)
+    _
     packets.1 in
     let each =
     each_rule (λ r. PacketsPass r ≡ true)
@@ -256,18 +257,18 @@ untold_but number g frames a b e =
           (unless number (number_of r) _ (each r) other) needed);
       content = λ other n f end low high.
           none_by_test _
-          (at_ends (λ n f. is_none (standing_at g frames n f).content) frames a b
+          (at_ends (λ n f. is_none (active_faults_at g frames n f).content) frames a b
           (unless number 72 _ ends.0 other) n f end low high);
       gap = λ other n f end low high.
           (fails _).0
-          (at_ends (λ n f. not (standing_at g frames n f).gap) frames a b
+          (at_ends (λ n f. not (active_faults_at g frames n f).gap) frames a b
           (unless number 73 _ ends.1 other) n f end low high);
     }
 
 -- The transmission has no other fault, and it is refuted. So the rule is needed.
 pub needed :
     (number : ℕ) (frames : Transmission) (every g j f : ℕ) (got : List (List ℕ))
-    → told_alone number (criteria_of no_subtitles (each every) None) frames (first_frame frames)
+    → reported_alone number (criteria_of no_subtitles (each every) None) frames (first_frame frames)
     (last_frame frames)
     && is_refuted no_subtitles frames (each every) g j f got
     ≡ true
@@ -275,10 +276,12 @@ pub needed :
 needed number frames every g j f got e =
     let criteria : Criteria = criteria_of no_subtitles (each every) None in
     let tests =
-    and_parts (told_alone number criteria frames (first_frame frames) (last_frame frames)) _ e in
+    and_parts (reported_alone number criteria frames (first_frame frames) (last_frame frames)) _ e
+    in
     let not_robust = refuted no_subtitles frames (each every) g j f got tests.1 in
     record {
-      others = untold_but number criteria frames (first_frame frames) (last_frame frames) tests.0;
+      others = unreported_but number criteria frames (first_frame frames) (last_frame frames)
+          tests.0;
       not_robust = not_robust;
       not_trusted = λ trusted.
           not_robust (robust_of_recovers no_subtitles frames (each every) trusted);
@@ -288,22 +291,22 @@ needed number frames every g j f got e =
 
 -- If the due page is known at each frame, no end has an unknown one.
 none_undecided : (g : Criteria) (frames : Transmission) → ((f : ℕ) → g.undecided f ≡ false)
-    → (n f : ℕ) → IsFalse (standing_at g frames n f).undecided
-unfolding standing_at
+    → (n f : ℕ) → IsFalse (active_faults_at g frames n f).undecided
+unfolding active_faults_at
 none_undecided g frames known n f = all_known g.undecided known (frame_at frames 0) f g.within
 
 -- It has no events, and the frames are some of the transmission.
-pub untold_by_test :
+pub unreported_by_test :
     (g : Criteria) (frames : Transmission) (a b : ℕ)
     → ((f : ℕ) → g.undecided f ≡ false)
-    → told_alone 0 g frames a b
+    → reported_alone 0 g frames a b
     && (nat_lt 0 (length frames)
     && (nat_le (first_frame frames) a && (nat_le a b && nat_le b (last_frame frames))))
     ≡ true
-    → IsUntold g frames a b
-untold_by_test g frames a b known e =
-    let parts = and_parts (told_alone 0 g frames a b) _ e in
-    let untold = untold_but 0 g frames a b parts.0 in
+    → IsUnreported g frames a b
+unreported_by_test g frames a b known e =
+    let parts = and_parts (reported_alone 0 g frames a b) _ e in
+    let unreported = unreported_but 0 g frames a b parts.0 in
     record {
       stretch = record {
         not_empty = grind (arith, nat_tests, and_parts);
@@ -311,10 +314,10 @@ untold_by_test g frames a b known e =
         in_order = grind (arith, nat_tests, and_parts);
         to = grind (arith, nat_tests, and_parts);
       };
-      rising = untold.rising (λ is. cc);
-      packets = λ r needed. untold.packets r needed (numbered r);
-      content = untold.content (λ is. cc);
-      gap = untold.gap (λ is. cc);
+      rising = unreported.rising (λ is. cc);
+      packets = λ r needed. unreported.packets r needed (numbered r);
+      content = unreported.content (λ is. cc);
+      gap = unreported.gap (λ is. cc);
       undecided = λ n f end low high. none_undecided g frames known n f;
     }
   where

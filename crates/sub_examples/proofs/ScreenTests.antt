@@ -15,9 +15,12 @@ use Rattle.ttx_page.specs.Page.{Rows, blank, blank_row}
 use Rattle.sub_rules.specs.PacketTests.{are_code_words, is_word_below}
 use Rattle.sub_rules.specs.PacketTests.{breaks, broken_rules, packet_rules}
 use Rattle.sub_rules.specs.Events.{end_rules, is_silent, order_events}
-use Rattle.sub_rules.specs.Events.{gap_length, packets_told, rules_told, first_header_events}
-use Rattle.sub_rules.specs.Events.{is_late, is_pending, standing_at, standing_before, end_events}
-use Rattle.sub_rules.specs.Events.{since_frames, since_in_gap, unfinished_since, was_undecided}
+use Rattle.sub_rules.specs.Events.{gap_length, packets_reported, rules_reported}
+use Rattle.sub_rules.specs.Events.{first_header_events}
+use Rattle.sub_rules.specs.Events.{is_late, is_pending, active_faults_at, active_faults_before}
+use Rattle.sub_rules.specs.Events.{end_events}
+use Rattle.sub_rules.specs.Events.{first_unfinished_in_frames, first_unfinished_in_gap}
+use Rattle.sub_rules.specs.Events.{unfinished_since, was_undecided}
 use Rattle.sub_rules.specs.Events.{wrong_after}
 use Rattle.sub_rules.specs.Events.{first_cell, is_gap, is_incomplete, latest, closing_events}
 use Rattle.ttx_packet.specs.RowPacket.{first_even_byte}
@@ -42,10 +45,10 @@ use Rattle.sub_rules.proofs.FrameEvents.{events, events_of_first, frame_events, 
 -- ---- packets
 
 -- The contents of the header of page 888.
-abbrev says_888 : Header
-says_888 = record { page = 0x88; subcode = 0; control = record { 0 = 0x0D } }
+abbrev header_888_value : Header
+header_888_value = record { page = 0x88; subcode = 0; control = record { 0 = 0x0D } }
 
-kind_888 : kind page_888 english_header ≡ ThisPage says_888
+kind_888 : kind page_888 english_header ≡ ThisPage header_888_value
 unfolding kind address header coded_header decoded is_near
 kind_888 = refl
 
@@ -135,10 +138,11 @@ no_end = one_frame (english_header ∷ [])
 -- It has no events.
 no_end_is_good : Good no_subtitles no_end (each 1)
 unfolding events events_of_first frame_events order_events gap_events gap_length
-    packets_told rules_told broken_rules packet_rules breaks first_header_events standing_at
-    standing_before end_events end_rules is_late wrong_after first_cell is_gap is_incomplete
+    packets_reported rules_reported broken_rules packet_rules breaks first_header_events
+    active_faults_at
+    active_faults_before end_events end_rules is_late wrong_after first_cell is_gap is_incomplete
     is_silent latest was_undecided
-    closing_events is_pending unfinished_since since_in_gap since_frames
+    closing_events is_pending unfinished_since first_unfinished_in_gap first_unfinished_in_frames
     are_code_words is_word_below first_even_byte kind address
     header coded_header decoded is_near is_odd count_ones ones_in
     due blank blank_row sub_set

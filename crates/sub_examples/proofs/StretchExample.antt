@@ -12,7 +12,7 @@ use Rattle.ttx_page.specs.Page.{blank, blank_row}
 use Rattle.sub_rules.specs.PacketTests.{are_code_words, breaks, is_word_below, packet_rules}
 use Rattle.ttx_packet.specs.RowPacket.{first_even_byte}
 use Rattle.ttx_page.specs.Differing.{columns_differing}
-use Rattle.sub_rules.specs.Events.{first_cell, is_gap, is_incomplete, is_late, standing_at}
+use Rattle.sub_rules.specs.Events.{first_cell, is_gap, is_incomplete, is_late, active_faults_at}
 use Rattle.sub_rules.specs.Events.{wrong_after}
 use Rattle.ttx_page.specs.PacketKind.{kind}
 use Rattle.ttx_page.specs.Receiver.ReceiverClass.{Storing}
@@ -24,15 +24,15 @@ use Rattle.stl_rows.specs.Line.{is_boxed, is_double}
 use Rattle.stl_rows.specs.PreparedLine.{framed, headed, prepared_by, row_from, start_by}
 use Rattle.stl_rows.specs.SubSets.{sub_set}
 use Rattle.stl_rows.specs.TextCode.{cell_of, cell_of_pair, is_common}
-use Rattle.sub_laws.specs.CleanStretch.{IsUntold}
+use Rattle.sub_laws.specs.CleanStretch.{IsUnreported}
 use Rattle.sub_examples.specs.Examples.{ExampleOfCleanStretch, closing, damaged_first, each}
 use Rattle.sub_examples.specs.Examples.{english_header, later_subtitle, row_22}
 use Rattle.sub_rules.specs.FrameRules.{criteria_of}
 use Rattle.sub_rules.specs.Good.{Good}
 use Rattle.sub_rules.specs.Transmission.{SentFrame}
-use Rattle.sub_laws.proofs.NoneKeepsLemmas.{law_of_untold_stretch}
+use Rattle.sub_laws.proofs.NoneKeepsLemmas.{law_of_unreported_stretch}
 use Rattle.sub_laws.proofs.StretchLemmas.{law_of_stretch}
-use Rattle.sub_examples.proofs.RobustTests.{listening, untold_by_test}
+use Rattle.sub_examples.proofs.RobustTests.{listening, unreported_by_test}
 
 -- Its first packet, a header of the page, has no C4.
 refused : Good later_subtitle damaged_first (each 1) → ⊥
@@ -42,14 +42,14 @@ refused good =
     let control = good.rules.control 0 none (omega arith) 0 [] (omega arith) in
     grind (arith, nat_tests, control _ refl)
 
-clean : IsUntold (criteria_of later_subtitle (each 1) None) damaged_first 900001 900002
+clean : IsUnreported (criteria_of later_subtitle (each 1) None) damaged_first 900001 900002
 unfolding are_code_words is_word_below first_even_byte breaks columns_differing is_gap
-    packet_rules standing_at is_late wrong_after first_cell is_incomplete
+    packet_rules active_faults_at is_late wrong_after first_cell is_incomplete
     kind address header coded_header decoded is_near is_odd count_ones ones_in due blank
     blank_row drawn drawn_by page_of_placed placed_fault_kinds prepared_by framed headed start_by
     row_from default_items attribute_code is_boxed is_double
     is_common cell_of cell_of_pair sub_set
-clean = untold_by_test _ _ _ _ (λ frame. refl) refl
+clean = unreported_by_test _ _ _ _ (λ frame. refl) refl
 
 pub example_of_clean_stretch : ExampleOfCleanStretch
 unfolding kind address header coded_header decoded is_near is_odd count_ones ones_in due blank
@@ -62,7 +62,8 @@ example_of_clean_stretch = record {
   held = λ got old new near hears.
       let sent : List (List ℕ) = english_header ∷ row_22 ∷ closing ∷ [] in
       let enough =
-      law_of_untold_stretch later_subtitle damaged_first (each 1) None false (λ frame. false) 900001
+      law_of_unreported_stretch later_subtitle damaged_first (each 1) None false (λ frame. false)
+      900001
       900002 refl refl clean in
       let trusted = law_of_stretch later_subtitle damaged_first (each 1) 900001 900002 enough.0 in
       let served =

@@ -13,13 +13,13 @@ use Rattle.stl_rows.specs.Programme.{ProgrammeValue}
 use Rattle.sub_plan.specs.Examples.{page_888}
 use Rattle.sub_plan.specs.Options.{OptionsValue}
 use Rattle.sub_rules.specs.Transmission.{IsRising, Transmission, first_frame, last_frame}
-use Rattle.sub_rules.specs.Events.{packet_fault, standing_at}
+use Rattle.sub_rules.specs.Events.{packet_fault, active_faults_at}
 use Rattle.sub_rules.specs.Fault.{check_code}
 use Rattle.sub_rules.specs.FrameRules.{Criteria, criteria_of}
 use Rattle.sub_rules.specs.Good.{Good}
 use Rattle.sub_rules.specs.PacketTests.{breaks}
 use Rattle.sub_rules.specs.declared.packet_rule.PacketRule.{PacketRule}
-use Rattle.sub_laws.specs.CleanStretch.{AtEnds, AtPackets, IsUntold, is_needed}
+use Rattle.sub_laws.specs.CleanStretch.{AtEnds, AtPackets, IsUnreported, is_needed}
 use Rattle.sub_laws.specs.Recovery.{RecoversWithin}
 use Rattle.sub_laws.specs.Robust.{Robust}
 
@@ -133,24 +133,25 @@ ExampleOfGood =
 abbrev pub number_of : PacketRule → ℕ
 number_of r = (check_code (packet_fault r 0 0)).number
 
--- In the frames from a to b there is no report that a receiver depends on, as in `IsUntold`, except
--- perhaps this number.
-pub record IsUntoldBut (number : ℕ) (g : Criteria) (frames : Transmission) (a b : ℕ) : Type 0 where
-  pub rising : number ≢ 62 → IsRising frames
-  pub packets :
-      (r : PacketRule)
-      → IsTrue (is_needed r)
-      → number ≢ number_of r
-      → AtPackets (λ before p. IsFalse (breaks r g.watched before p)) frames a b
-  pub content :
-      number ≢ 72 → AtEnds (λ n f. (standing_at g frames n f).content ≡ None) frames a b
-  pub gap : number ≢ 73 → AtEnds (λ n f. IsFalse (standing_at g frames n f).gap) frames a b
+-- In the frames from a to b there is no report that a receiver depends on, as in `IsUnreported`,
+-- except perhaps this number.
+pub record IsUnreportedBut (number : ℕ) (g : Criteria) (frames : Transmission) (a b : ℕ) : Type 0
+  where
+    pub rising : number ≢ 62 → IsRising frames
+    pub packets :
+        (r : PacketRule)
+        → IsTrue (is_needed r)
+        → number ≢ number_of r
+        → AtPackets (λ before p. IsFalse (breaks r g.watched before p)) frames a b
+    pub content :
+        number ≢ 72 → AtEnds (λ n f. (active_faults_at g frames n f).content ≡ None) frames a b
+    pub gap : number ≢ 73 → AtEnds (λ n f. IsFalse (active_faults_at g frames n f).gap) frames a b
 
 -- The frames of the transmission have no other fault, if each due page is blank, and it is not
 -- robust. So its frames may not be trusted either.
 pub record IsNeeded (number : ℕ) (transmission : Transmission) (every : ℕ) : Type 0 where
   pub others :
-      IsUntoldBut number (criteria_of no_subtitles (each every) None) transmission
+      IsUnreportedBut number (criteria_of no_subtitles (each every) None) transmission
       (first_frame transmission) (last_frame transmission)
   pub not_robust : Robust no_subtitles transmission (each every) → ⊥
   pub not_trusted :
@@ -222,7 +223,7 @@ damaged_first =
 -- byte was hit, a space.
 pub record ExampleOfCleanStretch : Type 0 where
   pub refused : Good later_subtitle damaged_first (each 1) → ⊥
-  pub clean : IsUntold (criteria_of later_subtitle (each 1) None) damaged_first 900001 900002
+  pub clean : IsUnreported (criteria_of later_subtitle (each 1) None) damaged_first 900001 900002
   pub held :
       (got : List (List ℕ)) (old new : State)
       → AllZip AreNear (english_header ∷ row_22 ∷ closing ∷ []) got

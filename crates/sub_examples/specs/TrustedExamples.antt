@@ -2,16 +2,16 @@
 -- and frame 50 are those of two PES packets, or of four.
 use Rattle.std.specs.Prelude.{◌≡◌, ℕ, ◌++◌, true, false, List, [], ◌∷◌, Some, None}
 use Rattle.ttx_pes.specs.declared.fault.PesFault.TheVariants.{DataId, Truncated}
-use Rattle.sub_rules.specs.Trusted.{CheckStep, told_after}
-use Rattle.sub_rules.specs.Trusted.CheckStep.{AtEnd, AtPes, Begins, Closes, Ends, Says}
+use Rattle.sub_rules.specs.Trusted.{CheckStep, reported_after}
+use Rattle.sub_rules.specs.Trusted.CheckStep.{AtEnd, AtPes, Begins, Closes, Ends, Emits}
 use Rattle.sub_rules.specs.declared.end_rule.EndRule.TheVariants as end
 use Rattle.sub_rules.specs.declared.event.Event.{Event}
-use Rattle.sub_rules.specs.declared.event.Event.TheVariants.{Ended, Told, Trusted}
+use Rattle.sub_rules.specs.declared.event.Event.TheVariants.{Ended, Reported, Trusted}
 use Rattle.sub_rules.specs.declared.fault.CheckFault.TheVariants as fault
 
 -- The events of a file with these steps.
-abbrev pub IsToldOf : List Event → List CheckStep → Type 0
-IsToldOf events steps = told_after [] steps ≡ events
+abbrev pub IsReportedOf : List Event → List CheckStep → Type 0
+IsReportedOf events steps = reported_after [] steps ≡ events
 
 -- A PES packet of a frame with a header of the page and without faults.
 abbrev pub well : ℕ → ℕ → List CheckStep
@@ -25,48 +25,48 @@ over pes = AtPes pes ∷ Closes false false ∷ []
 -- frames.
 pub record ExamplesOfTrusted : Type 0 where
   -- Without faults no frame is reported as trusted either.
-  pub nothing : IsToldOf [] (well 0 0 ++ well 1 50 ++ over 2)
+  pub nothing : IsReportedOf [] (well 0 0 ++ well 1 50 ++ over 2)
   -- The repeat bound is exceeded at the ends of frames 25 to 49.
   pub gap :
-      IsToldOf
-      (Trusted 0 24 ∷ Told (fault.Gap 25) ∷ Ended end.Gap 49 ∷ Trusted 50 50 ∷ [])
+      IsReportedOf
+      (Trusted 0 24 ∷ Reported (fault.Gap 25) ∷ Ended end.Gap 49 ∷ Trusted 50 50 ∷ [])
       (well 0 0
-      ++ AtPes 1 ∷ Says (Told (fault.Gap 25)) ∷ Begins 50 ∷ Says (Ended end.Gap 49)
+      ++ AtPes 1 ∷ Emits (Reported (fault.Gap 25)) ∷ Begins 50 ∷ Emits (Ended end.Gap 49)
       ∷ Ends 50 true true ∷ over 2)
   -- The same two frames twice in one file: from the third PES packet on no frame is clean, and what
   -- it sends may have been sent in the frame before.
   pub order :
-      IsToldOf (Trusted 0 49 ∷ Told (fault.Order 2) ∷ [])
+      IsReportedOf (Trusted 0 49 ∷ Reported (fault.Order 2) ∷ [])
       (well 0 0 ++ well 1 50
-      ++ AtPes 2 ∷ Says (Told (fault.Order 1)) ∷ Begins 0 ∷ Ends 0 true true
+      ++ AtPes 2 ∷ Emits (Reported (fault.Order 1)) ∷ Begins 0 ∷ Ends 0 true true
       ∷ well 3 50 ++ over 4)
   -- A row of frame 0 has a byte of even parity.
   pub parity :
-      IsToldOf (Told (fault.Parity 0 1) ∷ Trusted 50 50 ∷ [])
-      (AtPes 0 ∷ Begins 0 ∷ Says (Told (fault.Parity 0 1)) ∷ Ends 0 true true
+      IsReportedOf (Reported (fault.Parity 0 1) ∷ Trusted 50 50 ∷ [])
+      (AtPes 0 ∷ Begins 0 ∷ Emits (Reported (fault.Parity 0 1)) ∷ Ends 0 true true
       ∷ well 1 50 ++ over 2)
   -- C11 of its header differs, which no receiver depends on.
   pub mode :
-      IsToldOf (Told (fault.Mode 0 0) ∷ Trusted 0 50 ∷ [])
-      (AtPes 0 ∷ Begins 0 ∷ Says (Told (fault.Mode 0 0)) ∷ Ends 0 true true
+      IsReportedOf (Reported (fault.Mode 0 0) ∷ Trusted 0 50 ∷ [])
+      (AtPes 0 ∷ Begins 0 ∷ Emits (Reported (fault.Mode 0 0)) ∷ Ends 0 true true
       ∷ well 1 50 ++ over 2)
   -- The page is wrong from the end of frame 0 up to frame 49.
   pub content :
-      IsToldOf (Told (fault.Content 0 22 19) ∷ Ended end.Content 49 ∷ Trusted 50 50 ∷ [])
-      (AtPes 0 ∷ Begins 0 ∷ Says (Told (fault.Content 0 22 19)) ∷ Ends 0 true false
-      ∷ AtPes 1 ∷ Begins 50 ∷ Says (Ended end.Content 49) ∷ Ends 50 true true ∷ over 2)
+      IsReportedOf (Reported (fault.Content 0 22 19) ∷ Ended end.Content 49 ∷ Trusted 50 50 ∷ [])
+      (AtPes 0 ∷ Begins 0 ∷ Emits (Reported (fault.Content 0 22 19)) ∷ Ends 0 true false
+      ∷ AtPes 1 ∷ Begins 50 ∷ Emits (Ended end.Content 49) ∷ Ends 50 true true ∷ over 2)
   -- A PES packet between the two is skipped: it may have been sent in frame 0.
-  pub passed :
-      IsToldOf (Told (fault.Pes 1 DataId) ∷ Trusted 50 50 ∷ [])
-      (well 0 0 ++ AtPes 1 ∷ Says (Told (fault.Pes 1 DataId)) ∷ well 2 50 ++ over 3)
+  pub skipped :
+      IsReportedOf (Reported (fault.Pes 1 DataId) ∷ Trusted 50 50 ∷ [])
+      (well 0 0 ++ AtPes 1 ∷ Emits (Reported (fault.Pes 1 DataId)) ∷ well 2 50 ++ over 3)
   -- Bytes are left after frame 50: they may have been sent in it.
   pub left :
-      IsToldOf (Trusted 0 49 ∷ Told (fault.Pes 2 Truncated) ∷ [])
+      IsReportedOf (Trusted 0 49 ∷ Reported (fault.Pes 2 Truncated) ∷ [])
       (well 0 0 ++ well 1 50
-      ++ AtPes 2 ∷ Closes true true ∷ Says (Told (fault.Pes 2 Truncated)) ∷ [])
+      ++ AtPes 2 ∷ Closes true true ∷ Emits (Reported (fault.Pes 2 Truncated)) ∷ [])
   -- With `within` 2 the page is right at the end of frame 0, and at none of the next three.
   pub late :
-      IsToldOf (Trusted 0 0 ∷ Told (fault.Content 3 22 19) ∷ [])
+      IsReportedOf (Trusted 0 0 ∷ Reported (fault.Content 3 22 19) ∷ [])
       (AtPes 0 ∷ Begins 0 ∷ AtEnd 0 None false ∷ Ends 0 true true
       ∷ AtPes 1 ∷ AtEnd 1 (Some 1) false ∷ AtEnd 2 (Some 1) false
-      ∷ AtEnd 3 (Some 1) true ∷ Says (Told (fault.Content 3 22 19)) ∷ over 1)
+      ∷ AtEnd 3 (Some 1) true ∷ Emits (Reported (fault.Content 3 22 19)) ∷ over 1)

@@ -2,7 +2,7 @@
 use Rattle.std.proofs.Common.{◌≡◌, ℕ, Bool, true, false, List, [], ◌∷◌, Option, Some, None}
 use Rattle.std.proofs.Common.{option_map, refl, ◌∙◌}
 use Rattle.sub_files.specs.Apart.{may_create}
-use Rattle.sub_files.specs.FileCalls.{CallsInTurn, FileCall}
+use Rattle.sub_files.specs.FileCalls.{CallsInOrder, FileCall}
 use Rattle.sub_files.specs.FileCalls.FileCall.{Create, LookUp, LookUpStandardOutput, Open}
 use Rattle.sub_files.specs.Opening.{OpensAndCreates}
 use Rattle.sub_files.specs.declared.files.LookedUp.{LookedUp}
@@ -15,7 +15,7 @@ pub creates :
     (start opened looked_up end : D)
     (name output : List ℕ) (input : I) (found : LookedUp) (file : Option O)
     → IsCall start (Open name (Some input)) opened
-    → CallsInTurn IsCall opened looked_up
+    → CallsInOrder IsCall opened looked_up
     (LookUp name found.input ∷ LookUp output found.output
     ∷ LookUpStandardOutput found.standard_output ∷ [])
     → (may_create found.input found.standard_output found.output ≡ true
@@ -23,7 +23,7 @@ pub creates :
     → (may_create found.input found.standard_output found.output ≡ false
     → (file ≡ None) × (end ≡ looked_up))
     → (calls : List (FileCall I O))
-    × CallsInTurn IsCall start end calls
+    × CallsInOrder IsCall start end calls
     × OpensAndCreates made name output calls (option_map (made input) file)
 creates
     {I} {O} {D} IsCall made start opened looked_up end name output input found file opens
@@ -34,7 +34,7 @@ creates
         (b : Bool)
         → may_create found.input found.standard_output found.output ≡ b
         → (calls : List (FileCall I O))
-        × CallsInTurn IsCall start end calls
+        × CallsInOrder IsCall start end calls
         × OpensAndCreates made name output calls (option_map (made input) file)
     go true is = (
       Open name (Some input)

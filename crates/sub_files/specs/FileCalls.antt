@@ -23,8 +23,8 @@ abbrev pub any_file_call : {I O D : Type 0} → D → FileCall I O → D → Typ
 any_file_call old call new = Unit {0}
 
 -- Exactly these calls, one after another.
-abbrev pub CallsInTurn :
+abbrev pub CallsInOrder :
     {I O D : Type 0} → (D → FileCall I O → D → Type 0) → D → D → List (FileCall I O) → Type 0
-CallsInTurn IsCall old new [] = new ≡ old
-CallsInTurn {I} {O} {D} IsCall old new (call ∷ calls) =
-    (mid : D) × IsCall old call mid × CallsInTurn IsCall mid new calls
+CallsInOrder IsCall old new [] = new ≡ old
+CallsInOrder {I} {O} {D} IsCall old new (call ∷ calls) =
+    (mid : D) × IsCall old call mid × CallsInOrder IsCall mid new calls

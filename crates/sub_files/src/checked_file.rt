@@ -6,7 +6,7 @@ ghost use Rattle.std.specs.Prelude.{◌≡◌, ℕ, [], Bool, None, OnOk, Some, 
 ghost use Rattle.std.specs.Prelude.{true};
 ghost use Rattle.std.specs.Io.Iter.{u64_saturate};
 ghost use Rattle.std.specs.Io.KnownBytes.{Keeps};
-ghost use Rattle.sub_io.specs.Device.{CanFail, CountsFailure, holds_nothing};
+ghost use Rattle.sub_io.specs.Device.{CanFail, CountsFailure, buffers_nothing};
 ghost use Rattle.sub_files.specs.Checked.{ClosesFile};
 
 use std::io::Write;
@@ -93,7 +93,7 @@ impl<W: Write, L: SecondLook> Sink for CheckedFile<W, L> {
 
 impl<W: Write, L: SecondLook> Flush for CheckedFile<W, L> {
     // It passes all bytes to the writer at once.
-    ghost held = { holds_nothing };
+    ghost buffered = { buffers_nothing };
 
     /// Flushes the writer.
     ///
@@ -125,7 +125,7 @@ impl<W: Write + LetGo + Store, L: SecondLook> Close for CheckedFile<W, L> {
         ensures look { OnOk result (L.is_look self.new.look
             (u64_saturate (length self.new.file.taken)) true) }
         ensures bytes { Keeps (Some self.old.file.taken) (Some self.new.file.taken) }
-        ensures held { OnOk result (holds_nothing self.new ≡ 0) }
+        ensures buffered { OnOk result (buffers_nothing self.new ≡ 0) }
         ensures stored { OnOk result (self.new.file.is_stored ≡ true) }
         ensures count { CountsFailure self.old.file.failure_count result
             self.new.file.failure_count }

@@ -3,7 +3,7 @@
 //! Callers get only the opened files, so no function that takes files has another device or the
 //! output lines in its scope.
 ghost use Rattle.std.specs.Prelude.{◌≡◌, ◌≤◌, [], ◌∷◌, IfSome, vec_len};
-ghost use Rattle.sub_files.specs.FileCalls.{CallsInTurn, FileCall};
+ghost use Rattle.sub_files.specs.FileCalls.{CallsInOrder, FileCall};
 ghost use Rattle.sub_files.specs.Opening.{AreUnused, OpensBy, rooms_size};
 
 use crate::file_system::FileSystem;
@@ -56,7 +56,7 @@ pub fn open<D: FileSystem>(
     names: &FileNames<'_>,
 ) -> Option<Opened<D::Input, D::Output>>
     ensures unused { IfSome result (AreUnused D.Input.failure_count D.Output.failure_count) }
-    ensures calls { OpensBy (CallsInTurn D.is_call files.old files.new) names.now result }
+    ensures calls { OpensBy (CallsInOrder D.is_call files.old files.new) names.now result }
 {
     match names {
         FileNames::None => Some(Opened::Nothing),
@@ -81,7 +81,7 @@ fn open_both<D: FileSystem>(
     pes: &PesInput<'_>,
 ) -> Option<Opened<D::Input, D::Output>>
     ensures unused { IfSome result (AreUnused D.Input.failure_count D.Output.failure_count) }
-    ensures calls { OpensBy (CallsInTurn D.is_call files.old files.new)
+    ensures calls { OpensBy (CallsInOrder D.is_call files.old files.new)
         (FileNames.ReadBoth stl.now pes.now) result }
 {
     let Some(first) = open_stl(files, stl) else {
@@ -100,7 +100,7 @@ fn open_and_create<D: FileSystem>(
     output: &Output<'_>,
 ) -> Option<Opened<D::Input, D::Output>>
     ensures unused { IfSome result (AreUnused D.Input.failure_count D.Output.failure_count) }
-    ensures calls { OpensBy (CallsInTurn D.is_call files.old files.new)
+    ensures calls { OpensBy (CallsInOrder D.is_call files.old files.new)
         (FileNames.Write stl.now output.now) result }
 {
     let Some(input) = open_stl(files, stl) else {
@@ -120,7 +120,7 @@ fn open_and_extract<D: FileSystem>(
     output: &Output<'_>,
 ) -> Option<Opened<D::Input, D::Output>>
     ensures unused { IfSome result (AreUnused D.Input.failure_count D.Output.failure_count) }
-    ensures calls { OpensBy (CallsInTurn D.is_call files.old files.new)
+    ensures calls { OpensBy (CallsInOrder D.is_call files.old files.new)
         (FileNames.Extract recording.now output.now) result }
 {
     let Some(input) = open_pes(files, recording) else {
@@ -135,7 +135,7 @@ fn open_and_extract<D: FileSystem>(
 
 // Looks up both names and standard output.
 fn look_up_all<D: FileSystem>(files: &mut D, name: &str, output: &Output<'_>) -> LookedUp
-    ensures { CallsInTurn D.is_call files.old files.new
+    ensures { CallsInOrder D.is_call files.old files.new
         (FileCall.LookUp name.now result.input ∷ FileCall.LookUp output.now result.output
         ∷ FileCall.LookUpStandardOutput result.standard_output ∷ []) }
 {

@@ -1,4 +1,4 @@
--- For `law_of_chosen_words`: the rows for `check STL PES` with choices, `rows_say`, give the
+-- For `law_of_chosen_arguments`: the rows for `check STL PES` with choices, `rows_say`, give the
 -- request, `check_is`.
 use Rattle.std.proofs.Common.{◌≡◌, ◌∙◌, Bool, true, false, List, [], ◌∷◌, ◌++◌, Option, Some}
 use Rattle.std.proofs.Common.{ℕ, None, Ok, Err, refl, sym, ap, arith, codes, drop, ◌^◌, ◌-◌}
@@ -22,40 +22,44 @@ use Rattle.stl_rows.specs.SubSets.{option_named, sub_set}
 use Rattle.stl_rows.specs.declared.national.National.TheVariants.{English}
 use Rattle.sub_plan.specs.Options.{OptionsValue}
 use Rattle.sub_request.specs.declared.request.UsageFault.TheVariants as fault
-use Rattle.sub_words.specs.Arguments.{between, pacing_of, pes_packets_of, scope_of}
+use Rattle.sub_words.specs.Arguments.{between, pacing_of, pes_selection_of, scope_of}
 use Rattle.sub_words.specs.Commands.{command_in, subttx_app}
-use Rattle.sub_words.specs.Help.{asks_help}
+use Rattle.sub_words.specs.Help.{requests_help}
 use Rattle.std.specs.Option.{option_map_or}
 use Rattle.std.specs.Prelude.{map}
 use Rattle.sub_words.specs.PesTexts.{packet_size_of_text, pid_of_text, range_of_text}
-use Rattle.sub_words.specs.Requests.{Asked, AsksFor, asked_by, asked_for, asked_in, check_asked}
+use Rattle.sub_words.specs.Requests.{Requested, IsRequestOf, requested_by, asked_for, requested_in}
+use Rattle.sub_words.specs.Requests.{check_requested}
 use Rattle.sub_words.specs.Texts.{frame_of_text, number_of_text}
-use Rattle.sub_words.specs.Version.{asks_version}
-use Rattle.sub_headline.specs.PlainOptions.{Choice, LawOfChosenWords, with_choice, choice_words}
-use Rattle.sub_headline.specs.RecordingOptions.{LawOfPartWords, Portion, Reading, read_by}
+use Rattle.sub_words.specs.Version.{requests_version}
+use Rattle.sub_headline.specs.PlainOptions.{Choice, LawOfChosenArguments, with_choice}
+use Rattle.sub_headline.specs.PlainOptions.{arguments_of_choice}
+use Rattle.sub_headline.specs.RecordingOptions.{LawOfPartArguments, Portion, Reading, read_by}
 use Rattle.sub_headline.specs.RecordingOptions.{reading_of}
-use Rattle.sub_headline.specs.DrawnOptions.{LawOfLookWords, Look, Looking, looked_by, looking_of}
-use Rattle.sub_headline.specs.DrawnOptions.{words_for}
-use Rattle.sub_headline.specs.DrawnOptions.Look.{Letters, Lines, Of}
+use Rattle.sub_headline.specs.DrawnOptions.{LawOfDisplayArguments, DisplayOption, DisplayOptions}
+use Rattle.sub_headline.specs.DrawnOptions.{displayed_by, looking_of}
+use Rattle.sub_headline.specs.DrawnOptions.{arguments_for}
+use Rattle.sub_headline.specs.DrawnOptions.DisplayOption.{Letters, Lines, Of}
 use Rattle.stl_rows.specs.LayoutText.{layout_of_text}
-use Rattle.sub_headline.specs.RecordingOptions.{recording_asked, words_in}
+use Rattle.sub_headline.specs.RecordingOptions.{recording_requested, arguments_in}
 use Rattle.sub_headline.specs.RecordingOptions.Portion.{Pid, Size, Numbers, From, To, OpenToo}
 use Rattle.sub_headline.specs.RecordingOptions.Portion.{Any}
 use Rattle.sub_headline.specs.PlainOptions.Choice.{Page, Every, Origin, Pace, Complete}
 use Rattle.sub_headline.specs.PlainOptions.Choice.{EveryFault}
-use Rattle.sub_headline.specs.PlainWords.{IsName}
-use Rattle.sub_headline.proofs.OptionWordLemmas.{held_by, key, next, rows_held, rules, then_held}
+use Rattle.sub_headline.specs.PlainArguments.{IsName}
+use Rattle.sub_headline.proofs.OptionWordLemmas.{held_by, key, next, rows_held, rules}
+use Rattle.sub_headline.proofs.OptionWordLemmas.{values_with_choice}
 use Rattle.sub_headline.proofs.OptionWordLemmas.{vals}
 use Rattle.sub_headline.proofs.OptionWordLemmas.{walk_all}
 use Rattle.sub_headline.proofs.PlainWordLemmas.{at_rest, held_of_two, walked_plain}
-use Rattle.sub_headline.proofs.RowLemmas.{default_at, defaulted, first_is, first_text, held_at}
+use Rattle.sub_headline.proofs.RowLemmas.{default_at, defaulted, first_is, first_text, values_at}
 use Rattle.sub_headline.proofs.RowLemmas.{or_default}
 
 -- ---- the value of an argument
 
 -- The values of an argument after these options.
-abbrev given_by : Text → List (List Text) → List Look → List (List Text)
-given_by id vs parts = fold (then_held id) vs parts
+abbrev given_by : Text → List (List Text) → List DisplayOption → List (List Text)
+given_by id vs parts = fold (values_with_choice id) vs parts
 
 -- The text of the values, or the default.
 abbrev text_in : Text → List (List Text) → Text
@@ -94,7 +98,8 @@ all_apart id (one ∷ others) none =
     let by = neither (bytes_eq one id) (is_any id others) none in
     (by.0, all_apart id others by.1)
 
-key_apart : (id : Text) → is_any id keys ≡ false → (part : Look) → bytes_eq (key part) id ≡ false
+key_apart : (id : Text) → is_any id keys ≡ false → (part : DisplayOption) → bytes_eq (key part) id ≡
+    false
 key_apart id none (Of (Any (Page text n is))) = (all_apart id keys none).0
 key_apart id none (Of (Any (Every text n is))) = (all_apart id keys none).1.0
 key_apart id none (Of (Any (Origin text n is))) = (all_apart id keys none).1.1.0
@@ -111,8 +116,8 @@ key_apart id none (Letters text n name is) = (all_apart id keys none).1.1.1.1.1.
 key_apart id none (Lines text n name is) = (all_apart id keys none).1.1.1.1.1.1.1.1.1.1.1.1.1.0
 
 not_given :
-    (id : Text) (apart : (part : Look) → bytes_eq (key part) id ≡ false)
-    (vs : List (List Text)) (parts : List Look)
+    (id : Text) (apart : (part : DisplayOption) → bytes_eq (key part) id ≡ false)
+    (vs : List (List Text)) (parts : List DisplayOption)
     → given_by id vs parts ≡ vs
 not_given id apart vs [] = refl
 not_given id apart vs (part ∷ parts) =
@@ -124,15 +129,15 @@ not_given id apart vs (part ∷ parts) =
     ∙ not_given id apart vs parts
 
 -- The meaning of a text, if there is one.
-abbrev said_by : {A : Type 0} → (Text → Option A) → Option Text → Option (Option A)
-said_by said text = option_map_or (λ text. option_map Some (said text)) text (Some None)
+abbrev emitted_by : {A : Type 0} → (Text → Option A) → Option Text → Option (Option A)
+emitted_by stated text = option_map_or (λ text. option_map Some (stated text)) text (Some None)
 
 -- The meaning of the text of `--pace`.
 abbrev pace_of_text : Text → Option ℕ
 pace_of_text text = between 1 day (number_of_text text)
 
 -- The values of the arguments mean this reading and drawing.
-record Meant (held : Text → List (List Text)) (l : Looking) : Type 0 where
+record Meant (held : Text → List (List Text)) (l : DisplayOptions) : Type 0 where
   pub page_is :
       page_of_text (text_in (codes "888") (held (codes "page"))) ≡ Some l.reading.options.page
   pub every_is :
@@ -140,17 +145,17 @@ record Meant (held : Text → List (List Text)) (l : Looking) : Type 0 where
   pub origin_is :
       number_of_text (text_in (codes "0") (held (codes "origin"))) ≡ Some l.reading.options.origin
   pub pace_is :
-      said_by pace_of_text (first_text (held (codes "pace"))) ≡ Some l.reading.options.pace
+      emitted_by pace_of_text (first_text (held (codes "pace"))) ≡ Some l.reading.options.pace
   pub complete_is :
       bytes_eq (text_in (codes "false") (held (codes "complete"))) (codes "true")
       ≡ l.reading.options.asks_complete
   pub within_is : l.reading.options.within ≡ 0
   pub keeps_is : l.reading.options.keeps ≡ false
-  pub pid_is : said_by pid_of_text (first_text (held (codes "pid"))) ≡ Some l.reading.pid
+  pub pid_is : emitted_by pid_of_text (first_text (held (codes "pid"))) ≡ Some l.reading.pid
   pub size_is :
       packet_size_of_text (text_in (codes "188") (held (codes "packet-size")))
       ≡ Some l.reading.size
-  pub range_is : said_by range_of_text (first_text (held (codes "pes"))) ≡ Some l.reading.range
+  pub range_is : emitted_by range_of_text (first_text (held (codes "pes"))) ≡ Some l.reading.range
   pub from_is :
       option_map_or frame_of_text (first_text (held (codes "from"))) (Some 0)
       ≡ Some l.reading.scope.from
@@ -169,16 +174,16 @@ record Meant (held : Text → List (List Text)) (l : Looking) : Type 0 where
 abbrev with_options : Reading → OptionsValue → Reading
 with_options r o = record r { options = o }
 
-abbrev with_reading : Looking → Reading → Looking
+abbrev with_reading : DisplayOptions → Reading → DisplayOptions
 with_reading l r = record l { reading = r }
 
 -- The values after one more option.
-abbrev then_all : (Text → List (List Text)) → Look → Text → List (List Text)
-then_all held part id = then_held id (held id) part
+abbrev then_all : (Text → List (List Text)) → DisplayOption → Text → List (List Text)
+then_all held part id = values_with_choice id (held id) part
 
-meant_then : (held : Text → List (List Text)) (l : Looking) (part : Look)
+meant_then : (held : Text → List (List Text)) (l : DisplayOptions) (part : DisplayOption)
     → Meant held l
-    → Meant (then_all held part) (looked_by l part)
+    → Meant (then_all held part) (displayed_by l part)
 meant_then held l (Of (Any (Page text n is))) m = assumption (is, m)
 meant_then held l (Of (Any (Every text n is))) m = assumption (is, m)
 meant_then held l (Of (Any (Origin text n is))) m = assumption (is, m)
@@ -197,15 +202,15 @@ meant_then held l (Letters text n name is) m = assumption (is, m)
 meant_then held l (Lines text n name is) m = assumption (is, m)
 
 -- The values after these options, starting from given ones.
-abbrev held_behind : (Text → List (List Text)) → List Look → Text → List (List Text)
-held_behind held parts id = given_by id (held id) parts
+abbrev values_by_parts : (Text → List (List Text)) → List DisplayOption → Text → List (List Text)
+values_by_parts held parts id = given_by id (held id) parts
 
-meant_by : (held : Text → List (List Text)) (l : Looking) (parts : List Look)
+meant_by : (held : Text → List (List Text)) (l : DisplayOptions) (parts : List DisplayOption)
     → Meant held l
-    → Meant (held_behind held parts) (fold looked_by l parts)
+    → Meant (values_by_parts held parts) (fold displayed_by l parts)
 meant_by held l [] m = m
 meant_by held l (part ∷ parts) m =
-    meant_by (then_all held part) (looked_by l part) parts (meant_then held l part m)
+    meant_by (then_all held part) (displayed_by l part) parts (meant_then held l part m)
 
 english_named : option_named (codes "english") ≡ Some English
 unfolding option_named sub_set
@@ -241,7 +246,7 @@ HasText [] = ⊤
 HasText ([] ∷ vs) = ⊥
 HasText ((text ∷ more) ∷ vs) = ⊤
 
-has_text : (part : Look) → HasText (vals part ∷ [])
+has_text : (part : DisplayOption) → HasText (vals part ∷ [])
 has_text (Of (Any (Page text n is))) = tt
 has_text (Of (Any (Every text n is))) = tt
 has_text (Of (Any (Origin text n is))) = tt
@@ -257,18 +262,18 @@ has_text (Of OpenToo) = tt
 has_text (Letters text n name is) = tt
 has_text (Lines text n name is) = tt
 
-text_then : (b : Bool) (part : Look) (vs : List (List Text))
+text_then : (b : Bool) (part : DisplayOption) (vs : List (List Text))
     → HasText vs
     → HasText (if b then vals part ∷ [] else vs)
 text_then true part vs has = has_text part
 text_then false part vs has = has
 
-texts_given : (id : Text) (parts : List Look) (vs : List (List Text))
+texts_given : (id : Text) (parts : List DisplayOption) (vs : List (List Text))
     → HasText vs
     → HasText (given_by id vs parts)
 texts_given id [] vs has = has
 texts_given id (part ∷ parts) vs has =
-    texts_given id parts (then_held id vs part)
+    texts_given id parts (values_with_choice id vs part)
     (text_then (bytes_eq (key part) id) part vs has)
 
 some_text : (default : Text) (vs : List (List Text))
@@ -313,7 +318,7 @@ record RowsSay (rows : List Row) (stl recording : Text) (held : Text → List (L
   pub pace_is : first_of (codes "pace") rows ≡ first_text (held (codes "pace"))
   pub keeping_is : first_of (codes "keeping") rows ≡ Some (codes "false")
 
-module _ (stl pes : Text) (parts : List Look) where
+module _ (stl pes : Text) (parts : List DisplayOption) where
   abbrev pub all_held : Held
   all_held = fold next (held_of_two stl pes) parts
 
@@ -321,7 +326,7 @@ module _ (stl pes : Text) (parts : List Look) where
   first_by :
       (id : Text) (vs : List (List Text))
       → bytes_eq id id ≡ true
-      → held_at id (rows_held (held_of_two stl pes)) ≡ vs
+      → values_at id (rows_held (held_of_two stl pes)) ≡ vs
       → drop 1 vs ≡ []
       → first_of id (finished rules all_held)
       ≡ first_text (fold (default_at id) (given_by id vs parts) rules)
@@ -335,16 +340,16 @@ module _ (stl pes : Text) (parts : List Look) where
   first_not_given :
       (id : Text) (vs : List (List Text))
       → bytes_eq id id ≡ true
-      → held_at id (rows_held (held_of_two stl pes)) ≡ vs
+      → values_at id (rows_held (held_of_two stl pes)) ≡ vs
       → drop 1 vs ≡ []
-      → ((part : Look) → bytes_eq (key part) id ≡ false)
+      → ((part : DisplayOption) → bytes_eq (key part) id ≡ false)
       → first_of id (finished rules all_held) ≡ first_text (fold (default_at id) vs rules)
   first_not_given id vs same is short apart =
       first_by id vs same is short
       ∙ ap (λ (us : List (List Text)). first_text (fold (default_at id) us rules))
       (not_given id apart vs parts)
 
-  rows_say : RowsSay (finished rules all_held) stl pes (held_behind nothing parts)
+  rows_say : RowsSay (finished rules all_held) stl pes (values_by_parts nothing parts)
   unfolding subttx_app
   rows_say = record {
     stl_is =
@@ -417,17 +422,17 @@ within_number : number_of_text (codes "0") ≡ Some 0
 unfolding number_of_text
 within_number = refl
 
-pes_packets_are : (rows : List Row) (name size : Text) (pid pes : Option Text) (r : Reading)
+pes_selection_is : (rows : List Row) (name size : Text) (pid pes : Option Text) (r : Reading)
     → first_of (codes "recording") rows ≡ Some name
     → first_of (codes "pid") rows ≡ pid
     → first_of (codes "packet-size") rows ≡ Some size
     → first_of (codes "pes") rows ≡ pes
-    → said_by pid_of_text pid ≡ Some r.pid
+    → emitted_by pid_of_text pid ≡ Some r.pid
     → packet_size_of_text size ≡ Some r.size
-    → said_by range_of_text pes ≡ Some r.range
-    → pes_packets_of rows ≡ Ok (recording_asked name r)
-unfolding pes_packets_of
-pes_packets_are rows name size pid pes r recording pid_is size_is pes_is pid_says size_says
+    → emitted_by range_of_text pes ≡ Some r.range
+    → pes_selection_of rows ≡ Ok (recording_requested name r)
+unfolding pes_selection_of
+pes_selection_is rows name size pid pes r recording pid_is size_is pes_is pid_says size_says
     pes_says = rw (pid_is, pid_says, size_is, size_says, pes_is, pes_says, recording) refl
 
 -- The options that can be chosen, with defaults for all others.
@@ -445,7 +450,7 @@ options_in o = record {
 pacing_is : (options : OptionsValue) (rows : List Row) (pace : Option Text) (frames : Option ℕ)
     → options.pace ≡ None
     → first_of (codes "pace") rows ≡ pace
-    → said_by pace_of_text pace ≡ Some frames
+    → emitted_by pace_of_text pace ≡ Some frames
     → pacing_of options rows ≡ Ok (record options { pace = frames })
 pacing_is options rows None frames none first says = grind (arith, nat_tests)
 pacing_is options rows (Some text) frames none first says = grind (arith, nat_tests)
@@ -486,17 +491,18 @@ scope_is rows from to also scope from_is to_is open_is from_says to_says open_sa
 abbrev lists_all : (Text → List (List Text)) → Bool
 lists_all held = bytes_eq (text_in (codes "false") (held (codes "all"))) (codes "true")
 
-module _ (rows : List Row) (stl recording : Text) (held : Text → List (List Text)) (l : Looking)
+module _ (rows : List Row) (stl recording : Text) (held : Text → List (List Text))
+    (l : DisplayOptions)
     (say : RowsSay rows stl recording held) (m : Meant held l) where
   too_far :
       nat_le 1 l.reading.options.every && nat_le l.reading.options.every day ≡ false
-      → check_asked rows ≡ Err fault.Every
+      → check_requested rows ≡ Err fault.Every
   too_far out = rw (say.page_is, m.page_is, say.every_is, m.every_is, out) refl
 
   no_time :
       nat_le 1 l.reading.options.every && nat_le l.reading.options.every day ≡ true
       → nat_le 0 l.reading.options.origin && nat_le l.reading.options.origin (2 ^ 33 - 1) ≡ false
-      → check_asked rows ≡ Err fault.Origin
+      → check_requested rows ≡ Err fault.Origin
   no_time near out =
       rw (say.page_is, m.page_is, say.every_is, m.every_is, near, say.origin_is, m.origin_is, out)
       refl
@@ -504,8 +510,9 @@ module _ (rows : List Row) (stl recording : Text) (held : Text → List (List Te
   check_is :
       nat_le 1 l.reading.options.every && nat_le l.reading.options.every day ≡ true
       → nat_le 0 l.reading.options.origin && nat_le l.reading.options.origin (2 ^ 33 - 1) ≡ true
-      → check_asked rows
-      ≡ Ok (Asked.Check stl (recording_asked recording l.reading) (options_in l.reading.options)
+      → check_requested rows
+      ≡ Ok (Requested.Check stl (recording_requested recording l.reading)
+      (options_in l.reading.options)
       l.national l.layout l.reading.scope (lists_all held))
   check_is near time =
       rw (
@@ -523,7 +530,7 @@ module _ (rows : List Row) (stl recording : Text) (held : Text → List (List Te
         m.option_is,
         say.within_is,
         within_number,
-        pes_packets_are rows recording _ _ _ l.reading say.recording_is say.pid_is
+        pes_selection_is rows recording _ _ _ l.reading say.recording_is say.pid_is
             say.packet_size_is say.pes_is m.pid_is m.size_is m.range_is,
         say.layout_is,
         m.layout_is,
@@ -538,17 +545,18 @@ module _ (rows : List Row) (stl recording : Text) (held : Text → List (List Te
 
   -- If these rows request a check, it is that one.
   in_range :
-      (near time : Bool) (asked : Asked)
+      (near time : Bool) (requested : Requested)
       → nat_le 1 l.reading.options.every && nat_le l.reading.options.every day ≡ near
       → nat_le 0 l.reading.options.origin && nat_le l.reading.options.origin (2 ^ 33 - 1) ≡ time
-      → check_asked rows ≡ Ok asked
-      → (asked
-      ≡ Asked.Check stl (recording_asked recording l.reading) (options_in l.reading.options)
+      → check_requested rows ≡ Ok requested
+      → (requested
+      ≡ Requested.Check stl (recording_requested recording l.reading) (options_in l.reading.options)
       l.national l.layout l.reading.scope (lists_all held))
       × (l.reading.options.origin < 2 ^ 33)
-  in_range false time asked near_is time_is is = let e = sym (too_far near_is) ∙ is in cc
-  in_range true false asked near_is time_is is = let e = sym (no_time near_is time_is) ∙ is in cc
-  in_range true true asked near_is time_is is =
+  in_range false time requested near_is time_is is = let e = sym (too_far near_is) ∙ is in cc
+  in_range true false requested near_is time_is is = let e = sym (no_time near_is time_is) ∙ is
+      in cc
+  in_range true true requested near_is time_is is =
       let e = sym is ∙ check_is near_is time_is in (cc, grind (arith, nat_tests, time_is))
 
 options_are : (o : OptionsValue)
@@ -558,7 +566,7 @@ options_are : (o : OptionsValue)
 options_are o within keeps = grind (arith, nat_tests)
 
 -- With these options `within` is 0 and no repeat may keep the page.
-pub plain_by : (parts : List Look)
+pub plain_by : (parts : List DisplayOption)
     → ((looking_of parts).reading.options.within ≡ 0)
     × IsFalse (looking_of parts).reading.options.keeps
 plain_by parts =
@@ -568,37 +576,38 @@ plain_by parts =
 -- ---- the arguments
 
 -- After the name of a command each word is one of its own.
-stopped_walk : (c : List Rule) (names : Names) (name : Text) (words more : List Text) (w : Walk)
-    → w.stopped ≡ Some (name, words)
-    → (fold (walked c names) w more).stopped ≡ Some (name, words ++ more)
+stopped_walk : (c : List Rule) (names : Names) (name : Text) (arguments more : List Text) (w : Walk)
+    → w.stopped ≡ Some (name, arguments)
+    → (fold (walked c names) w more).stopped ≡ Some (name, arguments ++ more)
 unfolding walked
-stopped_walk c names name words [] w is =
-    is ∙ ap (λ (ws : List Text). Some (name, ws)) (sym (append-nil words))
-stopped_walk c names name words (word ∷ more) w is =
-    stopped_walk c names name (words ++ word ∷ []) more (walked c names w word)
+stopped_walk c names name arguments [] w is =
+    is ∙ ap (λ (ws : List Text). Some (name, ws)) (sym (append-nil arguments))
+stopped_walk c names name arguments (word ∷ more) w is =
+    stopped_walk c names name (arguments ++ word ∷ []) more (walked c names w word)
     (ap (λ s. (walked_from c names s w word).stopped) is)
-    ∙ ap (λ (ws : List Text). Some (name, ws)) (append_assoc words (word ∷ []) more)
+    ∙ ap (λ (ws : List Text). Some (name, ws)) (append_assoc arguments (word ∷ []) more)
 
-abbrev whole_app : App
-whole_app = built subttx_app
+abbrev entire_app : App
+entire_app = built subttx_app
 
 command_of : (program : Text) (more : List Text)
     → command_in (program ∷ codes "check" ∷ more)
     ≡ Some (codes "check", rows_after rules [] more)
 unfolding command_in subttx_app clap_on_literals
 command_of program more =
-    ap (entered whole_app)
-    (stopped_walk whole_app.top.rules (names_of whole_app) (codes "check") [] more
-    (walked whole_app.top.rules (names_of whole_app) (walk_from nothing_held) (codes "check")) refl)
+    ap (entered entire_app)
+    (stopped_walk entire_app.top.rules (names_of entire_app) (codes "check") [] more
+    (walked entire_app.top.rules (names_of entire_app) (walk_from nothing_held) (codes "check"))
+    refl)
 
-rows_chosen : (stl pes : Text) (parts : List Look)
+rows_chosen : (stl pes : Text) (parts : List DisplayOption)
     → IsName stl
     → IsName pes
-    → rows_after rules [] (stl ∷ pes ∷ flat_map words_for parts)
+    → rows_after rules [] (stl ∷ pes ∷ flat_map arguments_for parts)
     ≡ finished rules (all_held stl pes parts)
 unfolding subttx_app
 rows_chosen stl pes parts is_stl is_pes =
-    let more = flat_map words_for parts in
+    let more = flat_map arguments_for parts in
     ap
     (λ (w : Walk). finished rules (fold (walked rules []) (walked rules [] w pes) more).held)
     (walked_plain rules nothing_held 1 stl is_stl)
@@ -609,116 +618,119 @@ rows_chosen stl pes parts is_stl is_pes =
     ∙ ap (λ (w : Walk). finished rules w.held) (walk_all (held_of_two stl pes) parts)
 
 no_help : (program stl pes : Text) (more : List Text)
-    → asks_help (program ∷ codes "check" ∷ stl ∷ pes ∷ more) ≡ false
-unfolding asks_help
+    → requests_help (program ∷ codes "check" ∷ stl ∷ pes ∷ more) ≡ false
+unfolding requests_help
 no_help program stl pes more = refl
 
 no_version : (program stl pes : Text) (more : List Text)
-    → asks_version (program ∷ codes "check" ∷ stl ∷ pes ∷ more) ≡ false
-unfolding asks_version
+    → requests_version (program ∷ codes "check" ∷ stl ∷ pes ∷ more) ≡ false
+unfolding requests_version
 no_version program stl pes more = refl
 
 -- The rows give the request that the arguments make.
-asked_so : (words : List Text) (rows : List Row) (asked : Asked)
-    → command_in words ≡ Some (codes "check", rows)
-    → asked_for words ≡ Some (Ok asked)
-    → check_asked rows ≡ Ok asked
-asked_so words rows asked command is =
+requested_so : (arguments : List Text) (rows : List Row) (requested : Requested)
+    → command_in arguments ≡ Some (codes "check", rows)
+    → asked_for arguments ≡ Some (Ok requested)
+    → check_requested rows ≡ Ok requested
+requested_so arguments rows requested command is =
     let e =
-    sym (ap (option_map (λ command. asked_in command.0 command.1)) command) ∙ is in cc
+    sym (ap (option_map (λ command. requested_in command.0 command.1)) command) ∙ is in cc
 
-look_rows : (stl recording : Text) (parts : List Look) (asked : Asked)
-    → check_asked (finished rules (all_held stl recording parts)) ≡ Ok asked
+display_rows : (stl recording : Text) (parts : List DisplayOption) (requested : Requested)
+    → check_requested (finished rules (all_held stl recording parts)) ≡ Ok requested
     → (all : Bool)
-    × (asked
-    ≡ Asked.Check stl (recording_asked recording (looking_of parts).reading)
+    × (requested
+    ≡ Requested.Check stl (recording_requested recording (looking_of parts).reading)
     (looking_of parts).reading.options (looking_of parts).national (looking_of parts).layout
     (looking_of parts).reading.scope all)
     × ((looking_of parts).reading.options.origin < 2 ^ 33)
-look_rows stl recording parts asked is =
+display_rows stl recording parts requested is =
     let m = meant_by nothing (looking_of []) parts meant_at_first in
     let l = looking_of parts in
     let so =
     in_range (finished rules (all_held stl recording parts)) stl recording _ l
-    (rows_say stl recording parts) m _ _ asked refl refl is in (
-      lists_all (held_behind nothing parts),
+    (rows_say stl recording parts) m _ _ requested refl refl is in (
+      lists_all (values_by_parts nothing parts),
       so.0
           ∙ ap
           (λ (options : OptionsValue).
-          Asked.Check stl (recording_asked recording l.reading) options l.national l.layout
-          l.reading.scope (lists_all (held_behind nothing parts)))
+          Requested.Check stl (recording_requested recording l.reading) options l.national l.layout
+          l.reading.scope (lists_all (values_by_parts nothing parts)))
           (options_are l.reading.options m.within_is m.keeps_is),
       so.1,
     )
 
-pub law_of_look_words : LawOfLookWords
-law_of_look_words program stl pes parts request is_stl is_pes (inl version) =
-    let e = sym (no_version program stl pes (flat_map words_for parts)) ∙ version.0 in cc
-law_of_look_words program stl pes parts request is_stl is_pes (inr (inl help)) =
-    let e = sym (no_help program stl pes (flat_map words_for parts)) ∙ help.1 in cc
-law_of_look_words program stl pes parts request is_stl is_pes (inr (inr asks)) =
-    look_rows stl pes parts (asked_by request)
-    (sym (ap check_asked (rows_chosen stl pes parts is_stl is_pes))
-    ∙ asked_so (program ∷ codes "check" ∷ stl ∷ pes ∷ flat_map words_for parts)
-    (rows_after rules [] (stl ∷ pes ∷ flat_map words_for parts)) (asked_by request)
-    (command_of program (stl ∷ pes ∷ flat_map words_for parts)) asks.2.asked)
+pub law_of_display_arguments : LawOfDisplayArguments
+law_of_display_arguments program stl pes parts request is_stl is_pes (inl version) =
+    let e = sym (no_version program stl pes (flat_map arguments_for parts)) ∙ version.0 in cc
+law_of_display_arguments program stl pes parts request is_stl is_pes (inr (inl help)) =
+    let e = sym (no_help program stl pes (flat_map arguments_for parts)) ∙ help.1 in cc
+law_of_display_arguments program stl pes parts request is_stl is_pes (inr (inr asks)) =
+    display_rows stl pes parts (requested_by request)
+    (sym (ap check_requested (rows_chosen stl pes parts is_stl is_pes))
+    ∙ requested_so (program ∷ codes "check" ∷ stl ∷ pes ∷ flat_map arguments_for parts)
+    (rows_after rules [] (stl ∷ pes ∷ flat_map arguments_for parts)) (requested_by request)
+    (command_of program (stl ∷ pes ∷ flat_map arguments_for parts)) asks.2.requested)
 
 -- ---- options of a recording alone
 
-words_of_parts : (parts : List Portion)
-    → flat_map words_for (map Of parts) ≡ flat_map words_in parts
-words_of_parts [] = refl
-words_of_parts (part ∷ parts) = ap (λ (ws : List Text). words_in part ++ ws) (words_of_parts parts)
+arguments_of_parts : (parts : List Portion)
+    → flat_map arguments_for (map Of parts) ≡ flat_map arguments_in parts
+arguments_of_parts [] = refl
+arguments_of_parts (part ∷ parts) = ap (λ (ws : List Text). arguments_in part ++ ws)
+    (arguments_of_parts parts)
 
-pub look_of_parts : (l : Looking) (parts : List Portion)
-    → fold looked_by l (map Of parts) ≡ with_reading l (fold read_by l.reading parts)
-look_of_parts l [] = refl
-look_of_parts l (part ∷ parts) = look_of_parts (with_reading l (read_by l.reading part)) parts
+pub display_of_parts : (l : DisplayOptions) (parts : List Portion)
+    → fold displayed_by l (map Of parts) ≡ with_reading l (fold read_by l.reading parts)
+display_of_parts l [] = refl
+display_of_parts l (part ∷ parts) = display_of_parts (with_reading l (read_by l.reading part)) parts
 
-pub law_of_part_words : LawOfPartWords
-law_of_part_words program stl pes parts request is_stl is_pes asks =
+pub law_of_part_arguments : LawOfPartArguments
+law_of_part_arguments program stl pes parts request is_stl is_pes asks =
     let so =
-    law_of_look_words program stl pes (map Of parts) request is_stl is_pes
+    law_of_display_arguments program stl pes (map Of parts) request is_stl is_pes
     (subst
-    (λ (ws : List Text). AsksFor (program ∷ codes "check" ∷ stl ∷ pes ∷ ws) request)
-    (sym (words_of_parts parts)) asks) in
-    let at = look_of_parts (looking_of []) parts in (
+    (λ (ws : List Text). IsRequestOf (program ∷ codes "check" ∷ stl ∷ pes ∷ ws) request)
+    (sym (arguments_of_parts parts)) asks) in
+    let at = display_of_parts (looking_of []) parts in (
       so.0,
       so.1
           ∙ ap
-          (λ (l : Looking).
-          Asked.Check stl (recording_asked pes l.reading) l.reading.options l.national l.layout
+          (λ (l : DisplayOptions).
+          Requested.Check stl (recording_requested pes l.reading) l.reading.options l.national
+          l.layout
           l.reading.scope so.0)
           at,
-      subst (λ (l : Looking). l.reading.options.origin < 2 ^ 33) at so.2,
+      subst (λ (l : DisplayOptions). l.reading.options.origin < 2 ^ 33) at so.2,
     )
 
 -- ---- choices alone
 
-pub words_any : (choices : List Choice)
-    → flat_map words_in (map Any choices) ≡ flat_map choice_words choices
-words_any [] = refl
-words_any (choice ∷ choices) =
-    ap (λ (ws : List Text). choice_words choice ++ ws) (words_any choices)
+pub arguments_any : (choices : List Choice)
+    → flat_map arguments_in (map Any choices) ≡ flat_map arguments_of_choice choices
+arguments_any [] = refl
+arguments_any (choice ∷ choices) =
+    ap (λ (ws : List Text). arguments_of_choice choice ++ ws) (arguments_any choices)
 
 pub read_any : (r : Reading) (choices : List Choice)
     → fold read_by r (map Any choices) ≡ with_options r (fold with_choice r.options choices)
 read_any r [] = refl
 read_any r (choice ∷ choices) = read_any (with_options r (with_choice r.options choice)) choices
 
-pub law_of_chosen_words : LawOfChosenWords
-law_of_chosen_words program stl pes choices request is_stl is_pes asks =
+pub law_of_chosen_arguments : LawOfChosenArguments
+law_of_chosen_arguments program stl pes choices request is_stl is_pes asks =
     let so =
-    law_of_part_words program stl pes (map Any choices) request is_stl is_pes
+    law_of_part_arguments program stl pes (map Any choices) request is_stl is_pes
     (subst
-    (λ (ws : List Text). AsksFor (program ∷ codes "check" ∷ stl ∷ pes ∷ ws) request)
-    (sym (words_any choices)) asks) in
+    (λ (ws : List Text). IsRequestOf (program ∷ codes "check" ∷ stl ∷ pes ∷ ws) request)
+    (sym (arguments_any choices)) asks) in
     let at = read_any (reading_of []) choices in (
       so.0,
       so.1
           ∙ ap
           (λ (r : Reading).
-          Asked.Check stl (recording_asked pes r) r.options English default_layout r.scope so.0)
+          Requested.Check stl (recording_requested pes r) r.options English default_layout r.scope
+          so.0)
           at,
       subst (λ (r : Reading). r.options.origin < 2 ^ 33) at so.2,
     )

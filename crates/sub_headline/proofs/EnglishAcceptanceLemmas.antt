@@ -19,10 +19,10 @@ use Rattle.sub_check.specs.CheckedFiles.{IsAccepted, Mean}
 use Rattle.sub_headline.specs.Acceptance.{LawOfEnglishAcceptance, default_drawing}
 use Rattle.sub_headline.specs.PlainAcceptance.{IsEnglishGood, IsEnglishHeader, IsPlainlyAccepted}
 use Rattle.sub_headline.specs.PlainFiles.{AreFilesOf}
-use Rattle.sub_headline.specs.PlainWords.{default_options}
+use Rattle.sub_headline.specs.PlainArguments.{default_options}
 use Rattle.sub_headline.proofs.AcceptanceLemmas.{all_subtitles, programme_of}
 use Rattle.sub_headline.proofs.EnglishLemmas.{IsDrawn, all_drawn, due_is, english_within}
-use Rattle.sub_headline.proofs.EnglishLemmas.{ok_of_whole, same_drawn}
+use Rattle.sub_headline.proofs.EnglishLemmas.{ok_of_complete, same_drawn}
 use Rattle.stl_file.specs.Scope.{whole}
 use Rattle.stl_file.specs.declared.scope.Scope.{Scope}
 use Rattle.stl_rows.specs.declared.fault.RowFault.{RowFault}
@@ -160,7 +160,7 @@ module _ (origin : ℕ) (stl pes : List ℕ) (subtitles : List SubtitleValue)
         gsi = files.gsi;
         subtitle_file = files.subtitle_file;
         in_order = files.in_order;
-        drawable = λ k d below. ok_of_whole _ (each k d below) (files.texts k d below);
+        drawable = λ k d below. ok_of_complete _ (each k d below) (files.texts k d below);
         carries = files.carries;
       }
 

@@ -1,6 +1,6 @@
 -- For `law_of_headline`: with the default layout an English subtitle is drawn as its English page,
 -- `drawn_is`, so the due page is the English one, `due_is`; and it is drawn if its text can be
--- drawn completely, `ok_of_whole`.
+-- drawn completely, `ok_of_complete`.
 use Rattle.std.proofs.lemmas.Bool.Decides.{nat_tests}
 use Rattle.std.proofs.lemmas.List.Elements.{All-cons, All-head, All-nil, All-tail}
 use Rattle.std.proofs.Common.{◌≡◌, ◌≢◌, ◌⊎◌, ◌∙◌, ℕ, ◌+◌, ◌≤◌, Bool, true, false, List, [], ◌∷◌}
@@ -31,7 +31,8 @@ use Rattle.stl_file.specs.declared.scope.Scope.{Scope}
 use Rattle.stl_rows.specs.Layout.{default_layout, drawing_within}
 use Rattle.stl_rows.specs.declared.layout.Drawing.{Drawing}
 use Rattle.sub_headline.specs.Acceptance.{default_drawing}
-use Rattle.sub_headline.specs.EnglishPage.{Fit, IsFit, IsRead, IsWhole, english_cell, english_due}
+use Rattle.sub_headline.specs.EnglishPage.{Fit, IsFit, IsRead, IsDrawnWhole, english_cell}
+use Rattle.sub_headline.specs.EnglishPage.{english_due}
 use Rattle.sub_headline.specs.EnglishPage.{english_lines, english_page, page_or_blank, put}
 
 -- ---- the cells of bytes
@@ -221,11 +222,11 @@ fit_of number row under (line ∷ ls) e =
 -- A subtitle that is drawn has its English page, and its text is drawn completely.
 pub record IsDrawn (t : SubtitleValue) : Type 0 where
   pub page : drawn default_drawing t ≡ Ok (english_page t)
-  pub whole : IsWhole t
+  pub whole : IsDrawnWhole t
 
 plain_is : (t : SubtitleValue)
     → IsOk (plainly_drawn English t)
-    → (plainly_drawn English t ≡ Ok (english_page t)) × IsWhole t
+    → (plainly_drawn English t ≡ Ok (english_page t)) × IsDrawnWhole t
 unfolding plainly_drawn page_of_lines
 plain_is t ok =
     let none = none_of_ok _ (page_of_lines t.jc t.vp (lines English t)) ok in (
@@ -399,7 +400,7 @@ ok_of_none : {A E : Type 0} (es : List E) (value : A) → es ≡ [] → IsOk (un
 ok_of_none [] value none = refl
 ok_of_none (e ∷ es) value none = cc
 
-plain_ok : (t : SubtitleValue) → IsWhole t → IsOk (plainly_drawn English t)
+plain_ok : (t : SubtitleValue) → IsDrawnWhole t → IsOk (plainly_drawn English t)
 unfolding plainly_drawn page_of_lines
 plain_ok t whole =
     ok_of_none _ (page_of_lines t.jc t.vp (lines English t))
@@ -409,7 +410,8 @@ plain_ok t whole =
     (subst (λ (ls : List (List ℕ)). Fit t.vp false (map prepared ls)) (sym (lines_are 0 t.text))
     whole.fit)))
 
-pub ok_of_whole : (t : SubtitleValue) → IsSubtitle t → IsWhole t → IsOk (drawn default_drawing t)
-ok_of_whole t is whole =
+pub ok_of_complete : (t : SubtitleValue) → IsSubtitle t → IsDrawnWhole t → IsOk
+    (drawn default_drawing t)
+ok_of_complete t is whole =
     subst (λ (r : Result Rows RowFault). IsOk r) (sym (default_is_plain English t is.vp.0))
     (plain_ok t whole)

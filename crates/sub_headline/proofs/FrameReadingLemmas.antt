@@ -8,7 +8,7 @@ use Rattle.std.specs.Prelude.{◌==◌, ◌||◌, option_to_list}
 use Rattle.std.specs.List.{AllZip, concat, flat_map, range_with_len}
 use Rattle.std.proofs.lemmas.List.{drop-drop, drop_at, map-append, take_at}
 use Rattle.ttx_pes.specs.DataUnit.{AreDataUnits, IsDataUnit, IsTeletextUnit, UnitValue}
-use Rattle.ttx_pes.specs.PesPacket.{IsPesPacket, PesValue}
+use Rattle.ttx_pes.specs.PesGrammar.{IsValidPesPacket, PesValue}
 use Rattle.ttx_pes.proofs.DataUnitLemmas.{mirrored_twice, unit_complete}
 use Rattle.ttx_pes.proofs.PesHeaderLemmas.{body_complete, body_of, packet_of_body, six_of}
 use Rattle.sub_rules.specs.PesFrames.{Carries, IsSentAs}
@@ -19,30 +19,30 @@ use Rattle.sub_headline.specs.PlainReading.{pieces_of, pts_read, size_read}
 -- ---- parts of one size
 
 -- Skips one part of the bytes.
-piece_after : (size : ℕ) (first rest : List ℕ) (k : ℕ)
+pes_packet_after : (size : ℕ) (first rest : List ℕ) (k : ℕ)
     → length first ≡ size
     → drop (size * suc k) (first ++ rest) ≡ drop (size * k) rest
-piece_after size first rest k is =
+pes_packet_after size first rest k is =
     let on : size * suc k ≡ size + size * k = omega arith in
     ap (λ n. drop n (first ++ rest)) on
     ∙ sym (drop-drop (size * k) size (first ++ rest))
     ∙ ap (drop (size * k)) (drop_at first rest size is)
 
-abbrev piece_at : ℕ → List ℕ → ℕ → List ℕ
-piece_at size bytes k = take size (drop (size * k) bytes)
+abbrev pes_packet_at : ℕ → List ℕ → ℕ → List ℕ
+pes_packet_at size bytes k = take size (drop (size * k) bytes)
 
-pieces_after : (size : ℕ) (first rest : List ℕ) (a b n : ℕ)
+pes_packets_after : (size : ℕ) (first rest : List ℕ) (a b n : ℕ)
     → length first ≡ size
     → b ≡ suc a
-    → map (piece_at size (first ++ rest)) (range_with_len b n)
-    ≡ map (piece_at size rest) (range_with_len a n)
-pieces_after size first rest a b zero is next = refl
-pieces_after size first rest a b (suc n) is next =
-    let later = map (piece_at size (first ++ rest)) (range_with_len (b + 1) n) in
-    ap (λ (k : ℕ). piece_at size (first ++ rest) k ∷ later) next
-    ∙ ap (λ (bytes : List ℕ). take size bytes ∷ later) (piece_after size first rest a is)
-    ∙ ap (λ (ps : List (List ℕ)). piece_at size rest a ∷ ps)
-    (pieces_after size first rest (a + 1) (b + 1) n is (omega arith))
+    → map (pes_packet_at size (first ++ rest)) (range_with_len b n)
+    ≡ map (pes_packet_at size rest) (range_with_len a n)
+pes_packets_after size first rest a b zero is next = refl
+pes_packets_after size first rest a b (suc n) is next =
+    let later = map (pes_packet_at size (first ++ rest)) (range_with_len (b + 1) n) in
+    ap (λ (k : ℕ). pes_packet_at size (first ++ rest) k ∷ later) next
+    ∙ ap (λ (bytes : List ℕ). take size bytes ∷ later) (pes_packet_after size first rest a is)
+    ∙ ap (λ (ps : List (List ℕ)). pes_packet_at size rest a ∷ ps)
+    (pes_packets_after size first rest (a + 1) (b + 1) n is (omega arith))
 
 -- The first part is cut off.
 pub pieces_cons : (size : ℕ) (first rest : List ℕ)
@@ -51,7 +51,7 @@ pub pieces_cons : (size : ℕ) (first rest : List ℕ)
     → pieces_of size (first ++ rest) ≡ first ∷ pieces_of size rest
 pieces_cons size first rest is count =
     let none : size * 0 ≡ 0 = omega arith in
-    let others = pieces_after size first rest 0 1 (length rest / size) is refl in
+    let others = pes_packets_after size first rest 0 1 (length rest / size) is refl in
     rw (count, none, take_at first rest size is) (ap (λ (ps : List (List ℕ)). first ∷ ps) others)
 
 -- ---- data units
@@ -107,7 +107,7 @@ pts_back : (t : ℕ)
     ≡ t
 pts_back t fits = omega arith
 
-module _ (v : PesValue) (p : List ℕ) (h : IsPesPacket v p) where
+module _ (v : PesValue) (p : List ℕ) (h : IsValidPesPacket v p) where
   long : length p ≡ 184 * h.n
   long = ap length (packet_of_body v p h) ∙ omega (arith, (body_complete v p h).1, h.size.0)
 
@@ -139,7 +139,7 @@ frame_number origin frame fits in_day = omega arith
 
 frame_is : (origin : ℕ) (v : PesValue) (p : List ℕ) (s : SentFrame)
     → origin < 2 ^ 33
-    → IsPesPacket v p
+    → IsValidPesPacket v p
     → IsSentAs origin v s
     → frame_read origin p ≡ s
 frame_is origin v p s fits h sent =
@@ -170,7 +170,7 @@ none_read origin (suc most) = refl
 frames_from : (origin most : ℕ) (values : List PesValue) (packets : List (List ℕ))
     (t : Transmission)
     → origin < 2 ^ 33
-    → AllZip IsPesPacket values packets
+    → AllZip IsValidPesPacket values packets
     → AllZip (IsSentAs origin) values t
     → length (concat packets) ≤ most
     → map (frame_read origin) (packets_read most (concat packets)) ≡ t

@@ -1,5 +1,5 @@
 -- For `law_of_headline`. A run of `check` on files in memory that does not end with code 2 ends
--- with 0 exactly if the bytes are accepted, `code_tells`.
+-- with 0 exactly if the bytes are accepted, `code_reports`.
 use Rattle.std.proofs.Common.{◌≡◌, ◌≢◌, ◌↔◌, ◌⊎◌, ◌∙◌, ℕ, List, [], ◌∷◌, Option, Some, None, Ok}
 use Rattle.std.proofs.Common.{Result}
 use Rattle.std.proofs.Common.{Bool, ap, arith, codes, refl, subst, sym}
@@ -23,16 +23,16 @@ use Rattle.stl_file.specs.declared.scope.Scope.{Scope}
 use Rattle.stl_rows.specs.declared.layout.Drawing.{Drawing}
 use Rattle.stl_rows.specs.declared.layout.Layout.{Layout}
 use Rattle.stl_rows.specs.declared.national.National.{National}
-use Rattle.ttx_pes.specs.PieceRange.{PieceRangeValue}
+use Rattle.ttx_pes.specs.PesPacketRange.{PesPacketRangeValue}
 use Rattle.sub_plan.specs.Options.{OptionsValue}
-use Rattle.sub_request.specs.declared.pes_packets.TransportStream.{TransportStream}
+use Rattle.sub_request.specs.declared.pes_selection.TransportStream.{TransportStream}
 use Rattle.stl_rows.specs.declared.national.National.TheVariants.{English}
 use Rattle.sub_request.specs.declared.request.Request.{Request}
 use Rattle.sub_request.specs.declared.request.Request.TheVariants as ask
 use Rattle.sub_request.specs.declared.request.UsageFault.{UsageFault}
-use Rattle.sub_files.specs.FileCalls.{CallsInTurn}
+use Rattle.sub_files.specs.FileCalls.{CallsInOrder}
 use Rattle.sub_files.specs.MemoryFiles.{IsMemoryCall, MemFilesValue, bytes_at}
-use Rattle.sub_words.specs.Requests.{Asked, AsksFor, asked_by}
+use Rattle.sub_words.specs.Requests.{Requested, IsRequestOf, requested_by}
 use Rattle.sub_rules.specs.Transmission.{Transmission, on_air}
 use Rattle.sub_laws.proofs.GoodByLemmas.{begins_in, ends_in}
 use Rattle.sub_laws.proofs.RobustLemmas.{law_of_good}
@@ -40,31 +40,32 @@ use Rattle.sub_check.specs.CheckedFiles.{IsAccepted, IsAcceptedBy}
 use Rattle.sub_listing.specs.Listing.{exit_code}
 use Rattle.sub_listing.specs.declared.status.Status.{Status}
 use Rattle.sub_listing.specs.declared.status.Status.TheVariants.{Done}
-use Rattle.sub_answer.specs.FilesInMemory.{TellsAccepted, known_of_memory}
+use Rattle.sub_answer.specs.FilesInMemory.{DecidesAccepted, known_of_memory}
 use Rattle.sub_answer.specs.Part.{through_range, through_stream}
-use Rattle.sub_answer.specs.Ending.{BufferHoldsLineAlone}
+use Rattle.sub_answer.specs.Ending.{BufferHoldsOneLineOnly}
 use Rattle.sub_answer.proofs.MemoryLemmas.{law_of_files_in_memory}
 use Rattle.sub_headline.specs.Acceptance.{default_drawing}
 use Rattle.sub_headline.specs.BothClasses.{EachOfClassGets}
-use Rattle.sub_headline.specs.DrawnOptions.{Looking, looking_of, words_for}
-use Rattle.sub_headline.specs.DrawnOptions.Look.{Of}
+use Rattle.sub_headline.specs.DrawnOptions.{DisplayOptions, looking_of, arguments_for}
+use Rattle.sub_headline.specs.DrawnOptions.DisplayOption.{Of}
 use Rattle.sub_headline.specs.EnglishPage.{english_due}
 use Rattle.sub_headline.specs.EnglishScreen.{EachScreenShows}
-use Rattle.sub_headline.specs.Headline.{ServesOthers, LawOfHeadline, OfChosen, OfLook, OfRecording}
-use Rattle.sub_headline.specs.Headline.{TellsChosen}
+use Rattle.sub_headline.specs.Headline.{ServesOthers, LawOfHeadline, OfChosen, OfDisplay}
+use Rattle.sub_headline.specs.Headline.{OfRecording}
+use Rattle.sub_headline.specs.Headline.{ImpliesChosen}
 use Rattle.sub_headline.specs.OnScreens.{EachDisplayShows}
 use Rattle.sub_headline.specs.RecordingOptions.{Portion, Reading, bytes_read, carried_by}
 use Rattle.sub_headline.specs.RecordingOptions.{numbered_by}
-use Rattle.sub_headline.specs.RecordingOptions.{reading_of, words_in}
+use Rattle.sub_headline.specs.RecordingOptions.{reading_of, arguments_in}
 use Rattle.sub_headline.specs.RecordingOptions.Portion.{Any}
-use Rattle.sub_headline.specs.PlainOptions.{Choice, options_by, choice_words}
+use Rattle.sub_headline.specs.PlainOptions.{Choice, options_by, arguments_of_choice}
 use Rattle.sub_headline.specs.PlainFiles.{AreFilesOf}
 use Rattle.sub_headline.specs.PlainHeadline.{Headline}
 use Rattle.sub_headline.specs.PlainReading.{frames_by_place, subtitles_by_place, subtitles_within}
-use Rattle.sub_headline.specs.PlainWords.{IsName}
+use Rattle.sub_headline.specs.PlainArguments.{IsName}
 use Rattle.sub_headline.specs.Run.{RunsProgram}
-use Rattle.sub_headline.proofs.ChosenWordLemmas.{law_of_chosen_words, law_of_look_words}
-use Rattle.sub_headline.proofs.ChosenWordLemmas.{law_of_part_words, look_of_parts, plain_by}
+use Rattle.sub_headline.proofs.ChosenWordLemmas.{law_of_chosen_arguments, law_of_display_arguments}
+use Rattle.sub_headline.proofs.ChosenWordLemmas.{law_of_part_arguments, display_of_parts, plain_by}
 use Rattle.sub_headline.proofs.ChosenWordLemmas.{read_any}
 use Rattle.sub_headline.proofs.AcceptanceLemmas.{law_of_plain_acceptance, programme_of}
 use Rattle.sub_headline.proofs.EnglishAcceptanceLemmas.{drawn_of, files_of}
@@ -77,17 +78,18 @@ use Rattle.sub_headline.proofs.SubtitleReadingLemmas.{subtitles_are, taken_subti
 
 -- The request for a check of two files with options.
 abbrev check_by :
-    (stl pes : Text) → Option TransportStream → Option PieceRangeValue → OptionsValue → National
-    → Layout → Scope → Bool → Asked
+    (stl pes : Text) → Option TransportStream → Option PesPacketRangeValue → OptionsValue → National
+    → Layout → Scope → Bool → Requested
 check_by stl pes stream range options national layout scope all =
-    Asked.Check stl (record { name = pes; stream = stream; range = range }) options national layout
+    Requested.Check stl (record { name = pes; stream = stream; range = range }) options national
+    layout
     scope all
 
 -- The request is this one.
 record IsCheckBy
-    (stl0 name : Text) (stream0 : Option TransportStream) (range0 : Option PieceRangeValue)
+    (stl0 name : Text) (stream0 : Option TransportStream) (range0 : Option PesPacketRangeValue)
     (options0 : OptionsValue) (national0 : National) (layout0 : Layout) (scope0 : Scope)
-    (stl pes : Text) (stream : Option TransportStream) (range : Option PieceRangeValue)
+    (stl pes : Text) (stream : Option TransportStream) (range : Option PesPacketRangeValue)
     (options : OptionsValue) (national : National) (layout : Layout) (scope : Scope)
     : Type 0 where
   pub stl_is : stl0 ≡ stl
@@ -100,12 +102,13 @@ record IsCheckBy
   pub scope_is : scope0 ≡ scope
 
 is_check_by :
-    (stl0 name : Text) (stream0 : Option TransportStream) (range0 : Option PieceRangeValue)
+    (stl0 name : Text) (stream0 : Option TransportStream) (range0 : Option PesPacketRangeValue)
     (options0 : OptionsValue) (national0 : National) (layout0 : Layout) (scope0 : Scope)
     (all0 : Bool) (stl pes : Text) (stream : Option TransportStream)
-    (range : Option PieceRangeValue) (options : OptionsValue) (national : National)
+    (range : Option PesPacketRangeValue) (options : OptionsValue) (national : National)
     (layout : Layout) (scope : Scope) (all : Bool)
-    → Asked.Check stl0 (record { name = name; stream = stream0; range = range0 }) options0 national0
+    → Requested.Check stl0 (record { name = name; stream = stream0; range = range0 }) options0
+    national0
     layout0 scope0 all0
     ≡ check_by stl pes stream range options national layout scope all
     → IsCheckBy stl0 name stream0 range0 options0 national0 layout0 scope0 stl pes stream range
@@ -114,23 +117,24 @@ is_check_by stl0 name stream0 range0 options0 national0 layout0 scope0 all0 stl 
     options national layout scope all e = grind (arith, nat_tests)
 
 -- What the status of such a check says.
-tells :
+reports :
     (request : Request) (stl pes : Text) (stream : Option TransportStream)
-    (range : Option PieceRangeValue) (options : OptionsValue) (national : National)
+    (range : Option PesPacketRangeValue) (options : OptionsValue) (national : National)
     (layout : Layout) (scope : Scope) (all : Bool) (file bytes read : List ℕ)
     (files : MemFilesValue) (status : Status)
-    → asked_by request ≡ check_by stl pes stream range options national layout scope all
+    → requested_by request ≡ check_by stl pes stream range options national layout scope all
     → bytes_at stl files ≡ Some file
     → bytes_at pes files ≡ Some bytes
     → through_range range (through_stream stream (Some bytes)) ≡ Some read
-    → TellsAccepted request files status
+    → DecidesAccepted request files status
     → (status ≡ Done) ↔ IsAcceptedBy (drawing_within national layout scope) options file read
-tells
+reports
     (ask.Check stl0 pes0 options0 national0 layout0 scope0 all0) stl pes stream range options
-    national layout scope all file bytes read files status asked stl_is pes_is read_is told =
+    national layout scope all file bytes read files status requested stl_is pes_is read_is
+    reported =
     let is =
     is_check_by stl0.now pes0.name.now pes0.stream pes0.range options0 national0 layout0 scope0
-    all0 stl pes stream range options national layout scope all asked in
+    all0 stl pes stream range options national layout scope all requested in
     let drawing_is =
     ap (λ n. drawing_within n layout0 scope0) is.national_is
     ∙ ap (λ l. drawing_within national l scope0) is.layout_is
@@ -140,38 +144,43 @@ tells
     (λ (o : OptionsValue).
     (status ≡ Done) ↔ IsAcceptedBy (drawing_within national0 layout0 scope0) o file read)
     is.options_are
-    (told file bytes read (ap (λ n. bytes_at n files) is.stl_is ∙ stl_is)
+    (reported file bytes read (ap (λ n. bytes_at n files) is.stl_is ∙ stl_is)
     (ap (λ n. bytes_at n files) is.name_is ∙ pes_is)
     (ap (λ r. through_range r (through_stream pes0.stream (Some bytes))) is.range_is
     ∙ ap (λ s. through_range range (through_stream s (Some bytes))) is.stream_is
     ∙ read_is)))
-tells ask.Help stl pes st ra o n y c all file bytes read files s e at_stl at_pes r told = cc
-tells ask.Version stl pes st ra o n y c all file bytes read files s e at_stl at_pes r told = cc
-tells (ask.Packet p) stl pes st ra o n y c all file bytes read files s e at_stl at_pes r told =
+reports ask.Help stl pes st ra o n y c all file bytes read files s e at_stl at_pes r reported = cc
+reports ask.Version stl pes st ra o n y c all file bytes read files s e at_stl at_pes r
+    reported = cc
+reports (ask.Packet p) stl pes st ra o n y c all file bytes read files s e at_stl at_pes r
+    reported =
     cc
-tells (ask.Packets p) stl pes st ra o n y c all file bytes read files s e at_stl at_pes r told =
+reports (ask.Packets p) stl pes st ra o n y c all file bytes read files s e at_stl at_pes r
+    reported =
     cc
-tells (ask.Show p) stl pes st ra o n y c all file bytes read files s e at_stl at_pes r told = cc
-tells
-    (ask.Normal a b) stl pes st ra o n y c all file bytes read files s e at_stl at_pes r told =
+reports (ask.Show p) stl pes st ra o n y c all file bytes read files s e at_stl at_pes r
+    reported = cc
+reports
+    (ask.Normal a b) stl pes st ra o n y c all file bytes read files s e at_stl at_pes r reported =
     cc
-tells
+reports
     (ask.Schedule a b d serial national layout scope) stl pes st ra o n y c all file bytes read
-    files s e at_stl at_pes r told = cc
-tells
-    (ask.Listen p l) stl pes st ra o n y c all file bytes read files s e at_stl at_pes r told =
+    files s e at_stl at_pes r reported = cc
+reports
+    (ask.Listen p l) stl pes st ra o n y c all file bytes read files s e at_stl at_pes r reported =
     cc
-tells
-    (ask.Extract a b d) stl pes st ra o n y c all file bytes read files s e at_stl at_pes r told =
+reports
+    (ask.Extract a b d) stl pes st ra o n y c all file bytes read files s e at_stl at_pes r
+    reported =
     cc
-tells
-    (ask.Survey a b) stl pes st ra o n y c all file bytes read files s e at_stl at_pes r told =
+reports
+    (ask.Survey a b) stl pes st ra o n y c all file bytes read files s e at_stl at_pes r reported =
     cc
 
 -- The program has only one list of arguments.
-given_words :
+given_arguments :
     (given : Result (List Text) UsageFault) (a b : List Text) → given ≡ Ok a → given ≡ Ok b → a ≡ b
-given_words given a b one other = let e = sym one ∙ other in cc
+given_arguments given a b one other = let e = sym one ∙ other in cc
 
 -- What both files mean, if the transmission is good.
 module _ (scope : Scope) (options : OptionsValue) (stl pes : List ℕ)
@@ -266,13 +275,13 @@ module _ (scope : Scope) (options : OptionsValue) (stl pes : List ℕ)
   }
 
 -- The whole subtitle file.
-read_whole : (options : OptionsValue) (stl pes : List ℕ)
+read_to_the_end : (options : OptionsValue) (stl pes : List ℕ)
     (is : IsAccepted default_drawing options stl pes)
     → options.origin < 2 ^ 33
     → (IsSo : List SubtitleValue → Transmission → Type 0)
     → IsSo is.subtitles is.transmission
     → IsSo (subtitles_by_place stl) (frames_by_place options.origin pes)
-read_whole options stl pes is fits IsSo so =
+read_to_the_end options stl pes is fits IsSo so =
     let of = files whole options stl pes is in
     subst (λ (ts : List SubtitleValue). IsSo ts (frames_by_place options.origin pes))
     (sym (subtitles_are stl of.gsi is.subtitles of.subtitle_file))
@@ -348,12 +357,12 @@ module _ (national : National) (layout : Layout) (scope : Scope) (options : Opti
 abbrev stream_of : Reading → Option TransportStream
 stream_of r = option_map (λ pid. record { pid = pid; packet_size = r.size }) r.pid
 
-range_so : (range : Option PieceRangeValue) (bytes : List ℕ)
+range_so : (range : Option PesPacketRangeValue) (bytes : List ℕ)
     → through_range range (Some bytes) ≡ Some (numbered_by range bytes)
 range_so None bytes = refl
 range_so (Some range) bytes = refl
 
-read_so : (pid : Option ℕ) (size : PacketSize) (range : Option PieceRangeValue) (bytes : List ℕ)
+read_so : (pid : Option ℕ) (size : PacketSize) (range : Option PesPacketRangeValue) (bytes : List ℕ)
     → through_range range
     (through_stream (option_map (λ pid. record { pid = pid; packet_size = size }) pid)
     (Some bytes))
@@ -365,16 +374,16 @@ read_so (Some pid) size range bytes = range_so range (carried_by (Some pid) size
 
 -- The arguments request nothing but a check of these files, and of this part of the recording, if
 -- `within` is 0 and no repeat may keep the page.
-record AskForCheck
-    (words : List Text) (stl pes : Text) (stream : Option TransportStream)
-    (range : Option PieceRangeValue) (options : OptionsValue) (national : National)
+record RequestsCheck
+    (arguments : List Text) (stl pes : Text) (stream : Option TransportStream)
+    (range : Option PesPacketRangeValue) (options : OptionsValue) (national : National)
     (layout : Layout) (scope : Scope)
     : Type 0 where
-  pub asked :
+  pub requested :
       (request : Request)
-      → AsksFor words request
+      → IsRequestOf arguments request
       → (all : Bool)
-      × (asked_by request ≡ check_by stl pes stream range options national layout scope all)
+      × (requested_by request ≡ check_by stl pes stream range options national layout scope all)
       × (options.origin < 2 ^ 33)
   pub none : options.within ≡ 0
   pub off : IsFalse options.keeps
@@ -384,119 +393,131 @@ record TellsBytes
     (drawing : Drawing) (options : OptionsValue) (file read : List ℕ) (code : ℕ)
     : Type 0 where
   pub fits : options.origin < 2 ^ 33
-  pub tells : (code ≡ 0) ↔ IsAccepted drawing options file read
+  pub reports : (code ≡ 0) ↔ IsAccepted drawing options file read
 
 module _ {K : Type 0} (contents : K → Option (List ℕ)) (failure_count : K → ℕ)
     (IsPush : K → List ℕ → Option ℕ → K → Type 0) (output left : K)
     (before after : MemFilesValue) (given : Result (List Text) UsageFault) (code : ℕ)
-    (runs : RunsProgram (CallsInTurn IsMemoryCall before after) known_of_memory (λ was is. is ≡ was)
+    (runs : RunsProgram (CallsInOrder IsMemoryCall before after) known_of_memory
+    (λ was is. is ≡ was)
     given contents failure_count IsPush output left code) where
-  module _ (words : List Text) (stl pes : Text) (stream : Option TransportStream)
-      (range : Option PieceRangeValue) (options : OptionsValue) (national : National)
+  module _ (arguments : List Text) (stl pes : Text) (stream : Option TransportStream)
+      (range : Option PesPacketRangeValue) (options : OptionsValue) (national : National)
       (layout : Layout) (scope : Scope) (file bytes read : List ℕ)
-      (ask_for : AskForCheck words stl pes stream range options national layout scope)
-      (given_is : given ≡ Ok words)
+      (requests_check : RequestsCheck arguments stl pes stream range options national layout scope)
+      (given_is : given ≡ Ok arguments)
       (stl_is : bytes_at stl before ≡ Some file) (pes_is : bytes_at pes before ≡ Some bytes)
       (read_is : through_range range (through_stream stream (Some bytes)) ≡ Some read)
       (not_two : code ≢ 2) where
-    ran : HasAnswered (CallsInTurn IsMemoryCall before after) known_of_memory
-        (λ was is. is ≡ was) given (BufferHoldsLineAlone contents failure_count IsPush) code
+    ran : HasAnswered (CallsInOrder IsMemoryCall before after) known_of_memory
+        (λ was is. is ≡ was) given (BufferHoldsOneLineOnly contents failure_count IsPush) code
     ran = answered _ _ _ _ contents failure_count IsPush output left code runs not_two
 
-    code_tells : TellsBytes (drawing_within national layout scope) options file read code
-    code_tells =
+    code_reports : TellsBytes (drawing_within national layout scope) options file read code
+    code_reports =
         let of = ran.answered in
-        let (all, asked, fits) =
-        ask_for.asked of.request
-        (subst (λ words. AsksFor words of.request) (given_words given _ _ of.are_given given_is)
-        of.asked) in
-        let told =
+        let (all, requested, fits) =
+        requests_check.requested of.request
+        (subst (λ arguments. IsRequestOf arguments of.request)
+        (given_arguments given _ _ of.are_given given_is)
+        of.requested) in
+        let reported =
         law_of_files_in_memory _ of.request before after ran.old ran.new ran.status of.ends
         (no_fault ran.status (λ e. not_two (ran.code_is ∙ e))) in
         let by =
-        tells of.request stl pes stream range options national layout scope all file bytes read
-        before ran.status asked stl_is pes_is read_is told in
+        reports of.request stl pes stream range options national layout scope all file bytes read
+        before ran.status requested stl_is pes_is read_is reported in
         let same =
-        law_of_plain_acceptance (drawing_within national layout scope) options file read ask_for.off
-        ask_for.none in
+        law_of_plain_acceptance (drawing_within national layout scope) options file read
+        requests_check.off
+        requests_check.none in
         record {
           fits = fits;
-          tells = (
+          reports = (
             λ none. same.0 (by.0 (done_by_code ran.status (sym ran.code_is ∙ none))),
             λ is. ran.code_is ∙ ap exit_code (by.1 (same.1 is)),
           );
         }
 
   -- The arguments for a recording.
-  ask_for_parts :
+  requests_check_parts :
       (program stl pes : Text) (parts : List Portion)
       → IsName stl
       → IsName pes
-      → AskForCheck (program ∷ codes "check" ∷ stl ∷ pes ∷ flat_map words_in parts) stl pes
+      → RequestsCheck (program ∷ codes "check" ∷ stl ∷ pes ∷ flat_map arguments_in parts) stl pes
       (stream_of (reading_of parts)) (reading_of parts).range (reading_of parts).options English
       default_layout (reading_of parts).scope
-  ask_for_parts program stl pes parts is_stl is_pes =
+  requests_check_parts program stl pes parts is_stl is_pes =
       let by = plain_by (map Of parts) in
-      let at = ap (λ (l : Looking). l.reading.options) (look_of_parts (looking_of []) parts) in
+      let at = ap (λ (l : DisplayOptions). l.reading.options) (display_of_parts (looking_of [])
+      parts) in
       record {
-        asked = λ request. law_of_part_words program stl pes parts request is_stl is_pes;
+        requested = λ request. law_of_part_arguments program stl pes parts request is_stl is_pes;
         none = ap (λ (o : OptionsValue). o.within) (sym at) ∙ by.0;
         off = ap (λ (o : OptionsValue). o.keeps) (sym at) ∙ by.1;
       }
 
-  part_tells : OfRecording given before
+  part_reports : OfRecording given before
       (λ r file bytes.
       code ≢ 2 → TellsBytes (english_within r.scope) r.options file (bytes_read r bytes) code)
-  part_tells = λ program stl pes parts file bytes is_stl is_pes given_is stl_is pes_is not_two.
+  part_reports = λ program stl pes parts file bytes is_stl is_pes given_is stl_is pes_is not_two.
       let r = reading_of parts in
-      code_tells _ stl pes (stream_of r) r.range r.options English default_layout r.scope file bytes
+      code_reports _ stl pes (stream_of r) r.range r.options English default_layout r.scope file
+      bytes
       (bytes_read r bytes)
-      (ask_for_parts program stl pes parts is_stl is_pes) given_is stl_is pes_is
+      (requests_check_parts program stl pes parts is_stl is_pes) given_is stl_is pes_is
       (read_so r.pid r.size r.range bytes) not_two
 
   -- The arguments with everything that may be chosen.
-  look_tells : OfLook given before
+  display_reports : OfDisplay given before
       (λ l file bytes.
       code ≢ 2
       → TellsBytes (drawing_within l.national l.layout l.reading.scope) l.reading.options file
       (bytes_read l.reading bytes) code)
-  look_tells = λ program stl pes looks file bytes is_stl is_pes given_is stl_is pes_is not_two.
-      let l = looking_of looks in
+  display_reports = λ program stl pes display_options file bytes is_stl is_pes given_is stl_is
+      pes_is not_two.
+      let l = looking_of display_options in
       let r = l.reading in
-      let by = plain_by looks in
-      code_tells (program ∷ codes "check" ∷ stl ∷ pes ∷ flat_map words_for looks) stl pes
+      let by = plain_by display_options in
+      code_reports (program ∷ codes "check" ∷ stl ∷ pes ∷ flat_map arguments_for display_options)
+      stl pes
       (stream_of r) r.range r.options l.national l.layout r.scope file bytes (bytes_read r bytes)
       (record {
-        asked = λ request. law_of_look_words program stl pes looks request is_stl is_pes;
+        requested = λ request. law_of_display_arguments program stl pes display_options request
+            is_stl is_pes;
         none = by.0;
         off = by.1;
       }) given_is stl_is pes_is (read_so r.pid r.size r.range bytes) not_two
 
   -- The arguments with choices.
-  ask_for_chosen :
+  requests_check_chosen :
       (program stl pes : Text) (choices : List Choice)
       → IsName stl
       → IsName pes
-      → AskForCheck (program ∷ codes "check" ∷ stl ∷ pes ∷ flat_map choice_words choices) stl pes
+      → RequestsCheck (program ∷ codes "check" ∷ stl ∷ pes ∷ flat_map arguments_of_choice choices)
+      stl pes
       None None (options_by choices) English default_layout whole
-  ask_for_chosen program stl pes choices is_stl is_pes =
+  requests_check_chosen program stl pes choices is_stl is_pes =
       let by = plain_by (map Of (map Any choices)) in
       let at =
-      ap (λ (l : Looking). l.reading.options)
-      (look_of_parts (looking_of []) (map Any choices))
+      ap (λ (l : DisplayOptions). l.reading.options)
+      (display_of_parts (looking_of []) (map Any choices))
       ∙ ap (λ (r : Reading). r.options) (read_any (reading_of []) choices) in
       record {
-        asked = λ request. law_of_chosen_words program stl pes choices request is_stl is_pes;
+        requested = λ request. law_of_chosen_arguments program stl pes choices request is_stl
+            is_pes;
         none = ap (λ (o : OptionsValue). o.within) (sym at) ∙ by.0;
         off = ap (λ (o : OptionsValue). o.keeps) (sym at) ∙ by.1;
       }
 
-  chosen_tells : OfChosen given before
+  chosen_reports : OfChosen given before
       (λ o file bytes. code ≢ 2 → TellsBytes default_drawing o file bytes code)
-  chosen_tells = λ program stl pes choices file bytes is_stl is_pes given_is stl_is pes_is not_two.
-      code_tells _ stl pes None None (options_by choices) English default_layout whole file bytes
+  chosen_reports = λ program stl pes choices file bytes is_stl is_pes given_is stl_is pes_is
+      not_two.
+      code_reports _ stl pes None None (options_by choices) English default_layout whole file bytes
       bytes
-      (ask_for_chosen program stl pes choices is_stl is_pes) given_is stl_is pes_is refl not_two
+      (requests_check_chosen program stl pes choices is_stl is_pes) given_is stl_is pes_is refl
+      not_two
 
   -- If the code is 0, a property of all accepted files holds for what is read by place.
   of_accepted :
@@ -509,12 +530,12 @@ module _ {K : Type 0} (contents : K → Option (List ℕ)) (failure_count : K �
       → IsSo o file bytes (subtitles_by_place file) (frames_by_place o.origin bytes))
   of_accepted IsSo so =
       λ program stl pes choices file bytes is_stl is_pes given_is stl_is pes_is none.
-      let told =
-      chosen_tells program stl pes choices file bytes is_stl is_pes given_is stl_is pes_is
+      let reported =
+      chosen_reports program stl pes choices file bytes is_stl is_pes given_is stl_is pes_is
       (λ two. absurd (omega (arith, none, two))) in
       let o = options_by choices in
-      let is = told.tells.0 none in
-      read_whole o file bytes is told.fits (IsSo o file bytes) (so o file bytes is)
+      let is = reported.reports.0 none in
+      read_to_the_end o file bytes is reported.fits (IsSo o file bytes) (so o file bytes is)
 
 pub law_of_headline : {K : Type 0} (contents : K → Option (List ℕ)) (failure_count : K → ℕ)
     (IsPush : K → List ℕ → Option ℕ → K → Type 0)
@@ -522,11 +543,11 @@ pub law_of_headline : {K : Type 0} (contents : K → Option (List ℕ)) (failure
 law_of_headline contents failure_count IsPush given before after output left code runs =
     let by =
     of_accepted contents failure_count IsPush output left before after given code runs in
-    let chosen : TellsChosen given before code =
+    let chosen : ImpliesChosen given before code =
     by (λ o file bytes. Headline o.page o.every english_due)
     (λ o file bytes is. headline whole o file bytes is) in
-    let tells =
-    part_tells contents failure_count IsPush output left before after given code runs in
+    let reports =
+    part_reports contents failure_count IsPush output left before after given code runs in
     let not_two = λ (none : code ≡ 0) (two : code ≡ 2). absurd (omega (arith, none, two)) in (
       λ program stl pes. chosen program stl pes [],
       chosen,
@@ -543,40 +564,41 @@ law_of_headline contents failure_count IsPush given before after output left cod
           (λ o file bytes is. complete whole o file bytes is),
       λ program stl pes parts file bytes is_stl is_pes given_is stl_is pes_is none.
           let r = reading_of parts in
-          let told =
-          tells program stl pes parts file bytes is_stl is_pes given_is stl_is pes_is
+          let reported =
+          reports program stl pes parts file bytes is_stl is_pes given_is stl_is pes_is
           (not_two none) in
-          let is = told.tells.0 none in
-          read r.scope r.options file (bytes_read r bytes) is told.fits
+          let is = reported.reports.0 none in
+          read r.scope r.options file (bytes_read r bytes) is reported.fits
           (Headline r.options.page r.options.every english_due)
           (headline r.scope r.options file (bytes_read r bytes) is),
       λ program stl pes parts file bytes is_stl is_pes given_is stl_is pes_is none.
           let r = reading_of parts in
-          let told =
-          tells program stl pes parts file bytes is_stl is_pes given_is stl_is pes_is
+          let reported =
+          reports program stl pes parts file bytes is_stl is_pes given_is stl_is pes_is
           (not_two none) in
-          kept r.scope r.options file (bytes_read r bytes) (told.tells.0 none) told.fits,
+          kept r.scope r.options file (bytes_read r bytes) (reported.reports.0 none) reported.fits,
       λ program stl pes parts file bytes is_stl is_pes given_is stl_is pes_is none.
           let r = reading_of parts in
-          let told =
-          tells program stl pes parts file bytes is_stl is_pes given_is stl_is pes_is
+          let reported =
+          reports program stl pes parts file bytes is_stl is_pes given_is stl_is pes_is
           (not_two none) in
-          let is = told.tells.0 none in
-          read r.scope r.options file (bytes_read r bytes) is told.fits
+          let is = reported.reports.0 none in
+          read r.scope r.options file (bytes_read r bytes) is reported.fits
           (AreFilesOf r.scope r.options.origin file (bytes_read r bytes))
           (files r.scope r.options file (bytes_read r bytes) is),
-      λ program stl pes looks file bytes is_stl is_pes given_is stl_is pes_is none.
-          let l = looking_of looks in
-          let told =
-          look_tells contents failure_count IsPush output left before after given code runs program
-          stl pes looks file bytes is_stl is_pes given_is stl_is pes_is (not_two none) in
+      λ program stl pes display_options file bytes is_stl is_pes given_is stl_is pes_is none.
+          let l = looking_of display_options in
+          let reported =
+          display_reports contents failure_count IsPush output left before after given code runs
+          program
+          stl pes display_options file bytes is_stl is_pes given_is stl_is pes_is (not_two none) in
           drawn_read l.national l.layout l.reading.scope l.reading.options file
           (bytes_read l.reading bytes)
-          (told.tells.0 none) told.fits,
+          (reported.reports.0 none) reported.fits,
       λ program stl pes choices file bytes is_stl is_pes given_is stl_is pes_is not_two.
-          let told =
-          chosen_tells contents failure_count IsPush output left before after given code runs
+          let reported =
+          chosen_reports contents failure_count IsPush output left before after given code runs
           program stl pes choices file bytes is_stl is_pes given_is stl_is pes_is not_two in
           let same = law_of_english_acceptance (options_by choices) file bytes in
-          (λ none. same.0 (told.tells.0 none), λ is. told.tells.1 (same.1 is)),
+          (λ none. same.0 (reported.reports.0 none), λ is. reported.reports.1 (same.1 is)),
     )

@@ -1,5 +1,5 @@
--- For `law_of_chosen_words`: the words of choices after `check STL PES` put their values into the
--- rows, `held_by`.
+-- For `law_of_chosen_arguments`: the words of choices after `check STL PES` put their values into
+-- the rows, `held_by`.
 use Rattle.std.proofs.Common.{◌≡◌, ◌∙◌, ℕ, Bool, true, false, List, [], ◌∷◌, Option, Some}
 use Rattle.std.proofs.Common.{None, refl, sym, ap, arith, codes, drop, subst}
 use Rattle.std.proofs.lemmas.Bool.Decides.{nat_tests}
@@ -24,20 +24,20 @@ use Rattle.ttx_packet.specs.PageId.{PageIdValue, page_of_text}
 use Rattle.sub_words.specs.Commands.{subttx_app}
 use Rattle.sub_words.specs.Texts.{number_of_text}
 use Rattle.mpeg_ts.specs.declared.packet_size.PacketSize.{PacketSize}
-use Rattle.ttx_pes.specs.PieceRange.{PieceRangeValue}
+use Rattle.ttx_pes.specs.PesPacketRange.{PesPacketRangeValue}
 use Rattle.sub_words.specs.PesTexts.{packet_size_of_text, pid_of_text}
 use Rattle.sub_words.specs.PesTexts.{is_dash, range_of_numbers, range_of_text}
 use Rattle.stl_file.specs.TimeCode.{day}
 use Rattle.sub_words.specs.Arguments.{between}
 use Rattle.sub_headline.specs.PlainOptions.Choice.{Page, Every, Origin, Pace, Complete}
 use Rattle.sub_headline.specs.PlainOptions.Choice.{EveryFault}
-use Rattle.sub_headline.specs.DrawnOptions.{Look, words_for}
-use Rattle.sub_headline.specs.DrawnOptions.Look.{Letters, Lines, Of}
+use Rattle.sub_headline.specs.DrawnOptions.{DisplayOption, arguments_for}
+use Rattle.sub_headline.specs.DrawnOptions.DisplayOption.{Letters, Lines, Of}
 use Rattle.sub_headline.specs.RecordingOptions.Portion.{Pid, Size, Numbers, From, To, OpenToo}
 use Rattle.sub_headline.specs.RecordingOptions.Portion.{Any}
-use Rattle.sub_headline.specs.PlainWords.{IsName}
+use Rattle.sub_headline.specs.PlainArguments.{IsName}
 use Rattle.sub_headline.proofs.PlainWordLemmas.{at_rest, check_shape, no_dashes, no_long, no_short}
-use Rattle.sub_headline.proofs.RowLemmas.{held_at, same_id, set_other, set_row, set_same}
+use Rattle.sub_headline.proofs.RowLemmas.{values_at, same_id, set_other, set_row, set_same}
 
 -- ---- the texts of options are values
 
@@ -91,7 +91,7 @@ no_first : (last : Text) → range_of_numbers [] last ≡ None
 unfolding number_of_text
 no_first last = refl
 
-no_range_by : (b : Bool) (first last : Text) (range : PieceRangeValue)
+no_range_by : (b : Bool) (first last : Text) (range : PesPacketRangeValue)
     → first ≡ []
     → (let o : Option (Text × Text) = if b then Some (first, last) else None in o)
     >>= (λ numbers. range_of_numbers numbers.0 numbers.1)
@@ -101,14 +101,14 @@ no_range_by true first last range none is =
     let e = sym is ∙ ap (λ (f : Text). range_of_numbers f last) none ∙ no_first last in cc
 no_range_by false first last range none is = cc
 
-no_range : (xs : Text) (range : PieceRangeValue) → range_of_text (0x2D ∷ xs) ≡ Some range → ⊥
+no_range : (xs : Text) (range : PesPacketRangeValue) → range_of_text (0x2D ∷ xs) ≡ Some range → ⊥
 unfolding range_of_text
 no_range xs range is =
     no_range_by
     (nat_lt (position_or_len is_dash (0x2D ∷ xs)) (length (0x2D ∷ xs)))
     (before_first is_dash (0x2D ∷ xs)) (after_first is_dash (0x2D ∷ xs)) range refl is
 
-range_is_name : (text : Text) (range : PieceRangeValue)
+range_is_name : (text : Text) (range : PesPacketRangeValue)
     → range_of_text text ≡ Some range
     → IsName text
 range_is_name [] range is = λ e. cc
@@ -156,7 +156,7 @@ abbrev pub rules : List Rule
 rules = check_shape.rules
 
 -- Its argument, and the values that this has then.
-abbrev pub key : Look → Text
+abbrev pub key : DisplayOption → Text
 key (Of (Any (Page text page is))) = codes "page"
 key (Of (Any (Every text frames is))) = codes "every"
 key (Of (Any (Origin text pts is))) = codes "origin"
@@ -172,7 +172,7 @@ key (Of OpenToo) = codes "open"
 key (Letters text national name is) = codes "option"
 key (Lines text layout name is) = codes "layout"
 
-abbrev pub vals : Look → List Text
+abbrev pub vals : DisplayOption → List Text
 vals (Of (Any (Page text page is))) = text ∷ []
 vals (Of (Any (Every text frames is))) = text ∷ []
 vals (Of (Any (Origin text pts is))) = text ∷ []
@@ -198,7 +198,7 @@ waiting_held id h = record (settled rules h) { pending = Some (id, []) }
 abbrev valued_held : Text → Text → Held → Held
 valued_held id text h = record (settled rules h) { pending = Some (id, text ∷ []) }
 
-abbrev pub next : Held → Look → Held
+abbrev pub next : Held → DisplayOption → Held
 next h (Of (Any (Page text page is))) = valued_held (codes "page") text h
 next h (Of (Any (Every text frames is))) = valued_held (codes "every") text h
 next h (Of (Any (Origin text pts is))) = valued_held (codes "origin") text h
@@ -383,8 +383,8 @@ open_word : (h : Held)
 unfolding subttx_app clap_on_literals
 open_word h = refl
 
-walk_step : (h : Held) (choice : Look)
-    → fold (walked rules []) (at_rest h 3) (words_for choice) ≡ at_rest (next h choice) 3
+walk_step : (h : Held) (choice : DisplayOption)
+    → fold (walked rules []) (at_rest h 3) (arguments_for choice) ≡ at_rest (next h choice) 3
 walk_step h (Of (Any (Page text page is))) =
     ap (λ (w : Walk). walked rules [] w text) (page_word h)
     ∙ page_value h text (page_is_name text page is)
@@ -420,13 +420,15 @@ walk_step h (Lines text layout name is) =
     ap (λ (w : Walk). walked rules [] w text) (layout_word h)
     ∙ layout_value h text name
 
-pub walk_all : (h : Held) (choices : List Look)
-    → fold (walked rules []) (at_rest h 3) (flat_map words_for choices)
+pub walk_all : (h : Held) (choices : List DisplayOption)
+    → fold (walked rules []) (at_rest h 3) (flat_map arguments_for choices)
     ≡ at_rest (fold next h choices) 3
 walk_all h [] = refl
 walk_all h (choice ∷ choices) =
-    fold-append (walked rules []) (at_rest h 3) (words_for choice) (flat_map words_for choices)
-    ∙ ap (λ (w : Walk). fold (walked rules []) w (flat_map words_for choices)) (walk_step h choice)
+    fold-append (walked rules []) (at_rest h 3) (arguments_for choice)
+    (flat_map arguments_for choices)
+    ∙ ap (λ (w : Walk). fold (walked rules []) w (flat_map arguments_for choices))
+    (walk_step h choice)
     ∙ walk_all (next h choice) choices
 
 -- ---- the rows of a choice
@@ -435,7 +437,7 @@ walk_all h (choice ∷ choices) =
 abbrev pub rows_held : Held → List Row
 rows_held h = (settled rules h).rows
 
-rows_step : (h : Held) (choice : Look)
+rows_step : (h : Held) (choice : DisplayOption)
     → rows_held (next h choice)
     ≡ set_row (key choice) (reading_by (rule_at (key choice))) (vals choice) (rows_held h)
 unfolding subttx_app
@@ -455,10 +457,10 @@ rows_step h (Letters text national name is) = refl
 rows_step h (Lines text layout name is) = refl
 
 -- The values of an argument after one more choice.
-abbrev pub then_held : Text → List (List Text) → Look → List (List Text)
-then_held id vs choice = if bytes_eq (key choice) id then vals choice ∷ [] else vs
+abbrev pub values_with_choice : Text → List (List Text) → DisplayOption → List (List Text)
+values_with_choice id vs choice = if bytes_eq (key choice) id then vals choice ∷ [] else vs
 
-key_same : (choice : Look) → bytes_eq (key choice) (key choice) ≡ true
+key_same : (choice : DisplayOption) → bytes_eq (key choice) (key choice) ≡ true
 key_same (Of (Any (Page text page is))) = refl
 key_same (Of (Any (Every text frames is))) = refl
 key_same (Of (Any (Origin text pts is))) = refl
@@ -474,26 +476,27 @@ key_same (Of OpenToo) = refl
 key_same (Letters text national name is) = refl
 key_same (Lines text layout name is) = refl
 
-set_by : (b : Bool) (id : Text) (how : Reading) (choice : Look) (rows : List Row)
+set_by : (b : Bool) (id : Text) (how : Reading) (choice : DisplayOption) (rows : List Row)
     → bytes_eq (key choice) id ≡ b
-    → drop 1 (held_at id rows) ≡ []
-    → held_at id (set_row (key choice) how (vals choice) rows)
-    ≡ (if b then vals choice ∷ [] else held_at id rows)
+    → drop 1 (values_at id rows) ≡ []
+    → values_at id (set_row (key choice) how (vals choice) rows)
+    ≡ (if b then vals choice ∷ [] else values_at id rows)
 set_by true id how choice rows is short =
     subst
     (λ (x : Text).
-    drop 1 (held_at x rows) ≡ []
-    → held_at x (set_row (key choice) how (vals choice) rows) ≡ vals choice ∷ [])
+    drop 1 (values_at x rows) ≡ []
+    → values_at x (set_row (key choice) how (vals choice) rows) ≡ vals choice ∷ [])
     (same_id (key choice) id is)
     (set_same (key choice) (key_same choice) how (vals choice) rows) short
 set_by false id how choice rows is short =
     set_other (key choice) id is how (vals choice) rows
 
-held_step : (id : Text) (h : Held) (choice : Look)
-    → drop 1 (held_at id (rows_held h)) ≡ []
-    → held_at id (rows_held (next h choice)) ≡ then_held id (held_at id (rows_held h)) choice
+held_step : (id : Text) (h : Held) (choice : DisplayOption)
+    → drop 1 (values_at id (rows_held h)) ≡ []
+    → values_at id (rows_held (next h choice)) ≡ values_with_choice id (values_at id (rows_held h))
+    choice
 held_step id h choice short =
-    ap (held_at id) (rows_step h choice)
+    ap (values_at id) (rows_step h choice)
     ∙ set_by (bytes_eq (key choice) id) id (reading_by (rule_at (key choice))) choice (rows_held h)
     refl short
 
@@ -503,14 +506,14 @@ short_by : (b : Bool) (v : List Text) (vs : List (List Text))
 short_by true v vs short = refl
 short_by false v vs short = short
 
-pub held_by : (id : Text) (h : Held) (choices : List Look)
-    → drop 1 (held_at id (rows_held h)) ≡ []
-    → held_at id (rows_held (fold next h choices))
-    ≡ fold (then_held id) (held_at id (rows_held h)) choices
+pub held_by : (id : Text) (h : Held) (choices : List DisplayOption)
+    → drop 1 (values_at id (rows_held h)) ≡ []
+    → values_at id (rows_held (fold next h choices))
+    ≡ fold (values_with_choice id) (values_at id (rows_held h)) choices
 held_by id h [] short = refl
 held_by id h (choice ∷ choices) short =
     let one = held_step id h choice short in
     held_by id (next h choice) choices
     (ap (drop 1) one
-    ∙ short_by (bytes_eq (key choice) id) (vals choice) (held_at id (rows_held h)) short)
-    ∙ ap (λ (vs : List (List Text)). fold (then_held id) vs choices) one
+    ∙ short_by (bytes_eq (key choice) id) (vals choice) (values_at id (rows_held h)) short)
+    ∙ ap (λ (vs : List (List Text)). fold (values_with_choice id) vs choices) one

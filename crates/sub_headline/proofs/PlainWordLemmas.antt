@@ -1,5 +1,5 @@
--- For `law_of_plain_words`. A word that is no option is a value, `plain_other`; so two of them are
--- the two files, `rows_are`, and request a check with the default options, `asked_are`.
+-- For `law_of_plain_arguments`. A word that is no option is a value, `plain_other`; so two of them
+-- are the two files, `rows_are`, and request a check with the default options, `requested_are`.
 use Rattle.std.proofs.Common.{◌≡◌, ◌∙◌, ℕ, Bool, false, List, [], ◌∷◌, Option, Some, None}
 use Rattle.std.proofs.Common.{Ok, Result, refl, sym, ap, arith, codes, inl, inr}
 use Rattle.std.proofs.lemmas.Bool.Decides.{nat_tests}
@@ -22,14 +22,15 @@ use Rattle.stl_rows.specs.SubSets.{option_named, sub_set}
 use Rattle.stl_rows.specs.declared.national.National.TheVariants.{English}
 use Rattle.sub_request.specs.declared.request.Request.{Request}
 use Rattle.sub_request.specs.declared.request.UsageFault.{UsageFault}
-use Rattle.sub_words.specs.Arguments.{pes_packets_of}
+use Rattle.sub_words.specs.Arguments.{pes_selection_of}
 use Rattle.sub_words.specs.Commands.{command_in, subttx_app}
-use Rattle.sub_words.specs.Help.{asks_help}
+use Rattle.sub_words.specs.Help.{requests_help}
 use Rattle.sub_words.specs.PesTexts.{packet_size_of_text}
-use Rattle.sub_words.specs.Requests.{Asked, AsksFor, asked_by, asked_for, asked_in}
+use Rattle.sub_words.specs.Requests.{Requested, IsRequestOf, requested_by, asked_for, requested_in}
 use Rattle.sub_words.specs.Texts.{number_of_text}
-use Rattle.sub_words.specs.Version.{asks_version}
-use Rattle.sub_headline.specs.PlainWords.{IsName, LawOfPlainWords, default_options, whole_pes_file}
+use Rattle.sub_words.specs.Version.{requests_version}
+use Rattle.sub_headline.specs.PlainArguments.{IsName, LawOfPlainArguments, default_options}
+use Rattle.sub_headline.specs.PlainArguments.{entire_pes_file}
 
 -- ---- a name
 
@@ -45,14 +46,14 @@ no_dashes (x ∷ xs) name =
 
 -- These arguments request no help,
 no_help : (program stl pes : Text)
-    → asks_help (program ∷ codes "check" ∷ stl ∷ pes ∷ []) ≡ false
-unfolding asks_help
+    → requests_help (program ∷ codes "check" ∷ stl ∷ pes ∷ []) ≡ false
+unfolding requests_help
 no_help program stl pes = refl
 
 -- nor the version.
 no_version : (program stl pes : Text)
-    → asks_version (program ∷ codes "check" ∷ stl ∷ pes ∷ []) ≡ false
-unfolding asks_version
+    → requests_version (program ∷ codes "check" ∷ stl ∷ pes ∷ []) ≡ false
+unfolding requests_version
 no_version program stl pes = refl
 
 -- ---- a word that is no option is a value
@@ -135,44 +136,48 @@ rows_are stl pes is_stl is_pes =
     (to_positional check_shape.rules (arg_by_index check_shape.rules 1) stl (at_rest nothing_held 1)
     nothing_held).held 2 pes is_pes)
 
-asked_are : (stl pes : Text)
-    → asked_in (codes "check") (finished check_shape.rules (held_of_two stl pes))
-    ≡ Ok (Asked.Check stl (whole_pes_file pes) default_options English default_layout whole false)
+requested_are : (stl pes : Text)
+    → requested_in (codes "check") (finished check_shape.rules (held_of_two stl pes))
+    ≡ Ok (Requested.Check stl (entire_pes_file pes) default_options English default_layout whole
+    false)
 unfolding subttx_app clap_on_literals number_of_text page_of_text option_named sub_set
-    pes_packets_of packet_size_of_text
-asked_are stl pes = refl
+    pes_selection_of packet_size_of_text
+requested_are stl pes = refl
 
-same_asked : (told : Option (Result Asked UsageFault)) (a b : Asked)
-    → told ≡ Some (Ok a)
-    → told ≡ Some (Ok b)
+same_requested : (reported : Option (Result Requested UsageFault)) (a b : Requested)
+    → reported ≡ Some (Ok a)
+    → reported ≡ Some (Ok b)
     → a ≡ b
-same_asked told a b one other = let e = sym one ∙ other in cc
+same_requested reported a b one other = let e = sym one ∙ other in cc
 
-plain_asked : (program stl pes : Text)
+plain_requested : (program stl pes : Text)
     → IsName stl
     → IsName pes
     → asked_for (program ∷ codes "check" ∷ stl ∷ pes ∷ [])
     ≡ Some
-    (Ok (Asked.Check stl (whole_pes_file pes) default_options English default_layout whole false))
-plain_asked program stl pes is_stl is_pes =
-    ap (option_map (λ command. asked_in command.0 command.1)) (command_is program stl pes)
-    ∙ ap (λ (rows : List Row). Some (asked_in (codes "check") rows))
+    (Ok (Requested.Check stl (entire_pes_file pes) default_options English default_layout whole
+    false))
+plain_requested program stl pes is_stl is_pes =
+    ap (option_map (λ command. requested_in command.0 command.1)) (command_is program stl pes)
+    ∙ ap (λ (rows : List Row). Some (requested_in (codes "check") rows))
     (rows_are stl pes is_stl is_pes)
-    ∙ ap (λ asked. Some asked) (asked_are stl pes)
+    ∙ ap (λ requested. Some requested) (requested_are stl pes)
 
-pub asks_of : (words : List Text) (request : Request) (asked : Asked)
-    → asks_version words ≡ false
-    → asks_help words ≡ false
-    → asked_for words ≡ Some (Ok asked)
-    → AsksFor words request
-    → asked_by request ≡ asked
-asks_of words request asked unversioned none is (inl version) =
+pub request_of_words : (arguments : List Text) (request : Request) (requested : Requested)
+    → requests_version arguments ≡ false
+    → requests_help arguments ≡ false
+    → asked_for arguments ≡ Some (Ok requested)
+    → IsRequestOf arguments request
+    → requested_by request ≡ requested
+request_of_words arguments request requested unversioned none is (inl version) =
     let e = sym unversioned ∙ version.0 in cc
-asks_of words request asked unversioned none is (inr (inl help)) = let e = sym none ∙ help.1 in cc
-asks_of words request asked unversioned none is (inr (inr of)) = same_asked _ _ _ of.2.asked is
+request_of_words arguments request requested unversioned none is (inr (inl help)) = let e = sym none
+    ∙ help.1 in cc
+request_of_words arguments request requested unversioned none is (inr (inr of)) = same_requested
+    _ _ _ of.2.requested is
 
-pub law_of_plain_words : LawOfPlainWords
-law_of_plain_words program stl pes request is_stl is_pes asks =
-    asks_of (program ∷ codes "check" ∷ stl ∷ pes ∷ []) request _
+pub law_of_plain_arguments : LawOfPlainArguments
+law_of_plain_arguments program stl pes request is_stl is_pes asks =
+    request_of_words (program ∷ codes "check" ∷ stl ∷ pes ∷ []) request _
     (no_version program stl pes) (no_help program stl pes)
-    (plain_asked program stl pes is_stl is_pes) asks
+    (plain_requested program stl pes is_stl is_pes) asks

@@ -1,5 +1,5 @@
--- For `law_of_chosen_words`: the values of the rows for an argument, by its id, after it is used
--- again, `set_same` and `set_other`, and after defaults are added, `defaulted`.
+-- For `law_of_chosen_arguments`: the values of the rows for an argument, by its id, after it is
+-- used again, `set_same` and `set_other`, and after defaults are added, `defaulted`.
 use Rattle.std.proofs.Common.{◌≡◌, ◌∙◌, Bool, true, false, List, [], ◌∷◌, ◌++◌, Option, Some}
 use Rattle.std.proofs.Common.{None, refl, sym, ap, drop}
 use Rattle.std.proofs.lemmas.Slice.Eq.{bytes_eq-Decides}
@@ -12,9 +12,9 @@ use Rattle.clap.specs.declared.parser.matches.ValueSource.{ValueSource}
 use Rattle.clap.specs.declared.parser.matches.ValueSource.TheVariants.{CommandLine, DefaultValue}
 
 -- The values of each row with an id.
-abbrev pub held_at : Text → List Row → List (List Text)
-held_at id [] = []
-held_at id (r ∷ rs) = if bytes_eq r.id id then r.values ∷ held_at id rs else held_at id rs
+abbrev pub values_at : Text → List Row → List (List Text)
+values_at id [] = []
+values_at id (r ∷ rs) = if bytes_eq r.id id then r.values ∷ values_at id rs else values_at id rs
 
 -- Their first text.
 abbrev pub first_text : List (List Text) → Option Text
@@ -36,24 +36,24 @@ same_id a b is = (bytes_eq-Decides a b).0 is
 -- ---- the values of rows
 
 first_by : (b : Bool) (id : Text) (r : Row) (rs : List Row)
-    → first_of id rs ≡ first_text (held_at id rs)
+    → first_of id rs ≡ first_text (values_at id rs)
     → option_and_then (λ (r : Row). slice_get r.values 0)
     (if b then Some r else find (λ (r : Row). bytes_eq r.id id) rs)
-    ≡ first_text (if b then r.values ∷ held_at id rs else held_at id rs)
+    ≡ first_text (if b then r.values ∷ values_at id rs else values_at id rs)
 first_by true id r rs rest = refl
 first_by false id r rs rest = rest
 
-pub first_is : (id : Text) (rows : List Row) → first_of id rows ≡ first_text (held_at id rows)
+pub first_is : (id : Text) (rows : List Row) → first_of id rows ≡ first_text (values_at id rows)
 first_is id [] = refl
 first_is id (r ∷ rs) = first_by (bytes_eq r.id id) id r rs (first_is id rs)
 
 has_by : (b : Bool) (id : Text) (r : Row) (rs : List Row)
-    → has_row id rs ≡ is_there (held_at id rs)
-    → b || has_row id rs ≡ is_there (if b then r.values ∷ held_at id rs else held_at id rs)
+    → has_row id rs ≡ is_there (values_at id rs)
+    → b || has_row id rs ≡ is_there (if b then r.values ∷ values_at id rs else values_at id rs)
 has_by true id r rs rest = refl
 has_by false id r rs rest = rest
 
-has_is : (id : Text) (rows : List Row) → has_row id rows ≡ is_there (held_at id rows)
+has_is : (id : Text) (rows : List Row) → has_row id rows ≡ is_there (values_at id rows)
 has_is id [] = refl
 has_is id (r ∷ rs) = has_by (bytes_eq r.id id) id r rs (has_is id rs)
 
@@ -66,43 +66,44 @@ module _ (id other : Text) (apart : bytes_eq id other ≡ false) where
   -- A change of the rows of one id does not affect another.
   module _ (change : Row → List Row) (missing : List Row)
       (changed : (r : Row) → bytes_eq r.id other ≡ false
-      → (rs : List Row) → held_at other (change r ++ rs) ≡ held_at other rs)
-      (added : held_at other missing ≡ []) where
+      → (rs : List Row) → values_at other (change r ++ rs) ≡ values_at other rs)
+      (added : values_at other missing ≡ []) where
     other_by : (b : Bool) (r : Row) (rs : List Row)
         → bytes_eq r.id id ≡ b
-        → held_at other (at_row id change missing rs) ≡ held_at other rs
-        → held_at other (if b then change r ++ rs else r ∷ at_row id change missing rs)
-        ≡ held_at other (r ∷ rs)
+        → values_at other (at_row id change missing rs) ≡ values_at other rs
+        → values_at other (if b then change r ++ rs else r ∷ at_row id change missing rs)
+        ≡ values_at other (r ∷ rs)
     other_by true r rs is rest =
         let far = row_apart r is in
         changed r far rs
-        ∙ sym (ap (λ (b : Bool). if b then r.values ∷ held_at other rs else held_at other rs) far)
+        ∙ sym (ap (λ (b : Bool). if b then r.values ∷ values_at other rs else values_at other rs)
+        far)
     other_by false r rs is rest =
         ap
         (λ (vs : List (List Text)). if bytes_eq r.id other then r.values ∷ vs else vs)
         rest
 
     other_row : (rows : List Row)
-        → held_at other (at_row id change missing rows) ≡ held_at other rows
+        → values_at other (at_row id change missing rows) ≡ values_at other rows
     other_row [] = added
     other_row (r ∷ rs) = other_by (bytes_eq r.id id) r rs refl (other_row rs)
 
-  without_other : (rows : List Row) → held_at other (without id rows) ≡ held_at other rows
+  without_other : (rows : List Row) → values_at other (without id rows) ≡ values_at other rows
   without_other rows = other_row (λ _. []) [] (λ r far rs. refl) refl rows
 
   with_other : (how : Reading) (s : ValueSource) (vals : List Text) (rows : List Row)
-      → held_at other (with_values id how s vals rows) ≡ held_at other rows
+      → values_at other (with_values id how s vals rows) ≡ values_at other rows
   with_other how s vals rows =
       other_row (more_values s vals)
       (record { id = id; values = vals; count = None; source = Some s; reading = how } ∷ [])
       (λ r far rs.
       ap
-      (λ (b : Bool). if b then (r.values ++ vals) ∷ held_at other rs else held_at other rs)
+      (λ (b : Bool). if b then (r.values ++ vals) ∷ values_at other rs else values_at other rs)
       far)
       (ap (λ (b : Bool). if b then vals ∷ [] else []) apart) rows
 
   pub set_other : (how : Reading) (vals : List Text) (rows : List Row)
-      → held_at other (set_row id how vals rows) ≡ held_at other rows
+      → values_at other (set_row id how vals rows) ≡ values_at other rows
   set_other how vals rows =
       with_other how CommandLine vals (without id rows) ∙ without_other rows
 
@@ -111,48 +112,48 @@ module _ (id other : Text) (apart : bytes_eq id other ≡ false) where
 module _ (id : Text) (same : bytes_eq id id ≡ true) where
   without_by : (b : Bool) (r : Row) (rs : List Row)
       → bytes_eq r.id id ≡ b
-      → held_at id (without id rs) ≡ drop 1 (held_at id rs)
-      → held_at id (if b then rs else r ∷ without id rs)
-      ≡ drop 1 (if b then r.values ∷ held_at id rs else held_at id rs)
+      → values_at id (without id rs) ≡ drop 1 (values_at id rs)
+      → values_at id (if b then rs else r ∷ without id rs)
+      ≡ drop 1 (if b then r.values ∷ values_at id rs else values_at id rs)
   without_by true r rs is rest = refl
   without_by false r rs is rest =
       ap
       (λ (b : Bool).
-      if b then r.values ∷ held_at id (without id rs) else held_at id (without id rs))
+      if b then r.values ∷ values_at id (without id rs) else values_at id (without id rs))
       is
       ∙ rest
 
-  without_same : (rows : List Row) → held_at id (without id rows) ≡ drop 1 (held_at id rows)
+  without_same : (rows : List Row) → values_at id (without id rows) ≡ drop 1 (values_at id rows)
   without_same [] = refl
   without_same (r ∷ rs) = without_by (bytes_eq r.id id) r rs refl (without_same rs)
 
   new_by : (how : Reading) (s : ValueSource) (vals : List Text) (b : Bool) (r : Row)
       (rs : List Row)
       → bytes_eq r.id id ≡ b
-      → (if b then r.values ∷ held_at id rs else held_at id rs) ≡ []
-      → (held_at id rs ≡ [] → held_at id (with_values id how s vals rs) ≡ vals ∷ [])
-      → held_at id
+      → (if b then r.values ∷ values_at id rs else values_at id rs) ≡ []
+      → (values_at id rs ≡ [] → values_at id (with_values id how s vals rs) ≡ vals ∷ [])
+      → values_at id
       (if b then more_values s vals r ++ rs else r ∷ with_values id how s vals rs)
       ≡ vals ∷ []
   new_by how s vals true r rs is none rest = cc
   new_by how s vals false r rs is none rest =
       ap
       (λ (b : Bool).
-      if b then r.values ∷ held_at id (with_values id how s vals rs)
-      else held_at id (with_values id how s vals rs))
+      if b then r.values ∷ values_at id (with_values id how s vals rs)
+      else values_at id (with_values id how s vals rs))
       is
       ∙ rest none
 
   with_new : (how : Reading) (s : ValueSource) (vals : List Text) (rows : List Row)
-      → held_at id rows ≡ []
-      → held_at id (with_values id how s vals rows) ≡ vals ∷ []
+      → values_at id rows ≡ []
+      → values_at id (with_values id how s vals rows) ≡ vals ∷ []
   with_new how s vals [] none = ap (λ (b : Bool). if b then vals ∷ [] else []) same
   with_new how s vals (r ∷ rs) none =
       new_by how s vals (bytes_eq r.id id) r rs refl none (with_new how s vals rs)
 
   pub set_same : (how : Reading) (vals : List Text) (rows : List Row)
-      → drop 1 (held_at id rows) ≡ []
-      → held_at id (set_row id how vals rows) ≡ vals ∷ []
+      → drop 1 (values_at id rows) ≡ []
+      → values_at id (set_row id how vals rows) ≡ vals ∷ []
   set_same how vals rows short =
       with_new how CommandLine vals (without id rows) (without_same rows ∙ short)
 
@@ -169,8 +170,8 @@ default_at id vs a = if bytes_eq a.id id then or_default vs a.defaults else vs
 
 default_by : (id : Text) (same : bytes_eq id id ≡ true) (how : Reading) (defaults : List Text)
     (rows : List Row) (vs : List (List Text))
-    → held_at id rows ≡ vs
-    → held_at id (if is_there vs then rows else default_rows id how defaults rows)
+    → values_at id rows ≡ vs
+    → values_at id (if is_there vs then rows else default_rows id how defaults rows)
     ≡ or_default vs defaults
 default_by id same how [] rows [] is = is
 default_by id same how (v ∷ vs) rows [] is = with_new id same how DefaultValue (v ∷ vs) rows is
@@ -178,16 +179,16 @@ default_by id same how defaults rows (x ∷ xs) is = is
 
 default_same : (id : Text) (same : bytes_eq id id ≡ true) (how : Reading) (defaults : List Text)
     (rows : List Row)
-    → held_at id (if has_row id rows then rows else default_rows id how defaults rows)
-    ≡ or_default (held_at id rows) defaults
+    → values_at id (if has_row id rows then rows else default_rows id how defaults rows)
+    ≡ or_default (values_at id rows) defaults
 default_same id same how defaults rows =
-    ap (λ (b : Bool). held_at id (if b then rows else default_rows id how defaults rows))
+    ap (λ (b : Bool). values_at id (if b then rows else default_rows id how defaults rows))
     (has_is id rows)
-    ∙ default_by id same how defaults rows (held_at id rows) refl
+    ∙ default_by id same how defaults rows (values_at id rows) refl
 
 other_default : (id other : Text) (apart : bytes_eq id other ≡ false) (how : Reading)
     (defaults : List Text) (rows : List Row) (b : Bool)
-    → held_at other (if b then rows else default_rows id how defaults rows) ≡ held_at other rows
+    → values_at other (if b then rows else default_rows id how defaults rows) ≡ values_at other rows
 other_default id other apart how defaults rows true = refl
 other_default id other apart how [] rows false = refl
 other_default id other apart how (v ∷ vs) rows false =
@@ -195,13 +196,13 @@ other_default id other apart how (v ∷ vs) rows false =
 
 default_one : (id : Text) (same : bytes_eq id id ≡ true) (a : Rule) (rows : List Row) (b : Bool)
     → bytes_eq a.id id ≡ b
-    → held_at id (with_default rows a)
-    ≡ (if b then or_default (held_at id rows) a.defaults else held_at id rows)
+    → values_at id (with_default rows a)
+    ≡ (if b then or_default (values_at id rows) a.defaults else values_at id rows)
 default_one id same a rows true is =
     let at : a.id ≡ id = same_id a.id id is in
     ap
     (λ (x : Text).
-    held_at id (if has_row x rows then rows else default_rows x (reading_by a) a.defaults rows))
+    values_at id (if has_row x rows then rows else default_rows x (reading_by a) a.defaults rows))
     at
     ∙ default_same id same (reading_by a) a.defaults rows
 default_one id same a rows false is =
@@ -209,7 +210,7 @@ default_one id same a rows false is =
 
 pub defaulted : (id : Text) (rules : List Rule) (rows : List Row)
     → bytes_eq id id ≡ true
-    → held_at id (fold with_default rows rules) ≡ fold (default_at id) (held_at id rows) rules
+    → values_at id (fold with_default rows rules) ≡ fold (default_at id) (values_at id rows) rules
 defaulted id [] rows same = refl
 defaulted id (a ∷ rules) rows same =
     defaulted id rules (with_default rows a) same

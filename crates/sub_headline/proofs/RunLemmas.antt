@@ -8,18 +8,18 @@ use Rattle.sub_request.specs.declared.request.UsageFault.TheVariants as usage
 use Rattle.sub_listing.specs.Listing.{exit_code}
 use Rattle.sub_listing.specs.declared.status.Status.{Status}
 use Rattle.sub_listing.specs.declared.status.Status.TheVariants.{Done, Fault}
-use Rattle.sub_answer.specs.Ending.{BufferHoldsLineAlone, KnownOfFiles, Lines, Says}
+use Rattle.sub_answer.specs.Ending.{BufferHoldsOneLineOnly, KnownOfFiles, Lines, PrintsFault}
 use Rattle.sub_headline.specs.Run.{Answered, EndsRun, RunsProgram}
 
 -- A run that reports a fault ends with `Fault`.
-said : (fault : UsageFault) (old new : Lines) (result : Status)
-    → Says fault old new result
+stated : (fault : UsageFault) (old new : Lines) (result : Status)
+    → PrintsFault fault old new result
     → result ≡ Fault
-said fault old new result says = grind (arith, nat_tests)
+stated fault old new result says = grind (arith, nat_tests)
 
 -- It answered its request, and the code is that of the answer's status.
 pub record HasAnswered
-    {I O : Type 0} (AreMade : List (FileCall I O) → Type 0) (told : KnownOfFiles I O)
+    {I O : Type 0} (AreMade : List (FileCall I O) → Type 0) (reported : KnownOfFiles I O)
     (IsClose : O → O → Type 0) (given : Result (List Text) UsageFault) (IsAlone : Lines → Type 0)
     (code : ℕ)
     : Type 0 where
@@ -27,35 +27,40 @@ pub record HasAnswered
   pub new : Lines
   pub status : Status
   pub code_is : code ≡ exit_code status
-  pub answered : Answered AreMade told IsClose given IsAlone old new status
+  pub answered : Answered AreMade reported IsClose given IsAlone old new status
 
 answered_so :
-    {I O : Type 0} (AreMade : List (FileCall I O) → Type 0) (told : KnownOfFiles I O)
+    {I O : Type 0} (AreMade : List (FileCall I O) → Type 0) (reported : KnownOfFiles I O)
     (IsClose : O → O → Type 0) (given : Result (List Text) UsageFault) (IsAlone : Lines → Type 0)
     (code : ℕ) (status : Status) (old new : Lines)
     → code ≡ exit_code status
     → code ≢ 2
-    → EndsRun AreMade told IsClose given IsAlone old new status
-    ⊎ (AreMade [] × Says usage.Memory old new status)
-    → HasAnswered AreMade told IsClose given IsAlone code
-answered_so AreMade told IsClose given IsAlone code status old new code_is not_two (inl (inl is)) =
+    → EndsRun AreMade reported IsClose given IsAlone old new status
+    ⊎ (AreMade [] × PrintsFault usage.Memory old new status)
+    → HasAnswered AreMade reported IsClose given IsAlone code
+answered_so AreMade reported IsClose given IsAlone code status old new code_is not_two
+    (inl (inl is)) =
     record { old = old; new = new; status = status; code_is = code_is; answered = is }
-answered_so AreMade told IsClose given IsAlone code status old new code_is not_two (inl (inr un)) =
-    absurd (not_two (code_is ∙ ap exit_code (said un.fault old new status un.says)))
-answered_so AreMade told IsClose given IsAlone code status old new code_is not_two (inr memory) =
-    absurd (not_two (code_is ∙ ap exit_code (said usage.Memory old new status memory.1)))
+answered_so AreMade reported IsClose given IsAlone code status old new code_is not_two
+    (inl (inr un)) =
+    absurd (not_two (code_is ∙ ap exit_code (stated un.fault old new status un.says)))
+answered_so AreMade reported IsClose given IsAlone code status old new code_is not_two
+    (inr memory) =
+    absurd (not_two (code_is ∙ ap exit_code (stated usage.Memory old new status memory.1)))
 
 pub answered :
-    {I O K : Type 0} (AreMade : List (FileCall I O) → Type 0) (told : KnownOfFiles I O)
+    {I O K : Type 0} (AreMade : List (FileCall I O) → Type 0) (reported : KnownOfFiles I O)
     (IsClose : O → O → Type 0) (given : Result (List Text) UsageFault)
     (contents : K → Option (List ℕ)) (failure_count : K → ℕ)
     (IsPush : K → List ℕ → Option ℕ → K → Type 0) (output left : K) (code : ℕ)
-    → RunsProgram AreMade told IsClose given contents failure_count IsPush output left code
+    → RunsProgram AreMade reported IsClose given contents failure_count IsPush output left code
     → code ≢ 2
-    → HasAnswered AreMade told IsClose given (BufferHoldsLineAlone contents failure_count IsPush)
+    → HasAnswered AreMade reported IsClose given (BufferHoldsOneLineOnly contents failure_count
+    IsPush)
     code
-answered AreMade told IsClose given contents failure_count IsPush output left code runs not_two =
-    answered_so AreMade told IsClose given _ code runs.status _ _ runs.code_is not_two runs.ends
+answered AreMade reported IsClose given contents failure_count IsPush output left code runs
+    not_two =
+    answered_so AreMade reported IsClose given _ code runs.status _ _ runs.code_is not_two runs.ends
 
 pub done_by_code : (status : Status) → exit_code status ≡ 0 → status ≡ Done
 done_by_code status e = grind (arith, nat_tests)

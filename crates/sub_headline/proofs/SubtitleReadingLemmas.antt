@@ -39,10 +39,10 @@ same_kept : (e c : ℕ)
     → not ((e == 0xFE) || (c == 0x01)) ≡ true
 same_kept e c none is = grind (arith, nat_tests)
 
-same_passed : (e c : ℕ)
+same_skipped : (e c : ℕ)
     → not ((e == 0xFE) || ((nat_lt e 0xF0 || (e == 0xFF)) && (c == 0x01))) ≡ false
     → not ((e == 0xFE) || (c == 0x01)) ≡ false
-same_passed e c is = grind (arith, nat_tests)
+same_skipped e c is = grind (arith, nat_tests)
 
 -- The blocks that a test keeps, if the other test keeps the same.
 kept_by : (is : Bool) (b : List ℕ) (bs : List (List ℕ))
@@ -50,7 +50,7 @@ kept_by : (is : Bool) (b : List ℕ) (bs : List (List ℕ))
     → AllByRecursion IsNoComment (if is then b ∷ filter is_kept bs else filter is_kept bs)
     → (is_of_subtitle b ≡ is) × AllByRecursion IsNoComment (filter is_kept bs)
 kept_by true b bs is none = (same_kept (ebn b) (cf b) none.0 is, none.1)
-kept_by false b bs is none = (same_passed (ebn b) (cf b) is, none)
+kept_by false b bs is none = (same_skipped (ebn b) (cf b) is, none)
 
 kept_are : (bs : List (List ℕ))
     → AllByRecursion IsNoComment (filter is_kept bs)

@@ -10,61 +10,64 @@ use Rattle.stl_rows.specs.declared.layout.Layout.{Layout}
 use Rattle.stl_rows.specs.declared.national.National.{National}
 use Rattle.stl_rows.specs.declared.national.National.TheVariants.{English}
 use Rattle.sub_request.specs.declared.request.Request.{Request}
-use Rattle.sub_words.specs.Requests.{Asked, AsksFor, asked_by}
-use Rattle.sub_headline.specs.PlainWords.{IsName}
+use Rattle.sub_words.specs.Requests.{Requested, IsRequestOf, requested_by}
+use Rattle.sub_headline.specs.PlainArguments.{IsName}
 use Rattle.sub_headline.specs.RecordingOptions.{Portion, Reading, read_by, reading_of}
-use Rattle.sub_headline.specs.RecordingOptions.{recording_asked}
-use Rattle.sub_headline.specs.RecordingOptions.{words_in}
+use Rattle.sub_headline.specs.RecordingOptions.{recording_requested}
+use Rattle.sub_headline.specs.RecordingOptions.{arguments_in}
 
 -- A national option or a layout with the text of its value, or one of the other options.
-pub data Look : Type 0 where
+pub data DisplayOption : Type 0 where
   Letters : (text : Text)
       → (national : National)
       → IsName text
       → option_named text ≡ Some national
-      → Look
+      → DisplayOption
   Lines : (text : Text)
       → (layout : Layout)
       → IsName text
       → layout_of_text text ≡ Some layout
-      → Look
-  Of : Portion → Look
+      → DisplayOption
+  Of : Portion → DisplayOption
 
 -- Its arguments.
-abbrev pub words_for : Look → List Text
-words_for (Letters text national name is) = codes "--option" ∷ text ∷ []
-words_for (Lines text layout name is) = codes "--layout" ∷ text ∷ []
-words_for (Of part) = words_in part
+abbrev pub arguments_for : DisplayOption → List Text
+arguments_for (Letters text national name is) = codes "--option" ∷ text ∷ []
+arguments_for (Lines text layout name is) = codes "--layout" ∷ text ∷ []
+arguments_for (Of part) = arguments_in part
 
 -- How a recording is read and subtitles are drawn.
-pub record Looking : Type 0 where
+pub record DisplayOptions : Type 0 where
   pub reading : Reading
   pub national : National
   pub layout : Layout
 
 -- The same with one more option.
-abbrev pub looked_by : Looking → Look → Looking
-looked_by l (Letters text national name is) = record l { national = national }
-looked_by l (Lines text layout name is) = record l { layout = layout }
-looked_by l (Of part) = record l { reading = read_by l.reading part }
+abbrev pub displayed_by : DisplayOptions → DisplayOption → DisplayOptions
+displayed_by l (Letters text national name is) = record l { national = national }
+displayed_by l (Lines text layout name is) = record l { layout = layout }
+displayed_by l (Of part) = record l { reading = read_by l.reading part }
 
 -- English and the default layout, unless chosen otherwise.
-abbrev pub looking_of : List Look → Looking
-looking_of looks =
-    fold looked_by
-    (record { reading = reading_of []; national = English; layout = default_layout }) looks
+abbrev pub looking_of : List DisplayOption → DisplayOptions
+looking_of display_options =
+    fold displayed_by
+    (record { reading = reading_of []; national = English; layout = default_layout })
+    display_options
 
 -- These arguments, after the program's name, request a check of these two files, read and drawn in
 -- this way, and their origin is a PTS.
-abbrev pub LawOfLookWords : Type 0
-LawOfLookWords =
-    (program stl recording : Text) (looks : List Look) (request : Request)
+abbrev pub LawOfDisplayArguments : Type 0
+LawOfDisplayArguments =
+    (program stl recording : Text) (display_options : List DisplayOption) (request : Request)
     → IsName stl
     → IsName recording
-    → AsksFor (program ∷ codes "check" ∷ stl ∷ recording ∷ flat_map words_for looks) request
+    → IsRequestOf (program ∷ codes "check" ∷ stl ∷ recording ∷ flat_map arguments_for
+    display_options) request
     → (all : Bool)
-    × (asked_by request
-    ≡ Asked.Check stl (recording_asked recording (looking_of looks).reading)
-    (looking_of looks).reading.options (looking_of looks).national (looking_of looks).layout
-    (looking_of looks).reading.scope all)
-    × ((looking_of looks).reading.options.origin < 2 ^ 33)
+    × (requested_by request
+    ≡ Requested.Check stl (recording_requested recording (looking_of display_options).reading)
+    (looking_of display_options).reading.options (looking_of display_options).national
+    (looking_of display_options).layout
+    (looking_of display_options).reading.scope all)
+    × ((looking_of display_options).reading.options.origin < 2 ^ 33)

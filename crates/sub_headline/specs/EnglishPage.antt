@@ -58,7 +58,7 @@ boxed_lines t = map prepared (english_lines t.text)
 
 -- The text of a subtitle is drawn completely: each byte is handled, and its lines fit on the page
 -- from row VP on.
-pub record IsWhole (t : SubtitleValue) : Type 0 where
+pub record IsDrawnWhole (t : SubtitleValue) : Type 0 where
   pub read : All IsRead t.text
   pub fit : Fit t.vp false (boxed_lines t)
 

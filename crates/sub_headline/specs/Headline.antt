@@ -8,7 +8,7 @@ use Rattle.stl_file.specs.Scope.{whole}
 use Rattle.stl_file.specs.Subtitle.{SubtitleValue}
 use Rattle.stl_rows.specs.DuePage.{due}
 use Rattle.stl_rows.specs.Layout.{drawing_by}
-use Rattle.sub_files.specs.FileCalls.{CallsInTurn}
+use Rattle.sub_files.specs.FileCalls.{CallsInOrder}
 use Rattle.sub_files.specs.MemoryFiles.{IsMemoryCall, MemFilesValue, bytes_at}
 use Rattle.sub_request.specs.declared.request.UsageFault.{UsageFault}
 use Rattle.sub_plan.specs.Examples.{page_888}
@@ -16,17 +16,19 @@ use Rattle.sub_plan.specs.Options.{OptionsValue}
 use Rattle.sub_rules.specs.Transmission.{Transmission}
 use Rattle.sub_answer.specs.FilesInMemory.{known_of_memory}
 use Rattle.sub_headline.specs.BothClasses.{EachOfClassGets}
-use Rattle.sub_headline.specs.DrawnOptions.{Look, Looking, looking_of, words_for}
+use Rattle.sub_headline.specs.DrawnOptions.{DisplayOption, DisplayOptions, looking_of}
+use Rattle.sub_headline.specs.DrawnOptions.{arguments_for}
 use Rattle.sub_headline.specs.EnglishPage.{english_due}
 use Rattle.sub_headline.specs.EnglishScreen.{EachScreenShows}
 use Rattle.sub_headline.specs.PlainAcceptance.{IsPlainlyAccepted}
 use Rattle.sub_headline.specs.PlainFiles.{AreFilesOf}
 use Rattle.sub_headline.specs.PlainHeadline.{Headline}
-use Rattle.sub_headline.specs.PlainOptions.{Choice, options_by, choice_words}
+use Rattle.sub_headline.specs.PlainOptions.{Choice, options_by, arguments_of_choice}
 use Rattle.sub_headline.specs.OnScreens.{EachDisplayShows}
-use Rattle.sub_headline.specs.RecordingOptions.{Portion, Reading, bytes_read, reading_of, words_in}
+use Rattle.sub_headline.specs.RecordingOptions.{Portion, Reading, bytes_read, reading_of}
+use Rattle.sub_headline.specs.RecordingOptions.{arguments_in}
 use Rattle.sub_headline.specs.PlainReading.{frames_by_place, subtitles_by_place, subtitles_within}
-use Rattle.sub_headline.specs.PlainWords.{IsName}
+use Rattle.sub_headline.specs.PlainArguments.{IsName}
 use Rattle.sub_headline.specs.Run.{RunsProgram}
 
 -- If the program was called with the arguments `check STL PES`, `IsSo` holds for the contents of
@@ -44,8 +46,8 @@ OfCheck given files IsSo =
 
 -- If the exit code is 0, the headline holds for page 888: every receiver gets a header of it within
 -- 250 frames, 10 seconds, and then has the due page. Frame 0 has the PTS 0.
-abbrev pub TellsHeadline : Result (List Text) UsageFault → MemFilesValue → ℕ → Type 0
-TellsHeadline given files code =
+abbrev pub ImpliesHeadline : Result (List Text) UsageFault → MemFilesValue → ℕ → Type 0
+ImpliesHeadline given files code =
     OfCheck given files
     (λ file bytes.
     code ≡ 0
@@ -60,7 +62,7 @@ OfChosen given files IsSo =
     (program stl pes : Text) (choices : List Choice) (file bytes : List ℕ)
     → IsName stl
     → IsName pes
-    → given ≡ Ok (program ∷ codes "check" ∷ stl ∷ pes ∷ flat_map choice_words choices)
+    → given ≡ Ok (program ∷ codes "check" ∷ stl ∷ pes ∷ flat_map arguments_of_choice choices)
     → bytes_at stl files ≡ Some file
     → bytes_at pes files ≡ Some bytes
     → IsSo (options_by choices) file bytes
@@ -75,23 +77,23 @@ OfAccepted given files code IsSo =
     (λ o file bytes. code ≡ 0 → IsSo o (subtitles_by_place file) (frames_by_place o.origin bytes))
 
 -- If the exit code is 0, the headline holds for every receiver of the chosen page.
-abbrev pub TellsChosen : Result (List Text) UsageFault → MemFilesValue → ℕ → Type 0
-TellsChosen given files code =
+abbrev pub ImpliesChosen : Result (List Text) UsageFault → MemFilesValue → ℕ → Type 0
+ImpliesChosen given files code =
     OfAccepted given files code (λ o. Headline o.page o.every english_due)
 
 -- If the exit code is 0, the headline also holds for receivers that drop a row with a wrong byte.
-abbrev pub TellsDropping : Result (List Text) UsageFault → MemFilesValue → ℕ → Type 0
-TellsDropping given files code =
+abbrev pub ImpliesDropping : Result (List Text) UsageFault → MemFilesValue → ℕ → Type 0
+ImpliesDropping given files code =
     OfAccepted given files code (λ o. EachOfClassGets Dropping o.page o.every)
 
 -- If the exit code is 0, the screens of all these receivers show what is due.
-abbrev pub TellsScreens : Result (List Text) UsageFault → MemFilesValue → ℕ → Type 0
-TellsScreens given files code = OfAccepted given files code (λ o. EachScreenShows o.page)
+abbrev pub ImpliesScreens : Result (List Text) UsageFault → MemFilesValue → ℕ → Type 0
+ImpliesScreens given files code = OfAccepted given files code (λ o. EachScreenShows o.page)
 
 -- If the exit code is 0, the bytes of both files match their formats, and contain these subtitles
 -- and frames and nothing else.
-abbrev pub TellsFiles : Result (List Text) UsageFault → MemFilesValue → ℕ → Type 0
-TellsFiles given files code =
+abbrev pub ImpliesFiles : Result (List Text) UsageFault → MemFilesValue → ℕ → Type 0
+ImpliesFiles given files code =
     OfChosen given files
     (λ o file bytes.
     code ≡ 0
@@ -100,8 +102,8 @@ TellsFiles given files code =
 
 -- If the exit code is 0 and complete pages were required, displays that wait for complete pages
 -- show the due page, too.
-abbrev pub TellsComplete : Result (List Text) UsageFault → MemFilesValue → ℕ → Type 0
-TellsComplete given files code =
+abbrev pub ImpliesComplete : Result (List Text) UsageFault → MemFilesValue → ℕ → Type 0
+ImpliesComplete given files code =
     OfAccepted given files code
     (λ o subtitles transmission.
     IsTrue o.asks_complete → EachDisplayShows o.page subtitles transmission)
@@ -114,15 +116,15 @@ OfRecording given files IsSo =
     (program stl recording : Text) (parts : List Portion) (file bytes : List ℕ)
     → IsName stl
     → IsName recording
-    → given ≡ Ok (program ∷ codes "check" ∷ stl ∷ recording ∷ flat_map words_in parts)
+    → given ≡ Ok (program ∷ codes "check" ∷ stl ∷ recording ∷ flat_map arguments_in parts)
     → bytes_at stl files ≡ Some file
     → bytes_at recording files ≡ Some bytes
     → IsSo (reading_of parts) file bytes
 
 -- If the exit code is 0, the headline holds for the subtitles and frames in the selected parts of
 -- both files.
-abbrev pub TellsRecording : Result (List Text) UsageFault → MemFilesValue → ℕ → Type 0
-TellsRecording given files code =
+abbrev pub ImpliesRecording : Result (List Text) UsageFault → MemFilesValue → ℕ → Type 0
+ImpliesRecording given files code =
     OfRecording given files
     (λ r file bytes.
     code ≡ 0
@@ -138,8 +140,8 @@ pub record ServesOthers
   pub complete : IsTrue o.asks_complete → EachDisplayShows o.page subtitles transmission
 
 -- If the exit code is 0, they hold for the same subtitles and frames.
-abbrev pub TellsRecordingToo : Result (List Text) UsageFault → MemFilesValue → ℕ → Type 0
-TellsRecordingToo given files code =
+abbrev pub ImpliesRecordingToo : Result (List Text) UsageFault → MemFilesValue → ℕ → Type 0
+ImpliesRecordingToo given files code =
     OfRecording given files
     (λ r file bytes.
     code ≡ 0
@@ -148,8 +150,8 @@ TellsRecordingToo given files code =
 
 -- If the exit code is 0, the selected bytes are a PES file that contains these frames and nothing
 -- else; the subtitle file contains these subtitles, and others only outside of the selected part.
-abbrev pub TellsRecordingFiles : Result (List Text) UsageFault → MemFilesValue → ℕ → Type 0
-TellsRecordingFiles given files code =
+abbrev pub ImpliesRecordingFiles : Result (List Text) UsageFault → MemFilesValue → ℕ → Type 0
+ImpliesRecordingFiles given files code =
     OfRecording given files
     (λ r file bytes.
     code ≡ 0
@@ -159,22 +161,24 @@ TellsRecordingFiles given files code =
 -- If the program was called with `check STL RECORDING` and any of these options, in any order,
 -- `IsSo` holds for how the recording is read and subtitles are drawn, and for the contents of these
 -- two files.
-abbrev pub OfLook :
-    Result (List Text) UsageFault → MemFilesValue → (Looking → List ℕ → List ℕ → Type 0) → Type 0
-OfLook given files IsSo =
-    (program stl recording : Text) (looks : List Look) (file bytes : List ℕ)
+abbrev pub OfDisplay :
+    Result (List Text) UsageFault → MemFilesValue → (DisplayOptions → List ℕ → List ℕ → Type 0) →
+    Type 0
+OfDisplay given files IsSo =
+    (program stl recording : Text) (display_options : List DisplayOption) (file bytes : List ℕ)
     → IsName stl
     → IsName recording
-    → given ≡ Ok (program ∷ codes "check" ∷ stl ∷ recording ∷ flat_map words_for looks)
+    → given ≡ Ok (program ∷ codes "check" ∷ stl ∷ recording ∷ flat_map arguments_for
+    display_options)
     → bytes_at stl files ≡ Some file
     → bytes_at recording files ≡ Some bytes
-    → IsSo (looking_of looks) file bytes
+    → IsSo (looking_of display_options) file bytes
 
 -- If the exit code is 0, the headline holds with the due page drawn in the national option and the
 -- layout.
-abbrev pub TellsDrawn : Result (List Text) UsageFault → MemFilesValue → ℕ → Type 0
-TellsDrawn given files code =
-    OfLook given files
+abbrev pub ImpliesDrawn : Result (List Text) UsageFault → MemFilesValue → ℕ → Type 0
+ImpliesDrawn given files code =
+    OfDisplay given files
     (λ l file bytes.
     let o = l.reading.options in
     code ≡ 0
@@ -184,8 +188,8 @@ TellsDrawn given files code =
 -- Unless the exit code is 2, which means that a device failed or memory ran out, it is 0 exactly if
 -- the files are accepted: they contain some subtitles and a good transmission of these, by the
 -- chosen options.
-abbrev pub TellsAcceptance : Result (List Text) UsageFault → MemFilesValue → ℕ → Type 0
-TellsAcceptance given files code =
+abbrev pub DecidesAcceptance : Result (List Text) UsageFault → MemFilesValue → ℕ → Type 0
+DecidesAcceptance given files code =
     OfChosen given files (λ o file bytes. code ≢ 2 → (code ≡ 0) ↔ IsPlainlyAccepted o file bytes)
 
 -- The exit code of a run of the program on files in memory says all this, whatever standard output
@@ -196,11 +200,12 @@ abbrev pub LawOfHeadline :
 LawOfHeadline {K} contents failure_count IsPush =
     (given : Result (List Text) UsageFault) (before after : MemFilesValue) (output left : K)
     (code : ℕ)
-    → RunsProgram (CallsInTurn IsMemoryCall before after) known_of_memory (λ was is. is ≡ was) given
+    → RunsProgram (CallsInOrder IsMemoryCall before after) known_of_memory (λ was is. is ≡ was)
+    given
     contents failure_count IsPush output left code
-    → TellsHeadline given before code × TellsChosen given before code
-    × TellsDropping given before code × TellsScreens given before code
-    × TellsFiles given before code × TellsComplete given before code
-    × TellsRecording given before code × TellsRecordingToo given before code
-    × TellsRecordingFiles given before code × TellsDrawn given before code
-    × TellsAcceptance given before code
+    → ImpliesHeadline given before code × ImpliesChosen given before code
+    × ImpliesDropping given before code × ImpliesScreens given before code
+    × ImpliesFiles given before code × ImpliesComplete given before code
+    × ImpliesRecording given before code × ImpliesRecordingToo given before code
+    × ImpliesRecordingFiles given before code × ImpliesDrawn given before code
+    × DecidesAcceptance given before code

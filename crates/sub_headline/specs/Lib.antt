@@ -11,5 +11,5 @@ pub mod RecordingOptions
 pub mod DrawnOptions
 pub mod OnScreens
 pub mod PlainReading
-pub mod PlainWords
+pub mod PlainArguments
 pub mod Run

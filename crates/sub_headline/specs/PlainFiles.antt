@@ -6,7 +6,7 @@ use Rattle.stl_file.specs.Subtitle.{SubtitleValue}
 use Rattle.stl_rows.specs.Programme.{AreInOrder}
 use Rattle.sub_rules.specs.PesFrames.{Carries}
 use Rattle.sub_rules.specs.Transmission.{Transmission}
-use Rattle.sub_headline.specs.EnglishPage.{IsWhole}
+use Rattle.sub_headline.specs.EnglishPage.{IsDrawnWhole}
 
 -- The contents of both files, given the PTS of frame 0 and the requested part of the subtitles.
 pub record AreFilesOf
@@ -18,7 +18,7 @@ pub record AreFilesOf
   pub gsi : List ℕ
   pub subtitle_file : IsFileFor scope stl gsi subtitles
   pub in_order : AreInOrder subtitles
-  pub texts : All IsWhole subtitles
+  pub texts : All IsDrawnWhole subtitles
   -- The PES file is PES packets (EN 300 472), one for each frame of this transmission, with the PTS
   -- of that frame.
   pub carries : Carries origin pes transmission

@@ -12,9 +12,9 @@ use Rattle.stl_rows.specs.declared.national.National.TheVariants.{English}
 use Rattle.sub_plan.specs.Options.{OptionsValue}
 use Rattle.sub_request.specs.declared.request.Request.{Request}
 use Rattle.sub_words.specs.Arguments.{between}
-use Rattle.sub_words.specs.Requests.{Asked, AsksFor, asked_by}
+use Rattle.sub_words.specs.Requests.{Requested, IsRequestOf, requested_by}
 use Rattle.sub_words.specs.Texts.{number_of_text}
-use Rattle.sub_headline.specs.PlainWords.{IsName, default_options, whole_pes_file}
+use Rattle.sub_headline.specs.PlainArguments.{IsName, default_options, entire_pes_file}
 
 -- An option with the text of its value and the meaning of that text; or a flag.
 pub data Choice : Type 0 where
@@ -26,13 +26,13 @@ pub data Choice : Type 0 where
   EveryFault : Choice
 
 -- Its arguments.
-abbrev pub choice_words : Choice → List Text
-choice_words (Page text page is) = codes "--page" ∷ text ∷ []
-choice_words (Every text frames is) = codes "--every" ∷ text ∷ []
-choice_words (Origin text pts is) = codes "--origin" ∷ text ∷ []
-choice_words (Pace text frames is) = codes "--pace" ∷ text ∷ []
-choice_words Complete = codes "--complete" ∷ []
-choice_words EveryFault = codes "--all" ∷ []
+abbrev pub arguments_of_choice : Choice → List Text
+arguments_of_choice (Page text page is) = codes "--page" ∷ text ∷ []
+arguments_of_choice (Every text frames is) = codes "--every" ∷ text ∷ []
+arguments_of_choice (Origin text pts is) = codes "--origin" ∷ text ∷ []
+arguments_of_choice (Pace text frames is) = codes "--pace" ∷ text ∷ []
+arguments_of_choice Complete = codes "--complete" ∷ []
+arguments_of_choice EveryFault = codes "--all" ∷ []
 
 -- The options with one more choice. `--all` lists each fault, and changes nothing else.
 abbrev pub with_choice : OptionsValue → Choice → OptionsValue
@@ -49,13 +49,15 @@ options_by choices = fold with_choice default_options choices
 
 -- The arguments `check STL PES` and choices, after the program's name, request a check of these two
 -- files with their options, whose origin is a PTS.
-abbrev pub LawOfChosenWords : Type 0
-LawOfChosenWords =
+abbrev pub LawOfChosenArguments : Type 0
+LawOfChosenArguments =
     (program stl pes : Text) (choices : List Choice) (request : Request)
     → IsName stl
     → IsName pes
-    → AsksFor (program ∷ codes "check" ∷ stl ∷ pes ∷ flat_map choice_words choices) request
+    → IsRequestOf (program ∷ codes "check" ∷ stl ∷ pes ∷ flat_map arguments_of_choice choices)
+    request
     → (all : Bool)
-    × (asked_by request
-    ≡ Asked.Check stl (whole_pes_file pes) (options_by choices) English default_layout whole all)
+    × (requested_by request
+    ≡ Requested.Check stl (entire_pes_file pes) (options_by choices) English default_layout whole
+    all)
     × ((options_by choices).origin < 2 ^ 33)

@@ -9,19 +9,19 @@ use Rattle.mpeg_ts.specs.Carried.{carried}
 use Rattle.mpeg_ts.specs.PacketSize.{bytes_of}
 use Rattle.mpeg_ts.specs.declared.packet_size.PacketSize.{PacketSize}
 use Rattle.mpeg_ts.specs.declared.packet_size.PacketSize.TheVariants as packet_size
-use Rattle.ttx_pes.specs.PieceRange.{PieceRangeValue, in_range}
+use Rattle.ttx_pes.specs.PesPacketRange.{PesPacketRangeValue, in_range}
 use Rattle.stl_file.specs.Scope.{whole}
 use Rattle.stl_file.specs.declared.scope.Scope.{Scope}
 use Rattle.stl_rows.specs.Layout.{default_layout}
 use Rattle.stl_rows.specs.declared.national.National.TheVariants.{English}
 use Rattle.sub_plan.specs.Options.{OptionsValue}
 use Rattle.sub_request.specs.declared.request.Request.{Request}
-use Rattle.sub_words.specs.Arguments.{PesAsked}
+use Rattle.sub_words.specs.Arguments.{PesRequested}
 use Rattle.sub_words.specs.PesTexts.{packet_size_of_text, pid_of_text, range_of_text}
-use Rattle.sub_words.specs.Requests.{Asked, AsksFor, asked_by}
+use Rattle.sub_words.specs.Requests.{Requested, IsRequestOf, requested_by}
 use Rattle.sub_words.specs.Texts.{frame_of_text}
-use Rattle.sub_headline.specs.PlainOptions.{Choice, with_choice, choice_words}
-use Rattle.sub_headline.specs.PlainWords.{IsName, default_options}
+use Rattle.sub_headline.specs.PlainOptions.{Choice, with_choice, arguments_of_choice}
+use Rattle.sub_headline.specs.PlainArguments.{IsName, default_options}
 
 -- An option with the text of its value and the meaning of that text: the PID of the transport
 -- packets that carry PES packets, their size, the numbers of the PES packets; the frames from which
@@ -30,21 +30,22 @@ use Rattle.sub_headline.specs.PlainWords.{IsName, default_options}
 pub data Portion : Type 0 where
   Pid : (text : Text) → (pid : ℕ) → pid_of_text text ≡ Some pid → Portion
   Size : (text : Text) → (size : PacketSize) → packet_size_of_text text ≡ Some size → Portion
-  Numbers : (text : Text) → (range : PieceRangeValue) → range_of_text text ≡ Some range → Portion
+  Numbers : (text : Text) → (range : PesPacketRangeValue) → range_of_text text ≡ Some range →
+      Portion
   From : (text : Text) → (frame : ℕ) → IsName text → frame_of_text text ≡ Some frame → Portion
   To : (text : Text) → (frame : ℕ) → IsName text → frame_of_text text ≡ Some frame → Portion
   OpenToo : Portion
   Any : Choice → Portion
 
 -- Its arguments.
-abbrev pub words_in : Portion → List Text
-words_in (Pid text pid is) = codes "--pid" ∷ text ∷ []
-words_in (Size text size is) = codes "--packet-size" ∷ text ∷ []
-words_in (Numbers text range is) = codes "--pes" ∷ text ∷ []
-words_in (From text frame name is) = codes "--from" ∷ text ∷ []
-words_in (To text frame name is) = codes "--to" ∷ text ∷ []
-words_in OpenToo = codes "--open" ∷ []
-words_in (Any choice) = choice_words choice
+abbrev pub arguments_in : Portion → List Text
+arguments_in (Pid text pid is) = codes "--pid" ∷ text ∷ []
+arguments_in (Size text size is) = codes "--packet-size" ∷ text ∷ []
+arguments_in (Numbers text range is) = codes "--pes" ∷ text ∷ []
+arguments_in (From text frame name is) = codes "--from" ∷ text ∷ []
+arguments_in (To text frame name is) = codes "--to" ∷ text ∷ []
+arguments_in OpenToo = codes "--open" ∷ []
+arguments_in (Any choice) = arguments_of_choice choice
 
 -- How both files are read: the options; the recording as a transport stream, if there is a PID,
 -- with this packet size; which of its PES packets, if not all; and which subtitles.
@@ -52,7 +53,7 @@ pub record Reading : Type 0 where
   pub options : OptionsValue
   pub pid : Option ℕ
   pub size : PacketSize
-  pub range : Option PieceRangeValue
+  pub range : Option PesPacketRangeValue
   pub scope : Scope
 
 -- The same with one more option.
@@ -90,7 +91,7 @@ carried_by None size bytes = bytes
 carried_by (Some pid) size bytes = carried pid (bytes_of size) bytes
 
 -- The PES packets of a range; all if there is none.
-abbrev pub numbered_by : Option PieceRangeValue → List ℕ → List ℕ
+abbrev pub numbered_by : Option PesPacketRangeValue → List ℕ → List ℕ
 numbered_by None bytes = bytes
 numbered_by (Some range) bytes = in_range range bytes
 
@@ -99,8 +100,8 @@ abbrev pub bytes_read : Reading → List ℕ → List ℕ
 bytes_read r bytes = numbered_by r.range (carried_by r.pid r.size bytes)
 
 -- The request for a recording with this name.
-abbrev pub recording_asked : Text → Reading → PesAsked
-recording_asked name r = record {
+abbrev pub recording_requested : Text → Reading → PesRequested
+recording_requested name r = record {
   name = name;
   stream = option_map (λ pid. record { pid = pid; packet_size = r.size }) r.pid;
   range = r.range;
@@ -108,14 +109,15 @@ recording_asked name r = record {
 
 -- The arguments `check STL RECORDING` and options, after the program's name, request a check of
 -- these two files, read in this way, and their origin is a PTS.
-abbrev pub LawOfPartWords : Type 0
-LawOfPartWords =
+abbrev pub LawOfPartArguments : Type 0
+LawOfPartArguments =
     (program stl recording : Text) (parts : List Portion) (request : Request)
     → IsName stl
     → IsName recording
-    → AsksFor (program ∷ codes "check" ∷ stl ∷ recording ∷ flat_map words_in parts) request
+    → IsRequestOf (program ∷ codes "check" ∷ stl ∷ recording ∷ flat_map arguments_in parts) request
     → (all : Bool)
-    × (asked_by request
-    ≡ Asked.Check stl (recording_asked recording (reading_of parts)) (reading_of parts).options
+    × (requested_by request
+    ≡ Requested.Check stl (recording_requested recording (reading_of parts))
+    (reading_of parts).options
     English default_layout (reading_of parts).scope all)
     × ((reading_of parts).options.origin < 2 ^ 33)

@@ -2,17 +2,18 @@
 -- reason why there is none.
 use Rattle.std.specs.Prelude.{◌≡◌, ◌⊎◌, ℕ, List, [], Option, None, Result, Ok, Err, false}
 use Rattle.clap.specs.Words.{Text}
-use Rattle.sub_io.specs.Buffered.{HeldBack}
+use Rattle.sub_io.specs.Buffered.{BufferState}
 use Rattle.sub_files.specs.FileCalls.{FileCall}
 use Rattle.sub_files.specs.Opening.{OpensBy}
 use Rattle.sub_request.specs.Files.{files_of}
 use Rattle.sub_request.specs.declared.request.Request.{Request}
 use Rattle.sub_request.specs.declared.request.UsageFault.{UsageFault}
 use Rattle.sub_request.specs.declared.request.UsageFault.TheVariants as usage
-use Rattle.sub_words.specs.Requests.{AsksFor, IsFaultOf}
+use Rattle.sub_words.specs.Requests.{IsRequestOf, IsFaultOf}
 use Rattle.sub_listing.specs.Listing.{exit_code}
 use Rattle.sub_listing.specs.declared.status.Status.{Status}
-use Rattle.sub_answer.specs.Ending.{BufferHoldsLineAlone, Ends, KnownOfFiles, Lines, Says, lines_of}
+use Rattle.sub_answer.specs.Ending.{BufferHoldsOneLineOnly, Ends, KnownOfFiles, Lines, PrintsFault}
+use Rattle.sub_answer.specs.Ending.{lines_of}
 
 -- The arguments made a request, which was answered. Files were opened and closed by the calls that
 -- were made.
@@ -21,26 +22,26 @@ pub record Answered
     (IsClose : O → O → Type 0) (given : Result (List Text) UsageFault) (IsAlone : Lines → Type 0)
     (old new : Lines) (result : Status)
     : Type 0 where
-  pub words : List Text
-  pub are_given : given ≡ Ok words
+  pub arguments : List Text
+  pub are_given : given ≡ Ok arguments
   pub request : Request
-  pub asked : AsksFor words request
+  pub requested : IsRequestOf arguments request
   pub ends : Ends AreMade known IsClose request IsAlone old new result
 
 -- Why arguments have no answer: files that they name could not be opened, by the calls that were
 -- made; or memory ran out, or the arguments have this fault, and no file was opened.
 abbrev pub IsWhy :
     {I O : Type 0} → (List (FileCall I O) → Type 0) → List Text → UsageFault → Type 0
-IsWhy AreMade words usage.Memory = AreMade []
-IsWhy AreMade words usage.Open =
-    (request : Request) × AsksFor words request × OpensBy AreMade (files_of request) None
-IsWhy AreMade words fault = IsFaultOf words fault × AreMade []
+IsWhy AreMade arguments usage.Memory = AreMade []
+IsWhy AreMade arguments usage.Open =
+    (request : Request) × IsRequestOf arguments request × OpensBy AreMade (files_of request) None
+IsWhy AreMade arguments fault = IsFaultOf arguments fault × AreMade []
 
 -- Why a run answers no request: because of its arguments, or because the system gave none.
 abbrev pub IsCause :
     {I O : Type 0}
     → (List (FileCall I O) → Type 0) → Result (List Text) UsageFault → UsageFault → Type 0
-IsCause AreMade (Ok words) fault = IsWhy AreMade words fault
+IsCause AreMade (Ok arguments) fault = IsWhy AreMade arguments fault
 IsCause AreMade (Err why) fault = (fault ≡ why) × AreMade []
 
 -- No request was answered, and a line with the fault was printed.
@@ -50,7 +51,7 @@ pub record IsUnanswered
     : Type 0 where
   pub fault : UsageFault
   pub cause : IsCause AreMade given fault
-  pub says : Says fault old new result
+  pub says : PrintsFault fault old new result
 
 -- How a run ends: the calls for files, the contents of these and which files close without a
 -- failure, the printed lines, of which all were flushed except for that of a fault, and the status.
@@ -72,17 +73,17 @@ pub record RunsProgram
     (IsPush : K → List ℕ → Option ℕ → K → Type 0) (output left : K) (code : ℕ)
     : Type 0 where
   pub room : ℕ
-  pub new : HeldBack K
+  pub new : BufferState K
   pub left_is : left ≡ new.device
   pub status : Status
   pub code_is : code ≡ exit_code status
   -- It ends in this way, or memory ran out before the arguments were read.
   pub ends :
-      (let old : HeldBack K =
-      record { device = output; held = []; room = room; failed = false; refused = 0 } in
+      (let old : BufferState K =
+      record { device = output; buffered = []; room = room; failed = false; refused = 0 } in
       let EndsSo = EndsRun AreMade known IsClose given
-      (BufferHoldsLineAlone contents failure_count IsPush) (lines_of contents failure_count old)
+      (BufferHoldsOneLineOnly contents failure_count IsPush) (lines_of contents failure_count old)
       (lines_of contents failure_count new) status in
-      let SaysMemory = Says usage.Memory (lines_of contents failure_count old)
+      let SaysMemory = PrintsFault usage.Memory (lines_of contents failure_count old)
       (lines_of contents failure_count new) status in
       EndsSo ⊎ (AreMade [] × SaysMemory))

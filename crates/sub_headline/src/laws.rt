@@ -1,11 +1,11 @@
 //! The meaning of exit status 0 of `check`, in four steps and as one law; and what viewers see.
 ghost use Rattle.sub_headline.specs.Acceptance.{LawOfEnglishAcceptance, LawOfPlainAcceptance};
-ghost use Rattle.sub_headline.specs.DrawnOptions.{LawOfLookWords};
+ghost use Rattle.sub_headline.specs.DrawnOptions.{LawOfDisplayArguments};
 ghost use Rattle.sub_headline.specs.EnglishScreen.{LawOfEnglishCharacters};
 ghost use Rattle.sub_headline.specs.Headline.{LawOfHeadline};
-ghost use Rattle.sub_headline.specs.PlainOptions.{LawOfChosenWords};
-ghost use Rattle.sub_headline.specs.PlainWords.{LawOfPlainWords};
-ghost use Rattle.sub_headline.specs.RecordingOptions.{LawOfPartWords};
+ghost use Rattle.sub_headline.specs.PlainOptions.{LawOfChosenArguments};
+ghost use Rattle.sub_headline.specs.PlainArguments.{LawOfPlainArguments};
+ghost use Rattle.sub_headline.specs.RecordingOptions.{LawOfPartArguments};
 
 use sub_io::Sink;
 
@@ -22,25 +22,25 @@ pub fn law_of_english_acceptance()
 {}
 
 /// The arguments `check STL PES` alone request a check of these two files with the default options.
-pub fn law_of_plain_words()
-    ensures { LawOfPlainWords }
+pub fn law_of_plain_arguments()
+    ensures { LawOfPlainArguments }
 {}
 
 /// With choices after them, in any order, they request a check of these two files with the chosen
 /// options.
-pub fn law_of_chosen_words()
-    ensures { LawOfChosenWords }
+pub fn law_of_chosen_arguments()
+    ensures { LawOfChosenArguments }
 {}
 
 /// With options for a recording among them, they request a check of the part that these select.
-pub fn law_of_part_words()
-    ensures { LawOfPartWords }
+pub fn law_of_part_arguments()
+    ensures { LawOfPartArguments }
 {}
 
 /// With a national option or a layout among them, they request a check of subtitles drawn in that
 /// way.
-pub fn law_of_look_words()
-    ensures { LawOfLookWords }
+pub fn law_of_display_arguments()
+    ensures { LawOfDisplayArguments }
 {}
 
 /// The cell of a byte of English text shows its character.

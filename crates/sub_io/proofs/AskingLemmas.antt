@@ -1,39 +1,39 @@
--- How far a reader may read; main lemmas: asks_none, passed_lent.
+-- How far a reader may read; main lemmas: requests_none, skipped_borrowed.
 use Rattle.std.proofs.Common.{◌≡◌, ℕ, ◌≤◌, Bool, true, List, ◌++◌, length, take}
 use Rattle.std.proofs.Common.{Option, Some, None, refl, sym, ap, ◌∙◌}
 use Rattle.std.proofs.lemmas.List.{take-take}
 use Rattle.std.proofs.Math.Seq.{take-append_seam}
 use Rattle.std.specs.Io.KnownBytes.{Consumes}
-use Rattle.sub_io.specs.Asking.{Asks, IsAskedBehind, asks_nothing}
-use Rattle.sub_io.specs.Device.{PassesOver}
+use Rattle.sub_io.specs.Asking.{Requests, IsRequestedAfter, requests_nothing}
+use Rattle.sub_io.specs.Device.{SkipsOver}
 use Rattle.sub_io.specs.Reading.{AreNext}
 
 -- Without a call the question stays the same.
-pub asks_none : {D : Type 0} (IsPull : D → ℕ → Option ℕ → D → Type 0) (lent : D → List ℕ)
+pub requests_none : {D : Type 0} (IsPull : D → ℕ → Option ℕ → D → Type 0) (borrowed : D → List ℕ)
     (remaining : D → Option (List ℕ)) (is_enough : List ℕ → Bool) (source : D)
-    → Asks IsPull lent remaining is_enough source true is_enough source
-asks_none IsPull lent remaining is_enough source =
-    asks_nothing is_enough is_enough source (λ bytes is. is)
+    → Requests IsPull borrowed remaining is_enough source true is_enough source
+requests_none IsPull borrowed remaining is_enough source =
+    requests_nothing is_enough is_enough source (λ bytes is. is)
 
 -- The same question after these bytes.
-pub asked_behind : (taken : List ℕ) (old new : List ℕ → Bool)
+pub requested_after : (taken : List ℕ) (old new : List ℕ → Bool)
     → ((bytes : List ℕ) → new bytes ≡ old (taken ++ bytes))
-    → IsAskedBehind taken old new
-asked_behind taken old new same bytes is = same bytes ∙ is
+    → IsRequestedAfter taken old new
+requested_after taken old new same bytes is = same bytes ∙ is
 
 -- Skipping lent bytes consumes them.
-pub passed_lent : (x y : Option (List ℕ)) (lent : List ℕ) (count : ℕ)
-    → AreNext lent x
-    → PassesOver x count y
-    → count ≤ length lent
-    → Consumes x y (take count lent)
-passed_lent None y lent count next passed within = tt
-passed_lent (Some xs) None lent count next passed within = absurd passed.consumed
-passed_lent (Some xs) (Some ys) lent count next passed within =
-    let same : passed.bytes ≡ take count lent =
-    sym (take-append_seam passed.bytes ys)
-    ∙ ap (λ n. take n (passed.bytes ++ ys)) passed.number
-    ∙ ap (take count) (sym passed.consumed)
-    ∙ sym (take-take count (length lent) xs within)
+pub skipped_borrowed : (x y : Option (List ℕ)) (borrowed : List ℕ) (count : ℕ)
+    → AreNext borrowed x
+    → SkipsOver x count y
+    → count ≤ length borrowed
+    → Consumes x y (take count borrowed)
+skipped_borrowed None y borrowed count next skipped within = tt
+skipped_borrowed (Some xs) None borrowed count next skipped within = absurd skipped.consumed
+skipped_borrowed (Some xs) (Some ys) borrowed count next skipped within =
+    let same : skipped.bytes ≡ take count borrowed =
+    sym (take-append_seam skipped.bytes ys)
+    ∙ ap (λ n. take n (skipped.bytes ++ ys)) skipped.number
+    ∙ ap (take count) (sym skipped.consumed)
+    ∙ sym (take-take count (length borrowed) xs within)
     ∙ ap (take count) (next xs refl) in
-    passed.consumed ∙ ap (λ l. l ++ ys) same
+    skipped.consumed ∙ ap (λ l. l ++ ys) same

@@ -1,5 +1,5 @@
--- The buffered bytes come before those of the inner device; main lemmas: held-split, held-parts,
--- held-moved. Bytes that are lent, NAME_begin, and skipped, NAME_passed.
+-- The buffered bytes come before those of the inner device; main lemmas: buffered-split,
+-- buffered-parts, buffered-moved. Bytes that are lent, NAME_begin, and skipped, NAME_passed.
 use Rattle.std.proofs.Common.{◌≡◌, ℕ, ◌+◌, ◌-◌, ◌≤◌, List, [], ◌++◌, length, take, drop}
 use Rattle.std.proofs.Common.{slice_range, ◌<◌, append_assoc, length-take-le, take-append-drop}
 use Rattle.std.proofs.Common.{Option, Some, None, Result, sym, ap, ◌∙◌, arith, drop-drop}
@@ -13,7 +13,7 @@ use Rattle.std.specs.Io.KnownBytes.{Appends, Keeps, append_known, prepend_known}
 use lib.Seq.{paste, take-add, take-append_seam}
 use Rattle.sub_io.specs.Buffered.{ReadAhead}
 use Rattle.sub_io.specs.Calls.{ReadsAhead}
-use Rattle.sub_io.specs.Device.{PassesOver, Pulls}
+use Rattle.sub_io.specs.Device.{SkipsOver, Pulls}
 use Rattle.sub_io.specs.Reading.{AreNext}
 
 -- A range splits after its first n bytes.
@@ -29,13 +29,13 @@ slice_range-split xs a e n within =
     ∙ ap (λ k. take k (drop a xs) ++ slice_range xs (a + n) e) (sym first)
 
 -- Copying the first n buffered bytes to the front of `to`.
-pub held-split : (xs ys copied rest : List ℕ) (a e n : ℕ)
+pub buffered-split : (xs ys copied rest : List ℕ) (a e n : ℕ)
     → ys ≡ xs
     → a + n ≤ e
     → length copied ≡ n
     → copied ≡ slice_range xs a (a + n)
     → slice_range xs a e ≡ take n (copied ++ rest) ++ slice_range ys (a + n) e
-held-split xs ys copied rest a e n kept within long same =
+buffered-split xs ys copied rest a e n kept within long same =
     slice_range-split xs a e n within
     ∙ ap (λ l. l ++ slice_range xs (a + n) e)
     (sym same ∙ sym (take-append_seam copied rest) ∙ ap (λ k. take k (copied ++ rest)) long)
@@ -51,11 +51,11 @@ Pulls-past x y old new to r none still p =
     rw (none, still, prepend_known-nil x, prepend_known-nil y) p
 
 -- The bytes that the inner sink did not take were moved to the front of the buffer.
-held-rest : (room : List ℕ) (n len : ℕ)
+buffered-rest : (room : List ℕ) (n len : ℕ)
     → n ≤ len
     → len ≤ length room
     → take len room ≡ take n room ++ take (len - n) (paste room 0 (drop n room) (len - n))
-held-rest room n len some within =
+buffered-rest room n len some within =
     let left = len - n in
     let whole : len ≡ n + left = omega arith in
     let same : 0 + left ≡ left = omega arith in
@@ -67,53 +67,53 @@ held-rest room n len some within =
     ∙ ap (λ k. take k (paste room 0 (drop n room) left)) same)
 
 -- The buffered bytes before the push are the n that were taken and those that remain.
-pub held-parts : (old room moved : List ℕ) (n len : ℕ)
+pub buffered-parts : (old room moved : List ℕ) (n len : ℕ)
     → n ≤ len
     → len ≤ length room
     → old ≡ take len room
     → moved ≡ paste room 0 (drop n room) (len - n)
     → old ≡ take n room ++ take (len - n) moved
-held-parts old room moved n len some within was now =
-    was ∙ held-rest room n len some within
+buffered-parts old room moved n len some within was now =
+    was ∙ buffered-rest room n len some within
     ∙ ap (λ l. take n room ++ take (len - n) l) (sym now)
 
 -- If the inner sink took the first n buffered bytes and the rest remains, the bytes taken in total
 -- are the same.
-pub held-moved : (x y : Option (List ℕ)) (old room moved : List ℕ) (n len : ℕ)
+pub buffered-moved : (x y : Option (List ℕ)) (old room moved : List ℕ) (n len : ℕ)
     → n ≤ len
     → len ≤ length room
     → old ≡ take len room
     → moved ≡ paste room 0 (drop n room) (len - n)
     → Appends x y (take n room)
     → Keeps (append_known x old) (append_known y (take (len - n) moved))
-held-moved x y old room moved n len some within was now p =
+buffered-moved x y old room moved n len some within was now p =
     append_known-moved x y (take n room) (take (len - n) moved) old p
-    (held-parts old room moved n len some within was now)
+    (buffered-parts old room moved n len some within was now)
 
 -- ---- bytes that are lent and skipped
 
 -- How many bytes are buffered.
-pub held_length : (xs : List ℕ) (a e : ℕ)
+pub buffered_length : (xs : List ℕ) (a e : ℕ)
     → a ≤ e
     → e ≤ length xs
     → length (slice_range xs a e) ≡ e - a
-held_length xs a e le within = omega (arith, length-take (e - a) (drop a xs), length-drop a xs)
+buffered_length xs a e le within = omega (arith, length-take (e - a) (drop a xs), length-drop a xs)
 
 -- An empty range is empty for any bytes. For `refill`.
-pub none_held : (xs ys : List ℕ) (a e : ℕ)
+pub none_buffered : (xs ys : List ℕ) (a e : ℕ)
     → a ≤ e
     → e ≤ length xs
     → slice_range xs a e ≡ []
     → slice_range ys a e ≡ []
-none_held xs ys a e le within none =
-    let none_left : e - a ≡ 0 = omega (arith, ap length none, held_length xs a e le within) in
+none_buffered xs ys a e le within none =
+    let none_left : e - a ≡ 0 = omega (arith, ap length none, buffered_length xs a e le within) in
     ap (λ k. take k (drop a ys)) none_left
 
 -- The bytes from a to e without the first n.
-pub held_past : (xs : List ℕ) (a e n : ℕ)
+pub buffered_past : (xs : List ℕ) (a e n : ℕ)
     → a + n ≤ e
     → slice_range xs (a + n) e ≡ drop n (slice_range xs a e)
-held_past xs a e n within =
+buffered_past xs a e n within =
     let whole : e - a ≡ n + (e - (a + n)) = omega arith in
     ap (take (e - (a + n))) (sym (drop-drop n a xs))
     ∙ sym (drop-take n (e - (a + n)) (drop a xs))
@@ -124,16 +124,18 @@ pub all_are_next : (xs : List ℕ) → AreNext xs (Some xs)
 all_are_next xs bytes e = ap (take (length xs)) (sym (same_Some xs bytes e)) ∙ take-length xs
 
 -- The buffered bytes come before those of the inner device.
-pub held_are_next : (held : List ℕ) (x : Option (List ℕ)) → AreNext held (prepend_known held x)
-held_are_next held None bytes e = absurd cc
-held_are_next held (Some xs) bytes e =
-    ap (take (length held)) (sym (same_Some (held ++ xs) bytes e)) ∙ take-append_seam held xs
+pub buffered_are_next : (buffered : List ℕ) (x : Option (List ℕ)) → AreNext buffered
+    (prepend_known buffered x)
+buffered_are_next buffered None bytes e = absurd cc
+buffered_are_next buffered (Some xs) bytes e =
+    ap (take (length buffered)) (sym (same_Some (buffered ++ xs) bytes e)) ∙ take-append_seam
+    buffered xs
 
 -- Skipping bytes of a device over memory.
 pub front_passed : (xs rest : List ℕ) (n : ℕ)
     → n ≤ length xs
     → rest ≡ drop n xs
-    → PassesOver (Some xs) n (Some rest)
+    → SkipsOver (Some xs) n (Some rest)
 front_passed xs rest n le e = record {
   bytes = take n xs;
   number = length-take-le n xs le;
@@ -141,29 +143,29 @@ front_passed xs rest n le e = record {
 }
 
 -- Skipping buffered bytes.
-pub held_passed : (x : Option (List ℕ)) (held left : List ℕ) (n : ℕ)
-    → n ≤ length held
-    → left ≡ drop n held
-    → PassesOver (prepend_known held x) n (prepend_known left x)
-held_passed None held left n le e =
-    record { bytes = take n held; number = length-take-le n held le; consumed = tt }
-held_passed (Some xs) held left n le e = record {
-  bytes = take n held;
-  number = length-take-le n held le;
-  consumed = ap (λ l. l ++ xs) (sym (take-append-drop n held))
-      ∙ append_assoc (take n held) (drop n held) xs
-      ∙ ap (λ l. take n held ++ (l ++ xs)) (sym e);
+pub buffered_skipped : (x : Option (List ℕ)) (buffered left : List ℕ) (n : ℕ)
+    → n ≤ length buffered
+    → left ≡ drop n buffered
+    → SkipsOver (prepend_known buffered x) n (prepend_known left x)
+buffered_skipped None buffered left n le e =
+    record { bytes = take n buffered; number = length-take-le n buffered le; consumed = tt }
+buffered_skipped (Some xs) buffered left n le e = record {
+  bytes = take n buffered;
+  number = length-take-le n buffered le;
+  consumed = ap (λ l. l ++ xs) (sym (take-append-drop n buffered))
+      ∙ append_assoc (take n buffered) (drop n buffered) xs
+      ∙ ap (λ l. take n buffered ++ (l ++ xs)) (sym e);
 }
 
 -- The inner source is not called to skip buffered bytes.
-pub held_read : {D : Type 0} (IsPull : D → ℕ → Option ℕ → D → Type 0)
+pub buffered_read : {D : Type 0} (IsPull : D → ℕ → Option ℕ → D → Type 0)
     (old new : ReadAhead D) (n : ℕ)
     → 0 < n
-    → n ≤ length old.held
+    → n ≤ length old.buffered
     → new.device ≡ old.device
     → ReadsAhead IsPull old n (Some n) new
-held_read IsPull old new n some le same = record {
-  held = λ _. same;
+buffered_read IsPull old new n some le same = record {
+  buffered = λ _. same;
   straight = λ none. absurd (omega (arith, ap length none, some, le));
   ahead = λ none. absurd (omega (arith, ap length none, some, le));
 }

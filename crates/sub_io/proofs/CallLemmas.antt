@@ -6,26 +6,26 @@ use Rattle.sub_io.specs.Calls.{FillsByPulls, PutsByPushes}
 
 module _ {D : Type 0} (IsPull : D → ℕ → Option ℕ → D → Type 0) where
   -- A pull that returned bytes, then the rest of the filling.
-  pub fills-more : (old mid new : D) (lent room n left : ℕ) (ok : Bool)
-      → IsPull old lent (Some n) mid
-      → lent ≡ room
+  pub fills-more : (old mid new : D) (borrowed room n left : ℕ) (ok : Bool)
+      → IsPull old borrowed (Some n) mid
+      → borrowed ≡ room
       → 0 < n
       → left ≡ room - n
       → FillsByPulls IsPull mid left ok new
       → FillsByPulls IsPull old room ok new
-  fills-more old mid new lent room n left ok pull whole some is rest =
+  fills-more old mid new borrowed room n left ok pull whole some is rest =
       let then = rw is at rest in
       record { given = n ∷ then.given; pulls = (mid, some, rw whole at pull, then.pulls) }
 
 module _ {D : Type 0} (IsPush : D → List ℕ → Option ℕ → D → Type 0) where
   -- A push that took bytes, then the rest of the writing.
-  pub puts-more : (old mid new : D) (lent bytes : List ℕ) (n at : ℕ) (ok : Bool)
-      → IsPush old lent (Some n) mid
-      → lent ≡ drop at bytes
+  pub puts-more : (old mid new : D) (borrowed bytes : List ℕ) (n at : ℕ) (ok : Bool)
+      → IsPush old borrowed (Some n) mid
+      → borrowed ≡ drop at bytes
       → at < length bytes
       → PutsByPushes IsPush mid (drop (at + n) bytes) ok new
       → PutsByPushes IsPush old (drop at bytes) ok new
-  puts-more old mid new lent bytes n at ok push whole some rest =
+  puts-more old mid new borrowed bytes n at ok push whole some rest =
       let then = rw (← drop-drop n at bytes) at rest in
       let left = length-drop at bytes in
       record {

@@ -11,7 +11,7 @@ use Rattle.std.proofs.lemmas.List.{take-take, take_rest}
 use Rattle.std.proofs.Math.Seq.{take-append-add, take-length}
 use Rattle.std.proofs.lemmas.Option.{same_Some}
 use lib.Seq.{take-add, take-append-le, take-append_seam}
-use Rattle.sub_io.specs.Device.{AppendsPrefix, Fills, PassesOver, Told, Writes}
+use Rattle.sub_io.specs.Device.{AppendsPrefix, Fills, SkipsOver, Told, Writes}
 use Rattle.sub_io.specs.Reading.{AreNext, IfKnown}
 use Rattle.sub_io.specs.declared.source.Failed.{Failed}
 
@@ -22,11 +22,11 @@ take-put_mid : (a k n : ℕ) (xs ys : List ℕ)
     → take (a + n) (put_mid a k xs ys) ≡ take a xs ++ take n ys
 take-put_mid a k n xs ys within fits =
     let after = post_of a k xs in
-    let front = take-put_mid_below a k xs ys a (le_refl a) within in
+    let prefix = take-put_mid_below a k xs ys a (le_refl a) within in
     let back : drop a (put_mid a k xs ys) ≡ ys ++ after =
     drop_at (take a xs) (ys ++ after) a (length-take-le a xs within) in
     take-add a n (put_mid a k xs ys)
-    ∙ ap (λ l. l ++ take n (drop a (put_mid a k xs ys))) front
+    ∙ ap (λ l. l ++ take n (drop a (put_mid a k xs ys))) prefix
     ∙ ap (λ l. take a xs ++ take n l) back
     ∙ ap (λ l. take a xs ++ l) (take-append-le n ys after fits)
 
@@ -41,17 +41,17 @@ Consumes-more x y z a k n xs ys within fits p q =
     subst (Consumes x z) (sym (take-put_mid a k n xs ys within fits)) (Consumes-trans x y z _ _ p q)
 
 -- Skipping the first of the bytes that a device lends.
-pub Consumes-passed : (old new : Option (List ℕ)) (front : List ℕ) (n : ℕ)
-    → AreNext front old
-    → n ≤ length front
-    → PassesOver old n new
-    → Consumes old new (take n front)
-Consumes-passed None new front n begins le p = tt
-Consumes-passed (Some xs) None front n begins le p = absurd p.consumed
-Consumes-passed (Some xs) (Some ys) front n begins le p =
-    let same : take n front ≡ p.bytes =
+pub Consumes-skipped : (old new : Option (List ℕ)) (prefix : List ℕ) (n : ℕ)
+    → AreNext prefix old
+    → n ≤ length prefix
+    → SkipsOver old n new
+    → Consumes old new (take n prefix)
+Consumes-skipped None new prefix n begins le p = tt
+Consumes-skipped (Some xs) None prefix n begins le p = absurd p.consumed
+Consumes-skipped (Some xs) (Some ys) prefix n begins le p =
+    let same : take n prefix ≡ p.bytes =
     ap (take n) (sym (begins xs refl))
-    ∙ take-take n (length front) xs le
+    ∙ take-take n (length prefix) xs le
     ∙ ap (take n) p.consumed
     ∙ ap (λ k. take k (p.bytes ++ ys)) (sym p.number)
     ∙ take-append_seam p.bytes ys in

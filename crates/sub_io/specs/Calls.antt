@@ -3,7 +3,7 @@
 use Rattle.std.specs.Prelude.{◌≡◌, ◌≢◌, ℕ, ◌-◌, ◌<◌, ◌≤◌, ◌⊎◌, Bool, true, false, min}
 use Rattle.std.specs.Prelude.{List, [], ◌∷◌, ◌++◌, length, take, drop}
 use Rattle.std.specs.Prelude.{Option, Some, None, option_map, Result, Ok, Err}
-use Rattle.sub_io.specs.Buffered.{HeldBack, ReadAhead}
+use Rattle.sub_io.specs.Buffered.{BufferState, ReadAhead}
 use Rattle.sub_io.specs.Countdown.{CountingDown, fails_next, countdown_after}
 
 -- How many bytes a call transferred. `None` if it failed.
@@ -13,7 +13,7 @@ answered (Err _) = None
 
 -- No restriction.
 abbrev pub any_call : {D L : Type 0} → D → L → Option ℕ → D → Type 0
-any_call old lent answer new = Unit {0}
+any_call old borrowed answer new = Unit {0}
 
 -- ---- the calls of `fill`
 
@@ -26,14 +26,14 @@ EndsFilling IsPull old room true new =
 EndsFilling IsPull old room false new = (0 < room) × IsPull old room None new
 
 -- Each earlier call returned n > 0 bytes, and was given the rest of the buffer.
-abbrev pub PullsInTurn :
+abbrev pub PullsInOrder :
     {D : Type 0} → (D → ℕ → Option ℕ → D → Type 0) → D → ℕ → List ℕ → Bool → D → Type 0
-PullsInTurn IsPull old room [] ok new = EndsFilling IsPull old room ok new
-PullsInTurn {D} IsPull old room (n ∷ ns) ok new =
+PullsInOrder IsPull old room [] ok new = EndsFilling IsPull old room ok new
+PullsInOrder {D} IsPull old room (n ∷ ns) ok new =
     (mid : D)
     × (0 < n)
     × IsPull old room (Some n) mid
-    × PullsInTurn IsPull mid (room - n) ns ok new
+    × PullsInOrder IsPull mid (room - n) ns ok new
 
 -- The calls that fill a buffer of `room` bytes.
 pub record FillsByPulls
@@ -41,7 +41,7 @@ pub record FillsByPulls
     (old : D) (room : ℕ) (ok : Bool) (new : D)
     : Type 0 where
   pub given : List ℕ
-  pub pulls : PullsInTurn IsPull old room given ok new
+  pub pulls : PullsInOrder IsPull old room given ok new
 
 -- ---- the calls of `put_all`
 
@@ -53,15 +53,15 @@ EndsPutting IsPush old bytes true new = (bytes ≡ []) × (new ≡ old)
 EndsPutting IsPush old bytes false new = (0 < length bytes) × IsPush old bytes None new
 
 -- Each earlier call took n bytes, and was offered all that were left.
-abbrev pub PushesInTurn :
+abbrev pub PushesInOrder :
     {D : Type 0}
     → (D → List ℕ → Option ℕ → D → Type 0) → D → List ℕ → List ℕ → Bool → D → Type 0
-PushesInTurn IsPush old bytes [] ok new = EndsPutting IsPush old bytes ok new
-PushesInTurn {D} IsPush old bytes (n ∷ ns) ok new =
+PushesInOrder IsPush old bytes [] ok new = EndsPutting IsPush old bytes ok new
+PushesInOrder {D} IsPush old bytes (n ∷ ns) ok new =
     (mid : D)
     × (0 < length bytes)
     × IsPush old bytes (Some n) mid
-    × PushesInTurn IsPush mid (drop n bytes) ns ok new
+    × PushesInOrder IsPush mid (drop n bytes) ns ok new
 
 -- The calls that push all of `bytes`.
 pub record PutsByPushes
@@ -69,35 +69,36 @@ pub record PutsByPushes
     (old : D) (bytes : List ℕ) (ok : Bool) (new : D)
     : Type 0 where
   pub taken : List ℕ
-  pub pushes : PushesInTurn IsPush old bytes taken ok new
+  pub pushes : PushesInOrder IsPush old bytes taken ok new
 
 -- ---- devices that wrap another
 
 -- A device with one failing call: that one is not forwarded, every other is forwarded unchanged.
-pub record PassesOn
+pub record Forwards
     {D L : Type 0} (IsCall : D → L → Option ℕ → D → Type 0)
-    (old : CountingDown D) (lent : L) (answer : Option ℕ) (new : CountingDown D)
+    (old : CountingDown D) (borrowed : L) (answer : Option ℕ) (new : CountingDown D)
     : Type 0 where
   pub fails : fails_next old.left ≡ true → (answer ≡ None) × (new.device ≡ old.device)
-  pub passed : fails_next old.left ≡ false → IsCall old.device lent answer new.device
+  pub skipped : fails_next old.left ≡ false → IsCall old.device borrowed answer new.device
   pub left : new.left ≡ countdown_after old.left
 
--- A source with a buffer, at a pull of `lent` bytes.
+-- A source with a buffer, at a pull of `borrowed` bytes.
 pub record ReadsAhead
     {D : Type 0} (IsPull : D → ℕ → Option ℕ → D → Type 0)
-    (old : ReadAhead D) (lent : ℕ) (answer : Option ℕ) (new : ReadAhead D)
+    (old : ReadAhead D) (borrowed : ℕ) (answer : Option ℕ) (new : ReadAhead D)
     : Type 0 where
   -- If bytes are buffered, the inner source is not called.
-  pub held : old.held ≢ [] → new.device ≡ old.device
+  pub buffered : old.buffered ≢ [] → new.device ≡ old.device
   -- Otherwise it is called once: a pull of at least the buffer's size is forwarded,
-  pub straight : old.held ≡ [] → old.room ≤ lent → IsPull old.device lent answer new.device
+  pub straight : old.buffered ≡ [] → old.room ≤ borrowed → IsPull old.device borrowed answer
+      new.device
   -- a shorter one requests a whole buffer.
   pub ahead :
-      old.held ≡ []
-      → lent < old.room
+      old.buffered ≡ []
+      → borrowed < old.room
       → (got : Option ℕ)
       × IsPull old.device old.room got new.device
-      × (answer ≡ option_map (λ n. min n lent) got)
+      × (answer ≡ option_map (λ n. min n borrowed) got)
 
 -- `left` is the bytes without a prefix.
 abbrev pub AreLeftOf : List ℕ → List ℕ → Type 0
@@ -111,47 +112,48 @@ taken_by bytes (Some n) = take n bytes
 -- A push into a sink with a full buffer. The buffer is pushed into the inner sink first. If that
 -- fails, the bytes not taken stay buffered. A push of at least the buffer's size is then forwarded,
 -- a shorter one is buffered.
-pub record HandsOnFull
+pub record FlushesFull
     {D : Type 0} (IsPush : D → List ℕ → Option ℕ → D → Type 0)
-    (old : HeldBack D) (bytes : List ℕ) (answer : Option ℕ) (new : HeldBack D)
+    (old : BufferState D) (bytes : List ℕ) (answer : Option ℕ) (new : BufferState D)
     : Type 0 where
   pub ok : Bool
   pub mid : D
-  pub flushed : PutsByPushes IsPush old.device old.held ok mid
+  pub flushed : PutsByPushes IsPush old.device old.buffered ok mid
   pub failed :
-      ok ≡ false → (answer ≡ None) × (new.device ≡ mid) × AreLeftOf old.held new.held
+      ok ≡ false → (answer ≡ None) × (new.device ≡ mid) × AreLeftOf old.buffered new.buffered
   pub straight :
       ok ≡ true
       → old.room ≤ length bytes
-      → IsPush mid bytes answer new.device × (new.held ≡ [])
+      → IsPush mid bytes answer new.device × (new.buffered ≡ [])
   pub kept :
       ok ≡ true
       → length bytes < old.room
-      → (new.device ≡ mid) × (new.held ≡ taken_by bytes answer)
+      → (new.device ≡ mid) × (new.buffered ≡ taken_by bytes answer)
 
 -- A push into a sink with a buffer: which calls of the inner sink it makes, and what is buffered
 -- afterwards.
-pub record HoldsBack
+pub record PushesBuffered
     {D : Type 0} (IsPush : D → List ℕ → Option ℕ → D → Type 0)
-    (old : HeldBack D) (bytes : List ℕ) (answer : Option ℕ) (new : HeldBack D)
+    (old : BufferState D) (bytes : List ℕ) (answer : Option ℕ) (new : BufferState D)
     : Type 0 where
   -- After a failure the inner sink is not called, and the buffer does not change.
   pub refused :
-      old.failed ≡ true → (answer ≡ None) × (new.device ≡ old.device) × (new.held ≡ old.held)
+      old.failed ≡ true → (answer ≡ None) × (new.device ≡ old.device) ×
+      (new.buffered ≡ old.buffered)
   -- With space in the buffer it is not called either: the bytes taken are appended to the buffer.
   -- But if the buffer is empty, a push of at least its size is forwarded, and the buffer stays
   -- empty.
-  pub held :
+  pub buffered :
       old.failed ≡ false
-      → length old.held < old.room
-      → (old.held ≢ []) ⊎ (length bytes < old.room)
-      → (new.device ≡ old.device) × (new.held ≡ old.held ++ taken_by bytes answer)
+      → length old.buffered < old.room
+      → (old.buffered ≢ []) ⊎ (length bytes < old.room)
+      → (new.device ≡ old.device) × (new.buffered ≡ old.buffered ++ taken_by bytes answer)
   pub straight :
       old.failed ≡ false
-      → old.held ≡ []
+      → old.buffered ≡ []
       → old.room ≤ length bytes
-      → IsPush old.device bytes answer new.device × (new.held ≡ [])
+      → IsPush old.device bytes answer new.device × (new.buffered ≡ [])
   pub full :
       old.failed ≡ false
-      → old.room ≤ length old.held
-      → HandsOnFull IsPush old bytes answer new
+      → old.room ≤ length old.buffered
+      → FlushesFull IsPush old bytes answer new

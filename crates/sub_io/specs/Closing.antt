@@ -4,7 +4,7 @@ use Rattle.std.specs.IoError.{error_kind}
 use Rattle.std.specs.declared.io.Error.{Error}
 use Rattle.std.specs.declared.io.ErrorKind.{ErrorKind}
 use Rattle.std.specs.declared.io.ErrorKind.TheVariants.{InvalidInput, Unsupported}
-use Rattle.sub_io.specs.Buffered.{HeldBack}
+use Rattle.sub_io.specs.Buffered.{BufferState}
 use Rattle.sub_io.specs.Counted.{FileValue}
 
 -- The errors of something that can never be stored, such as a pipe, a terminal or a device: EINVAL,
@@ -43,9 +43,9 @@ pub record LetsGo
 
 -- A buffer is closed by closing the inner device. Buffered bytes are not written.
 pub record ClosesInside
-    {D : Type 0} (IsClose : D → D → Type 0) (old new : HeldBack D) : Type 0 where
+    {D : Type 0} (IsClose : D → D → Type 0) (old new : BufferState D) : Type 0 where
   pub device : IsClose old.device new.device
-  pub held : new.held ≡ old.held
+  pub buffered : new.buffered ≡ old.buffered
   pub room : new.room ≡ old.room
   pub failed : new.failed ≡ old.failed
   pub refused : new.refused ≡ old.refused

@@ -40,7 +40,7 @@ Pulls old new buffer result =
     (λ _. Keeps old new)
 
 -- Exactly `count` bytes were skipped.
-pub record PassesOver (old : Option (List ℕ)) (count : ℕ) (new : Option (List ℕ)) : Type 0 where
+pub record SkipsOver (old : Option (List ℕ)) (count : ℕ) (new : Option (List ℕ)) : Type 0 where
   pub bytes : List ℕ
   pub number : length bytes ≡ count
   pub consumed : Consumes old new bytes
@@ -78,5 +78,5 @@ Writes old new bytes result =
     MatchResult result (λ _. Appends old new bytes) (λ _. AppendsPrefix old new bytes)
 
 -- The number of buffered bytes of a sink that writes at once.
-abbrev pub holds_nothing : {D : Type 0} → D → ℕ
-holds_nothing device = 0
+abbrev pub buffers_nothing : {D : Type 0} → D → ℕ
+buffers_nothing device = 0

@@ -6,8 +6,8 @@ pub mod Countdown
 pub mod Counted
 pub mod Device
 pub mod FaultCode
-pub mod HandingOn
-pub mod Lent
+pub mod Flushing
+pub mod Borrowed
 pub mod Memory
 pub mod Reading
-pub mod Telling
+pub mod Reporting

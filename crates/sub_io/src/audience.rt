@@ -3,7 +3,7 @@
 ghost use Rattle.std.specs.Prelude.{◌≡◌, [], ◌∷◌, Bool, false, Option, None, Some, is_err, is_some};
 ghost use Rattle.std.specs.Prelude.{IsErr, not};
 ghost use Rattle.std.proofs.Common.{refl, subst, sym};
-ghost use Rattle.sub_io.specs.Telling.{KeepsFirst, Tells};
+ghost use Rattle.sub_io.specs.Reporting.{KeepsFirst, Reports};
 
 use crate::{Live, LiveAudience};
 use std::marker::Model;
@@ -18,7 +18,7 @@ pub struct Stopped;
 /// the implementation knows which.
 pub trait Audience<T> {
     // How reporting an item changes it: the state before, the item, the state after.
-    ghost is_told: { Self → T → Self → Type 0 };
+    ghost is_reported: { Self → T → Self → Type 0 };
 
     // It has returned `Stopped`.
     ghost has_stopped: { Self → Bool };
@@ -28,9 +28,9 @@ pub trait Audience<T> {
     /// # Errors
     ///
     /// Returns `Stopped` if it wants no further items. It has received this one.
-    fn tell(&mut self, item: T) -> Result<(), Stopped>
+    fn report(&mut self, item: T) -> Result<(), Stopped>
         requires { has_stopped self.old ≡ false }
-        ensures told { Tells is_told self.old self.new (item ∷ []) }
+        ensures reported { Reports is_reported self.old self.new (item ∷ []) }
         ensures stopped { has_stopped self.new ≡ is_err result };
 }
 
@@ -38,35 +38,35 @@ pub trait Audience<T> {
 ///
 /// Its model is the item that it keeps.
 #[derive(Drop)]
-pub struct FirstTold<T> {
+pub struct FirstReported<T> {
     first: Option<T>,
 }
 
-impl<T> Model for FirstTold<T> {
+impl<T> Model for FirstReported<T> {
     ghost Value = { Option T };
 
     ghost view = { λ f. f.first };
 }
 
-impl<T: Drop> FirstTold<T> {
+impl<T: Drop> FirstReported<T> {
     /// Creates an audience that has received no item.
     pub fn new() -> Self
         ensures { result ≡ None }
     {
-        FirstTold { first: None }
+        FirstReported { first: None }
     }
 
     /// Returns the first item, or `None` if nothing was reported.
     pub fn into_first(self) -> Option<T>
         ensures { result ≡ self }
     {
-        let FirstTold { first } = self;
+        let FirstReported { first } = self;
         first
     }
 }
 
-impl<T: Drop> Audience<T> for FirstTold<T> {
-    ghost is_told = { KeepsFirst };
+impl<T: Drop> Audience<T> for FirstReported<T> {
+    ghost is_reported = { KeepsFirst };
 
     ghost has_stopped = { λ f. is_some f };
 
@@ -75,8 +75,8 @@ impl<T: Drop> Audience<T> for FirstTold<T> {
     /// # Errors
     ///
     /// Always returns `Stopped`.
-    #[tactic(auto, using(crate::proofs::TellingLemmas::tellings))]
-    fn tell(&mut self, item: T) -> Result<(), Stopped>
+    #[tactic(auto, using(crate::proofs::ReportingLemmas::tellings))]
+    fn report(&mut self, item: T) -> Result<(), Stopped>
         ensures first { self.new ≡ Some item }
         ensures stopped { IsErr result }
     {
@@ -85,15 +85,15 @@ impl<T: Drop> Audience<T> for FirstTold<T> {
     }
 }
 
-impl<T> Live for FirstTold<T> {
-    ghost is_waiting = { λ _. false };
+impl<T> Live for FirstReported<T> {
+    ghost has_pending_reports = { λ _. false };
 
-    ghost held = { λ _. 0 };
+    ghost buffered = { λ _. 0 };
 
-    ghost is_handed_on = { λ old ok new. (new ≡ old) × (is_some new ≡ not ok) };
+    ghost is_flushed = { λ old ok new. (new ≡ old) × (is_some new ≡ not ok) };
 
     /// Returns `false`, since it buffers nothing.
-    fn waits(&self) -> bool {
+    fn has_pending(&self) -> bool {
         false
     }
 
@@ -102,7 +102,7 @@ impl<T> Live for FirstTold<T> {
     /// # Errors
     ///
     /// Returns `Stopped` once it has received an item.
-    fn hand_on(&mut self) -> Result<(), Stopped> {
+    fn flush_pending(&mut self) -> Result<(), Stopped> {
         if self.first.is_some() {
             return Err(Stopped);
         }
@@ -110,11 +110,11 @@ impl<T> Live for FirstTold<T> {
     }
 }
 
-impl<T: Drop> LiveAudience<T> for FirstTold<T> {
-    ghost stays_told = { record {
-      told = λ before old new item ok told waits on.
-          subst (λ d. KeepsFirst before item d) (sym on.0) told;
+impl<T: Drop> LiveAudience<T> for FirstReported<T> {
+    ghost stays_reported = { record {
+      reported = λ before old new item ok reported has_pending on.
+          subst (λ d. KeepsFirst before item d) (sym on.0) reported;
       stopped = λ old new ok on. on.1;
-      waits = λ before new item told still. refl;
+      has_pending = λ before new item reported still. refl;
     } };
 }

@@ -3,8 +3,8 @@
 ghost use Rattle.std.specs.Prelude.{◌≡◌, ◌≢◌, ◌+◌, ◌-◌, ◌<◌, ◌≤◌, min, [], ◌++◌, length, take};
 ghost use Rattle.std.specs.Prelude.{Ok, IfErr, IfOk, IsErr, OnOk, false, true, is_ok, ◌↔◌, ◌⊎◌};
 ghost use Rattle.std.specs.Io.KnownBytes.{Appends, Keeps, append_known};
-ghost use Rattle.sub_io.specs.Buffered.{HeldBack, failures_and_refused};
-ghost use Rattle.sub_io.specs.Calls.{AreLeftOf, HoldsBack, PutsByPushes, answered};
+ghost use Rattle.sub_io.specs.Buffered.{BufferState, failures_and_refused};
+ghost use Rattle.sub_io.specs.Calls.{AreLeftOf, PushesBuffered, PutsByPushes, answered};
 ghost use Rattle.sub_io.specs.Closing.{ClosesInside};
 ghost use Rattle.sub_io.specs.Device.{CanFail, CountsFailure, Pushes};
 
@@ -32,11 +32,11 @@ pub struct BufferedSink<'a, K> {
 }
 
 impl<'a, K> Model for BufferedSink<'a, K> {
-    ghost Value = { HeldBack K };
+    ghost Value = { BufferState K };
 
     ghost view = { λ k. record {
       device = k.inner;
-      held = take k.len k.room.now;
+      buffered = take k.len k.room.now;
       room = length k.room.now;
       failed = k.failed;
       refused = k.refused;
@@ -51,7 +51,7 @@ impl<'a, K: Sink> BufferedSink<'a, K> {
         requires { 0 < length room.old }
         ensures { result ≡ record {
           device = inner;
-          held = [];
+          buffered = [];
           room = length room.old;
           failed = false;
           refused = 0;
@@ -84,7 +84,7 @@ impl<'a, K: Sink> BufferedSink<'a, K> {
         ensures bound { IfOk result (λ n. n ≤ length from.now) }
         ensures bytes { Pushes
             (K.contents self.old.device) (K.contents self.new.device) from.now result }
-        ensures held { self.new.held ≡ self.old.held }
+        ensures buffered { self.new.buffered ≡ self.old.buffered }
         ensures failed { IsErr result ↔ (self.new.failed ≡ true) }
         ensures room { self.new.room ≡ self.old.room }
         ensures refused { self.new.refused ≡ self.old.refused }
@@ -97,9 +97,9 @@ impl<'a, K: Sink> BufferedSink<'a, K> {
     }
 
     // Appends as many bytes as fit to the buffer, and returns how many.
-    fn hold(&mut self, from: &[u8]) -> usize
-        ensures number { result ≡ min (length from.now) (self.old.room - length self.old.held) }
-        ensures held { self.new.held ≡ self.old.held ++ take result from.now }
+    fn buffer_bytes(&mut self, from: &[u8]) -> usize
+        ensures number { result ≡ min (length from.now) (self.old.room - length self.old.buffered) }
+        ensures buffered { self.new.buffered ≡ self.old.buffered ++ take result from.now }
         ensures device { self.new.device ≡ self.old.device }
         ensures room { self.new.room ≡ self.old.room }
         ensures failed { self.new.failed ≡ self.old.failed }
@@ -130,12 +130,12 @@ fn push_front<K: Sink>(sink: &mut K, room: &mut [u8], len: usize) -> Result<(), 
 }
 
 impl<K: Sink> Sink for BufferedSink<'_, K> {
-    ghost contents = { λ k. append_known (K.contents k.device) k.held };
+    ghost contents = { λ k. append_known (K.contents k.device) k.buffered };
 
     ghost failure_count = { λ k.
         failures_and_refused (K.failure_count k.device) k.refused };
 
-    ghost is_push = { HoldsBack K.is_push };
+    ghost is_push = { PushesBuffered K.is_push };
 
     /// Buffers as many bytes as fit. Flushes first if the buffer is full. If the buffer is empty
     /// and `from` is at least as long as the buffer, pushes directly into the inner sink.
@@ -152,32 +152,32 @@ impl<K: Sink> Sink for BufferedSink<'_, K> {
         ensures refused { self.old.failed ≡ true → IsErr result
             × (self.new ≡ record self.old { refused = self.old.refused + 1 }) }
         // Before that, failures are those of the inner sink.
-        ensures asked { self.old.failed ≡ false → (self.new.refused ≡ self.old.refused)
+        ensures requested { self.old.failed ≡ false → (self.new.refused ≡ self.old.refused)
             × CountsFailure
             (K.failure_count self.old.device) result (K.failure_count self.new.device) }
         ensures failed { IsErr result ↔ (self.new.failed ≡ true) }
         // Bytes that fit are buffered without a call of the inner sink.
-        ensures held { self.old.failed ≡ false
-            → length self.old.held < self.old.room
-            → (self.old.held ≢ []) ⊎ (length from.now < self.old.room)
+        ensures buffered { self.old.failed ≡ false
+            → length self.old.buffered < self.old.room
+            → (self.old.buffered ≢ []) ⊎ (length from.now < self.old.room)
             → (self.new.device ≡ self.old.device)
-            × (result ≡ Ok (min (length from.now) (self.old.room - length self.old.held)))
-            × IfOk result (λ n. self.new.held ≡ self.old.held ++ take n from.now) }
+            × (result ≡ Ok (min (length from.now) (self.old.room - length self.old.buffered)))
+            × IfOk result (λ n. self.new.buffered ≡ self.old.buffered ++ take n from.now) }
         // A push of at least the buffer's size goes directly to the inner sink if the buffer is
         // empty.
         ensures straight { self.old.failed ≡ false
-            → self.old.held ≡ []
+            → self.old.buffered ≡ []
             → self.old.room ≤ length from.now
-            → (self.new.held ≡ [])
+            → (self.new.buffered ≡ [])
             × Pushes (K.contents self.old.device) (K.contents self.new.device) from.now result }
         ensures room { self.new.room ≡ self.old.room }
 
-        ensures call { HoldsBack K.is_push self.old from.now (answered result) self.new }
+        ensures call { PushesBuffered K.is_push self.old from.now (answered result) self.new }
         ensures some { IfOk result (λ n. 0 < n) }
         ensures bound { IfOk result (λ n. n ≤ length from.now) }
         ensures bytes { Pushes
-            (append_known (K.contents self.old.device) self.old.held)
-            (append_known (K.contents self.new.device) self.new.held)
+            (append_known (K.contents self.old.device) self.old.buffered)
+            (append_known (K.contents self.new.device) self.new.buffered)
             from.now result }
         ensures count { CountsFailure
             (failures_and_refused (K.failure_count self.old.device) self.old.refused)
@@ -194,7 +194,7 @@ impl<K: Sink> Sink for BufferedSink<'_, K> {
         if self.len == 0 && from.len() >= self.room.len() {
             return self.push_through(from);
         }
-        Ok(self.hold(from))
+        Ok(self.buffer_bytes(from))
     }
 
     /// Returns the failures of the inner sink, plus the calls refused after the first of them.
@@ -204,7 +204,7 @@ impl<K: Sink> Sink for BufferedSink<'_, K> {
 }
 
 impl<K: Sink> Flush for BufferedSink<'_, K> {
-    ghost held = { λ k. length k.held };
+    ghost buffered = { λ k. length k.buffered };
 
     /// Pushes all buffered bytes into the inner sink.
     ///
@@ -219,23 +219,23 @@ impl<K: Sink> Flush for BufferedSink<'_, K> {
         ensures refused { self.old.failed ≡ true → IsErr result
             × (self.new ≡ record self.old { refused = self.old.refused + 1 }) }
         // Before that, failures are those of the inner sink.
-        ensures asked { self.old.failed ≡ false → (self.new.refused ≡ self.old.refused)
+        ensures requested { self.old.failed ≡ false → (self.new.refused ≡ self.old.refused)
             × CountsFailure
             (K.failure_count self.old.device) result (K.failure_count self.new.device) }
         ensures failed { IsErr result ↔ (self.new.failed ≡ true) }
         ensures calls { self.old.failed ≡ false → PutsByPushes K.is_push
-            self.old.device self.old.held (is_ok result) self.new.device }
+            self.old.device self.old.buffered (is_ok result) self.new.device }
         // On success the inner sink has taken all buffered bytes.
-        ensures whole { OnOk result ((self.new.held ≡ [])
-            × Appends (K.contents self.old.device) (K.contents self.new.device) self.old.held) }
+        ensures whole { OnOk result ((self.new.buffered ≡ [])
+            × Appends (K.contents self.old.device) (K.contents self.new.device) self.old.buffered) }
         // On failure the bytes that it did not take stay in the buffer.
-        ensures left { IfErr result (λ _. AreLeftOf self.old.held self.new.held) }
+        ensures left { IfErr result (λ _. AreLeftOf self.old.buffered self.new.buffered) }
         ensures room { self.new.room ≡ self.old.room }
 
         ensures bytes { Keeps
-            (append_known (K.contents self.old.device) self.old.held)
-            (append_known (K.contents self.new.device) self.new.held) }
-        ensures held { OnOk result (length self.new.held ≡ 0) }
+            (append_known (K.contents self.old.device) self.old.buffered)
+            (append_known (K.contents self.new.device) self.new.buffered) }
+        ensures buffered { OnOk result (length self.new.buffered ≡ 0) }
         ensures count { CountsFailure
             (failures_and_refused (K.failure_count self.old.device) self.old.refused)
             result
@@ -280,9 +280,9 @@ impl<K: Close> Close for BufferedSink<'_, K> {
         ensures failed { IsErr result ↔ (self.new.failed ≡ true) }
         ensures room { self.new.room ≡ self.old.room }
         ensures bytes { Keeps
-            (append_known (K.contents self.old.device) self.old.held)
-            (append_known (K.contents self.new.device) self.new.held) }
-        ensures held { OnOk result (length self.new.held ≡ 0) }
+            (append_known (K.contents self.old.device) self.old.buffered)
+            (append_known (K.contents self.new.device) self.new.buffered) }
+        ensures buffered { OnOk result (length self.new.buffered ≡ 0) }
         ensures stored { OnOk result (K.is_stored self.new.device ≡ true) }
         ensures count { CountsFailure
             (failures_and_refused (K.failure_count self.old.device) self.old.refused)

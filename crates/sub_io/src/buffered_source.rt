@@ -7,8 +7,8 @@ ghost use Rattle.std.specs.Io.{ReadsAtMost};
 ghost use Rattle.std.specs.Io.KnownBytes.{Consumes, IsAtEnd, Keeps, prepend_known};
 ghost use Rattle.sub_io.specs.Buffered.{ReadAhead};
 ghost use Rattle.sub_io.specs.Calls.{ReadsAhead, answered};
-ghost use Rattle.sub_io.specs.Device.{CanFail, CountsFailure, PassesOver, Pulls};
-ghost use Rattle.sub_io.specs.Lent.{BeginLent, GivesLent};
+ghost use Rattle.sub_io.specs.Device.{CanFail, CountsFailure, SkipsOver, Pulls};
+ghost use Rattle.sub_io.specs.Borrowed.{BeginBorrowed, GivesBorrowed};
 ghost use Rattle.sub_io.specs.Reading.{AreNext};
 
 use crate::{Failed, Source};
@@ -34,7 +34,7 @@ impl<'a, S> Model for BufferedSource<'a, S> {
 
     ghost view = { λ s. record {
       device = s.inner;
-      held = slice_range s.room.now s.start s.end;
+      buffered = slice_range s.room.now s.start s.end;
       room = length s.room.now;
     } };
 
@@ -45,7 +45,7 @@ impl<'a, S: Source> BufferedSource<'a, S> {
     /// Creates a source with an empty buffer, which holds as many bytes as `room` is long.
     pub fn new(inner: S, room: &'a mut [u8]) -> Self
         requires { 0 < length room.old }
-        ensures { result ≡ record { device = inner; held = []; room = length room.old } }
+        ensures { result ≡ record { device = inner; buffered = []; room = length room.old } }
     {
         BufferedSource {
             inner,
@@ -64,20 +64,20 @@ impl<'a, S: Source> BufferedSource<'a, S> {
     }
 
     // Fills the empty buffer by one call of the inner source.
-    #[tactic(auto, using(crate::proofs::BufferLemmas::none_held))]
+    #[tactic(auto, using(crate::proofs::BufferLemmas::none_buffered))]
     fn refill(&mut self) -> Result<(), Failed>
-        requires empty { self.old.held ≡ [] }
+        requires empty { self.old.buffered ≡ [] }
         requires count { CanFail (S.failure_count self.old.device) }
         ensures call { MatchResult result
-            (λ _. S.is_pull self.old.device self.old.room (Some (length self.new.held))
+            (λ _. S.is_pull self.old.device self.old.room (Some (length self.new.buffered))
             self.new.device)
             (λ _. S.is_pull self.old.device self.old.room None self.new.device) }
         ensures room { self.new.room ≡ self.old.room }
         ensures bytes { IfOk result (λ _. Consumes
-            (S.remaining self.old.device) (S.remaining self.new.device) self.new.held) }
-        ensures end { IfOk result (λ _. self.new.held ≡ [] → 0 < self.old.room
+            (S.remaining self.old.device) (S.remaining self.new.device) self.new.buffered) }
+        ensures end { IfOk result (λ _. self.new.buffered ≡ [] → 0 < self.old.room
             → IsAtEnd (S.remaining self.new.device)) }
-        ensures err { OnErr result ((self.new.held ≡ [])
+        ensures err { OnErr result ((self.new.buffered ≡ [])
             × Keeps (S.remaining self.old.device) (S.remaining self.new.device)) }
         ensures count { CountsFailure
             (S.failure_count self.old.device) result (S.failure_count self.new.device) }
@@ -89,16 +89,16 @@ impl<'a, S: Source> BufferedSource<'a, S> {
     }
 
     // Moves as many buffered bytes into `to` as fit, and returns how many.
-    fn give(&mut self, to: &mut [u8]) -> usize
-        ensures number { result ≡ min (length self.old.held) (length to.old) }
+    fn move_buffered(&mut self, to: &mut [u8]) -> usize
+        ensures number { result ≡ min (length self.old.buffered) (length to.old) }
         ensures len { length to.new ≡ length to.old }
-        ensures bytes { self.old.held ≡ take result to.new ++ self.new.held }
+        ensures bytes { self.old.buffered ≡ take result to.new ++ self.new.buffered }
         ensures device { self.new.device ≡ self.old.device }
         ensures room { self.new.room ≡ self.old.room }
     {
         let (start, end) = (self.start, self.end);
         let n = to.len().min(end - start);
-        copy_front(self.room, start, &mut to[..n]);
+        copy_prefix(self.room, start, &mut to[..n]);
         self.start = start + n;
         n
     }
@@ -106,7 +106,7 @@ impl<'a, S: Source> BufferedSource<'a, S> {
 
 // Copies `to.len()` bytes of the buffer, from `start` on. `room` is `&mut` only because a shared
 // slice behind `self` is not known to keep its contents; it is not changed.
-fn copy_front(room: &mut [u8], start: usize, to: &mut [u8])
+fn copy_prefix(room: &mut [u8], start: usize, to: &mut [u8])
     requires { start + length to.old ≤ length room.old }
     ensures same { room.new ≡ room.old }
     ensures len { length to.new ≡ length to.old }
@@ -117,13 +117,13 @@ fn copy_front(room: &mut [u8], start: usize, to: &mut [u8])
 }
 
 impl<S: Source> Source for BufferedSource<'_, S> {
-    ghost remaining = { λ s. prepend_known s.held (S.remaining s.device) };
+    ghost remaining = { λ s. prepend_known s.buffered (S.remaining s.device) };
 
     ghost failure_count = { λ s. S.failure_count s.device };
 
     ghost is_pull = { ReadsAhead S.is_pull };
 
-    ghost lent = { λ s. s.held };
+    ghost borrowed = { λ s. s.buffered };
 
     /// Returns buffered bytes. If there are none, calls the inner source once, and reads directly
     /// into `to` if that is at least as long as the buffer.
@@ -136,28 +136,29 @@ impl<S: Source> Source for BufferedSource<'_, S> {
         requires { CanFail (S.failure_count self.old.device) }
 
         // Buffered bytes are returned without a call of the inner source.
-        ensures held { self.old.held ≢ [] → (self.new.device ≡ self.old.device)
-            × (result ≡ Ok (min (length self.old.held) (length to.old)))
-            × IfOk result (λ n. self.old.held ≡ take n to.new ++ self.new.held) }
+        ensures buffered { self.old.buffered ≢ [] → (self.new.device ≡ self.old.device)
+            × (result ≡ Ok (min (length self.old.buffered) (length to.old)))
+            × IfOk result (λ n. self.old.buffered ≡ take n to.new ++ self.new.buffered) }
         // With an empty buffer, the bytes that the inner source gives are returned or buffered.
         // After a failure the buffer is empty.
-        ensures asked { self.old.held ≡ [] → IfOk result (λ n. Consumes
+        ensures requested { self.old.buffered ≡ [] → IfOk result (λ n. Consumes
             (S.remaining self.old.device) (S.remaining self.new.device)
-            (take n to.new ++ self.new.held)) }
-        ensures err { OnErr result ((self.old.held ≡ []) × (self.new.held ≡ [])) }
+            (take n to.new ++ self.new.buffered)) }
+        ensures err { OnErr result ((self.old.buffered ≡ []) × (self.new.buffered ≡ [])) }
         // A pull of at least the buffer's size bypasses the buffer. Bytes stay in the buffer only
         // if `to` was filled.
-        ensures straight { self.old.held ≡ [] → self.old.room ≤ length to.old → self.new.held ≡ [] }
-        ensures full { IfOk result (λ n. n < length to.old → self.new.held ≡ []) }
+        ensures straight { self.old.buffered ≡ [] → self.old.room ≤ length to.old →
+            self.new.buffered ≡ [] }
+        ensures full { IfOk result (λ n. n < length to.old → self.new.buffered ≡ []) }
         ensures room { self.new.room ≡ self.old.room }
 
         ensures call { ReadsAhead S.is_pull self.old (length to.old) (answered result) self.new }
         ensures bound { ReadsAtMost result to.new }
         ensures bytes { Pulls
-            (prepend_known self.old.held (S.remaining self.old.device))
-            (prepend_known self.new.held (S.remaining self.new.device))
+            (prepend_known self.old.buffered (S.remaining self.old.device))
+            (prepend_known self.new.buffered (S.remaining self.new.device))
             to.new result }
-        ensures lent { GivesLent self.old.held self.new.held to.new result }
+        ensures borrowed { GivesBorrowed self.old.buffered self.new.buffered to.new result }
         ensures count { CountsFailure
             (S.failure_count self.old.device) result (S.failure_count self.new.device) }
     {
@@ -167,7 +168,7 @@ impl<S: Source> Source for BufferedSource<'_, S> {
             }
             self.refill()?;
         }
-        Ok(self.give(to))
+        Ok(self.move_buffered(to))
     }
 
     /// Returns the failures of the inner source.
@@ -177,27 +178,27 @@ impl<S: Source> Source for BufferedSource<'_, S> {
 
     /// Returns all buffered bytes.
     #[inline(always)]
-    fn held(&self) -> &[u8]
-        ensures all { result.now ≡ self.now.held }
+    fn buffered(&self) -> &[u8]
+        ensures all { result.now ≡ self.now.buffered }
         ensures bytes { AreNext result.now
-            (prepend_known self.now.held (S.remaining self.now.device)) }
-        ensures lent { BeginLent result.now self.now.held }
+            (prepend_known self.now.buffered (S.remaining self.now.device)) }
+        ensures borrowed { BeginBorrowed result.now self.now.buffered }
     {
         &self.room[self.start..self.end]
     }
 
     /// Skips buffered bytes without a call of the inner source.
     #[inline(always)]
-    fn pass(&mut self, count: usize) -> bool
+    fn skip_bytes(&mut self, count: usize) -> bool
         requires some { 0 < count }
         requires count { CanFail (S.failure_count self.old.device) }
-        ensures held { (result ≡ true) ↔ (count ≤ length self.old.held) }
-        ensures passed { result ≡ true → (self.new.held ≡ drop count self.old.held)
+        ensures buffered { (result ≡ true) ↔ (count ≤ length self.old.buffered) }
+        ensures skipped { result ≡ true → (self.new.buffered ≡ drop count self.old.buffered)
             × (self.new.device ≡ self.old.device) × (self.new.room ≡ self.old.room) }
         ensures call { result ≡ true → ReadsAhead S.is_pull self.old count (Some count) self.new }
-        ensures bytes { result ≡ true → PassesOver
-            (prepend_known self.old.held (S.remaining self.old.device)) count
-            (prepend_known self.new.held (S.remaining self.new.device)) }
+        ensures bytes { result ≡ true → SkipsOver
+            (prepend_known self.old.buffered (S.remaining self.old.device)) count
+            (prepend_known self.new.buffered (S.remaining self.new.device)) }
         ensures none { result ≡ false → self.new ≡ self.old }
         ensures count { S.failure_count self.new.device ≡ S.failure_count self.old.device }
     {

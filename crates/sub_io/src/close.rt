@@ -89,7 +89,7 @@ pub trait Close: Flush {
     fn store(&mut self) -> Result<(), Failed>
         requires { CanFail (Self.failure_count self.old) }
         ensures bytes { Keeps (Self.contents self.old) (Self.contents self.new) }
-        ensures held { OnOk result (Self.held self.new ≡ 0) }
+        ensures buffered { OnOk result (Self.buffered self.new ≡ 0) }
         ensures stored { OnOk result (is_stored self.new ≡ true) }
         ensures count { CountsFailure (Self.failure_count self.old) result
             (Self.failure_count self.new) };

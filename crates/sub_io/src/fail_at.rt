@@ -4,7 +4,7 @@ ghost use Rattle.std.specs.Prelude.{◌≡◌, ◌<◌, ◌≤◌, length, Some,
 ghost use Rattle.std.specs.Prelude.{false, true};
 ghost use Rattle.std.specs.Io.{ReadsAtMost};
 ghost use Rattle.std.specs.Io.KnownBytes.{Keeps};
-ghost use Rattle.sub_io.specs.Calls.{PassesOn, answered};
+ghost use Rattle.sub_io.specs.Calls.{Forwards, answered};
 ghost use Rattle.sub_io.specs.Countdown.{CountingDown, failures_with, fails_next, countdown_after};
 ghost use Rattle.sub_io.specs.Device.{CanFail, CountsFailure, Pulls, Pushes};
 
@@ -75,7 +75,7 @@ impl<S: Source> Source for FailAt<S> {
 
     ghost failure_count = { λ d. failures_with d.left (S.failure_count d.device) };
 
-    ghost is_pull = { PassesOn S.is_pull };
+    ghost is_pull = { Forwards S.is_pull };
 
     /// Pulls from the inner device.
     ///
@@ -88,11 +88,11 @@ impl<S: Source> Source for FailAt<S> {
         // The chosen call does nothing, every other is forwarded, and all are counted.
         ensures fails { fails_next self.old.left ≡ true →
             IsErr result × (self.new.device ≡ self.old.device) × (to.new ≡ to.old) }
-        ensures passed { fails_next self.old.left ≡ false → CountsFailure
+        ensures skipped { fails_next self.old.left ≡ false → CountsFailure
             (S.failure_count self.old.device) result (S.failure_count self.new.device) }
         ensures left { self.new.left ≡ countdown_after self.old.left }
 
-        ensures call { PassesOn S.is_pull self.old (length to.old) (answered result) self.new }
+        ensures call { Forwards S.is_pull self.old (length to.old) (answered result) self.new }
         ensures bound { ReadsAtMost result to.new }
         ensures bytes { Pulls
             (S.remaining self.old.device) (S.remaining self.new.device) to.new result }
@@ -113,7 +113,7 @@ impl<S: Source> Source for FailAt<S> {
     }
 
     /// Returns `false`, since it lends no bytes.
-    fn pass(&mut self, _count: usize) -> bool {
+    fn skip_bytes(&mut self, _count: usize) -> bool {
         false
     }
 }
@@ -123,7 +123,7 @@ impl<K: Sink> Sink for FailAt<K> {
 
     ghost failure_count = { λ d. failures_with d.left (K.failure_count d.device) };
 
-    ghost is_push = { PassesOn K.is_push };
+    ghost is_push = { Forwards K.is_push };
 
     /// Pushes into the inner device.
     ///
@@ -137,11 +137,11 @@ impl<K: Sink> Sink for FailAt<K> {
         // The chosen call does nothing, every other is forwarded, and all are counted.
         ensures fails { fails_next self.old.left ≡ true →
             IsErr result × (self.new.device ≡ self.old.device) }
-        ensures passed { fails_next self.old.left ≡ false → CountsFailure
+        ensures skipped { fails_next self.old.left ≡ false → CountsFailure
             (K.failure_count self.old.device) result (K.failure_count self.new.device) }
         ensures left { self.new.left ≡ countdown_after self.old.left }
 
-        ensures call { PassesOn K.is_push self.old from.now (answered result) self.new }
+        ensures call { Forwards K.is_push self.old from.now (answered result) self.new }
         ensures some { IfOk result (λ n. 0 < n) }
         ensures bound { IfOk result (λ n. n ≤ length from.now) }
         ensures bytes { Pushes
@@ -164,7 +164,7 @@ impl<K: Sink> Sink for FailAt<K> {
 }
 
 impl<K: Flush> Flush for FailAt<K> {
-    ghost held = { λ d. K.held d.device };
+    ghost buffered = { λ d. K.buffered d.device };
 
     /// Flushes the inner device.
     ///
@@ -177,12 +177,12 @@ impl<K: Flush> Flush for FailAt<K> {
         // The chosen call does nothing, every other is forwarded, and all are counted.
         ensures fails { fails_next self.old.left ≡ true →
             IsErr result × (self.new.device ≡ self.old.device) }
-        ensures passed { fails_next self.old.left ≡ false → CountsFailure
+        ensures skipped { fails_next self.old.left ≡ false → CountsFailure
             (K.failure_count self.old.device) result (K.failure_count self.new.device) }
         ensures left { self.new.left ≡ countdown_after self.old.left }
 
         ensures bytes { Keeps (K.contents self.old.device) (K.contents self.new.device) }
-        ensures held { OnOk result (K.held self.new.device ≡ 0) }
+        ensures buffered { OnOk result (K.buffered self.new.device ≡ 0) }
         ensures count { CountsFailure
             (failures_with self.old.left (K.failure_count self.old.device))
             result
@@ -214,12 +214,12 @@ impl<K: Close> Close for FailAt<K> {
         // The chosen call does nothing, every other is forwarded, and all are counted.
         ensures fails { fails_next self.old.left ≡ true →
             IsErr result × (self.new.device ≡ self.old.device) }
-        ensures passed { fails_next self.old.left ≡ false → CountsFailure
+        ensures skipped { fails_next self.old.left ≡ false → CountsFailure
             (K.failure_count self.old.device) result (K.failure_count self.new.device) }
         ensures left { self.new.left ≡ countdown_after self.old.left }
 
         ensures bytes { Keeps (K.contents self.old.device) (K.contents self.new.device) }
-        ensures held { OnOk result (K.held self.new.device ≡ 0) }
+        ensures buffered { OnOk result (K.buffered self.new.device ≡ 0) }
         ensures stored { OnOk result (K.is_stored self.new.device ≡ true) }
         ensures count { CountsFailure
             (failures_with self.old.left (K.failure_count self.old.device))

@@ -5,7 +5,7 @@ ghost use Rattle.std.specs.Prelude.{Some, [], false, is_none, length, true};
 ghost use Rattle.std.specs.Io.KnownBytes.{Keeps};
 ghost use Rattle.sub_io.specs.Closing.{LetsGo};
 ghost use Rattle.sub_io.specs.Counted.{FileValue, known_while_open};
-ghost use Rattle.sub_io.specs.Device.{CanFail, CountsFailure, Pushes, holds_nothing};
+ghost use Rattle.sub_io.specs.Device.{CanFail, CountsFailure, Pushes, buffers_nothing};
 
 use crate::taken::{Piece, Taken};
 use crate::{Close, Failed, Flush, LetGo, Sink, Store};
@@ -107,7 +107,7 @@ impl<W: Write> Sink for IntoFile<W> {
 
 impl<W: Write> Flush for IntoFile<W> {
     // Every push writes at once.
-    ghost held = { holds_nothing };
+    ghost buffered = { buffers_nothing };
 
     /// Flushes the writer.
     ///
@@ -122,7 +122,7 @@ impl<W: Write> Flush for IntoFile<W> {
         ensures stored { self.new.is_stored ≡ self.old.is_stored }
         ensures taken { self.new.taken ≡ self.old.taken }
         ensures bytes { Keeps (Some self.old.taken) (Some self.new.taken) }
-        ensures held { OnOk result (holds_nothing self.new ≡ 0) }
+        ensures buffered { OnOk result (buffers_nothing self.new ≡ 0) }
         ensures count { CountsFailure self.old.failure_count result self.new.failure_count }
     {
         let Some(writer) = &mut self.inner else {
@@ -155,7 +155,7 @@ impl<W: Write + LetGo + Store> Close for IntoFile<W> {
         // In its new state the writer answered that nothing is lost.
         ensures call { OnOk result (IfSome self.new.device (λ writer. W.is_store writer true)) }
         ensures bytes { Keeps (Some self.old.taken) (Some self.new.taken) }
-        ensures held { OnOk result (holds_nothing self.new ≡ 0) }
+        ensures buffered { OnOk result (buffers_nothing self.new ≡ 0) }
         ensures stored { OnOk result (self.new.is_stored ≡ true) }
         ensures count { CountsFailure self.old.failure_count result self.new.failure_count }
     {

@@ -21,7 +21,7 @@
 //!   less often.
 //! - `FailAt` makes one chosen call of another device fail.
 //! - `Audience` is the trait of consumers to which items are reported one at a time, and which may
-//!   stop; `FirstTold` stops at the first.
+//!   stop; `FirstReported` stops at the first.
 //! - `Live` is a consumer that can flush what it buffers before a read that may block.
 //! - `FaultCode` is the number and the name of a fault of any crate.
 #![tactic(auto)]
@@ -40,7 +40,7 @@ mod source;
 mod std_io;
 mod taken;
 
-pub use audience::{Audience, FirstTold, Stopped};
+pub use audience::{Audience, FirstReported, Stopped};
 pub use buffered_sink::BufferedSink;
 pub use buffered_source::BufferedSource;
 pub use close::{Close, LetGo, Store};

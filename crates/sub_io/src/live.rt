@@ -2,39 +2,40 @@
 //! call that flushes them.
 
 ghost use Rattle.std.specs.Prelude.{◌≡◌, ℕ, Bool, OnOk, false, is_ok};
-ghost use Rattle.sub_io.specs.HandingOn.{StaysTold};
+ghost use Rattle.sub_io.specs.Flushing.{StaysReported};
 
 use crate::{Audience, Stopped};
 
 /// A device that may buffer reports or bytes, and can flush them.
 pub trait Live {
     // Reports may be pending.
-    ghost is_waiting: { Self → Bool };
+    ghost has_pending_reports: { Self → Bool };
 
     // How many bytes are buffered, by it and by the devices below it.
-    ghost held: { Self → ℕ };
+    ghost buffered: { Self → ℕ };
 
     // How flushing changes it: the state before, whether it succeeded, the state after.
-    ghost is_handed_on: { Self → Bool → Self → Type 0 };
+    ghost is_flushed: { Self → Bool → Self → Type 0 };
 
     /// Returns whether reports may be pending.
-    fn waits(&self) -> bool
-        ensures { result ≡ is_waiting self.now };
+    fn has_pending(&self) -> bool
+        ensures { result ≡ has_pending_reports self.now };
 
     /// Flushes everything that is buffered.
     ///
     /// # Errors
     ///
     /// Returns `Stopped` if it failed, in this call or earlier.
-    fn hand_on(&mut self) -> Result<(), Stopped>
-        ensures call { is_handed_on self.old (is_ok result) self.new }
-        ensures none { OnOk result (held self.new ≡ 0) }
-        ensures still { OnOk result (is_waiting self.new ≡ false) };
+    fn flush_pending(&mut self) -> Result<(), Stopped>
+        ensures call { is_flushed self.old (is_ok result) self.new }
+        ensures none { OnOk result (buffered self.new ≡ 0) }
+        ensures still { OnOk result (has_pending_reports self.new ≡ false) };
 }
 
 /// An audience that may buffer reports and can flush them. Flushing does not change what was
 /// reported.
 pub trait LiveAudience<T>: Audience<T> + Live {
-    ghost stays_told: { StaysTold Self.is_told Self.has_stopped Self.is_waiting Self.held
-        Self.is_handed_on };
+    ghost stays_reported: { StaysReported Self.is_reported Self.has_stopped Self.has_pending_reports
+        Self.buffered
+        Self.is_flushed };
 }

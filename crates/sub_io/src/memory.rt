@@ -5,9 +5,9 @@ ghost use Rattle.std.specs.Prelude.{IfOk, IsErr, OnOk, Some, false, true, ◌↔
 ghost use Rattle.std.specs.Io.{ReadsAtMost};
 ghost use Rattle.std.specs.Io.KnownBytes.{Keeps};
 ghost use Rattle.sub_io.specs.Closing.{needs_no_store};
-ghost use Rattle.sub_io.specs.Device.{CanFail, CountsFailure, PassesOver, Pulls, Pushes};
-ghost use Rattle.sub_io.specs.Device.{holds_nothing};
-ghost use Rattle.sub_io.specs.Lent.{BeginLent, GivesLent};
+ghost use Rattle.sub_io.specs.Device.{CanFail, CountsFailure, SkipsOver, Pulls, Pushes};
+ghost use Rattle.sub_io.specs.Device.{buffers_nothing};
+ghost use Rattle.sub_io.specs.Borrowed.{BeginBorrowed, GivesBorrowed};
 ghost use Rattle.sub_io.specs.Reading.{AreNext};
 ghost use Rattle.sub_io.specs.Memory.{Written};
 
@@ -42,14 +42,14 @@ impl Source for MemSource<'_> {
 
     ghost failure_count = { λ _. 0 };
 
-    ghost lent = { λ s. s };
+    ghost borrowed = { λ s. s };
 
     /// Reads as many bytes as fit in `to`, or all that are left. It never fails.
     fn pull(&mut self, to: &mut [u8]) -> Result<usize, Failed>
         ensures all { result ≡ Ok (min (length self.old) (length to.old)) }
         ensures bound { ReadsAtMost result to.new }
         ensures bytes { Pulls (Some self.old) (Some self.new) to.new result }
-        ensures lent { GivesLent self.old self.new to.new result }
+        ensures borrowed { GivesBorrowed self.old self.new to.new result }
         ensures count { CountsFailure 0 result 0 }
     {
         let n = self.rest.len().min(to.len());
@@ -65,20 +65,20 @@ impl Source for MemSource<'_> {
     }
 
     /// Returns all bytes that are left.
-    fn held(&self) -> &[u8]
+    fn buffered(&self) -> &[u8]
         ensures all { result.now ≡ self.now }
         ensures bytes { AreNext result.now (Some self.now) }
-        ensures lent { BeginLent result.now self.now }
+        ensures borrowed { BeginBorrowed result.now self.now }
     {
         self.rest
     }
 
     /// Skips `count` bytes, if so many are left.
     #[tactic(auto, using(crate::proofs::BufferLemmas::front_passed))]
-    fn pass(&mut self, count: usize) -> bool
-        ensures held { (result ≡ true) ↔ (count ≤ length self.old) }
-        ensures passed { result ≡ true → self.new ≡ drop count self.old }
-        ensures bytes { result ≡ true → PassesOver (Some self.old) count (Some self.new) }
+    fn skip_bytes(&mut self, count: usize) -> bool
+        ensures buffered { (result ≡ true) ↔ (count ≤ length self.old) }
+        ensures skipped { result ≡ true → self.new ≡ drop count self.old }
+        ensures bytes { result ≡ true → SkipsOver (Some self.old) count (Some self.new) }
         ensures none { result ≡ false → self.new ≡ self.old }
     {
         if self.rest.len() < count {
@@ -173,14 +173,14 @@ impl Sink for MemSink<'_> {
 }
 
 impl Flush for MemSink<'_> {
-    ghost held = { holds_nothing };
+    ghost buffered = { buffers_nothing };
 
     /// Does nothing, since no byte is buffered. It never fails.
     fn flush(&mut self) -> Result<(), Failed>
         ensures ok { result ≡ Ok tt }
         ensures same { self.new ≡ self.old }
         ensures bytes { Keeps (Some self.old.bytes) (Some self.new.bytes) }
-        ensures held { OnOk result (holds_nothing self.new ≡ 0) }
+        ensures buffered { OnOk result (buffers_nothing self.new ≡ 0) }
         ensures count { CountsFailure self.old.failure_count result self.new.failure_count }
     {
         Ok(())
@@ -199,7 +199,7 @@ impl Close for MemSink<'_> {
         ensures ok { result ≡ Ok tt }
         ensures same { self.new ≡ self.old }
         ensures bytes { Keeps (Some self.old.bytes) (Some self.new.bytes) }
-        ensures held { OnOk result (holds_nothing self.new ≡ 0) }
+        ensures buffered { OnOk result (buffers_nothing self.new ≡ 0) }
         ensures stored { OnOk result (needs_no_store self.new ≡ true) }
         ensures count { CountsFailure self.old.failure_count result self.new.failure_count }
     {

@@ -46,7 +46,7 @@ pub trait Sink {
 /// Errors of writing these bytes appear late: at a later push, or only at `flush`.
 pub trait Flush: Sink {
     // How many of the bytes taken are still buffered.
-    ghost held: { Self → ℕ };
+    ghost buffered: { Self → ℕ };
 
     /// Writes all buffered bytes. The bytes taken do not change.
     ///
@@ -57,7 +57,7 @@ pub trait Flush: Sink {
     fn flush(&mut self) -> Result<(), Failed>
         requires { CanFail (Self.failure_count self.old) }
         ensures bytes { Keeps (Self.contents self.old) (Self.contents self.new) }
-        ensures held { OnOk result (held self.new ≡ 0) }
+        ensures buffered { OnOk result (buffered self.new ≡ 0) }
         ensures count { CountsFailure (Self.failure_count self.old) result
             (Self.failure_count self.new) };
 }

@@ -5,8 +5,8 @@ ghost use Rattle.std.specs.Prelude.{IfOk, OnErr, Some, false, is_ok, true};
 ghost use Rattle.std.specs.Io.{ReadsAtMost};
 ghost use Rattle.std.specs.Io.KnownBytes.{Consumes, IsAtEnd, Keeps};
 ghost use Rattle.sub_io.specs.Calls.{FillsByPulls, answered, any_call};
-ghost use Rattle.sub_io.specs.Device.{CanFail, CountsFailure, Fills, PassesOver, Pulls, Told};
-ghost use Rattle.sub_io.specs.Lent.{BeginLent, GivesLent, lends_nothing};
+ghost use Rattle.sub_io.specs.Device.{CanFail, CountsFailure, Fills, SkipsOver, Pulls, Told};
+ghost use Rattle.sub_io.specs.Borrowed.{BeginBorrowed, GivesBorrowed, lends_nothing};
 ghost use Rattle.sub_io.specs.Reading.{AreBytes, AreNext, IfKnown};
 
 /// The error of a device's call. It has read or written nothing.
@@ -27,7 +27,7 @@ pub trait Source {
 
     // The bytes that it can return without calling the device below it, which may block and may
     // fail.
-    ghost lent: { Self → List ℕ } = { lends_nothing };
+    ghost borrowed: { Self → List ℕ } = { lends_nothing };
 
     /// Reads bytes to the front of `to`, and returns how many. 0 for a nonempty `to` means the end.
     ///
@@ -40,7 +40,7 @@ pub trait Source {
         ensures bound { ReadsAtMost result to.new }
         ensures call { is_pull self.old (length to.old) (answered result) self.new }
         ensures bytes { Pulls (remaining self.old) (remaining self.new) to.new result }
-        ensures lent { GivesLent (lent self.old) (lent self.new) to.new result }
+        ensures borrowed { GivesBorrowed (borrowed self.old) (borrowed self.new) to.new result }
         ensures count { CountsFailure (failure_count self.old) result (failure_count self.new) };
 
     /// Returns how many calls of `pull` have failed.
@@ -49,9 +49,9 @@ pub trait Source {
 
     /// Returns buffered bytes in place: those that it gives next, without calling the device below
     /// it. Empty if it buffers none or cannot lend them.
-    fn held(&self) -> &[u8]
+    fn buffered(&self) -> &[u8]
         ensures bytes { AreNext result.now (remaining self.now) }
-        ensures lent { BeginLent result.now (lent self.now) }
+        ensures borrowed { BeginBorrowed result.now (borrowed self.now) }
     {
         &[]
     }
@@ -65,7 +65,7 @@ pub trait Source {
     fn read_on(&mut self) -> Result<(), Failed>
         requires { CanFail (failure_count self.old) }
         ensures bytes { Keeps (remaining self.old) (remaining self.new) }
-        ensures ready { lent self.old ≢ [] → (self.new ≡ self.old) × (result ≡ Ok tt) }
+        ensures ready { borrowed self.old ≢ [] → (self.new ≡ self.old) × (result ≡ Ok tt) }
         ensures count { CountsFailure (failure_count self.old) result (failure_count self.new) }
     {
         Ok(())
@@ -73,12 +73,12 @@ pub trait Source {
 
     /// Skips `count` of the bytes that it lends, like a pull of them, and returns `true`. If it
     /// lends fewer, it does nothing and returns `false`.
-    fn pass(&mut self, count: usize) -> bool
+    fn skip_bytes(&mut self, count: usize) -> bool
         requires some { 0 < count }
         requires count { CanFail (failure_count self.old) }
-        ensures whole { count ≤ length (lent self.old) → result ≡ true }
+        ensures whole { count ≤ length (borrowed self.old) → result ≡ true }
         ensures call { result ≡ true → is_pull self.old count (Some count) self.new }
-        ensures bytes { result ≡ true → PassesOver (remaining self.old) count (remaining self.new) }
+        ensures bytes { result ≡ true → SkipsOver (remaining self.old) count (remaining self.new) }
         ensures none { result ≡ false → self.new ≡ self.old }
         ensures count { failure_count self.new ≡ failure_count self.old };
 }

@@ -7,7 +7,7 @@ ghost use Rattle.std.specs.Prelude.{◌≡◌, ◌+◌, ◌<◌, ◌≤◌, [], 
 ghost use Rattle.std.specs.Prelude.{IsErr};
 ghost use Rattle.std.specs.Io.KnownBytes.{Keeps};
 ghost use Rattle.sub_io.specs.Counted.{Counted, WriterValue};
-ghost use Rattle.sub_io.specs.Device.{CanFail, CountsFailure, Pushes, holds_nothing};
+ghost use Rattle.sub_io.specs.Device.{CanFail, CountsFailure, Pushes, buffers_nothing};
 
 use crate::taken::{Piece, Taken};
 use crate::{Failed, Flush, Sink, Source};
@@ -66,7 +66,7 @@ impl<R: Read> Source for FromRead<R> {
     }
 
     /// Returns `false`, since it lends no bytes.
-    fn pass(&mut self, _count: usize) -> bool {
+    fn skip_bytes(&mut self, _count: usize) -> bool {
         false
     }
 }
@@ -149,7 +149,7 @@ impl<W: Write> Sink for IntoWrite<W> {
 impl<W: Write> Flush for IntoWrite<W> {
     // Every push writes at once. Buffers of the writer itself are not visible here: a file of the
     // operating system has none, a buffered writer of std would have one.
-    ghost held = { holds_nothing };
+    ghost buffered = { buffers_nothing };
 
     /// Flushes the writer.
     ///
@@ -160,7 +160,7 @@ impl<W: Write> Flush for IntoWrite<W> {
         requires { CanFail self.old.failure_count }
         ensures writer { Keeps (W.contents self.old.device) (W.contents self.new.device) }
         ensures bytes { Keeps (Some self.old.taken) (Some self.new.taken) }
-        ensures held { OnOk result (holds_nothing self.new ≡ 0) }
+        ensures buffered { OnOk result (buffers_nothing self.new ≡ 0) }
         ensures count { CountsFailure self.old.failure_count result self.new.failure_count }
     {
         if self.inner.flush().is_err() {

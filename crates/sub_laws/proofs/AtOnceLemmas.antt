@@ -1,6 +1,6 @@
--- For `law_of_broken_places` and `law_of_nothing_told`. If `within` is 0 and no repeat may keep the
--- page, a transmission is good, with complete pages if these are required, exactly if it meets all
--- requirements: `Good-from_holds`, `Complete-from_holds`, `holds-from_good`.
+-- For `law_of_broken_places` and `law_of_nothing_reported`. If `within` is 0 and no repeat may keep
+-- the page, a transmission is good, with complete pages if these are required, exactly if it meets
+-- all requirements: `Good-from_holds`, `Complete-from_holds`, `holds-from_good`.
 use Rattle.std.proofs.lemmas.Bool.Decides.{nat_tests}
 use Rattle.std.proofs.Common.{◌≡◌, ℕ, ◌<◌, ◌≤◌, false, Option, None, length, refl, sym, ap}
 use Rattle.std.proofs.Common.{◌∙◌, subst, arith, IsTrue, IsFalse, ◌&&◌}
@@ -24,12 +24,12 @@ use Rattle.sub_laws.specs.OnScreen.{Complete}
 use Rattle.sub_laws.proofs.DelayLemmas.{law_of_right_cells}
 use Rattle.sub_laws.proofs.FrameByFrame.{AllOk}
 use Rattle.sub_laws.proofs.GoodLemmas.{rises_each}
-use Rattle.sub_laws.proofs.PlaceLemmas.{Rules-from_holds, end_of, holds-from_rules, quiet_at}
+use Rattle.sub_laws.proofs.PlaceLemmas.{Rules-from_holds, end_of, holds-from_rules, fault_free_at}
 use Rattle.sub_laws.proofs.PrefixLemmas.{RiseTo, end_high, end_is_on_air, end_low, first-same}
 use Rattle.sub_laws.proofs.PrefixLemmas.{last-same}
 use Rattle.sub_laws.proofs.RepeatLemmas.{rules_by, rules_of}
-use Rattle.sub_laws.proofs.StandingLemmas.{all_kept, always_late, broken_is, ended_is}
-use Rattle.sub_laws.proofs.StandingLemmas.{incomplete_decided, no_wrong}
+use Rattle.sub_laws.proofs.ActiveFaultsLemmas.{all_kept, always_late, broken_is, ended_is}
+use Rattle.sub_laws.proofs.ActiveFaultsLemmas.{incomplete_decided, no_wrong}
 
 module _ (programme : ProgrammeValue) (options : OptionsValue) (unread : Option Unread)
     (t : Transmission) (some_frames : 0 < options.every)
@@ -37,7 +37,7 @@ module _ (programme : ProgrammeValue) (options : OptionsValue) (unread : Option 
   -- At each end all rules are kept.
   kept_at : (n f : ℕ) → IsEnd t n f → (rule : EndRule)
       → IsKept rule (criteria_of programme options unread) t n f
-  kept_at n f h1 rule = grind (arith, nat_tests, all_kept, quiet_at)
+  kept_at n f h1 rule = grind (arith, nat_tests, all_kept, fault_free_at)
 
   -- Each cell is right.
   right_at : (f row column : ℕ) → first_frame t ≤ f → f ≤ last_frame t → IsCell row column

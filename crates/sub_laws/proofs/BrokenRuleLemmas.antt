@@ -40,7 +40,7 @@ use Rattle.sub_rules.specs.PacketTests.{are_code_words, breaks, is_of_header, is
 use Rattle.sub_rules.specs.PacketTests.{is_other_mode, is_other_row, is_other_text}
 use Rattle.sub_rules.specs.PacketTests.{first_of_row, has_subtitle_bits, repeats_page}
 use Rattle.sub_rules.specs.PacketTests.{is_same_subcode, is_subtitle_header, is_wrong_header}
-use Rattle.sub_rules.specs.PacketTests.{may_come}
+use Rattle.sub_rules.specs.PacketTests.{may_follow_as_header}
 use Rattle.sub_rules.specs.declared.packet_rule.PacketRule.{PacketRule}
 use Rattle.sub_rules.specs.declared.packet_rule.PacketRule.TheVariants as rule
 use Rattle.sub_rules.specs.declared.packet_rule.Watched.{Watched}
@@ -111,7 +111,7 @@ subtitle_header : (w : Watched) (before : List (List ℕ)) (h : Header)
     × (IsTrue (c4 h) ⊎ IsRepeat w.complete w.page before h))
     × HasSubtitleBits w.national h)
 subtitle_header w before h =
-    Decides-and (may_come w before h) (has_subtitle_bits w.national h)
+    Decides-and (may_follow_as_header w before h) (has_subtitle_bits w.national h)
     (may_come_by w.keeps (c4 h) (repeats_page w.complete w.page before h)
     (IsRepeat w.complete w.page before h) (repeat_decided w.complete w.page before h))
     (subtitle_bits w.national h)
@@ -129,14 +129,14 @@ pub controlled : (w : Watched) (before : List (List ℕ)) (p : List ℕ) (k : Pa
 controlled w before p (ThisPage h) is =
     Decides-at _ _ (twice (is_subtitle_header w before h))
     (Decides-like _
-    (λ asked. record {
+    (λ requested. record {
       control = λ k e.
-          subst (HasSubtitleBits w.national) (same_header h k (sym is ∙ e)) asked.1;
+          subst (HasSubtitleBits w.national) (same_header h k (sym is ∙ e)) requested.1;
       erases = λ none k e.
-          subst (λ x. IsTrue (c4 x)) (same_header h k (sym is ∙ e)) (asked.0.0 none);
+          subst (λ x. IsTrue (c4 x)) (same_header h k (sym is ∙ e)) (requested.0.0 none);
       keeping = λ k e.
           subst (λ x. IsTrue (c4 x) ⊎ IsRepeat w.complete w.page before x)
-          (same_header h k (sym is ∙ e)) asked.0.1;
+          (same_header h k (sym is ∙ e)) requested.0.1;
     })
     (λ rule. ((λ none. rule.erases none h is, rule.keeping h is), rule.control h is))
     (subtitle_header w before h))

@@ -16,7 +16,7 @@ use Rattle.ttx_page.specs.Receiver.{Hears, State}
 use Rattle.ttx_page.specs.Repeats.{IsFresh, SendsText}
 use Rattle.ttx_page.specs.Shown.{kept}
 use Rattle.ttx_page.specs.Span.{holds_beginning, holds_header, text_span}
-use Rattle.ttx_page.proofs.QuietLaws.{law_of_kept}
+use Rattle.ttx_page.proofs.FaultFreeLaws.{law_of_kept}
 use Rattle.ttx_page.proofs.RepeatLaws.{kept_shown}
 use Rattle.ttx_page.proofs.TextSpan.{beginning-none_keeps}
 use Rattle.stl_rows.specs.Programme.{ProgrammeValue}
@@ -32,16 +32,16 @@ use Rattle.sub_rules.specs.Transmission.{Transmission, on_air_until}
 use Rattle.sub_rules.specs.WrongContent.{AreReadUpTo, IsWrongEverywhere}
 use Rattle.sub_rules.specs.declared.packet_rule.Watched.{Watched}
 use Rattle.sub_rules.proofs.PrefixEventLemmas.{is_late-prefix}
-use Rattle.sub_laws.specs.UndueContent.{IsDifferentEverywhere}
+use Rattle.sub_laws.specs.UnexpectedContent.{IsDifferentEverywhere}
 use Rattle.sub_laws.proofs.DelayLemmas.{law_of_right_cells}
-use Rattle.sub_laws.proofs.DueCodeLemmas.{MayShow, undue_found}
+use Rattle.sub_laws.proofs.DueCodeLemmas.{MayShow, unexpected_found}
 use Rattle.sub_laws.proofs.FrameByFrame.{IsReadTo}
 use Rattle.sub_laws.proofs.PlaceLemmas.{clean_spans}
 use Rattle.sub_laws.proofs.PrefixLemmas.{EachAfter, RiseTo, before, each_after, first-same}
 use Rattle.sub_laws.proofs.PrefixLemmas.{frame_at-take, on_air_is, packet_at, take_last, take_rises}
 use Rattle.sub_laws.proofs.PrefixLemmas.{take_rising}
 use Rattle.sub_laws.proofs.RepeatLemmas.{codes_of_clean}
-use Rattle.sub_laws.proofs.StandingLemmas.{always_known, first_wrong, undue_is}
+use Rattle.sub_laws.proofs.ActiveFaultsLemmas.{always_known, first_wrong, unexpected_is}
 use Rattle.sub_rules.specs.Good.{IsCleanSpan}
 use Rattle.ttx_page.proofs.SpanLists.{holds-append_left}
 use Rattle.sub_rules.specs.declared.packet_rule.PacketRule.TheVariants as rule
@@ -121,7 +121,7 @@ module _ (programme : ProgrammeValue) (options : OptionsValue) (unread : Option 
   record IsBroken (n f : ℕ) (x : ℕ × ℕ) : Type 0 where
     pub is_cell : IsCell x.0 x.1
     pub wrong : ShowsDue g frames n f x.0 x.1 → ⊥
-    pub undue :
+    pub unexpected :
         is_late g frames n f ≡ false
         → MayShow options.keeps options.page (packets_before frames n) g.due (frame_at frames 0) f
         options.within x.0 x.1
@@ -140,18 +140,18 @@ module _ (programme : ProgrammeValue) (options : OptionsValue) (unread : Option 
           record {
             is_cell = w.is_cell;
             wrong = w.broken;
-            undue = λ not_late. absurd (true≢false (sym late ∙ not_late));
+            unexpected = λ not_late. absurd (true≢false (sym late ∙ not_late));
           }
       go false late =
           let found =
-          undue_found options.keeps options.page (packets_before frames n) g.due
+          unexpected_found options.keeps options.page (packets_before frames n) g.due
           (frame_at frames 0) f options.within x
-          (sym (undue_is g frames n f known) ∙ rw late at e) in
+          (sym (unexpected_is g frames n f known) ∙ rw late at e) in
           record {
             is_cell = found.0;
             wrong = λ right.
                 found.1 (inr (f, inr refl, le_refl f, omega arith, right.kept_is));
-            undue = λ not_late. found.1;
+            unexpected = λ not_late. found.1;
           }
 
   module _ (n f : ℕ) (r : IsReadTo g frames n f) (x : ℕ × ℕ)
@@ -212,8 +212,8 @@ module _ (programme : ProgrammeValue) (options : OptionsValue) (unread : Option 
           holds_there old new hears
           (subst (λ ps. IsFresh options.keeps false options.page ps old) read_air fresh)
           ∙ ap (λ ps. kept options.keeps options.page ps x.0 x.1) (sym read_air);
-      undue = λ not_late due.
-          cell_is.undue (sym late_same ∙ not_late)
+      unexpected = λ not_late due.
+          cell_is.unexpected (sym late_same ∙ not_late)
           (may_of
           (subst
           (λ ps. IsDueWithin programme read options f x.0 x.1

@@ -25,7 +25,7 @@ use Rattle.sub_plan.specs.Options.{OptionsValue}
 use Rattle.sub_plan.specs.Schedule.{due_in}
 use Rattle.sub_rules.specs.Kept.{IsRight, LawOfRightCells}
 use Rattle.sub_rules.specs.Repeats.{FinishesAgainBy, HasEndedPage, IsDueWithin, IsFinishedBy}
-use Rattle.sub_rules.specs.Repeats.{IsWholePage, KeepsDueCodes}
+use Rattle.sub_rules.specs.Repeats.{IsCorrectPage, KeepsDueCodes}
 use Rattle.sub_rules.specs.Transmission.{Transmission, on_air, on_air_until}
 use Rattle.sub_laws.specs.AtOnce.{LawOfTrustWithoutDelay}
 use Rattle.sub_laws.specs.OnScreen.{CompleteWithin, ShownWithin}
@@ -131,7 +131,7 @@ module _ (keeps anew : Bool) (class : ReceiverClass) (programme : ProgrammeValue
 
 module _ (keeps anew : Bool) (class : ReceiverClass) (programme : ProgrammeValue)
     (transmission : Transmission) (options : OptionsValue) (a b : ℕ)
-    (whole : (f : ℕ) → a ≤ f → f ≤ b → IsWholePage keeps programme options.page transmission f)
+    (whole : (f : ℕ) → a ≤ f → f ≤ b → IsCorrectPage keeps programme options.page transmission f)
     (recovers : RecoversForgetting keeps anew class programme transmission options a b) where
   -- Receivers that recover have the due page.
   holds_at_once : HoldsForgetting keeps anew class programme transmission options a b
@@ -193,7 +193,7 @@ ended_of_complete transmission options a b f complete low high = grind (arith, n
 
 module _ (programme : ProgrammeValue) (transmission : Transmission) (options : OptionsValue)
     (a b : ℕ)
-    (whole : (f : ℕ) → a ≤ f → f ≤ b → IsWholePage false programme options.page transmission f)
+    (whole : (f : ℕ) → a ≤ f → f ≤ b → IsCorrectPage false programme options.page transmission f)
     (class : ReceiverClass) where
   -- A receiver's old contents are gone after each header.
   fresh_at :
@@ -244,7 +244,7 @@ law_of_trust_without_delay programme transmission options a b none trusted = rec
 }
   where
     whole :
-        (f : ℕ) → a ≤ f → f ≤ b → IsWholePage false programme options.page transmission f
+        (f : ℕ) → a ≤ f → f ≤ b → IsCorrectPage false programme options.page transmission f
     whole f low high =
         (finished_at_once false programme transmission options a b none trusted.finishes.again f low
         high).whole

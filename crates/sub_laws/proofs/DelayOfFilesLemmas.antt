@@ -4,11 +4,11 @@ use Rattle.std.proofs.lemmas.Bool.Decides.{nat_tests}
 use Rattle.std.proofs.Common.{◌≡◌, ℕ, zero, suc, ◌^◌, ◌<◌, ◌≤◌, ◌==◌, false, List, [], ◌∷◌, Some}
 use Rattle.std.proofs.Common.{refl, sym, ap, ◌∙◌, subst, arith}
 use Rattle.std.specs.List.{AllZip}
-use Rattle.ttx_pes.specs.PesPacket.{PesValue}
+use Rattle.ttx_pes.specs.PesGrammar.{PesValue}
 use Rattle.sub_plan.specs.FrameTime.{clock}
 use Rattle.sub_plan.proofs.ClockLemmas.{law_of_clock, law_of_exact_clock}
 use Rattle.sub_rules.specs.PesFrames.{CarriesBy, IsReadAs}
-use Rattle.sub_rules.specs.Pieces.{joined, joined_after, sent_after}
+use Rattle.sub_rules.specs.PesPackets.{joined, joined_after, sent_after}
 use Rattle.sub_rules.specs.Transmission.{IsRising, SentFrame, Transmission}
 use Rattle.sub_rules.proofs.JoinedLemmas.{joined-none}
 use Rattle.sub_laws.specs.DelayOfFiles.{LawOfLongerDelayOfFiles}
@@ -54,18 +54,18 @@ read_longer within more origin low longer (v ∷ values) (s ∷ frames) each = (
 some_frames : (n : ℕ) → (suc n == 0) ≡ false
 some_frames n = grind (arith, nat_tests)
 
-sent_alike : (within more : ℕ) (sent : Transmission) (s : SentFrame)
+sent_equal : (within more : ℕ) (sent : Transmission) (s : SentFrame)
     → sent_after (suc within) sent s ≡ sent_after (suc more) sent s
-sent_alike within more [] s = refl
-sent_alike within more (first ∷ sent) s = rw (some_frames within, some_frames more) refl
+sent_equal within more [] s = refl
+sent_equal within more (first ∷ sent) s = rw (some_frames within, some_frames more) refl
 
-joined_alike : (within more : ℕ) (sent frames : Transmission)
+joined_equal : (within more : ℕ) (sent frames : Transmission)
     → joined_after (suc within) sent frames ≡ joined_after (suc more) sent frames
 unfolding joined_after
-joined_alike within more sent [] = refl
-joined_alike within more sent (s ∷ frames) =
-    joined_alike within more (sent_after (suc within) sent s) frames
-    ∙ ap (λ (x : Transmission). joined_after (suc more) x frames) (sent_alike within more sent s)
+joined_equal within more sent [] = refl
+joined_equal within more sent (s ∷ frames) =
+    joined_equal within more (sent_after (suc within) sent s) frames
+    ∙ ap (λ (x : Transmission). joined_after (suc more) x frames) (sent_equal within more sent s)
 
 -- Rising frames stay the same with a greater `within`.
 joined_longer :
@@ -80,7 +80,7 @@ joined_longer zero (suc more) sendings frames longer rising are =
     each ∙ sym (joined-rising (suc more) sendings (subst IsRising each rising))
 joined_longer (suc within) zero sendings frames longer rising are = absurd (omega arith)
 joined_longer (suc within) (suc more) sendings frames longer rising are =
-    are ∙ joined_alike within more [] sendings
+    are ∙ joined_equal within more [] sendings
 
 pub carries_longer :
     (within more origin : ℕ) (bytes : List ℕ) (frames : Transmission)

@@ -1,6 +1,7 @@
--- For `law_of_nothing_told_repeats` and `law_of_trusted_repeats`. A code that was due in a cell
--- within some frames: `was_due_at`, `due_was`; the first cell with another code: `none_undue`,
--- `undue_none`, `undue_found`; the subtitle whose TCO is a frame: `ending_is`, `ending_at`.
+-- For `law_of_nothing_reported_repeats` and `law_of_trusted_repeats`. A code that was due in a cell
+-- within some frames: `was_due_at`, `due_was`; the first cell with another code: `none_unexpected`,
+-- `unexpected_none`, `unexpected_found`; the subtitle whose TCO is a frame: `ending_is`,
+-- `ending_at`.
 use Rattle.std.proofs.lemmas.Bool.Decides.{nat_tests}
 use Rattle.std.proofs.Common.{◌≡◌, ◌≢◌, ℕ, zero, suc, ◌+◌, ◌-◌, ◌<◌, ◌≤◌, ◌⊎◌, inl, inr, Bool, true}
 use Rattle.std.proofs.Common.{false, not, ◌&&◌, ◌==◌, nat_le, List, Contains, get_or}
@@ -17,8 +18,8 @@ use Rattle.stl_file.specs.Subtitle.{IsSubtitle, SubtitleValue}
 use Rattle.stl_rows.specs.DuePage.{ends_at, tci_of_ending}
 use Rattle.stl_rows.specs.Programme.{IsProgramme}
 use Rattle.stl_rows.specs.declared.layout.Drawing.{Drawing}
-use Rattle.sub_rules.specs.Events.{undue_after, was_due}
-use Rattle.sub_laws.proofs.StandingLemmas.{cell_found, cell_none, no_cell}
+use Rattle.sub_rules.specs.Events.{unexpected_after, was_due}
+use Rattle.sub_laws.proofs.ActiveFaultsLemmas.{cell_found, cell_none, no_cell}
 
 -- ---- a code
 
@@ -78,32 +79,33 @@ module _ (keeps : Bool) (page : PageIdValue) (packets : List (List ℕ)) (due : 
       (code_at row column ≡ space) ⊎ WasDue due first f row column (code_at row column) n
 
   -- It is neither.
-  abbrev is_undue : ℕ → ℕ → Bool
-  is_undue row column =
+  abbrev is_unexpected : ℕ → ℕ → Bool
+  is_unexpected row column =
       not (code_at row column == space)
       && not (was_due due first f n row column (code_at row column))
 
-  may_show : (row column : ℕ) → is_undue row column ≡ false → MayShow row column
+  may_show : (row column : ℕ) → is_unexpected row column ≡ false → MayShow row column
   may_show row column e = grind (arith, nat_tests, was_due_at)
 
-  not_undue : (row column : ℕ) → MayShow row column → is_undue row column ≡ false
-  not_undue row column h1 = grind (arith, nat_tests, due_was)
+  not_unexpected : (row column : ℕ) → MayShow row column → is_unexpected row column ≡ false
+  not_unexpected row column h1 = grind (arith, nat_tests, due_was)
 
-  pub undue_none : undue_after keeps page packets due first f n ≡ None
+  pub unexpected_none : unexpected_after keeps page packets due first f n ≡ None
       → (row column : ℕ) → IsCell row column → MayShow row column
-  unfolding undue_after
-  undue_none e row column named = may_show row column (cell_none is_undue e row column named)
+  unfolding unexpected_after
+  unexpected_none e row column named = may_show row column (cell_none is_unexpected e row column
+      named)
 
-  pub none_undue : ((row column : ℕ) → IsCell row column → MayShow row column)
-      → undue_after keeps page packets due first f n ≡ None
-  unfolding undue_after
-  none_undue may =
-      no_cell is_undue (λ row column named. not_undue row column (may row column named))
+  pub none_unexpected : ((row column : ℕ) → IsCell row column → MayShow row column)
+      → unexpected_after keeps page packets due first f n ≡ None
+  unfolding unexpected_after
+  none_unexpected may =
+      no_cell is_unexpected (λ row column named. not_unexpected row column (may row column named))
 
-  pub undue_found : (x : ℕ × ℕ) → undue_after keeps page packets due first f n ≡ Some x
+  pub unexpected_found : (x : ℕ × ℕ) → unexpected_after keeps page packets due first f n ≡ Some x
       → IsCell x.0 x.1 × (MayShow x.0 x.1 → ⊥)
-  unfolding undue_after
-  undue_found x e = grind (arith, nat_tests, cell_found, not_undue)
+  unfolding unexpected_after
+  unexpected_found x e = grind (arith, nat_tests, cell_found, not_unexpected)
 
 -- ---- the subtitle that ends at a frame
 

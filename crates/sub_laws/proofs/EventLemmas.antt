@@ -1,5 +1,5 @@
 -- For reports. There are no events exactly if all requirements are met, and the first event is a
--- fault: `all_told`.
+-- fault: `all_reported`.
 use Rattle.std.proofs.Common.{◌≡◌, ℕ, zero, suc, ◌+◌, ◌-◌, ◌<◌, ◌≤◌, ◌⊎◌, inl, inr, Bool, true}
 use Rattle.std.proofs.Common.{false, not, List, [], ◌∷◌, length, Option, Some, None, refl, ◌↔◌, sym}
 use Rattle.std.proofs.Common.{ap, subst, arith, append_assoc, if◌then◌else◌, ◌∙◌, ◌||◌}
@@ -13,9 +13,10 @@ use Rattle.ttx_packet.specs.PacketAddress.{IsPacket}
 use Rattle.sub_rules.specs.Events.{broken_at, broken_cell, closing_events, end_before}
 use Rattle.sub_rules.specs.Events.{end_events, end_fault, end_rules, events_at_end}
 use Rattle.sub_rules.specs.Events.{first_header_events, gap_length, is_pending}
-use Rattle.sub_rules.specs.Events.{is_short, late_events, latest, nothing_stands, order_events}
-use Rattle.sub_rules.specs.Events.{packet_events, packet_fault, packets_told, rest_events}
-use Rattle.sub_rules.specs.Events.{rule_events, rules_told, standing_at, standing_before}
+use Rattle.sub_rules.specs.Events.{is_short, late_events, latest, no_active_faults, order_events}
+use Rattle.sub_rules.specs.Events.{packet_events, packet_fault, packets_reported, rest_events}
+use Rattle.sub_rules.specs.Events.{rule_events, rules_reported, active_faults_at}
+use Rattle.sub_rules.specs.Events.{active_faults_before}
 use Rattle.sub_rules.specs.Events.{unread_fault}
 use Rattle.sub_rules.specs.FrameRules.{Criteria, HasHeader, Unread, end_frame, frame_at}
 use Rattle.sub_rules.specs.FrameRules.{packets_before, packets_of_frame}
@@ -23,23 +24,23 @@ use Rattle.sub_rules.specs.PacketRules.{AreClean, KeepsAllRules}
 use Rattle.sub_rules.specs.Transmission.{EachPacket, Transmission}
 use Rattle.sub_rules.specs.declared.end_rule.EndRule.{EndRule}
 use Rattle.sub_rules.specs.declared.event.Event.{Event}
-use Rattle.sub_rules.specs.declared.event.Event.TheVariants.{Told}
+use Rattle.sub_rules.specs.declared.event.Event.TheVariants.{Reported}
 use Rattle.sub_rules.specs.declared.fault.CheckFault.{CheckFault}
 use Rattle.sub_rules.specs.declared.fault.CheckFault.TheVariants as fault
 use Rattle.sub_rules.specs.declared.packet_rule.PacketRule.{PacketRule}
-use Rattle.sub_rules.proofs.EndLemmas.{gap_length-is, standing_before_is}
-use Rattle.sub_rules.proofs.EndRuleLemmas.{nothing_at, rules_none, stands_nothing}
+use Rattle.sub_rules.proofs.EndLemmas.{gap_length-is, active_faults_before_is}
+use Rattle.sub_rules.proofs.EndRuleLemmas.{nothing_at, rules_none, no_active_faults_is}
 use Rattle.sub_laws.proofs.BrokenRuleLemmas.{clean_decided}
 use Rattle.sub_laws.proofs.FirstFoundLemmas.{Finds, Finds-append, Finds-like, Finds-none}
 use Rattle.sub_laws.proofs.FirstFoundLemmas.{end_found}
 use Rattle.sub_laws.proofs.FirstFoundLemmas.{first_found, found_so_far, packet_found}
-use Rattle.sub_laws.proofs.FrameByFrame.{AllOk, AreOk, FrameOk, IsQuiet, IsReadTo, OrderOk}
+use Rattle.sub_laws.proofs.FrameByFrame.{AllOk, AreOk, FrameOk, IsFaultFree, IsReadTo, OrderOk}
 use Rattle.sub_laws.proofs.FrameByFrame.{PacketsOk}
 use Rattle.sub_laws.proofs.PrefixLemmas.{EachAfter-push, IsInGap, at_start, before, before_more}
 use Rattle.sub_laws.proofs.PrefixLemmas.{each_at, packet_at}
 use Rattle.sub_laws.proofs.RisingEndLemmas.{latest_at}
 use Rattle.sub_rules.proofs.FrameEvents.{events, events_of_first, frame_events, gap_events}
-use Rattle.sub_rules.specs.declared.standing.Standing.{Standing}
+use Rattle.sub_rules.specs.declared.active_faults.ActiveFaults.{ActiveFaults}
 
 -- ---- the first event
 
@@ -49,37 +50,37 @@ any_event event = Some event
 
 -- The event is a fault with this property.
 abbrev pub IsNamed : (CheckFault → Type 0) → Event → Type 0
-IsNamed Named event = (f : CheckFault) × (event ≡ Told f) × Named f
+IsNamed Named event = (f : CheckFault) × (event ≡ Reported f) × Named f
 
 -- There are no events in the list exactly if `Holds`; the first event is a fault with this
 -- property.
 abbrev pub FirstOf : (CheckFault → Type 0) → Type 0 → List Event → Type 0
-FirstOf Named Holds told = Finds any_event (IsNamed Named) Holds Holds told
+FirstOf Named Holds reported = Finds any_event (IsNamed Named) Holds Holds reported
 
 module _ {Named : CheckFault → Type 0} where
-  pub told_none : {A : Type 0} (xs : List Event) → FirstOf Named A xs → (xs ≡ []) ↔ A
-  told_none xs a = (λ e. a.quiet (rw e refl), λ h. empty xs (a.calm h))
+  pub reported_none : {A : Type 0} (xs : List Event) → FirstOf Named A xs → (xs ≡ []) ↔ A
+  reported_none xs a = (λ e. a.fault_free (rw e refl), λ h. empty xs (a.calm h))
     where
       empty : (xs : List Event) → first_found any_event xs ≡ None → xs ≡ []
       empty [] e = refl
       empty (x ∷ xs) e = absurd (none-some x (sym e))
 
   -- A fault is reported.
-  rule_told : {A : Type 0} {rest : List Event} (f : CheckFault) → Named f → (A → ⊥)
-      → FirstOf Named A (Told f ∷ rest)
-  rule_told f is broken = grind (arith, nat_tests, same_Some)
+  rule_reported : {A : Type 0} {rest : List Event} (f : CheckFault) → Named f → (A → ⊥)
+      → FirstOf Named A (Reported f ∷ rest)
+  rule_reported f is broken = grind (arith, nat_tests, same_Some)
 
   -- A fault is reported if a test succeeds.
-  told_if : {A : Type 0} (b : Bool) (f : CheckFault) → Named f → Decides (not b) A
-      → FirstOf Named A (if b then Told f ∷ [] else [])
-  told_if true f named decided = rule_told f named (λ a. let no = decided.1 a in cc)
-  told_if false f named decided = Finds-none (decided.0 refl)
+  reported_if : {A : Type 0} (b : Bool) (f : CheckFault) → Named f → Decides (not b) A
+      → FirstOf Named A (if b then Reported f ∷ [] else [])
+  reported_if true f named decided = rule_reported f named (λ a. let no = decided.1 a in cc)
+  reported_if false f named decided = Finds-none (decided.0 refl)
 
   -- A fault is reported if a test fails.
-  told_unless : {A : Type 0} (b : Bool) (f : CheckFault) → Named f → Decides b A
-      → FirstOf Named A (if b then [] else Told f ∷ [])
-  told_unless true f named decided = Finds-none (decided.0 refl)
-  told_unless false f named decided = rule_told f named (λ a. let no = decided.1 a in cc)
+  reported_unless : {A : Type 0} (b : Bool) (f : CheckFault) → Named f → Decides b A
+      → FirstOf Named A (if b then [] else Reported f ∷ [])
+  reported_unless true f named decided = Finds-none (decided.0 refl)
+  reported_unless false f named decided = rule_reported f named (λ a. let no = decided.1 a in cc)
 
 -- ---- a transmission
 
@@ -98,50 +99,50 @@ module _ (g : Criteria) (frames : Transmission) (Named : CheckFault → Type 0)
     (wrong : (n f : ℕ) (x : ℕ × ℕ) → IsReadTo g frames n f → broken_cell g frames n f ≡ Some x
     → Named (fault.Content f x.0 x.1)) where
   -- The events.
-  abbrev Tells : Type 0 → List Event → Type 0
-  Tells Holds xs = FirstOf Named Holds xs
+  abbrev Reports : Type 0 → List Event → Type 0
+  Reports Holds xs = FirstOf Named Holds xs
 
   -- ---- the number of a frame
 
-  start_told : Tells ((first : ℕ) → g.first_in ≡ Some first → frame_at frames 0 ≤ first)
+  start_reported : Reports ((first : ℕ) → g.first_in ≡ Some first → frame_at frames 0 ≤ first)
       (order_events g frames 0)
   unfolding order_events
-  start_told = grind (arith, nat_tests, told_if, none-some, same_Some)
+  start_reported = grind (arith, nat_tests, reported_if, none-some, same_Some)
 
-  rise_told : (i : ℕ)
-      → Tells (frame_at frames i < frame_at frames (suc i)) (order_events g frames (suc i))
+  rise_reported : (i : ℕ)
+      → Reports (frame_at frames i < frame_at frames (suc i)) (order_events g frames (suc i))
   unfolding order_events
-  rise_told i = told_unless _ _ (plain _ refl) (Decides-ltb _ _)
+  rise_reported i = reported_unless _ _ (plain _ refl) (Decides-ltb _ _)
 
-  order_told : (n : ℕ) → Tells (OrderOk g frames n) (order_events g frames n)
-  order_told zero = grind (arith, nat_tests, Finds-like, start_told)
-  order_told (suc i) =
-      grind (arith, nat_tests, Finds-like, rise_told i)
+  order_reported : (n : ℕ) → Reports (OrderOk g frames n) (order_events g frames n)
+  order_reported zero = grind (arith, nat_tests, Finds-like, start_reported)
+  order_reported (suc i) =
+      grind (arith, nat_tests, Finds-like, rise_reported i)
 
   -- ---- an end
 
   -- A rule that was not broken at the end before.
   rule_at_end : (rule : EndRule) (o : Option (ℕ × ℕ)) (prior f : ℕ)
       → ((x : ℕ × ℕ) → o ≡ Some x → Named (end_fault rule f x))
-      → Tells (o ≡ None) (rule_events rule None prior o f)
-  rule_at_end rule o prior f h1 = grind (arith, nat_tests, rule_told, none-some)
+      → Reports (o ≡ None) (rule_events rule None prior o f)
+  rule_at_end rule o prior f h1 = grind (arith, nat_tests, rule_reported, none-some)
 
   -- The property of each fault at an end.
   end_named : (n f : ℕ) → IsReadTo g frames n f → (rule : EndRule) (x : ℕ × ℕ)
-      → broken_at rule (standing_at g frames n f) ≡ Some x
+      → broken_at rule (active_faults_at g frames n f) ≡ Some x
       → Named (end_fault rule f x)
-  unfolding standing_at
+  unfolding active_faults_at
   end_named n f h1 rule x h2 = grind (arith, nat_tests)
 
   -- If no fault was active at the end before.
-  quiet_told : (n f prior : ℕ) → IsReadTo g frames n f
-      → Tells (IsQuiet g frames n f)
-      (end_events nothing_stands prior (standing_at g frames n f) f)
-  quiet_told n f prior read =
-      let now : Standing = standing_at g frames n f in
-      Finds-like (λ quiet rule. ap (broken_at rule) quiet ∙ nothing_at rule)
-      (λ none. stands_nothing now (rules_none now none))
-      (end_found nothing_stands prior now f
+  fault_free_reported : (n f prior : ℕ) → IsReadTo g frames n f
+      → Reports (IsFaultFree g frames n f)
+      (end_events no_active_faults prior (active_faults_at g frames n f) f)
+  fault_free_reported n f prior read =
+      let now : ActiveFaults = active_faults_at g frames n f in
+      Finds-like (λ fault_free rule. ap (broken_at rule) fault_free ∙ nothing_at rule)
+      (λ none. no_active_faults_is now (rules_none now none))
+      (end_found no_active_faults prior now f
       (λ rule. rw (nothing_at rule)
       (rule_at_end rule (broken_at rule now) prior f (end_named n f read rule))))
 
@@ -157,36 +158,37 @@ module _ (g : Criteria) (frames : Transmission) (Named : CheckFault → Type 0)
     last_is = latest_at frames n (λ i a b. (past i b).order.rises a) some
 
     -- No fault is active at its end.
-    quiet_first : IsQuiet g frames n last
-    quiet_first = let is = last_is in grind (arith, nat_tests)
+    fault_free_first : IsFaultFree g frames n last
+    fault_free_first = let is = last_is in grind (arith, nat_tests)
 
     -- Nor at the ends of the m frames of the day after it.
-    abbrev QuietFor : ℕ → Type 0
-    QuietFor m = (d : ℕ) → d < m → IsQuiet g frames n (last + suc d)
+    abbrev FaultFreeFor : ℕ → Type 0
+    FaultFreeFor m = (d : ℕ) → d < m → IsFaultFree g frames n (last + suc d)
 
-    quiet_at : {m : ℕ} → QuietFor m → (d : ℕ) → d ≤ m → IsQuiet g frames n (last + d)
-    quiet_at quiet zero l =
-        let e : last ≡ last + 0 = omega arith in subst (IsQuiet g frames n) e quiet_first
-    quiet_at quiet (suc d) l = quiet d (omega arith)
+    fault_free_at : {m : ℕ} → FaultFreeFor m → (d : ℕ) → d ≤ m → IsFaultFree g frames n (last + d)
+    fault_free_at fault_free zero l =
+        let e : last ≡ last + 0 = omega arith in subst (IsFaultFree g frames n) e fault_free_first
+    fault_free_at fault_free (suc d) l = fault_free d (omega arith)
 
     -- No fault was active at the end before one of them.
-    nothing_before : (f d : ℕ) → end_before frames n f ≡ d → IsQuiet g frames n d
-        → standing_before g frames n f ≡ nothing_stands
-    nothing_before f d at quiet =
-        standing_before_is g frames n f some ∙ ap (standing_at g frames n) at ∙ quiet
+    nothing_before : (f d : ℕ) → end_before frames n f ≡ d → IsFaultFree g frames n d
+        → active_faults_before g frames n f ≡ no_active_faults
+    nothing_before f d at fault_free =
+        active_faults_before_is g frames n f some ∙ ap (active_faults_at g frames n) at ∙ fault_free
 
     -- One more frame of the day.
-    gap_next : (m : ℕ) → suc m ≤ gap_length frames n → QuietFor m
-        → Tells (IsQuiet g frames n (last + suc m)) (events_at_end g frames n n (last + suc m))
-    gap_next m l quiet =
+    gap_next : (m : ℕ) → suc m ≤ gap_length frames n → FaultFreeFor m
+        → Reports (IsFaultFree g frames n (last + suc m)) (events_at_end g frames n n
+        (last + suc m))
+    gap_next m l fault_free =
         let f : ℕ = last + suc m in
         let is = last_is in
         let long = gap_length-is frames n some in
         subst
-        (λ s. Tells (IsQuiet g frames n f)
-        (end_events s (end_before frames n f) (standing_at g frames n f) f))
-        (grind (arith, nat_tests, nothing_before f (last + m), quiet_at quiet m))
-        (quiet_told n f (end_before frames n f) (record {
+        (λ s. Reports (IsFaultFree g frames n f)
+        (end_events s (end_before frames n f) (active_faults_at g frames n f) f))
+        (grind (arith, nat_tests, nothing_before f (last + m), fault_free_at fault_free m))
+        (fault_free_reported n f (end_before frames n f) (record {
           some = some;
           fits = omega arith;
           rises = λ i a b. (past i b).order.rises a;
@@ -197,52 +199,62 @@ module _ (g : Criteria) (frames : Transmission) (Named : CheckFault → Type 0)
         }))
 
     -- One end after another.
-    gap_told : (m : ℕ) → m ≤ gap_length frames n → Tells (QuietFor m) (gap_events g frames n m)
+    gap_reported : (m : ℕ) → m ≤ gap_length frames n → Reports (FaultFreeFor m)
+        (gap_events g frames n m)
     unfolding gap_events
-    gap_told m l =
+    gap_reported m l =
         found_so_far (gap_events g frames n) (λ d. events_at_end g frames n n (last + suc d))
-        (λ d. IsQuiet g frames n (last + suc d)) m refl (λ d. refl)
+        (λ d. IsFaultFree g frames n (last + suc d)) m refl (λ d. refl)
         (λ d below. gap_next d (omega arith))
 
     -- All of them.
     abbrev GapOk : Type 0
-    GapOk = (f : ℕ) → IsInGap frames n f → IsQuiet g frames n f
+    GapOk = (f : ℕ) → IsInGap frames n f → IsFaultFree g frames n f
 
-    quiet_all : GapOk → QuietFor (gap_length frames n)
-    quiet_all h1 = grind (arith, nat_tests, last_is, gap_length-is)
+    fault_free_all : GapOk → FaultFreeFor (gap_length frames n)
+    fault_free_all h1 = grind (arith, nat_tests, last_is, gap_length-is)
 
-    gap_part : Tells GapOk (gap_events g frames n (gap_length frames n))
+    gap_part : Reports GapOk (gap_events g frames n (gap_length frames n))
     gap_part =
-        Finds-like quiet_all
-        (λ quiet f gap.
+        Finds-like fault_free_all
+        (λ fault_free f gap.
         let is = last_is in
         let long = gap_length-is frames n some in
         let e : last + suc (f - (last + 1)) ≡ f = omega (arith, gap.2) in
-        subst (IsQuiet g frames n) e (quiet (f - (last + 1)) (omega (arith, gap.2))))
-        (gap_told (gap_length frames n) (omega arith))
+        subst (IsFaultFree g frames n) e (fault_free (f - (last + 1)) (omega (arith, gap.2))))
+        (gap_reported (gap_length frames n) (omega arith))
 
     -- No fault was active at the end before the frame's own.
-    pub nothing_stood : GapOk → standing_before g frames n (frame_at frames n) ≡ nothing_stands
-    nothing_stood quiet =
-        grind (arith, nat_tests, last_is, gap_length-is, nothing_before, quiet_at, quiet_all)
+    pub none_active_before : GapOk → active_faults_before g frames n (frame_at frames n) ≡
+        no_active_faults
+    none_active_before fault_free =
+        grind (
+          arith,
+          nat_tests,
+          last_is,
+          gap_length-is,
+          nothing_before,
+          fault_free_at,
+          fault_free_all,
+        )
 
   gap_of : (n : ℕ) → AreOk g frames n → n < length frames → OrderOk g frames n
-      → Tells ((f : ℕ) → IsInGap frames n f → IsQuiet g frames n f)
+      → Reports ((f : ℕ) → IsInGap frames n f → IsFaultFree g frames n f)
       (gap_events g frames n (gap_length frames n))
   unfolding gap_length gap_events
   gap_of zero past there order = Finds-none (λ f gap. absurd (omega (arith, gap.0)))
   gap_of (suc i) past there order = gap_part (suc i) past there (omega arith) order
 
-  stood_before : (n : ℕ) → AreOk g frames n → n < length frames → OrderOk g frames n
-      → ((f : ℕ) → IsInGap frames n f → IsQuiet g frames n f)
-      → standing_before g frames n (frame_at frames n) ≡ nothing_stands
-  unfolding standing_before
-  stood_before n h1 h2 h3 h4 = grind (arith, nat_tests, nothing_stood)
+  active_before : (n : ℕ) → AreOk g frames n → n < length frames → OrderOk g frames n
+      → ((f : ℕ) → IsInGap frames n f → IsFaultFree g frames n f)
+      → active_faults_before g frames n (frame_at frames n) ≡ no_active_faults
+  unfolding active_faults_before
+  active_before n h1 h2 h3 h4 = grind (arith, nat_tests, none_active_before)
 
   -- ---- its packets
 
   rule_named : (r : PacketRule) (frame k : ℕ) (x : Event)
-      → any_event (Told (packet_fault r frame k)) ≡ Some x
+      → any_event (Reported (packet_fault r frame k)) ≡ Some x
       → IsNamed Named x
   rule_named r frame k x e = grind (arith, nat_tests, same_Some)
 
@@ -272,10 +284,10 @@ module _ (g : Criteria) (frames : Transmission) (Named : CheckFault → Type 0)
         (each_at IsPacket frames n k whole there (omega arith), ok k (omega arith))))
 
     -- One packet.
-    packet_told : (k : ℕ) → k < length ps → PacketsOk g frames n k
-        → Tells (KeepsAllRules g.watched (before frames n k) (packet_at frames n k))
-        (rules_told g.watched (frame_at frames n) k (before frames n k) (packet_at frames n k))
-    packet_told k l ok =
+    packet_reported : (k : ℕ) → k < length ps → PacketsOk g frames n k
+        → Reports (KeepsAllRules g.watched (before frames n k) (packet_at frames n k))
+        (rules_reported g.watched (frame_at frames n) k (before frames n k) (packet_at frames n k))
+    packet_reported k l ok =
         let clean = clean_before k (omega arith) ok in
         let is = each_at IsPacket frames n k whole there l in
         let keeps = clean_decided g.watched (before frames n k) (packet_at frames n k) clean is in
@@ -284,49 +296,51 @@ module _ (g : Criteria) (frames : Transmission) (Named : CheckFault → Type 0)
         (packet_found any_event (IsNamed Named) (frame_at frames n) k
         (λ r x. rule_named r (frame_at frames n) k x) g.watched _ _)
       where
-        fails : {told : Event} (b : Bool) → (b ≡ true → any_event told ≡ None) → b ≡ false
+        fails : {reported : Event} (b : Bool) → (b ≡ true → any_event reported ≡ None) → b ≡ false
         fails b silent = grind (arith, nat_tests, none-some)
 
     -- All packets.
-    all_packets_told : (k : ℕ) → k ≤ length ps
-        → Tells (PacketsOk g frames n k)
+    all_packets_reported : (k : ℕ) → k ≤ length ps
+        → Reports (PacketsOk g frames n k)
         (packet_events g.watched (frame_at frames n) (packets_before frames n) ps k)
-    unfolding packets_told
-    all_packets_told k l =
+    unfolding packets_reported
+    all_packets_reported k l =
         found_so_far (packet_events g.watched (frame_at frames n) (packets_before frames n) ps)
-        (λ j. rules_told g.watched (frame_at frames n) j (before frames n j) (packet_at frames n j))
+        (λ j. rules_reported g.watched (frame_at frames n) j (before frames n j)
+        (packet_at frames n j))
         (λ j. KeepsAllRules g.watched (before frames n j) (packet_at frames n j)) k refl
         (λ j. let from : 0 + j ≡ j = omega arith in rw from refl)
-        (λ j below. packet_told j (omega arith))
+        (λ j below. packet_reported j (omega arith))
 
   -- ---- its header, its end, and all of it
 
-  first_header_told : Tells (HasHeader g frames 0) (first_header_events g frames 0)
+  first_header_reported : Reports (HasHeader g frames 0) (first_header_events g frames 0)
   unfolding first_header_events
-  first_header_told = told_unless _ _ (plain _ refl) (λ e. e, λ e. e)
+  first_header_reported = reported_unless _ _ (plain _ refl) (λ e. e, λ e. e)
 
-  header_told : (n : ℕ) → Tells (n ≡ 0 → HasHeader g frames 0) (first_header_events g frames n)
+  header_reported : (n : ℕ) → Reports (n ≡ 0 → HasHeader g frames 0) (first_header_events g frames
+      n)
   unfolding first_header_events
-  header_told zero = Finds-like (λ h. h refl) (λ h z. h) first_header_told
-  header_told (suc i) = Finds-none (λ z. absurd (omega arith))
+  header_reported zero = Finds-like (λ h. h refl) (λ h z. h) first_header_reported
+  header_reported (suc i) = Finds-none (λ z. absurd (omega arith))
 
   -- The end of a frame, if its other requirements are met.
-  end_told : (n : ℕ) → AreOk g frames n → n < length frames → OrderOk g frames n
-      → ((f : ℕ) → IsInGap frames n f → IsQuiet g frames n f)
+  end_reported : (n : ℕ) → AreOk g frames n → n < length frames → OrderOk g frames n
+      → ((f : ℕ) → IsInGap frames n f → IsFaultFree g frames n f)
       → PacketsOk g frames n (length (packets_of_frame frames n))
       → (n ≡ 0 → HasHeader g frames 0)
-      → Tells (FrameOk g frames n) (events_at_end g frames n (suc n) (frame_at frames n))
-  end_told n past there order gap packets header =
+      → Reports (FrameOk g frames n) (events_at_end g frames n (suc n) (frame_at frames n))
+  end_reported n past there order gap packets header =
       let f : ℕ = frame_at frames n in
       let one : n + 1 ≡ suc n = omega arith in
       let back : frame_at frames (n + 1 - 1) ≡ f = ap (frame_at frames) (omega arith) in
-      subst (λ m. Tells (FrameOk g frames n) (events_at_end g frames n m f)) one
+      subst (λ m. Reports (FrameOk g frames n) (events_at_end g frames n m f)) one
       (subst
-      (λ s. Tells (FrameOk g frames n)
-      (end_events s (end_before frames n f) (standing_at g frames (n + 1) f) f))
-      (sym (stood_before n past there order gap))
-      (Finds-like (λ ok. ok.end) (λ quiet. grind (arith, nat_tests))
-      (quiet_told (n + 1) f (end_before frames n f) (record {
+      (λ s. Reports (FrameOk g frames n)
+      (end_events s (end_before frames n f) (active_faults_at g frames (n + 1) f) f))
+      (sym (active_before n past there order gap))
+      (Finds-like (λ ok. ok.end) (λ fault_free. grind (arith, nat_tests))
+      (fault_free_reported (n + 1) f (end_before frames n f) (record {
         some = omega arith;
         fits = omega arith;
         rises = λ i a b. (up_to i b).0 a;
@@ -354,28 +368,28 @@ module _ (g : Criteria) (frames : Transmission) (Named : CheckFault → Type 0)
 
   module _ (whole : EachPacket IsPacket frames) where
     -- A frame.
-    frame_told : (n : ℕ) → AreOk g frames n → n < length frames
-        → Tells (FrameOk g frames n) (frame_events g frames n)
+    frame_reported : (n : ℕ) → AreOk g frames n → n < length frames
+        → Reports (FrameOk g frames n) (frame_events g frames n)
     unfolding frame_events
-    frame_told n past there =
+    frame_reported n past there =
         rw (append_assoc, append_assoc, append_assoc)
-        (Finds-append (order_told n)
+        (Finds-append (order_reported n)
         (λ order. Finds-append (gap_of n past there order)
         (λ gap. Finds-append
-        (all_packets_told whole n past there (length (packets_of_frame frames n)) (omega arith))
-        (λ packets. Finds-append (header_told n)
-        (λ header. end_told n past there order gap packets header) (λ ok. ok.header))
+        (all_packets_reported whole n past there (length (packets_of_frame frames n)) (omega arith))
+        (λ packets. Finds-append (header_reported n)
+        (λ header. end_reported n past there order gap packets header) (λ ok. ok.header))
         (λ ok. ok.packets))
         (λ ok. ok.gap))
         (λ ok. ok.order))
 
     -- The first frames of the list.
-    pub frames_told : (n : ℕ) → n ≤ length frames
-        → Tells (AreOk g frames n) (events_of_first g frames n)
+    pub frames_reported : (n : ℕ) → n ≤ length frames
+        → Reports (AreOk g frames n) (events_of_first g frames n)
     unfolding events_of_first
-    frames_told n l =
+    frames_reported n l =
         found_so_far (events_of_first g frames) (frame_events g frames) (FrameOk g frames) n refl
-        (λ i. refl) (λ i below past. frame_told i past (omega arith))
+        (λ i. refl) (λ i below past. frame_reported i past (omega arith))
 
   -- ---- the whole list
 
@@ -389,23 +403,23 @@ module _ (g : Criteria) (frames : Transmission) (Named : CheckFault → Type 0)
       Decides (not (is_short g.last_out (end_frame frames) || is_pending g frames)) IsOver
   over_decided = grind (arith, nat_tests, none-some, same_Some)
 
-  late_told : Tells IsOver (late_events g frames)
-  late_told = told_if _ _ (plain _ refl) over_decided
+  late_reported : Reports IsOver (late_events g frames)
+  late_reported = reported_if _ _ (plain _ refl) over_decided
 
   -- The events after the last frame.
-  rest_told : AreOk g frames (length frames) → 0 < length frames → (o : Option Unread)
-      → g.unread ≡ o → Tells (AllOk g frames) (rest_events g frames o)
-  rest_told past some (Some u) e = grind (arith, nat_tests, rule_told, none-some)
-  rest_told past some None e = grind (arith, nat_tests, Finds-like, late_told)
+  rest_reported : AreOk g frames (length frames) → 0 < length frames → (o : Option Unread)
+      → g.unread ≡ o → Reports (AllOk g frames) (rest_events g frames o)
+  rest_reported past some (Some u) e = grind (arith, nat_tests, rule_reported, none-some)
+  rest_reported past some None e = grind (arith, nat_tests, Finds-like, late_reported)
 
-  closing_told : (n : ℕ) → n ≡ length frames → AreOk g frames (length frames)
-      → Tells (AllOk g frames) (closing_events g frames n)
+  closing_reported : (n : ℕ) → n ≡ length frames → AreOk g frames (length frames)
+      → Reports (AllOk g frames) (closing_events g frames n)
   unfolding closing_events end_events end_rules
-  closing_told n h1 h2 = grind (arith, nat_tests, rule_told, rest_told)
+  closing_reported n h1 h2 = grind (arith, nat_tests, rule_reported, rest_reported)
 
   -- All events.
-  pub all_told : EachPacket IsPacket frames → Tells (AllOk g frames) (events g frames)
+  pub all_reported : EachPacket IsPacket frames → Reports (AllOk g frames) (events g frames)
   unfolding events
-  all_told whole =
-      Finds-append (frames_told whole (length frames) (omega arith))
-      (λ past. closing_told (length frames) refl past) (λ all. all.each)
+  all_reported whole =
+      Finds-append (frames_reported whole (length frames) (omega arith))
+      (λ past. closing_reported (length frames) refl past) (λ all. all.each)

@@ -1,6 +1,6 @@
--- For `law_of_nothing_told_repeats` and `law_of_trusted_repeats`. A frame is finished exactly if
--- its end is not unfinished, `finished_of`, `of_finished`; since which frame the ends are
--- unfinished, `since_is`, `no_since`, `since_no`, `late_is`.
+-- For `law_of_nothing_reported_repeats` and `law_of_trusted_repeats`. A frame is finished exactly
+-- if its end is not unfinished, `finished_of`, `of_finished`; since which frame the ends are
+-- unfinished, `first_unfinished_is`, `no_first_unfinished`, `first_unfinished_no`, `late_is`.
 use Rattle.std.proofs.lemmas.Bool.Decides.{nat_tests}
 use Rattle.std.proofs.Common.{◌≡◌, ℕ, ◌+◌, ◌-◌, ◌<◌, ◌≤◌, Bool}
 use Rattle.std.proofs.Common.{false, not, ◌==◌, Option, None}
@@ -22,9 +22,10 @@ use Rattle.sub_rules.specs.Transmission.{Transmission}
 use Rattle.sub_laws.specs.CleanStretch.{IsEnd, criteria_unsure}
 use Rattle.sub_laws.proofs.PlaceLemmas.{not_not}
 use Rattle.sub_laws.proofs.PrefixLemmas.{RiseTo, end_at, end_high, end_is_on_air}
-use Rattle.sub_laws.proofs.StandingLemmas.{incomplete_decided, no_wrong, none_wrong}
-use Rattle.sub_laws.proofs.UnfinishedLemmas.{none_since, since_at}
-use Rattle.sub_laws.proofs.UnfinishedLemmas.{since_end, since_none, unfinished_at}
+use Rattle.sub_laws.proofs.ActiveFaultsLemmas.{incomplete_decided, no_wrong, none_wrong}
+use Rattle.sub_laws.proofs.UnfinishedLemmas.{none_first_unfinished, first_unfinished_at}
+use Rattle.sub_laws.proofs.UnfinishedLemmas.{first_unfinished_end, first_unfinished_none}
+use Rattle.sub_laws.proofs.UnfinishedLemmas.{unfinished_at}
 use Rattle.sub_laws.proofs.UnfinishedLemmas.{unfinished_is}
 
 -- ---- tests
@@ -101,30 +102,30 @@ module _ (programme : ProgrammeValue) (options : OptionsValue) (unread : Option 
       sym (unfinished_is g t rises n f end) ∙ of_finished n f end finished
 
   -- The frame since which the ends are unfinished.
-  pub since_is : (n f : ℕ) → IsEnd t n f
-      → unfinished_since g t n f ≡ since_at un first (f - first)
-  since_is n f end =
+  pub first_unfinished_is : (n f : ℕ) → IsEnd t n f
+      → unfinished_since g t n f ≡ first_unfinished_at un first (f - first)
+  first_unfinished_is n f end =
       let low = end_high t rises n f end in
-      since_end g t rises (f - first) n f end (omega arith)
+      first_unfinished_end g t rises (f - first) n f end (omega arith)
 
   -- There is none exactly if the last end is finished.
-  pub no_since : (n f : ℕ) → IsEnd t n f → is_unfinished g t n f ≡ false
+  pub no_first_unfinished : (n f : ℕ) → IsEnd t n f → is_unfinished g t n f ≡ false
       → unfinished_since g t n f ≡ None
-  no_since n f end e =
+  no_first_unfinished n f end e =
       let low = end_high t rises n f end in
       let at : f ≡ first + (f - first) = omega arith in
-      since_is n f end
-      ∙ none_since un first (f - first)
+      first_unfinished_is n f end
+      ∙ none_first_unfinished un first (f - first)
       (ap un (sym at) ∙ sym (unfinished_is g t rises n f end) ∙ e)
 
-  pub since_no : (n f : ℕ) → IsEnd t n f → unfinished_since g t n f ≡ None
+  pub first_unfinished_no : (n f : ℕ) → IsEnd t n f → unfinished_since g t n f ≡ None
       → is_unfinished g t n f ≡ false
-  since_no n f end e =
+  first_unfinished_no n f end e =
       let low = end_high t rises n f end in
       let at : f ≡ first + (f - first) = omega arith in
       unfinished_is g t rises n f end
       ∙ ap un at
-      ∙ since_none un first (f - first) (sym (since_is n f end) ∙ e)
+      ∙ first_unfinished_none un first (f - first) (sym (first_unfinished_is n f end) ∙ e)
 
   -- An end that is not overdue is late only if `within` is 0.
   pub late_is : (n f : ℕ) → is_overdue g first (unfinished_since g t n f) f ≡ false

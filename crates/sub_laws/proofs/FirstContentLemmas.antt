@@ -4,189 +4,198 @@ use Rattle.std.proofs.lemmas.Bool.Decides.{nat_tests}
 use Rattle.std.proofs.Common.{◌≡◌, ℕ, suc, ◌⊎◌, inl, inr, List, [], ◌∷◌, ◌++◌, length, Option, Some}
 use Rattle.std.proofs.Common.{None, refl, sym, ap, ◌∙◌, arith, append_assoc}
 use Rattle.std.proofs.lemmas.Option.{same_Some}
-use Rattle.sub_rules.specs.Events.{first_told}
+use Rattle.sub_rules.specs.Events.{first_reported}
 use Rattle.sub_rules.specs.Fault.{fault_at_pes}
 use Rattle.sub_rules.specs.FrameRules.{Criteria, Unread}
 use Rattle.sub_rules.specs.FrameRules.Unread.{BadPacket, NoFrame}
-use Rattle.sub_rules.specs.PieceEvents.{all_of_pieces, sent_by_pieces, steps_of_closing}
-use Rattle.sub_rules.specs.PieceEvents.{steps_of_each, steps_of_pieces, steps_of_sent}
-use Rattle.sub_rules.specs.PieceEvents.{steps_of_waiting, told_of_pieces}
-use Rattle.sub_rules.specs.Pieces.{Piece, frames_of, joined, read_until_passed, sent_after}
-use Rattle.sub_rules.specs.Pieces.Piece.{Passed, Sent}
+use Rattle.sub_rules.specs.PesPacketEvents.{all_of_pes_packets, sent_by_pes_packets}
+use Rattle.sub_rules.specs.PesPacketEvents.{steps_of_closing}
+use Rattle.sub_rules.specs.PesPacketEvents.{steps_of_each, steps_of_pes_packets, steps_of_sent}
+use Rattle.sub_rules.specs.PesPacketEvents.{steps_of_pending_end, reported_of_pes_packets}
+use Rattle.sub_rules.specs.PesPackets.{PesPacket, frames_of, joined, read_until_skipped, sent_after}
+use Rattle.sub_rules.specs.PesPackets.PesPacket.{Skipped, Sent}
 use Rattle.sub_rules.specs.Transmission.{SentFrame, Transmission}
-use Rattle.sub_rules.specs.Trusted.CheckStep.{AtPes, Says}
+use Rattle.sub_rules.specs.Trusted.CheckStep.{AtPes, Emits}
 use Rattle.sub_rules.specs.declared.event.Event.{Event}
-use Rattle.sub_rules.specs.declared.event.Event.TheVariants.{Told}
+use Rattle.sub_rules.specs.declared.event.Event.TheVariants.{Reported}
 use Rattle.sub_rules.specs.declared.fault.CheckFault.{CheckFault}
 use Rattle.sub_rules.specs.declared.fault.CheckFault.TheVariants as fault
-use Rattle.sub_rules.proofs.StepEventLemmas.{first_of_two, said_by, steps_first}
-use Rattle.sub_rules.proofs.PieceEventLemmas.{all_first}
-use Rattle.sub_laws.proofs.SaidLemmas.{pieces_said, said, said-append}
-use Rattle.sub_rules.specs.Trusted.{CheckStep, at_pes, pes_told}
+use Rattle.sub_rules.proofs.StepEventLemmas.{first_of_two, emitted_by, steps_first}
+use Rattle.sub_rules.proofs.PesPacketEventLemmas.{all_first}
+use Rattle.sub_laws.proofs.EmittedLemmas.{pes_packets_emitted, emitted, emitted-append}
+use Rattle.sub_rules.specs.Trusted.{CheckStep, at_pes, current_pes}
 use Rattle.sub_rules.proofs.FrameEvents.{events}
 
 -- ---- PES packets
 
 -- Those before the first skipped one.
-front : List Piece → List Piece
-front [] = []
-front (Sent s ∷ pieces) = Sent s ∷ front pieces
-front (Passed u ∷ pieces) = []
+prefix : List PesPacket → List PesPacket
+prefix [] = []
+prefix (Sent s ∷ pes_packets) = Sent s ∷ prefix pes_packets
+prefix (Skipped u ∷ pes_packets) = []
 
 -- Each of them is sent.
-front_sent : (pieces : List Piece) → length (frames_of (front pieces)) ≡ length (front pieces)
-unfolding front frames_of
-front_sent [] = refl
-front_sent (Sent s ∷ pieces) = ap suc (front_sent pieces)
-front_sent (Passed u ∷ pieces) = refl
+prefix_sent : (pes_packets : List PesPacket) → length (frames_of (prefix pes_packets)) ≡ length
+    (prefix pes_packets)
+unfolding prefix frames_of
+prefix_sent [] = refl
+prefix_sent (Sent s ∷ pes_packets) = ap suc (prefix_sent pes_packets)
+prefix_sent (Skipped u ∷ pes_packets) = refl
 
 -- Their frames are those up to the first skipped PES packet.
-front_frames : (pieces : List Piece) (unread : Option Unread)
-    → frames_of (front pieces) ≡ (read_until_passed pieces unread).frames
-unfolding front frames_of read_until_passed
-front_frames [] unread = refl
-front_frames (Sent s ∷ pieces) unread =
-    ap (λ (fs : Transmission). s ∷ fs) (front_frames pieces unread)
-front_frames (Passed u ∷ pieces) unread = refl
+prefix_frames : (pes_packets : List PesPacket) (unread : Option Unread)
+    → frames_of (prefix pes_packets) ≡ (read_until_skipped pes_packets unread).frames
+unfolding prefix frames_of read_until_skipped
+prefix_frames [] unread = refl
+prefix_frames (Sent s ∷ pes_packets) unread =
+    ap (λ (fs : Transmission). s ∷ fs) (prefix_frames pes_packets unread)
+prefix_frames (Skipped u ∷ pes_packets) unread = refl
 
 module _ (frame row column : ℕ) where
   -- The wrong cell is the first fault.
   abbrev IsFirst : List Event → Type 0
-  IsFirst es = first_told es ≡ Some (fault.Content frame row column)
+  IsFirst es = first_reported es ≡ Some (fault.Content frame row column)
 
   -- ---- two lists
 
   -- It is the first fault of the first list, or of the second if the first has none.
   parts_first : (xs ys : List Event) → IsFirst (xs ++ ys)
-      → IsFirst xs ⊎ ((first_told xs ≡ None) × IsFirst ys)
+      → IsFirst xs ⊎ ((first_reported xs ≡ None) × IsFirst ys)
   parts_first xs ys e = grind (arith, nat_tests, first_of_two)
 
-  front_first : (xs ys : List Event) → IsFirst xs → IsFirst (xs ++ ys)
-  front_first xs ys e = first_of_two xs ys ∙ rw e refl
+  prefix_first : (xs ys : List Event) → IsFirst xs → IsFirst (xs ++ ys)
+  prefix_first xs ys e = first_of_two xs ys ∙ rw e refl
 
-  rest_first : (xs ys : List Event) → first_told xs ≡ None → IsFirst ys → IsFirst (xs ++ ys)
+  rest_first : (xs ys : List Event) → first_reported xs ≡ None → IsFirst ys → IsFirst (xs ++ ys)
   rest_first xs ys none e = first_of_two xs ys ∙ rw (none, e) refl
 
   -- ---- steps
 
   -- The fault, moved to PES packet `pes`, is a wrong cell exactly if it was one.
-  cell_told : (pes : ℕ) (f : CheckFault)
+  cell_reported : (pes : ℕ) (f : CheckFault)
       → fault_at_pes pes f ≡ fault.Content frame row column
       → f ≡ fault.Content frame row column
-  cell_told pes f e = grind (arith, nat_tests)
+  cell_reported pes f e = grind (arith, nat_tests)
 
   -- So it is the first fault also without PES packets.
-  said_first : (pes : ℕ) (ms : List CheckStep) → IsFirst (said_by pes ms) → IsFirst (said ms)
+  emitted_first : (pes : ℕ) (ms : List CheckStep) → IsFirst (emitted_by pes ms) → IsFirst
+      (emitted ms)
   unfolding at_pes
-  said_first pes [] e = e
-  said_first pes (Says (Told f) ∷ ms) e =
-      ap (λ (x : CheckFault). Some x) (cell_told pes f (same_Some _ _ e))
-  said_first pes (Says x ∷ ms) e = said_first pes ms e
-  said_first pes (AtPes next ∷ ms) e = said_first next ms e
-  said_first pes (m ∷ ms) e = said_first pes ms e
+  emitted_first pes [] e = e
+  emitted_first pes (Emits (Reported f) ∷ ms) e =
+      ap (λ (x : CheckFault). Some x) (cell_reported pes f (same_Some _ _ e))
+  emitted_first pes (Emits x ∷ ms) e = emitted_first pes ms e
+  emitted_first pes (AtPes next ∷ ms) e = emitted_first next ms e
+  emitted_first pes (m ∷ ms) e = emitted_first pes ms e
 
   -- ---- all PES packets
 
   module _ (g : Criteria) where
     -- A sent PES packet: the fault is among its events, or comes later.
-    module _ (sent : Transmission) (pes : ℕ) (s : SentFrame) (pieces : List Piece)
+    module _ (sent : Transmission) (pes : ℕ) (s : SentFrame) (pes_packets : List PesPacket)
         (rest : List Event) where
       abbrev next : Transmission
       next = sent_after g.within sent s
 
       abbrev own : List Event
-      own = said (steps_of_sent g sent pes s)
+      own = emitted (steps_of_sent g sent pes s)
 
       abbrev later : List CheckStep
-      later = steps_of_each g next (suc pes) pieces
+      later = steps_of_each g next (suc pes) pes_packets
 
       abbrev fewer : List CheckStep
-      fewer = steps_of_each g next (suc pes) (front pieces)
+      fewer = steps_of_each g next (suc pes) (prefix pes_packets)
 
       abbrev IsLater : Type 0
-      IsLater = (front pieces ≡ pieces) ⊎ IsFirst (said fewer)
+      IsLater = (prefix pes_packets ≡ pes_packets) ⊎ IsFirst (emitted fewer)
 
-      abbrev IsTold : Type 0
-      IsTold =
-          (Sent s ∷ front pieces ≡ Sent s ∷ pieces)
-          ⊎ IsFirst (said (steps_of_sent g sent pes s ++ fewer))
+      abbrev IsReported : Type 0
+      IsReported =
+          (Sent s ∷ prefix pes_packets ≡ Sent s ∷ pes_packets)
+          ⊎ IsFirst (emitted (steps_of_sent g sent pes s ++ fewer))
 
-      by_later : first_told own ≡ None → IsLater → IsTold
-      by_later none (inl same) = inl (ap (λ (ps : List Piece). Sent s ∷ ps) same)
+      by_later : first_reported own ≡ None → IsLater → IsReported
+      by_later none (inl same) = inl (ap (λ (ps : List PesPacket). Sent s ∷ ps) same)
       by_later none (inr first) =
           inr
-          (ap first_told (said-append (steps_of_sent g sent pes s) fewer)
-          ∙ rest_first own (said fewer) none first)
+          (ap first_reported (emitted-append (steps_of_sent g sent pes s) fewer)
+          ∙ rest_first own (emitted fewer) none first)
 
-      by_parts : (IsFirst (said later ++ rest) → IsLater)
-          → IsFirst own ⊎ ((first_told own ≡ None) × IsFirst (said later ++ rest))
-          → IsTold
+      by_parts : (IsFirst (emitted later ++ rest) → IsLater)
+          → IsFirst own ⊎ ((first_reported own ≡ None) × IsFirst (emitted later ++ rest))
+          → IsReported
       by_parts ih (inl first) =
           inr
-          (ap first_told (said-append (steps_of_sent g sent pes s) fewer)
-          ∙ front_first own (said fewer) first)
+          (ap first_reported (emitted-append (steps_of_sent g sent pes s) fewer)
+          ∙ prefix_first own (emitted fewer) first)
       by_parts ih (inr (none, first)) = by_later none (ih first)
 
-      one_more : (IsFirst (said later ++ rest) → IsLater)
-          → IsFirst (said (steps_of_sent g sent pes s ++ later) ++ rest)
-          → IsTold
+      one_more : (IsFirst (emitted later ++ rest) → IsLater)
+          → IsFirst (emitted (steps_of_sent g sent pes s ++ later) ++ rest)
+          → IsReported
       one_more ih e =
           by_parts ih
-          (parts_first own (said later ++ rest)
-          (ap first_told
+          (parts_first own (emitted later ++ rest)
+          (ap first_reported
           (sym
-          (ap (λ (es : List Event). es ++ rest) (said-append (steps_of_sent g sent pes s) later)
-          ∙ append_assoc own (said later) rest))
+          (ap (λ (es : List Event). es ++ rest) (emitted-append (steps_of_sent g sent pes s) later)
+          ∙ append_assoc own (emitted later) rest))
           ∙ e))
 
     -- A skipped PES packet has no wrong cell, so all are sent, or the fault comes before.
-    front_told : (sent : Transmission) (pes : ℕ) (pieces : List Piece) (rest : List Event)
-        → IsFirst (said (steps_of_each g sent pes pieces) ++ rest)
-        → (front pieces ≡ pieces) ⊎ IsFirst (said (steps_of_each g sent pes (front pieces)))
-    unfolding front steps_of_each
-    front_told sent pes [] rest e = inl refl
-    front_told sent pes (Passed (BadPacket f) ∷ pieces) rest e = cc
-    front_told sent pes (Passed NoFrame ∷ pieces) rest e = cc
-    front_told sent pes (Sent s ∷ pieces) rest e =
-        one_more sent pes s pieces rest
-        (front_told (sent_after g.within sent s) (suc pes) pieces rest) e
+    prefix_reported : (sent : Transmission) (pes : ℕ) (pes_packets : List PesPacket)
+        (rest : List Event)
+        → IsFirst (emitted (steps_of_each g sent pes pes_packets) ++ rest)
+        → (prefix pes_packets ≡ pes_packets) ⊎ IsFirst
+        (emitted (steps_of_each g sent pes (prefix pes_packets)))
+    unfolding prefix steps_of_each
+    prefix_reported sent pes [] rest e = inl refl
+    prefix_reported sent pes (Skipped (BadPacket f) ∷ pes_packets) rest e = cc
+    prefix_reported sent pes (Skipped NoFrame ∷ pes_packets) rest e = cc
+    prefix_reported sent pes (Sent s ∷ pes_packets) rest e =
+        one_more sent pes s pes_packets rest
+        (prefix_reported (sent_after g.within sent s) (suc pes) pes_packets rest) e
 
     -- The events of all PES packets.
-    abbrev after_each : List Piece → List Event
-    after_each pieces =
-        let frames = sent_by_pieces g pieces in
-        said (steps_of_waiting g frames)
-        ++ said (steps_of_closing g frames (length pieces) (length frames))
+    abbrev after_each : List PesPacket → List Event
+    after_each pes_packets =
+        let frames = sent_by_pes_packets g pes_packets in
+        emitted (steps_of_pending_end g frames)
+        ++ emitted (steps_of_closing g frames (length pes_packets) (length frames))
 
-    said_all : (pieces : List Piece)
-        → said (steps_of_pieces g pieces)
-        ≡ said (steps_of_each g [] 0 pieces) ++ after_each pieces
-    said_all pieces = grind (arith, nat_tests, said-append, said, append_assoc)
+    emitted_all : (pes_packets : List PesPacket)
+        → emitted (steps_of_pes_packets g pes_packets)
+        ≡ emitted (steps_of_each g [] 0 pes_packets) ++ after_each pes_packets
+    emitted_all pes_packets = grind (arith, nat_tests, emitted-append, emitted, append_assoc)
 
     -- If a wrong cell is the first fault, it is one of the frames up to the first skipped PES
     -- packet. For `check`.
-    pub content_first : (pieces : List Piece) → IsFirst (all_of_pieces g pieces)
-        → IsFirst (events g (joined g.within (read_until_passed pieces g.unread).frames))
-    unfolding all_of_pieces told_of_pieces pes_told
-    content_first pieces e =
-        ap first_told
+    pub content_first : (pes_packets : List PesPacket) → IsFirst (all_of_pes_packets g pes_packets)
+        → IsFirst (events g (joined g.within (read_until_skipped pes_packets g.unread).frames))
+    unfolding all_of_pes_packets reported_of_pes_packets current_pes
+    content_first pes_packets e =
+        ap first_reported
         (ap (λ (fs : Transmission). events g (joined g.within fs))
-        (sym (front_frames pieces g.unread))
-        ∙ sym (pieces_said g (front pieces) (front_sent pieces)))
-        ∙ of_front
-        (front_told [] 0 pieces (after_each pieces) (ap first_told (sym (said_all pieces)) ∙ told))
+        (sym (prefix_frames pes_packets g.unread))
+        ∙ sym (pes_packets_emitted g (prefix pes_packets) (prefix_sent pes_packets)))
+        ∙ of_prefix
+        (prefix_reported [] 0 pes_packets (after_each pes_packets)
+        (ap first_reported (sym (emitted_all pes_packets)) ∙ reported))
       where
-        told : IsFirst (said (steps_of_pieces g pieces))
-        told =
-            let steps = steps_of_pieces g pieces in
-            said_first 0 steps
-            (sym (all_first (told_of_pieces g pieces) ∙ steps_first [] steps) ∙ e)
+        reported : IsFirst (emitted (steps_of_pes_packets g pes_packets))
+        reported =
+            let steps = steps_of_pes_packets g pes_packets in
+            emitted_first 0 steps
+            (sym (all_first (reported_of_pes_packets g pes_packets) ∙ steps_first [] steps) ∙ e)
 
-        of_front : (front pieces ≡ pieces) ⊎ IsFirst (said (steps_of_each g [] 0 (front pieces)))
-            → IsFirst (said (steps_of_pieces g (front pieces)))
-        of_front (inl same) =
-            ap (λ (ps : List Piece). first_told (said (steps_of_pieces g ps))) same ∙ told
-        of_front (inr first) =
-            ap first_told (said_all (front pieces))
-            ∙ front_first (said (steps_of_each g [] 0 (front pieces))) (after_each (front pieces))
+        of_prefix : (prefix pes_packets ≡ pes_packets) ⊎ IsFirst
+            (emitted (steps_of_each g [] 0 (prefix pes_packets)))
+            → IsFirst (emitted (steps_of_pes_packets g (prefix pes_packets)))
+        of_prefix (inl same) =
+            ap (λ (ps : List PesPacket). first_reported (emitted (steps_of_pes_packets g ps))) same
+            ∙ reported
+        of_prefix (inr first) =
+            ap first_reported (emitted_all (prefix pes_packets))
+            ∙ prefix_first (emitted (steps_of_each g [] 0 (prefix pes_packets)))
+            (after_each (prefix pes_packets))
             first

@@ -9,14 +9,14 @@ use Rattle.std.specs.Option.{option_or}
 use Rattle.std.proofs.lemmas.Bool.{cases_lt}
 use Rattle.std.proofs.lemmas.List.Elements.{recursion_from_All}
 use Rattle.sub_rules.specs.Events.{broken_at, end_events, end_rules, packet_fault}
-use Rattle.sub_rules.specs.Events.{rule_events, rules_told}
+use Rattle.sub_rules.specs.Events.{rule_events, rules_reported}
 use Rattle.sub_rules.specs.PacketTests.{breaks, broken_rules, packet_rules}
 use Rattle.sub_rules.specs.declared.end_rule.EndRule.{EndRule}
 use Rattle.sub_rules.specs.declared.event.Event.{Event}
-use Rattle.sub_rules.specs.declared.event.Event.TheVariants.{Told}
+use Rattle.sub_rules.specs.declared.event.Event.TheVariants.{Reported}
 use Rattle.sub_rules.specs.declared.packet_rule.PacketRule.{PacketRule}
 use Rattle.sub_rules.specs.declared.packet_rule.Watched.{Watched}
-use Rattle.sub_rules.specs.declared.standing.Standing.{Standing}
+use Rattle.sub_rules.specs.declared.active_faults.ActiveFaults.{ActiveFaults}
 use Rattle.sub_rules.proofs.EndRuleLemmas.{each_end_rule}
 
 module _ {X : Type 0} where
@@ -35,12 +35,12 @@ module _ {X : Type 0} where
   pub record Finds (look : Event → Option X) (At : X → Type 0) (Given Holds : Type 0)
       (es : List Event) : Type 0 where
     pub at : (x : X) → first_found look es ≡ Some x → At x
-    pub quiet : first_found look es ≡ None → Holds
+    pub fault_free : first_found look es ≡ None → Holds
     pub calm : Given → first_found look es ≡ None
 
 module _ {X : Type 0} {look : Event → Option X} {At : X → Type 0} where
   pub Finds-none : {A B : Type 0} → B → Finds look At A B []
-  Finds-none b = record { at = λ x e. cc; quiet = λ e. b; calm = λ h. refl }
+  Finds-none b = record { at = λ x e. cc; fault_free = λ e. b; calm = λ h. refl }
 
   -- Joined lists: if nothing is found in the first, its result is available for the second.
   pub Finds-append : {A B C D : Type 0} {xs ys : List Event} → Finds look At A B xs
@@ -80,15 +80,15 @@ of_each_rule : (P : PacketRule → Type 0) → ((r : PacketRule) → P r) → Al
 of_each_rule P all = recursion_from_All P packet_rules (λ k d l. all (get_or packet_rules k d))
 
 module _ {X : Type 0} (look : Event → Option X) (At : X → Type 0) (frame k : ℕ)
-    (at : (r : PacketRule) (x : X) → look (Told (packet_fault r frame k)) ≡ Some x → At x) where
+    (at : (r : PacketRule) (x : X) → look (Reported (packet_fault r frame k)) ≡ Some x → At x) where
   -- No rule of the list passes the test.
   abbrev NonePass : (PacketRule → Bool) → List PacketRule → Type 0
   NonePass test rs =
-      AllByRecursion (λ r. test r ≡ true → look (Told (packet_fault r frame k)) ≡ None) rs
+      AllByRecursion (λ r. test r ≡ true → look (Reported (packet_fault r frame k)) ≡ None) rs
 
   rules_found : (test : PacketRule → Bool) (rs : List PacketRule)
       → Finds look At (NonePass test rs) (NonePass test rs)
-      (map (λ (r : PacketRule). Told (packet_fault r frame k)) (filter test rs))
+      (map (λ (r : PacketRule). Reported (packet_fault r frame k)) (filter test rs))
   rules_found test [] = Finds-none tt
   rules_found test (r ∷ rs) =
       let found = at r in let rest = rules_found test rs in grind (arith, nat_tests)
@@ -96,10 +96,12 @@ module _ {X : Type 0} (look : Event → Option X) (At : X → Type 0) (frame k :
   -- Among the events of packet k of a frame.
   pub packet_found : (w : Watched) (before : List (List ℕ)) (p : List ℕ)
       → Finds look At
-      ((r : PacketRule) → breaks r w before p ≡ true → look (Told (packet_fault r frame k)) ≡ None)
-      ((r : PacketRule) → breaks r w before p ≡ true → look (Told (packet_fault r frame k)) ≡ None)
-      (rules_told w frame k before p)
-  unfolding rules_told broken_rules
+      ((r : PacketRule) → breaks r w before p ≡ true → look (Reported (packet_fault r frame k)) ≡
+      None)
+      ((r : PacketRule) → breaks r w before p ≡ true → look (Reported (packet_fault r frame k)) ≡
+      None)
+      (rules_reported w frame k before p)
+  unfolding rules_reported broken_rules
   packet_found w before p =
       Finds-like (of_each_rule _) (each_rule _)
       (rules_found (λ r. breaks r w before p) packet_rules)
@@ -109,7 +111,7 @@ module _ {X : Type 0} (look : Event → Option X) (At : X → Type 0) (frame k :
 module _ {X : Type 0} {look : Event → Option X} {At : X → Type 0} {Given Holds : EndRule → Type 0}
   where
     -- Among the events of an end, rule by rule.
-    pub end_found : (old : Standing) (before : ℕ) (new : Standing) (f : ℕ)
+    pub end_found : (old : ActiveFaults) (before : ℕ) (new : ActiveFaults) (f : ℕ)
         → ((rule : EndRule)
         → Finds look At (Given rule) (Holds rule)
         (rule_events rule (broken_at rule old) before (broken_at rule new) f))

@@ -1,14 +1,14 @@
 -- For reports and trusted frames. The requirements of a transmission, frame by frame of the list.
 use Rattle.std.proofs.Common.{◌≡◌, ℕ, ◌+◌, ◌-◌, ◌<◌, ◌≤◌, ◌⊎◌, length, Some, None, IsFalse}
-use Rattle.sub_rules.specs.Events.{is_pending, nothing_stands, standing_at}
+use Rattle.sub_rules.specs.Events.{is_pending, no_active_faults, active_faults_at}
 use Rattle.sub_rules.specs.FrameRules.{Criteria, HasHeader, end_frame, frame_at, packets_of_frame}
 use Rattle.sub_rules.specs.PacketRules.{KeepsAllRules}
 use Rattle.sub_rules.specs.Transmission.{Transmission}
 use Rattle.sub_laws.proofs.PrefixLemmas.{IsInGap, before, packet_at}
 
 -- No fault is active after n frames of the list, at the end of frame f.
-abbrev pub IsQuiet : Criteria → Transmission → ℕ → ℕ → Type 0
-IsQuiet g frames n f = standing_at g frames n f ≡ nothing_stands
+abbrev pub IsFaultFree : Criteria → Transmission → ℕ → ℕ → Type 0
+IsFaultFree g frames n f = active_faults_at g frames n f ≡ no_active_faults
 
 -- The number of frame i of the list is as required.
 pub record OrderOk (g : Criteria) (frames : Transmission) (i : ℕ) : Type 0 where
@@ -24,10 +24,10 @@ PacketsOk g frames i k =
 -- packets, its header, and its end.
 pub record FrameOk (g : Criteria) (frames : Transmission) (i : ℕ) : Type 0 where
   pub order : OrderOk g frames i
-  pub gap : (f : ℕ) → IsInGap frames i f → IsQuiet g frames i f
+  pub gap : (f : ℕ) → IsInGap frames i f → IsFaultFree g frames i f
   pub packets : PacketsOk g frames i (length (packets_of_frame frames i))
   pub header : i ≡ 0 → HasHeader g frames 0
-  pub end : IsQuiet g frames (i + 1) (frame_at frames i)
+  pub end : IsFaultFree g frames (i + 1) (frame_at frames i)
 
 -- The first n frames of the list meet all requirements.
 abbrev pub AreOk : Criteria → Transmission → ℕ → Type 0

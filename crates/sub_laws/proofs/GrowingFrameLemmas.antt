@@ -7,8 +7,8 @@ use Rattle.std.proofs.Common.{length-append, le_refl, ◌==◌, ◌≤◌}
 use Rattle.std.proofs.lemmas.Bool.Decides.{nat_tests}
 use Rattle.sub_rules.specs.FrameRules.{Criteria, end_frame, frame_at, packets_before}
 use Rattle.sub_rules.specs.FrameRules.{packets_of_frame}
-use Rattle.sub_rules.specs.PieceEvents.{steps_of_arrival, steps_of_ending}
-use Rattle.sub_rules.specs.Pieces.{goes_on_with, joined_after, sent_after, with_packets}
+use Rattle.sub_rules.specs.PesPacketEvents.{steps_of_arrival, steps_of_ending}
+use Rattle.sub_rules.specs.PesPackets.{goes_on_with, joined_after, sent_after, with_packets}
 use Rattle.sub_rules.specs.Transmission.{SentFrame, Transmission}
 use Rattle.sub_rules.proofs.FirstFrameLemmas.{steps_of_arrival-same}
 use Rattle.sub_rules.proofs.FrameLists.{joined_more}
@@ -91,10 +91,10 @@ grows within sent (s ∷ more) =
     (grows within (sent_after within sent s) more)
 
 -- If each PES packet is a frame of its own, these are unchanged.
-pub whole_at_once : (within : ℕ) (sent more frames : Transmission) → (within == 0) ≡ true
+pub same_at_once : (within : ℕ) (sent more frames : Transmission) → (within == 0) ≡ true
     → joined_after within sent more ≡ frames
     → frames ≡ sent ++ more
-whole_at_once within sent more frames none all = grind (arith, nat_tests, joined_after-none)
+same_at_once within sent more frames none all = grind (arith, nat_tests, joined_after-none)
 
 -- If a PES packet continues a frame, there is one, and `within` is not 0.
 pub goes_on_some : (within : ℕ) (sent : Transmission) (s : SentFrame)

@@ -5,7 +5,7 @@ use Rattle.std.proofs.Common.{[], ◌∷◌, ◌++◌, length, refl, sym, ap, �
 use Rattle.std.proofs.Common.{length-append}
 use Rattle.std.proofs.lemmas.List.{append-nil}
 use Rattle.sub_rules.specs.FrameRules.{end_frame, frame_at}
-use Rattle.sub_rules.specs.Pieces.{goes_on_with, joined, joined_after}
+use Rattle.sub_rules.specs.PesPackets.{goes_on_with, joined, joined_after}
 use Rattle.sub_rules.specs.Transmission.{IsRising, SentFrame, Transmission}
 use Rattle.sub_rules.proofs.JoinedLemmas.{sent_after-other}
 use Rattle.sub_laws.proofs.GoodLemmas.{rises_each}

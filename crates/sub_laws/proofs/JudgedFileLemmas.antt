@@ -7,27 +7,27 @@ use Rattle.std.specs.List.{concat}
 use Rattle.stl_file.specs.Reader.{findings_for}
 use Rattle.stl_file.specs.Reading.{Findings, breaks, finds, no_more, refuses}
 use Rattle.stl_file.specs.Subtitle.{SubtitleValue}
-use Rattle.stl_file.specs.TakenOut.{LawOfScope, all_day, is_read_whole, taken_out}
+use Rattle.stl_file.specs.TakenOut.{LawOfScope, all_day, is_read_to_the_end, taken_out}
 use Rattle.stl_file.specs.TakenOut.{unnumbered}
 use Rattle.stl_rows.specs.declared.layout.Drawing.{Drawing}
 use Rattle.stl_rows.specs.DrawnPage.{drawn}
 use Rattle.stl_rows.specs.Judged.{AllJudged, are_in_order, are_some, has_refused}
-use Rattle.stl_rows.specs.Judged.{is_followed_in_order, judged_behind, judged_of}
+use Rattle.stl_rows.specs.Judged.{is_followed_in_order, judged_after, judged_of}
 use Rattle.stl_rows.specs.Loading.{of_day}
 use Rattle.stl_rows.specs.Programme.{ProgrammeValue, times_of}
 use Rattle.sub_rules.specs.FrameRules.{is_due_undecided}
-use Rattle.sub_rules.specs.PieceEvents.{all_of_pieces}
+use Rattle.sub_rules.specs.PesPacketEvents.{all_of_pes_packets}
 use Rattle.sub_laws.specs.CleanStretch.{criteria_unsure}
 use Rattle.sub_laws.specs.JudgedFiles.{LawOfJudgedAlike, LawOfJudgedParts}
 
 -- ---- a part of a file
 
 -- Whether a file was read to its end does not depend on block numbers.
-whole_unnumbered : (left : Findings) → is_read_whole left ≡ is_read_whole (unnumbered left)
-whole_unnumbered no_more = refl
-whole_unnumbered (breaks f block) = refl
-whole_unnumbered (refuses f block left) = whole_unnumbered left
-whole_unnumbered (finds t block left) = whole_unnumbered left
+read_unnumbered : (left : Findings) → is_read_to_the_end left ≡ is_read_to_the_end (unnumbered left)
+read_unnumbered no_more = refl
+read_unnumbered (breaks f block) = refl
+read_unnumbered (refuses f block left) = read_unnumbered left
+read_unnumbered (finds t block left) = read_unnumbered left
 
 -- Nor does it matter for whether the next subtitle is in order.
 followed_unnumbered : (last : SubtitleValue) (left : Findings)
@@ -39,14 +39,14 @@ followed_unnumbered last (refuses f block left) = followed_unnumbered last left
 followed_unnumbered last (finds t block left) = refl
 
 -- The subtitles that can be relied on after a subtitle, or from the first one on.
-abbrev behind : Drawing → Option SubtitleValue → Bool → Findings → AllJudged
-behind drawing last other left = judged_behind drawing (option_map times_of last) other left
+abbrev following : Drawing → Option SubtitleValue → Bool → Findings → AllJudged
+following drawing last other left = judged_after drawing (option_map times_of last) other left
 
 -- They do not depend on block numbers either.
 judged_unnumbered : (drawing : Drawing) (last : Option SubtitleValue) (other : Bool)
     (left : Findings)
-    → behind drawing last other left ≡ behind drawing last other (unnumbered left)
-unfolding judged_behind
+    → following drawing last other left ≡ following drawing last other (unnumbered left)
+unfolding judged_after
 judged_unnumbered drawing last other no_more = refl
 judged_unnumbered drawing last other (breaks f block) = refl
 judged_unnumbered drawing last other (refuses f block left) =
@@ -66,8 +66,8 @@ drawn_of_day drawing t = refl
 
 -- So the reliable subtitles do not either.
 judged_of_day : (drawing : Drawing) (last : Option SubtitleValue) (other : Bool) (left : Findings)
-    → behind drawing last other left ≡ behind (of_day drawing) last other left
-unfolding judged_behind
+    → following drawing last other left ≡ following (of_day drawing) last other left
+unfolding judged_after
 judged_of_day drawing last other no_more = refl
 judged_of_day drawing last other (breaks f block) = refl
 judged_of_day drawing last other (refuses f block left) = judged_of_day drawing last true left
@@ -80,30 +80,31 @@ judged_of_day drawing last other (finds t block left) =
 
 module _ (drawing : Drawing) (one other : Findings) (same : unnumbered one ≡ unnumbered other) where
   -- The reliable subtitles are the same if the findings are, apart from block numbers.
-  judged_same : behind drawing None false one ≡ behind (of_day drawing) None false other
+  judged_same : following drawing None false one ≡ following (of_day drawing) None false other
   judged_same =
       judged_unnumbered drawing None false one
-      ∙ ap (behind drawing None false) same
+      ∙ ap (following drawing None false) same
       ∙ sym (judged_unnumbered drawing None false other)
       ∙ judged_of_day drawing None false other
 
   -- So is whether the file was read to its end.
-  whole_same : is_read_whole one ≡ is_read_whole other
-  whole_same = whole_unnumbered one ∙ ap is_read_whole same ∙ sym (whole_unnumbered other)
+  read_same : is_read_to_the_end one ≡ is_read_to_the_end other
+  read_same = read_unnumbered one ∙ ap is_read_to_the_end same ∙ sym (read_unnumbered other)
 
   -- So a transmission can be judged by both or by neither.
   judges_same :
-      (is_read_whole one && are_some (behind drawing None false one).judged
-      && are_in_order (behind drawing None false one).judged)
-      ≡ (is_read_whole other && are_some (behind (of_day drawing) None false other).judged
-      && are_in_order (behind (of_day drawing) None false other).judged)
+      (is_read_to_the_end one && are_some (following drawing None false one).judged
+      && are_in_order (following drawing None false one).judged)
+      ≡ (is_read_to_the_end other && are_some (following (of_day drawing) None false other).judged
+      && are_in_order (following (of_day drawing) None false other).judged)
   judges_same =
       ap
-      (λ (whole : Bool). whole && are_some (behind drawing None false one).judged
-      && are_in_order (behind drawing None false one).judged)
-      whole_same
+      (λ (whole : Bool). whole && are_some (following drawing None false one).judged
+      && are_in_order (following drawing None false one).judged)
+      read_same
       ∙ ap
-      (λ (all : AllJudged). is_read_whole other && are_some all.judged && are_in_order all.judged)
+      (λ (all : AllJudged). is_read_to_the_end other && are_some all.judged && are_in_order
+      all.judged)
       judged_same
 
 -- The law, from that of reading: for `law_of_judged_parts`.
@@ -120,17 +121,19 @@ judged_parts law drawing gsi blocks size each read =
 
 -- The criteria are equal, since functions with equal values are.
 pub law_of_judged_alike : LawOfJudgedAlike
-law_of_judged_alike one other options unread pieces programme any_refused undecided =
+law_of_judged_alike one other options unread pes_packets programme any_refused undecided =
     ap
     (λ (p : ProgrammeValue).
-    all_of_pieces (criteria_unsure p options unread (has_refused one) (is_due_undecided one))
-    pieces)
+    all_of_pes_packets (criteria_unsure p options unread (has_refused one) (is_due_undecided one))
+    pes_packets)
     programme
     ∙ ap
     (λ (b : Bool).
-    all_of_pieces (criteria_unsure other.programme options unread b (is_due_undecided one)) pieces)
+    all_of_pes_packets (criteria_unsure other.programme options unread b (is_due_undecided one))
+    pes_packets)
     any_refused
     ∙ ap
     (λ (u : ℕ → Bool).
-    all_of_pieces (criteria_unsure other.programme options unread (has_refused other) u) pieces)
+    all_of_pes_packets (criteria_unsure other.programme options unread (has_refused other) u)
+    pes_packets)
     (fun_ext undecided)

@@ -1,6 +1,6 @@
 -- For reports and trusted frames. If no repeat may keep the page and no frame may be late, the
 -- sufficient conditions for repeats are those for the headline: `sufficient_of`. So
--- `law_of_untold_stretch` is a case of the law for repeats.
+-- `law_of_unreported_stretch` is a case of the law for repeats.
 use Rattle.std.proofs.lemmas.Bool.Decides.{nat_tests}
 use Rattle.std.proofs.Common.{◌≡◌, ℕ, Bool, false, Option, IsTrue, subst, arith, refl}
 use Rattle.stl_rows.specs.Programme.{ProgrammeValue}
@@ -9,14 +9,15 @@ use Rattle.sub_plan.specs.Schedule.{due_in}
 use Rattle.sub_rules.specs.FrameRules.{Unread}
 use Rattle.sub_rules.specs.Transmission.{Transmission, on_air_until}
 use Rattle.sub_rules.specs.declared.end_rule.EndRule.TheVariants.{Incomplete}
-use Rattle.sub_laws.specs.CleanStretch.{IsUntold, LawOfUntoldStretch, NoneOpen, criteria_unsure}
+use Rattle.sub_laws.specs.CleanStretch.{IsUnreported, LawOfUnreportedStretch, NoneOpen}
+use Rattle.sub_laws.specs.CleanStretch.{criteria_unsure}
 use Rattle.sub_laws.specs.OnScreen.{CompleteWithin}
 use Rattle.sub_laws.specs.Sufficient.{IsSufficient}
-use Rattle.sub_laws.specs.ToldRepeats.{IsSufficientRepeats}
+use Rattle.sub_laws.specs.ReportedRepeats.{IsSufficientRepeats}
 use Rattle.sub_laws.proofs.DelayLemmas.{law_of_right_cells}
 use Rattle.sub_laws.proofs.SoundStretchLemmas.{sound_of_repeated}
 use Rattle.sub_laws.proofs.FollowedStretchLemmas.{end_of}
-use Rattle.sub_laws.proofs.StandingLemmas.{stands_broken}
+use Rattle.sub_laws.proofs.ActiveFaultsLemmas.{active_faults_exact}
 use Rattle.sub_laws.proofs.SufficientDelayLemmas.{enough_repeats}
 
 -- If `within` is 0, a stretch that is sufficient for repeats is sufficient.
@@ -37,31 +38,34 @@ sufficient_of programme transmission options a b none at_once enough =
     }
 
 -- If the page is open at no end of a clean stretch, pages are complete in it.
-pub complete_untold :
+pub complete_unreported :
     (programme : ProgrammeValue) (transmission : Transmission) (options : OptionsValue)
     → (unread : Option Unread) (any_refused : Bool) (undecided : ℕ → Bool) (a b : ℕ)
     → options.within ≡ 0
-    → IsUntold (criteria_unsure programme options unread any_refused undecided) transmission a b
+    → IsUnreported (criteria_unsure programme options unread any_refused undecided) transmission a b
     → IsTrue options.asks_complete
     → NoneOpen (criteria_unsure programme options unread any_refused undecided) transmission a b
     → CompleteWithin transmission options a b
-complete_untold programme transmission options unread any_refused undecided a b at_once untold asks
+complete_unreported programme transmission options unread any_refused undecided a b at_once
+    unreported asks
     closed f low high holds =
     let g = criteria_unsure programme options unread any_refused undecided in
-    let end = end_of transmission a b untold.stretch untold.rising f low high in
+    let end = end_of transmission a b unreported.stretch unreported.rising f low high in
     let shut =
-    ((stands_broken g transmission end.0 f at_once end.1.1).rules Incomplete).0
+    ((active_faults_exact g transmission end.0 f at_once end.1.1).rules Incomplete).0
     (rw (closed end.0 f end.1 low high) refl)
     asks in
     grind (arith, nat_tests)
 
 -- So the stretch is sufficient if `within` is 0.
-pub law_of_untold_stretch : LawOfUntoldStretch
-law_of_untold_stretch programme transmission options unread any_refused undecided a b none at_once
-    untold
+pub law_of_unreported_stretch : LawOfUnreportedStretch
+law_of_unreported_stretch programme transmission options unread any_refused undecided a b none
+    at_once
+    unreported
     = (
       sufficient_of programme transmission options a b none at_once
-          (enough_repeats programme options unread any_refused undecided transmission a b untold),
-      complete_untold programme transmission options unread any_refused undecided a b at_once
-          untold,
+          (enough_repeats programme options unread any_refused undecided transmission a b
+          unreported),
+      complete_unreported programme transmission options unread any_refused undecided a b at_once
+          unreported,
     )

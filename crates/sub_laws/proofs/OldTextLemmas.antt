@@ -21,7 +21,7 @@ use Rattle.ttx_page.specs.Span.{holds_beginning, text_span}
 use Rattle.ttx_page.proofs.TextSpan.{beginning_is_header, text_span-push}
 use Rattle.stl_rows.specs.Programme.{ProgrammeValue}
 use Rattle.sub_plan.specs.Options.{OptionsValue}
-use Rattle.sub_rules.specs.Repeats.{GoodBy, IsWholePage}
+use Rattle.sub_rules.specs.Repeats.{GoodBy, IsCorrectPage}
 use Rattle.sub_rules.specs.Transmission.{Transmission, first_frame, last_frame, on_air}
 use Rattle.sub_rules.specs.Transmission.{on_air_until, packets_between}
 use Rattle.sub_laws.specs.LostRows.{IsGot}
@@ -201,15 +201,15 @@ module _ (keeps : Bool) (programme : ProgrammeValue) (transmission : Transmissio
       ∙ begins-left keeps options.page _ _ begins))
 
   -- If no frame may be late, each page is right.
-  whole_at_once : (f : ℕ)
+  same_at_once : (f : ℕ)
       → options.within ≡ 0
       → first_frame transmission ≤ f
       → f ≤ last_frame transmission
-      → IsWholePage keeps programme options.page transmission f
-  whole_at_once f none low high =
+      → IsCorrectPage keeps programme options.page transmission f
+  same_at_once f none low high =
       let some = good.again f low (omega (arith, none)) in
       let same : some.0 ≡ f = omega (arith, none, some.1, some.2) in
-      subst (IsWholePage keeps programme options.page transmission) same some.3.whole
+      subst (IsCorrectPage keeps programme options.page transmission) same some.3.whole
 
   -- So the receiver has what is due.
   holds : (class : ReceiverClass) (anew : Bool) (g j f : ℕ) (arrived : List Bool)
@@ -231,7 +231,7 @@ module _ (keeps : Bool) (programme : ProgrammeValue) (transmission : Transmissio
       record {
         codes = served.codes header (inr (inl begins_here));
         cells = cells;
-        at_once = λ none. cells (whole_at_once f none (omega arith) is.listening.to);
+        at_once = λ none. cells (same_at_once f none (omega arith) is.listening.to);
       }
 
 pub law_of_old_text : LawOfOldText

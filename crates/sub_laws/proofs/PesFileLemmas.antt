@@ -5,7 +5,7 @@ use Rattle.std.proofs.Common.{ℕ, ◌+◌, ◌≤◌, List, []}
 use Rattle.std.proofs.Common.{◌∷◌, ◌++◌, ◌↔◌, length, None}
 use Rattle.std.proofs.Common.{refl, sym, subst, arith}
 use Rattle.std.specs.List.{AllZip, concat}
-use Rattle.ttx_pes.specs.PesPacket.{IsPesPacket, PesValue}
+use Rattle.ttx_pes.specs.PesGrammar.{IsValidPesPacket, PesValue}
 use Rattle.ttx_pes.specs.Reading.{most_packets}
 use Rattle.ttx_pes.proofs.ReadingLemmas.{answer_of_packet, packet_is_read}
 use Rattle.ttx_pes.proofs.ReadingLemmas.{rest_after-packet}
@@ -22,7 +22,7 @@ use Rattle.ttx_pes.proofs.ReaderLemmas.{nothing}
 reads_of :
     (clock : Clock) (given : ℕ) (values : List PesValue) (packets : List (List ℕ))
     (frames : Transmission)
-    → AllZip IsPesPacket values packets
+    → AllZip IsValidPesPacket values packets
     → given + length packets ≤ most_packets
     → AllZip (IsReadAs clock) values frames
     → ReadsAs clock given (concat packets) frames None

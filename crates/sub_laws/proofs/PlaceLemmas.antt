@@ -35,7 +35,7 @@ use Rattle.sub_rules.specs.FrameRules.{HasHeader, IsCovered, IsPaced, Unread, cr
 use Rattle.sub_rules.specs.FrameRules.{end_frame, frame_at, packets_before, packets_of_frame}
 use Rattle.sub_rules.specs.FrameRules.{watched_of}
 use Rattle.sub_laws.specs.CleanStretch.{IsEnd}
-use Rattle.sub_laws.proofs.FrameByFrame.{AllOk, FrameOk, IsQuiet}
+use Rattle.sub_laws.proofs.FrameByFrame.{AllOk, FrameOk, IsFaultFree}
 use Rattle.sub_laws.proofs.GoodLemmas.{any_sent, each_packet, number_at, rises_each, sent_any}
 use Rattle.sub_laws.proofs.GoodLemmas.{whole}
 use Rattle.ttx_page.proofs.TextSpan.{begins_is_header, text_span-push}
@@ -44,9 +44,9 @@ use Rattle.sub_laws.proofs.PrefixLemmas.{EachAfter, RiseTo, before_more, each_af
 use Rattle.sub_laws.proofs.PrefixLemmas.{first-same, rises_strictly, last-same, on_air_at, IsInGap}
 use Rattle.sub_laws.proofs.PrefixLemmas.{end_at, end_before_rest, end_high, end_low}
 use Rattle.sub_laws.proofs.PrefixLemmas.{on_air_is}
-use Rattle.sub_laws.proofs.StandingLemmas.{always_known}
-use Rattle.sub_laws.proofs.StandingLemmas.{gap_decided, quiet_parts}
-use Rattle.sub_laws.proofs.StandingLemmas.{silent_decided}
+use Rattle.sub_laws.proofs.ActiveFaultsLemmas.{always_known}
+use Rattle.sub_laws.proofs.ActiveFaultsLemmas.{gap_decided, fault_free_parts}
+use Rattle.sub_laws.proofs.ActiveFaultsLemmas.{silent_decided}
 use Rattle.sub_rules.proofs.FrameLists.{joined_more}
 use Rattle.sub_laws.proofs.CleanSpanLemmas.{MayFollow, clean_cuts, last_clean}
 use Rattle.sub_rules.specs.declared.packet_rule.PacketRule.TheVariants as rule
@@ -168,13 +168,15 @@ module _ (programme : ProgrammeValue) (options : OptionsValue) (unread : Option 
           (λ i k l h. clean_at i k (omega arith) h))
 
   -- No fault is active at any end.
-  pub quiet_at : (n f : ℕ) → IsEnd t n f → IsQuiet (criteria_of programme options unread) t n f
-  quiet_at n f h1 = grind (arith, nat_tests)
+  pub fault_free_at : (n f : ℕ) → IsEnd t n f → IsFaultFree (criteria_of programme options unread) t
+      n f
+  fault_free_at n f h1 = grind (arith, nat_tests)
 
   -- The repeat bound is not exceeded.
   covered_of : (n f : ℕ) → IsEnd t n f → IsCovered (criteria_of programme options unread) t n f
   covered_of n f end =
-      let parts = (quiet_parts (criteria_of programme options unread) t n f).0 (quiet_at n f end) in
+      let parts = (fault_free_parts (criteria_of programme options unread) t n f).0
+      (fault_free_at n f end) in
       (gap_decided (criteria_of programme options unread) t n f end.1).0 (ap not parts.1)
 
   -- Nor is the maximum distance of PES packets.
@@ -182,7 +184,8 @@ module _ (programme : ProgrammeValue) (options : OptionsValue) (unread : Option 
   paced frames f asks low high =
       let (n, end, on, from) =
       end_at t rising f some (omega (arith, first-same t)) (omega (arith, last-same t)) in
-      let parts = (quiet_parts (criteria_of programme options unread) t n f).0 (quiet_at n f end) in
+      let parts = (fault_free_parts (criteria_of programme options unread) t n f).0
+      (fault_free_at n f end) in
       let (j, below, near) =
       (silent_decided (criteria_of programme options unread) t n f).0 (ap not parts.3) frames
       asks in
@@ -273,11 +276,11 @@ module _ (programme : ProgrammeValue) (options : OptionsValue) (t : Transmission
   mode_at i k l m a f ea ef =
       let P : List ℕ → Type 0 = IsInOneMode (packet_at t i k) in
       let row = each_at (λ one. EachPacket (IsInOneMode one) t) t i k rules.serial l m in
-      let front =
+      let prefix =
       at_packet t (length t) (omega arith) (AllByRecursion P) tt
       (λ j n a b ih. Each-push P (before t j n) (packet_at t j n) ih (each_at P t j n row a b)) i
       k l (omega arith) in
-      let q = first_pick P (before t i k) f ef front in
+      let q = first_pick P (before t i k) f ef prefix in
       q.2 a f ea q.1
 
   -- No frame is after the last.
@@ -393,8 +396,8 @@ module _ (programme : ProgrammeValue) (options : OptionsValue) (t : Transmission
       && is_incomplete (criteria_of programme options None) t n))
       (over : IsFalse (is_pending (criteria_of programme options None) t)) where
     -- The requirements at an end.
-    quiet_of : (n f : ℕ) → IsEnd t n f → IsQuiet (criteria_of programme options None) t n f
-    quiet_of n f end =
+    fault_free_of : (n f : ℕ) → IsEnd t n f → IsFaultFree (criteria_of programme options None) t n f
+    fault_free_of n f end =
         let covered =
         (gap_decided (criteria_of programme options None) t n f end.1).1
         (covered_at n f (end_low t rises n f end) (end_before_rest t rises n f end)) in
@@ -402,7 +405,7 @@ module _ (programme : ProgrammeValue) (options : OptionsValue) (t : Transmission
         (silent_decided (criteria_of programme options None) t n f).1
         (paced_at n f (omega (arith, first-same t, end_high t rises n f end))
         (end_low t rises n f end) (end_before_rest t rises n f end)) in
-        (quiet_parts (criteria_of programme options None) t n f).1 (
+        (fault_free_parts (criteria_of programme options None) t n f).1 (
           (still n f end).0,
           not_not _ covered,
           (still n f end).1,
@@ -417,12 +420,12 @@ module _ (programme : ProgrammeValue) (options : OptionsValue) (t : Transmission
         start = let starts = rules.starts in grind (arith, first-same t);
         rises = λ some. rises i some l;
       };
-      gap = λ f gap. quiet_of i f (gap_end i f gap);
+      gap = λ f gap. fault_free_of i f (gap_end i f gap);
       packets = λ k m. free_at i k l m;
       header = λ z. starts;
       end =
           let back : frame_at t (i + 1 - 1) ≡ frame_at t i = ap (frame_at t) (omega arith) in
-          quiet_of (i + 1) (frame_at t i) (omega arith, omega arith, inl (sym back));
+          fault_free_of (i + 1) (frame_at t i) (omega arith, omega arith, inl (sym back));
     }
       where
         gap_end : (i f : ℕ) → IsInGap t i f → IsEnd t i f

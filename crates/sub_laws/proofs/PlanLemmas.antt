@@ -46,7 +46,7 @@ use Rattle.sub_laws.proofs.TransmissionLemmas.{packets_between-split, each_frame
 use Rattle.sub_laws.proofs.TransmissionLemmas.{rises, sent_at, sent_none, sent_some, starts_with}
 use Rattle.std.proofs.Math.Nat.{mod-lt}
 use Rattle.std.proofs.lemmas.List.FromFn.{length-range_with_len}
-use Rattle.ttx_pes.specs.PesPacket.{PesValue}
+use Rattle.ttx_pes.specs.PesGrammar.{PesValue}
 use Rattle.ttx_pes.specs.Reading.{most_packets}
 use Rattle.ttx_pes.proofs.LineOrderLemmas.{numbered_is_value}
 use Rattle.ttx_pes.proofs.ReadingLemmas.{written_is_read}

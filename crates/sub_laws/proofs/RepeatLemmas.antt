@@ -21,7 +21,7 @@ use Rattle.ttx_page.specs.Shown.{kept}
 use Rattle.ttx_page.specs.Span.{text_span}
 use Rattle.ttx_page.proofs.LateStart.{codes_of_same}
 use Rattle.ttx_page.proofs.NoiseLaws.{first_code}
-use Rattle.ttx_page.proofs.QuietLaws.{law_of_kept}
+use Rattle.ttx_page.proofs.FaultFreeLaws.{law_of_kept}
 use Rattle.ttx_page.proofs.TextSpan.{EachBegins, text_span-none_keeps, text_span-same}
 use Rattle.stl_rows.specs.Programme.{ProgrammeValue}
 use Rattle.sub_plan.specs.Options.{OptionsValue}

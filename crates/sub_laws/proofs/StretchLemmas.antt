@@ -15,7 +15,7 @@ use Rattle.ttx_page.specs.Shown.{IsHit}
 use Rattle.stl_rows.specs.Programme.{ProgrammeValue}
 use Rattle.sub_plan.specs.Options.{OptionsValue}
 use Rattle.sub_plan.specs.Schedule.{due_in}
-use Rattle.sub_rules.specs.Repeats.{IsWholePage, KeepsDueCodes}
+use Rattle.sub_rules.specs.Repeats.{IsCorrectPage, KeepsDueCodes}
 use Rattle.sub_rules.specs.Transmission.{Transmission, first_frame, last_frame, on_air}
 use Rattle.sub_rules.specs.Transmission.{on_air_until}
 use Rattle.sub_laws.specs.Laws.{LawOfAllKept}
@@ -41,7 +41,7 @@ law_of_stretch programme transmission options a b enough = record {
 }
   where
     whole :
-        (f : ℕ) → a ≤ f → f ≤ b → IsWholePage false programme options.page transmission f
+        (f : ℕ) → a ≤ f → f ≤ b → IsCorrectPage false programme options.page transmission f
     whole f low high row column named =
         (law_of_right_cells options.page (on_air_until transmission f) (due_in programme f) row
         column).1
@@ -76,7 +76,7 @@ served_as :
 served_as excuse served = grind arith
 
 -- If nothing is lost, all packets arrived, and the same spaces are excused.
-got_whole :
+got_complete :
     (w : PageIdValue) (transmission : Transmission) (a b g j f : ℕ) (got : List (List ℕ))
     → IsListening transmission a b g j f
     → AllZip AreNear (on_air transmission g j f) got
@@ -85,7 +85,7 @@ got_whole :
     → IsHitOrLost w (on_air transmission g j f)
     (arrivals_of (all_kept (on_air transmission g j f)) got) row column
     → IsHit w (on_air transmission g j f) got row column)
-got_whole w transmission a b g j f got listening near =
+got_complete w transmission a b g j f got listening near =
     let sent : List (List ℕ) = on_air transmission g j f in
     let nothing =
     law_of_nothing_lost w sent (all_kept sent) (all_true sent) (may_all sent) in (
@@ -107,7 +107,7 @@ law_of_all_kept programme transmission options = (robust, kept)
         → Robust programme transmission options
     robust with_all g j f got old new listening near unheard shut hears =
         let sent : List (List ℕ) = on_air transmission g j f in
-        let whole = got_whole options.page transmission _ _ g j f got listening near in
+        let whole = got_complete options.page transmission _ _ g j f got listening near in
         served_as whole.1
         (with_all (all_kept sent) (all_true sent) g j f got old new whole.0 unheard shut hears)
 

@@ -1,7 +1,7 @@
--- For `law_of_nothing_told_repeats` and trusted frames. The text of frames that may be late, and
--- that they are finished in time, from the requirements at their ends: `codes`, `again`,
+-- For `law_of_nothing_reported_repeats` and trusted frames. The text of frames that may be late,
+-- and that they are finished in time, from the requirements at their ends: `codes`, `again`,
 -- `subtitle`. So a stretch without reports that a receiver depends on is sufficient:
--- `law_of_untold_repeats`.
+-- `law_of_unreported_repeats`.
 use Rattle.std.proofs.lemmas.Bool.Decides.{nat_tests}
 use Rattle.std.proofs.Common.{◌≡◌, ℕ, ◌+◌, ◌-◌, ◌<◌, ◌≤◌, inr, Bool, true, false, ◌&&◌}
 use Rattle.std.proofs.Common.{◌||◌, ◌==◌, nat_le, nat_lt, None, Option, Some, get_or, length, refl}
@@ -15,23 +15,24 @@ use Rattle.stl_rows.specs.Programme.{IsProgramme, ProgrammeValue}
 use Rattle.sub_plan.specs.Options.{OptionsValue}
 use Rattle.sub_plan.specs.Schedule.{due_in}
 use Rattle.sub_rules.specs.Events.{broken_cell, is_incomplete, is_late, is_missed, is_overdue}
-use Rattle.sub_rules.specs.Events.{is_unfinished, standing_at, unfinished_since}
+use Rattle.sub_rules.specs.Events.{is_unfinished, active_faults_at, unfinished_since}
 use Rattle.sub_rules.specs.Events.{undecided_within}
 use Rattle.sub_rules.specs.FrameRules.{Criteria, Unread, end_frame, frame_at, packets_before}
 use Rattle.sub_rules.specs.Kept.{IsRight}
-use Rattle.sub_rules.specs.Repeats.{FinishesAgainBy, IsDueWithin, IsFinishedBy, IsWholePage}
+use Rattle.sub_rules.specs.Repeats.{FinishesAgainBy, IsDueWithin, IsFinishedBy, IsCorrectPage}
 use Rattle.sub_rules.specs.Repeats.{KeepsDueCodes, SomeFinishedBy}
 use Rattle.sub_rules.specs.Transmission.{Transmission, on_air_until}
-use Rattle.sub_laws.specs.CleanStretch.{IsEnd, IsUntold, NoneOpen, criteria_unsure}
+use Rattle.sub_laws.specs.CleanStretch.{IsEnd, IsUnreported, NoneOpen, criteria_unsure}
 use Rattle.sub_laws.specs.Repeats.{FinishesInTimeBy}
-use Rattle.sub_laws.specs.ToldRepeats.{IsSufficientRepeats, LawOfUntoldRepeats}
-use Rattle.sub_laws.proofs.DueCodeLemmas.{ending_is, undue_none}
-use Rattle.sub_laws.proofs.FinishedLemmas.{finished_at, frame_end, no_since, since_is}
+use Rattle.sub_laws.specs.ReportedRepeats.{IsSufficientRepeats, LawOfUnreportedRepeats}
+use Rattle.sub_laws.proofs.DueCodeLemmas.{ending_is, unexpected_none}
+use Rattle.sub_laws.proofs.FinishedLemmas.{finished_at, frame_end, no_first_unfinished}
+use Rattle.sub_laws.proofs.FinishedLemmas.{first_unfinished_is}
 use Rattle.sub_laws.proofs.GoodLemmas.{rises_each}
 use Rattle.sub_laws.proofs.PrefixLemmas.{RiseTo, end_is_on_air, first-same, last-same}
-use Rattle.sub_laws.proofs.SoundUntoldLemmas.{repeated_untold}
-use Rattle.sub_laws.proofs.StandingLemmas.{always_late, known_at, none_wrong, undue_is}
-use Rattle.sub_laws.proofs.UnfinishedLemmas.{finished_from, since_some, unfinished_at}
+use Rattle.sub_laws.proofs.SoundUnreportedLemmas.{repeated_unreported}
+use Rattle.sub_laws.proofs.ActiveFaultsLemmas.{always_late, known_at, none_wrong, unexpected_is}
+use Rattle.sub_laws.proofs.UnfinishedLemmas.{finished_from, first_unfinished_some, unfinished_at}
 
 -- In rising frames, the content at each end from one frame to another is as required, and the due
 -- page is known.
@@ -63,12 +64,12 @@ module _ (programme : ProgrammeValue) (options : OptionsValue) (unread : Option 
     (any_refused : Bool) (undecided : ℕ → Bool) (t : Transmission) (a b : ℕ)
     (still : IsStill (criteria_unsure programme options unread any_refused undecided) t a b)
   where
-    abbrev asked : Criteria
-    asked = criteria_unsure programme options unread any_refused undecided
+    abbrev requested : Criteria
+    requested = criteria_unsure programme options unread any_refused undecided
 
     -- The due page is known.
     pub known : (n f : ℕ) → IsEnd t n f → a ≤ f → f ≤ b → undecided f ≡ false
-    known n f end low high = known_at asked t n f (still.parts n f end low high).1
+    known n f end low high = known_at requested t n f (still.parts n f end low high).1
 
     -- Each frame has an end, with the packets on air up to it.
     end_there : (f : ℕ) → a ≤ f → f ≤ b
@@ -83,22 +84,22 @@ module _ (programme : ProgrammeValue) (options : OptionsValue) (unread : Option 
         (n, end, end_is_on_air t still.up n f end)
 
     -- If the end is late, each cell is right.
-    right_late : (n f : ℕ) → IsEnd t n f → a ≤ f → f ≤ b → is_late asked t n f ≡ true
+    right_late : (n f : ℕ) → IsEnd t n f → a ≤ f → f ≤ b → is_late requested t n f ≡ true
         → (row column : ℕ)
         → IsCell row column
         → IsRight options.keeps options.page (packets_before t n) (due_in programme f) row column
     right_late n f end low high late row column named =
-        none_wrong asked t n f (rw late at (still.parts n f end low high).0)
+        none_wrong requested t n f (rw late at (still.parts n f end low high).0)
         (known n f end low high) row column named
 
     -- Otherwise the kept code of each cell is an allowed one.
-    codes_early : (n f : ℕ) → IsEnd t n f → a ≤ f → f ≤ b → is_late asked t n f ≡ false
+    codes_early : (n f : ℕ) → IsEnd t n f → a ≤ f → f ≤ b → is_late requested t n f ≡ false
         → (row column : ℕ)
         → IsCell row column
         → IsDueWithin programme t options f row column
         (kept options.keeps options.page (packets_before t n) row column)
     codes_early n f end low high early row column named =
-        grind (arith, nat_tests, undue_none, undue_is, first-same)
+        grind (arith, nat_tests, unexpected_none, unexpected_is, first-same)
 
     -- At the end of a frame the kept code of each cell is an allowed one.
     pub codes : KeepsDueCodes options.keeps programme t options a b
@@ -107,9 +108,9 @@ module _ (programme : ProgrammeValue) (options : OptionsValue) (unread : Option 
         subst
         (λ ps. IsDueWithin programme t options f row column
         (kept options.keeps options.page ps row column))
-        (sym on) (go n end (is_late asked t n f) refl)
+        (sym on) (go n end (is_late requested t n f) refl)
       where
-        go : (n : ℕ) → IsEnd t n f → (late : Bool) → is_late asked t n f ≡ late
+        go : (n : ℕ) → IsEnd t n f → (late : Bool) → is_late requested t n f ≡ late
             → IsDueWithin programme t options f row column
             (kept options.keeps options.page (packets_before t n) row column)
         go n end true late =
@@ -123,13 +124,13 @@ module _ (programme : ProgrammeValue) (options : OptionsValue) (unread : Option 
         go n end false early = codes_early n f end low high early row column named
 
     -- If `within` is 0, each cell is right.
-    pub whole_at_once : options.within ≡ 0 → (f : ℕ) → a ≤ f → f ≤ b
-        → IsWholePage options.keeps programme options.page t f
-    whole_at_once none f low high row column named =
+    pub same_at_once : options.within ≡ 0 → (f : ℕ) → a ≤ f → f ≤ b
+        → IsCorrectPage options.keeps programme options.page t f
+    same_at_once none f low high row column named =
         let (n, end, on) = end_there f low high in
         subst (λ ps. IsRight options.keeps options.page ps (due_in programme f) row column)
         (sym on)
-        (right_late n f end low high (always_late asked t n f none) row column named)
+        (right_late n f end low high (always_late requested t n f none) row column named)
 
 -- ---- frames that are finished in time
 
@@ -158,7 +159,7 @@ module _ (programme : ProgrammeValue) (options : OptionsValue) (unread : Option 
     not_overdue : (n f : ℕ) → IsEnd t n f → a ≤ f → f ≤ b
         → is_overdue criteria start (unfinished_since criteria t n f) f ≡ false
     unfolding is_late
-    not_overdue n f end low high = grind (arith, nat_tests, no_since, calm)
+    not_overdue n f end low high = grind (arith, nat_tests, no_first_unfinished, calm)
 
     -- If the ends up to this one are unfinished since a frame, that is not too long ago, and no
     -- subtitle is missed.
@@ -206,12 +207,13 @@ module _ (programme : ProgrammeValue) (options : OptionsValue) (unread : Option 
         (omega arith) in
         let k : ℕ = f - start in
         let at : start + k ≡ f = omega arith in
-        let since = since_is programme options unread any_refused undecided t up n f end in
+        let first_unfinished = first_unfinished_is programme options unread any_refused undecided t
+        up n f end in
         let (e, after, before, finished) =
         finished_from (unfinished_at criteria t up) start from k (omega arith) (omega arith)
         (λ r is l.
-        late n r end (since ∙ is)
-        (since_some (unfinished_at criteria t up) start k r is).low l) in (
+        late n r end (first_unfinished ∙ is)
+        (first_unfinished_some (unfinished_at criteria t up) start k r is).low l) in (
           e,
           after,
           omega arith,
@@ -251,8 +253,9 @@ module _ (programme : ProgrammeValue) (options : OptionsValue) (unread : Option 
       subtitle k d l s same low high =
           let (times, found) = ends_at k d l s same in
           some_finished s.tci (s.tco - 1) low (omega arith) (omega arith)
-          (λ n r end since begins l.
-          let not_missed = (early n (s.tco - 1) r end (omega arith) (omega arith) since).1 in
+          (λ n r end first_unfinished begins l.
+          let not_missed = (early n (s.tco - 1) r end (omega arith) (omega arith)
+          first_unfinished).1 in
           not_late r s.tci l (rw found at not_missed))
         where
           not_late : (r tci : ℕ) → r ≤ tci
@@ -271,8 +274,9 @@ module _ (programme : ProgrammeValue) (options : OptionsValue) (unread : Option 
       begun k d l s same at before after high =
           let (times, found) = ends_at k d l s same in
           some_finished a (s.tco - 1) (omega arith) (omega arith) (omega arith)
-          (λ n r end since begins l.
-          let not_missed = (early n (s.tco - 1) r end (omega arith) (omega arith) since).1 in
+          (λ n r end first_unfinished begins l.
+          let not_missed = (early n (s.tco - 1) r end (omega arith) (omega arith)
+          first_unfinished).1 in
           not_late r s.tci (omega arith) (omega arith) (rw found at not_missed))
         where
           not_late : (r tci : ℕ) → r ≡ start → tci < start
@@ -292,45 +296,51 @@ module _ (programme : ProgrammeValue) (options : OptionsValue) (unread : Option 
 
 module _ (programme : ProgrammeValue) (options : OptionsValue) (unread : Option Unread)
     (any_refused : Bool) (undecided : ℕ → Bool) (t : Transmission) (a b : ℕ)
-    (untold : IsUntold (criteria_unsure programme options unread any_refused undecided) t a b)
+    (unreported : IsUnreported (criteria_unsure programme options unread any_refused undecided) t a
+    b)
   where
-    still_untold : IsStill (criteria_unsure programme options unread any_refused undecided) t a b
-    unfolding standing_at
-    still_untold = record {
-      up = rises_each t untold.rising;
-      some = untold.stretch.not_empty;
-      from = let first = first-same t in omega (arith, untold.stretch.from);
-      to = let last = last-same t in omega (arith, untold.stretch.to);
+    still_unreported : IsStill (criteria_unsure programme options unread any_refused undecided) t a
+        b
+    unfolding active_faults_at
+    still_unreported = record {
+      up = rises_each t unreported.rising;
+      some = unreported.stretch.not_empty;
+      from = let first = first-same t in omega (arith, unreported.stretch.from);
+      to = let last = last-same t in omega (arith, unreported.stretch.to);
       parts = λ n f end low high.
-          (untold.content n f end low high, untold.undecided n f end low high);
+          (unreported.content n f end low high, unreported.undecided n f end low high);
     }
 
     -- It is sufficient.
     pub enough_repeats : IsSufficientRepeats options.keeps programme t options a b
     enough_repeats = record {
-      stretch = repeated_untold programme t options unread any_refused undecided a b untold;
-      codes = codes programme options unread any_refused undecided t a b still_untold;
-      whole = whole_at_once programme options unread any_refused undecided t a b still_untold;
+      stretch = repeated_unreported programme t options unread any_refused undecided a b unreported;
+      codes = codes programme options unread any_refused undecided t a b still_unreported;
+      whole = same_at_once programme options unread any_refused undecided t a b still_unreported;
     }
 
     module _ (closed : NoneOpen (criteria_unsure programme options unread any_refused undecided) t a
         b)
       where
-        holds_untold : HoldsAtEnds (criteria_unsure programme options unread any_refused undecided)
+        holds_unreported : HoldsAtEnds (criteria_unsure programme options unread any_refused
+            undecided)
             t a b
-        unfolding standing_at
-        holds_untold = record { still = still_untold; shut = closed }
+        unfolding active_faults_at
+        holds_unreported = record { still = still_unreported; shut = closed }
 
         -- Its frames are finished in time.
-        pub finishes_untold : IsProgramme programme.drawing programme.records
+        pub finishes_unreported : IsProgramme programme.drawing programme.records
             → FinishesInTimeBy options.keeps programme t options a b
-        finishes_untold is =
-            finishes programme options unread any_refused undecided t a b holds_untold is
+        finishes_unreported is =
+            finishes programme options unread any_refused undecided t a b holds_unreported is
 
-pub law_of_untold_repeats : LawOfUntoldRepeats
-law_of_untold_repeats programme transmission options unread any_refused undecided a b untold = (
-  enough_repeats programme options unread any_refused undecided transmission a b untold,
-  λ is closed.
-      finishes_untold programme options unread any_refused undecided transmission a b untold closed
-      is,
-)
+pub law_of_unreported_repeats : LawOfUnreportedRepeats
+law_of_unreported_repeats programme transmission options unread any_refused undecided a b
+    unreported = (
+      enough_repeats programme options unread any_refused undecided transmission a b unreported,
+      λ is closed.
+          finishes_unreported programme options unread any_refused undecided transmission a
+          b unreported
+          closed
+          is,
+    )

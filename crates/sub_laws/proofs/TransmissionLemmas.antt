@@ -15,8 +15,8 @@ use Rattle.sub_rules.specs.Transmission.{packets_between}
 -- ---- the frames from one number up to another
 
 -- The packets of one frame.
-abbrev piece : ℕ → ℕ → SentFrame → List (List ℕ)
-piece a b s = cond (nat_le a s.frame && nat_lt s.frame b) s.packets []
+abbrev pes_packet : ℕ → ℕ → SentFrame → List (List ℕ)
+pes_packet a b s = cond (nat_le a s.frame && nat_lt s.frame b) s.packets []
 
 -- There are no packets before a frame if all frames are that or later.
 pub packets_between-none :
@@ -33,7 +33,7 @@ pub packets_between-void :
     (frames : Transmission) (a b : ℕ) → b ≤ a → packets_between frames a b ≡ []
 packets_between-void [] a b l = refl
 packets_between-void (s ∷ frames) a b l =
-    grind (arith, nat_tests, piece a b s, packets_between-void frames a b l)
+    grind (arith, nat_tests, pes_packet a b s, packets_between-void frames a b l)
 
 pub rising-tail :
     (s : SentFrame) (frames : Transmission) → IsRising (s ∷ frames) → IsRising frames
@@ -65,7 +65,7 @@ packets_between-split (s ∷ frames) a b c rising l m =
       arith,
       nat_tests,
       cases_lt s.frame b,
-      append_assoc (piece a b s),
+      append_assoc (pes_packet a b s),
       packets_between-none frames a b,
       later_than s frames b rising,
     )
@@ -77,14 +77,14 @@ pub packets_between-each :
     → All P (packets_between frames a b)
 packets_between-each P [] a b h = All-nil P
 packets_between-each P (s ∷ frames) a b h =
-    All-append P (piece a b s) (packets_between frames a b)
+    All-append P (pes_packet a b s) (packets_between frames a b)
     (grind (arith, nat_tests, All-head))
     (packets_between-each P frames a b
     (All-tail (λ (f : SentFrame). All P f.packets) s frames h))
   where
-    of_piece : (t : Bool) → All P s.packets → All P (cond t s.packets [])
-    of_piece true all = all
-    of_piece false all = All-nil P
+    of_pes_packet : (t : Bool) → All P s.packets → All P (cond t s.packets [])
+    of_pes_packet true all = all
+    of_pes_packet false all = All-nil P
 
 -- ---- the frames of a filtered range
 

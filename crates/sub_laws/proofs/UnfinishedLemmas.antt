@@ -1,5 +1,5 @@
 -- For reports and trusted frames. Since which frame the ends are unfinished: for a sequence of
--- tests, `Since`; and for the ends of rising frames, `since_end`.
+-- tests, `IsFirstUnfinished`; and for the ends of rising frames, `first_unfinished_end`.
 use Rattle.std.proofs.lemmas.Bool.Decides.{nat_tests}
 use Rattle.std.proofs.Common.{◌≡◌, ℕ, zero, suc, ◌+◌, ◌-◌, ◌<◌, ◌≤◌, ◌⊎◌, inl, inr, Bool, true}
 use Rattle.std.proofs.Common.{false, ◌&&◌, ◌||◌, Option, Some, None, is_some, length, refl, sym, ap}
@@ -8,8 +8,10 @@ use Rattle.std.proofs.lemmas.Bool.{cases_eq, cases_lt, true≢false}
 use Rattle.std.proofs.lemmas.Option.{none-some, same_Some}
 use Rattle.ttx_page.specs.PacketKind.{kind}
 use Rattle.ttx_page.specs.Span.{is_open_after}
-use Rattle.sub_rules.specs.Events.{gap_length, is_incomplete, is_unfinished, latest, since_frames}
-use Rattle.sub_rules.specs.Events.{since_in_gap, unfinished_from, unfinished_since, wrong_after}
+use Rattle.sub_rules.specs.Events.{gap_length, is_incomplete, is_unfinished, latest}
+use Rattle.sub_rules.specs.Events.{first_unfinished_in_frames}
+use Rattle.sub_rules.specs.Events.{first_unfinished_in_gap, unfinished_from, unfinished_since}
+use Rattle.sub_rules.specs.Events.{wrong_after}
 use Rattle.sub_rules.specs.FrameRules.{Criteria, frame_at}
 use Rattle.sub_rules.specs.Transmission.{Transmission, on_air_until}
 use Rattle.sub_rules.proofs.EndLemmas.{gap_length-is}
@@ -21,28 +23,29 @@ use Rattle.sub_laws.proofs.RisingEndLemmas.{latest_at}
 
 module _ (un : ℕ → Bool) (first : ℕ) where
   -- The first frame of the unfinished run that ends at first + k.
-  abbrev pub since_at : ℕ → Option ℕ
-  since_at zero = unfinished_from None (un first) first
-  since_at (suc k) = unfinished_from (since_at k) (un (first + suc k)) (first + suc k)
+  abbrev pub first_unfinished_at : ℕ → Option ℕ
+  first_unfinished_at zero = unfinished_from None (un first) first
+  first_unfinished_at (suc k) = unfinished_from (first_unfinished_at k) (un (first + suc k))
+      (first + suc k)
 
   -- That is frame r: all from it on are unfinished, and the one before it, if any, is not.
-  pub record Since (k r : ℕ) : Type 0 where
+  pub record IsFirstUnfinished (k r : ℕ) : Type 0 where
     pub low : first ≤ r
     pub high : r ≤ first + k
     pub all : (e : ℕ) → r ≤ e → e ≤ first + k → un e ≡ true
     pub begins : (r ≡ first) ⊎ ((first < r) × (un (r - 1) ≡ false))
 
   -- There is none exactly if the last one is finished.
-  pub since_none : (k : ℕ) → since_at k ≡ None → un (first + k) ≡ false
-  since_none k h1 = grind (arith, nat_tests, none-some)
+  pub first_unfinished_none : (k : ℕ) → first_unfinished_at k ≡ None → un (first + k) ≡ false
+  first_unfinished_none k h1 = grind (arith, nat_tests, none-some)
 
-  pub none_since : (k : ℕ) → un (first + k) ≡ false → since_at k ≡ None
-  none_since k h1 = grind (arith, nat_tests)
+  pub none_first_unfinished : (k : ℕ) → un (first + k) ≡ false → first_unfinished_at k ≡ None
+  none_first_unfinished k h1 = grind (arith, nat_tests)
 
-  pub since_some : (k r : ℕ) → since_at k ≡ Some r → Since k r
-  since_some zero r e = go (un first) refl e
+  pub first_unfinished_some : (k r : ℕ) → first_unfinished_at k ≡ Some r → IsFirstUnfinished k r
+  first_unfinished_some zero r e = go (un first) refl e
     where
-      go : (b : Bool) → un first ≡ b → unfinished_from None b first ≡ Some r → Since 0 r
+      go : (b : Bool) → un first ≡ b → unfinished_from None b first ≡ Some r → IsFirstUnfinished 0 r
       go false is e = absurd (none-some r e)
       go true is e =
           let at : first ≡ r = same_Some _ _ e in
@@ -52,13 +55,14 @@ module _ (un : ℕ → Bool) (first : ℕ) where
             all = λ x l m. let same : first ≡ x = omega arith in ap un (sym same) ∙ is;
             begins = inl (sym at);
           }
-  since_some (suc k) r e = go (since_some k) (un (first + suc k)) refl (since_at k) refl e
+  first_unfinished_some (suc k) r e = go (first_unfinished_some k) (un (first + suc k)) refl
+      (first_unfinished_at k) refl e
     where
-      go : ((s : ℕ) → since_at k ≡ Some s → Since k s)
+      go : ((s : ℕ) → first_unfinished_at k ≡ Some s → IsFirstUnfinished k s)
           → (b : Bool) → un (first + suc k) ≡ b
-          → (o : Option ℕ) → since_at k ≡ o
+          → (o : Option ℕ) → first_unfinished_at k ≡ o
           → unfinished_from o b (first + suc k) ≡ Some r
-          → Since (suc k) r
+          → IsFirstUnfinished (suc k) r
       go so_far false is o before e = absurd (none-some r e)
       go so_far true is None before e =
           let at : first + suc k ≡ r = same_Some _ _ e in
@@ -67,11 +71,11 @@ module _ (un : ℕ → Bool) (first : ℕ) where
             low = omega arith;
             high = omega arith;
             all = λ x l m. let same : first + suc k ≡ x = omega arith in ap un (sym same) ∙ is;
-            begins = inr (omega arith, ap un (sym back) ∙ since_none k before);
+            begins = inr (omega arith, ap un (sym back) ∙ first_unfinished_none k before);
           }
       go so_far true is (Some s) before e =
           let at : s ≡ r = same_Some _ _ e in
-          let earlier : Since k r = subst (Since k) at (so_far s before) in
+          let earlier : IsFirstUnfinished k r = subst (IsFirstUnfinished k) at (so_far s before) in
           record {
             low = earlier.low;
             high = let l = earlier.high in omega arith;
@@ -84,30 +88,31 @@ module _ (un : ℕ → Bool) (first : ℕ) where
 
   -- One of those from a on is finished, unless the unfinished run begins that early.
   pub finished_from : (a k : ℕ) → first ≤ a → a ≤ first + k
-      → ((r : ℕ) → since_at k ≡ Some r → r ≤ a → ⊥)
+      → ((r : ℕ) → first_unfinished_at k ≡ Some r → r ≤ a → ⊥)
       → (e : ℕ) × (a ≤ e) × (e ≤ first + k) × (un e ≡ false)
-  finished_from a k low high late = go (since_at k) refl
+  finished_from a k low high late = go (first_unfinished_at k) refl
     where
-      go : (o : Option ℕ) → since_at k ≡ o
+      go : (o : Option ℕ) → first_unfinished_at k ≡ o
           → (e : ℕ) × (a ≤ e) × (e ≤ first + k) × (un e ≡ false)
-      go None is = (first + k, high, omega arith, since_none k is)
+      go None is = (first + k, high, omega arith, first_unfinished_none k is)
       go (Some r) is =
-          let since = since_some k r is in
+          let first_unfinished = first_unfinished_some k r is in
           elim (cases_lt a r) [
             | inr early ↦ absurd (late r is early)
-            | inl after ↦ elim since.begins [
+            | inl after ↦ elim first_unfinished.begins [
               | inl start ↦ absurd (omega arith)
               | inr (some, before) ↦
-                  let top = since.high in (r - 1, omega arith, omega arith, before)
+                  let top = first_unfinished.high in (r - 1, omega arith, omega arith, before)
             ]
           ]
 
   -- If one of them is finished, the run begins after it.
-  pub since_after : (k r e : ℕ) → since_at k ≡ Some r → un e ≡ false → e ≤ first + k → e < r
-  since_after k r e is finished high = elim (cases_lt e r) [
+  pub first_unfinished_after : (k r e : ℕ) → first_unfinished_at k ≡ Some r → un e ≡ false → e ≤
+      first + k → e < r
+  first_unfinished_after k r e is finished high = elim (cases_lt e r) [
     | inl after ↦ after
     | inr not_after ↦
-        absurd (true≢false (sym ((since_some k r is).all e not_after high) ∙ finished))
+        absurd (true≢false (sym ((first_unfinished_some k r is).all e not_after high) ∙ finished))
   ]
 
 -- ---- the ends of rising frames
@@ -128,32 +133,32 @@ module _ (g : Criteria) (t : Transmission) (rises : RiseTo t (length t)) where
 
   -- The first frame of the unfinished run at the end of a frame without packets, from that of the
   -- frame before.
-  since_gap : (n m : ℕ)
+  first_unfinished_gap : (n m : ℕ)
       → unfinished_since g t n (latest t n + suc m)
       ≡ unfinished_from (unfinished_since g t n (latest t n + m))
       (is_unfinished g t n (latest t n + suc m)) (latest t n + suc m)
-  unfolding unfinished_since since_in_gap
-  since_gap n m = grind (arith, nat_tests)
+  unfolding unfinished_since first_unfinished_in_gap
+  first_unfinished_gap n m = grind (arith, nat_tests)
 
   -- The same for a frame of the list.
-  since_own : (i : ℕ)
-      → since_frames g t (suc i)
+  first_unfinished_own : (i : ℕ)
+      → first_unfinished_in_frames g t (suc i)
       ≡ unfinished_from (unfinished_since g t i (latest t i + gap_length t i))
       (is_unfinished g t (suc i) (frame_at t i)) (frame_at t i)
-  unfolding unfinished_since since_frames
-  since_own i = grind (arith, nat_tests)
+  unfolding unfinished_since first_unfinished_in_frames
+  first_unfinished_own i = grind (arith, nat_tests)
 
-  since_first : unfinished_since g t 0 (latest t 0 + gap_length t 0) ≡ None
-  unfolding unfinished_since since_in_gap since_frames latest gap_length
-  since_first = refl
+  first_unfinished_first : unfinished_since g t 0 (latest t 0 + gap_length t 0) ≡ None
+  unfolding unfinished_since first_unfinished_in_gap first_unfinished_in_frames latest gap_length
+  first_unfinished_first = refl
 
   last_is : (n : ℕ) → 0 < n → n ≤ length t → latest t n ≡ frame_at t (n - 1)
   last_is n some l = latest_at t n (λ i a b. rises i a (omega arith)) some
 
-  since_here : (i : ℕ) → i < length t
-      → unfinished_since g t (suc i) (frame_at t i) ≡ since_frames g t (suc i)
-  unfolding unfinished_since since_in_gap
-  since_here i l = grind (arith, nat_tests, last_is)
+  first_unfinished_here : (i : ℕ) → i < length t
+      → unfinished_since g t (suc i) (frame_at t i) ≡ first_unfinished_in_frames g t (suc i)
+  unfolding unfinished_since first_unfinished_in_gap
+  first_unfinished_here i l = grind (arith, nat_tests, last_is)
 
   -- A frame from the last of the first n on, and before the next one, has an end.
   end_from_last : (n x : ℕ) → 0 < n → n < length t → frame_at t (n - 1) ≤ x → x < frame_at t n
@@ -177,7 +182,7 @@ module _ (g : Criteria) (t : Transmission) (rises : RiseTo t (length t)) where
   pub record EndBefore (n f : ℕ) : Type 0 where
     pub m : ℕ
     pub end : IsEnd t m (f - 1)
-    pub since :
+    pub first_unfinished :
         unfinished_since g t n f
         ≡ unfinished_from (unfinished_since g t m (f - 1)) (is_unfinished g t n f) f
 
@@ -191,8 +196,8 @@ module _ (g : Criteria) (t : Transmission) (rises : RiseTo t (length t)) where
         m = suc i;
         end = end_from_last (suc i) (frame_at t (suc i) - 1) (omega arith) l (omega arith)
             (omega arith);
-        since =
-            since_here (suc i) l ∙ since_own (suc i)
+        first_unfinished =
+            first_unfinished_here (suc i) l ∙ first_unfinished_own (suc i)
             ∙ ap (λ x. unfinished_from (unfinished_since g t (suc i) x)
             (is_unfinished g t (suc (suc i)) (frame_at t (suc i))) (frame_at t (suc i))) at;
       }
@@ -206,7 +211,7 @@ module _ (g : Criteria) (t : Transmission) (rises : RiseTo t (length t)) where
       record {
         m = n;
         end = end_from_last n (f - 1) some there (omega arith) (omega arith);
-        since = rw (now, earlier) at (since_gap n (f - 1 - latest t n));
+        first_unfinished = rw (now, earlier) at (first_unfinished_gap n (f - 1 - latest t n));
       }
 
   pub end_before : (n f : ℕ) → IsEnd t n f → frame_at t 0 < f → EndBefore n f
@@ -226,7 +231,7 @@ module _ (g : Criteria) (t : Transmission) (rises : RiseTo t (length t)) where
       → unfinished_since g t n f ≡ unfinished_from None (is_unfinished g t n f) f
   end_first zero f (some, l, at) first = absurd (omega arith)
   end_first (suc zero) f end first =
-      grind (arith, nat_tests, since_here, since_own, since_first)
+      grind (arith, nat_tests, first_unfinished_here, first_unfinished_own, first_unfinished_first)
   end_first (suc (suc i)) f (some, l, inl own) first =
       let up = rises (suc i) (omega arith) (omega arith) in
       let low = rises_to t (length t) rises 0 (suc i - 1) (omega arith) (omega arith) in
@@ -237,12 +242,12 @@ module _ (g : Criteria) (t : Transmission) (rises : RiseTo t (length t)) where
       let after = low 0 (omega arith) in absurd (omega arith)
 
   -- At each end it is the first frame of the unfinished run.
-  pub since_end : (k n f : ℕ) → IsEnd t n f → f ≡ frame_at t 0 + k
-      → unfinished_since g t n f ≡ since_at unfinished_at (frame_at t 0) k
-  since_end zero n f end at =
+  pub first_unfinished_end : (k n f : ℕ) → IsEnd t n f → f ≡ frame_at t 0 + k
+      → unfinished_since g t n f ≡ first_unfinished_at unfinished_at (frame_at t 0) k
+  first_unfinished_end zero n f end at =
       let first : f ≡ frame_at t 0 = omega arith in
       grind (arith, nat_tests, end_first, unfinished_is)
-  since_end (suc k) n f end at =
+  first_unfinished_end (suc k) n f end at =
       let before = end_before n f end (omega arith) in
-      let earlier = since_end k before.m (f - 1) before.end (omega arith) in
+      let earlier = first_unfinished_end k before.m (f - 1) before.end (omega arith) in
       grind (arith, nat_tests, unfinished_is)

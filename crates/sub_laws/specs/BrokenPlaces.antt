@@ -1,20 +1,20 @@
 -- The events for a transmission, place by place: a fault is reported exactly if a rule is broken
--- there. The list `all_of_pieces` has the places in order.
+-- there. The list `all_of_pes_packets` has the places in order.
 use Rattle.std.specs.Prelude.{◌≡◌, ◌↔◌, ℕ, suc, ◌<◌, ◌≤◌, List, [], length, map, Option}
 use Rattle.std.specs.Prelude.{Some, None, IsTrue, IsFalse}
 use Rattle.ttx_packet.specs.PacketAddress.{IsPacket}
 use Rattle.ttx_page.specs.Page.{IsCell}
 use Rattle.stl_rows.specs.Programme.{IsProgramme, ProgrammeValue}
 use Rattle.sub_plan.specs.Options.{OptionsValue}
-use Rattle.sub_rules.specs.Events.{broken_at, first_header_events, first_told, late_events}
-use Rattle.sub_rules.specs.Events.{order_events, standing_at}
+use Rattle.sub_rules.specs.Events.{broken_at, first_header_events, first_reported, late_events}
+use Rattle.sub_rules.specs.Events.{order_events, active_faults_at}
 use Rattle.sub_rules.specs.FrameRules.{Criteria, HasHeader, IsCovered, IsEnded, IsPaced, ShowsDue}
 use Rattle.sub_rules.specs.FrameRules.{Unread, criteria_of, end_frame, frame_at}
 use Rattle.sub_rules.specs.Good.{Good}
 use Rattle.sub_rules.specs.Repeats.{GoodBy}
-use Rattle.sub_rules.specs.PieceEvents.{all_of_pieces}
-use Rattle.sub_rules.specs.Pieces.{Piece, frames_of, joined}
-use Rattle.sub_rules.specs.Pieces.Piece.{Sent}
+use Rattle.sub_rules.specs.PesPacketEvents.{all_of_pes_packets}
+use Rattle.sub_rules.specs.PesPackets.{PesPacket, frames_of, joined}
+use Rattle.sub_rules.specs.PesPackets.PesPacket.{Sent}
 use Rattle.sub_rules.specs.PacketRules.{AreClean, KeepsRule}
 use Rattle.sub_rules.specs.PacketTests.{breaks}
 use Rattle.sub_rules.specs.Transmission.{EachPacket, Transmission}
@@ -47,13 +47,13 @@ IsKept end.Silent g frames n f = IsPaced g frames n f
 
 -- The active faults there: a rule is among them exactly if it is broken; content at the first wrong
 -- cell.
-pub record StandsBroken (g : Criteria) (frames : Transmission) (n f : ℕ) : Type 0 where
+pub record AreActiveFaults (g : Criteria) (frames : Transmission) (n f : ℕ) : Type 0 where
   pub rules :
       (rule : EndRule)
-      → (broken_at rule (standing_at g frames n f) ≡ None) ↔ IsKept rule g frames n f
+      → (broken_at rule (active_faults_at g frames n f) ≡ None) ↔ IsKept rule g frames n f
   pub cell :
       (x : ℕ × ℕ)
-      → (standing_at g frames n f).content ≡ Some x
+      → (active_faults_at g frames n f).content ≡ Some x
       → WrongFirst g frames n f x.0 x.1
 
 -- A packet of 42 bytes after packets that keep all rules, with a code word for an address, and with
@@ -66,7 +66,7 @@ pub record IsComparable (w : Watched) (before : List (List ℕ)) (p : List ℕ) 
   pub odd : KeepsRule rule.Parity w before p
 
 -- Each place of a transmission, and what is reported there.
-pub record TellsBroken (g : Criteria) (frames : Transmission) : Type 0 where
+pub record ReportsBroken (g : Criteria) (frames : Transmission) : Type 0 where
   -- The first frame is not after the first TCI, and each later frame is after the one before.
   pub start :
       (order_events g frames 0 ≡ [])
@@ -82,7 +82,7 @@ pub record TellsBroken (g : Criteria) (frames : Transmission) : Type 0 where
   -- The first frame has a header of the page.
   pub header : (first_header_events g frames 0 ≡ []) ↔ HasHeader g frames 0
   -- The active faults at an end. A fault is reported if it was not active at the end before.
-  pub ends : (n f : ℕ) → n ≤ length frames → StandsBroken g frames n f
+  pub ends : (n f : ℕ) → n ≤ length frames → AreActiveFaults g frames n f
   -- The last subtitle has ended.
   pub late :
       (late_events g frames ≡ [])
@@ -92,40 +92,40 @@ pub record TellsBroken (g : Criteria) (frames : Transmission) : Type 0 where
   pub first :
       IsFalse g.any_refused
       → EachPacket IsPacket frames
-      → first_told (all_of_pieces g (map Sent frames)) ≡ None
-      → all_of_pieces g (map Sent frames) ≡ []
+      → first_reported (all_of_pes_packets g (map Sent frames)) ≡ None
+      → all_of_pes_packets g (map Sent frames) ≡ []
 
 -- So the first fault is the first broken place.
 abbrev pub LawOfBrokenPlaces : Type 0
-LawOfBrokenPlaces = (g : Criteria) (frames : Transmission) → g.within ≡ 0 → TellsBroken g frames
+LawOfBrokenPlaces = (g : Criteria) (frames : Transmission) → g.within ≡ 0 → ReportsBroken g frames
 
 -- There is no event for the PES packets of a file exactly if none of them is skipped, their frames
 -- are good by the options, and the file was read to its end. If `within` is not 0, consecutive PES
 -- packets of one frame are merged.
-abbrev pub LawOfNothingToldRepeats : Type 0
-LawOfNothingToldRepeats =
+abbrev pub LawOfNothingReportedRepeats : Type 0
+LawOfNothingReportedRepeats =
     (programme : ProgrammeValue) (options : OptionsValue) (unread : Option Unread)
-    (pieces : List Piece)
+    (pes_packets : List PesPacket)
     → IsProgramme programme.drawing programme.records
     → 0 < options.every
-    → EachPacket IsPacket (joined options.within (frames_of pieces))
-    → (all_of_pieces (criteria_of programme options unread) pieces ≡ [])
-    ↔ ((length (frames_of pieces) ≡ length pieces)
-    × GoodBy options.keeps programme (joined options.within (frames_of pieces)) options
+    → EachPacket IsPacket (joined options.within (frames_of pes_packets))
+    → (all_of_pes_packets (criteria_of programme options unread) pes_packets ≡ [])
+    ↔ ((length (frames_of pes_packets) ≡ length pes_packets)
+    × GoodBy options.keeps programme (joined options.within (frames_of pes_packets)) options
     × (unread ≡ None))
 
 -- If no repeat may keep the page and `within` is 0, that means that the frames are good, with
 -- complete pages if these are required.
-abbrev pub LawOfNothingTold : Type 0
-LawOfNothingTold =
+abbrev pub LawOfNothingReported : Type 0
+LawOfNothingReported =
     (programme : ProgrammeValue) (options : OptionsValue) (unread : Option Unread)
-    (pieces : List Piece)
+    (pes_packets : List PesPacket)
     → IsFalse options.keeps
     → options.within ≡ 0
     → 0 < options.every
-    → EachPacket IsPacket (frames_of pieces)
-    → (all_of_pieces (criteria_of programme options unread) pieces ≡ [])
-    ↔ ((length (frames_of pieces) ≡ length pieces)
-    × Good programme (frames_of pieces) options
-    × (IsTrue options.asks_complete → Complete (frames_of pieces) options)
+    → EachPacket IsPacket (frames_of pes_packets)
+    → (all_of_pes_packets (criteria_of programme options unread) pes_packets ≡ [])
+    ↔ ((length (frames_of pes_packets) ≡ length pes_packets)
+    × Good programme (frames_of pes_packets) options
+    × (IsTrue options.asks_complete → Complete (frames_of pes_packets) options)
     × (unread ≡ None))

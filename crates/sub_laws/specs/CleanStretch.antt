@@ -5,7 +5,7 @@ use Rattle.std.specs.Prelude.{◌≡◌, ℕ, ◌-◌, ◌<◌, ◌≤◌, ◌�
 use Rattle.std.specs.Prelude.{slice_index_or}
 use Rattle.stl_rows.specs.Programme.{ProgrammeValue}
 use Rattle.sub_plan.specs.Options.{OptionsValue}
-use Rattle.sub_rules.specs.Events.{packet_fault, standing_at}
+use Rattle.sub_rules.specs.Events.{packet_fault, active_faults_at}
 use Rattle.sub_rules.specs.Fault.{fault_row}
 use Rattle.sub_rules.specs.FrameRules.{Criteria, Unread, criteria_of, frame_at, packets_before}
 use Rattle.sub_rules.specs.FrameRules.{packets_of_frame}
@@ -57,27 +57,27 @@ pub record IsStretch (frames : Transmission) (a b : ℕ) : Type 0 where
 
 -- A receiver depends on this rule for packets: a frame in which it is broken is not clean.
 abbrev pub is_needed : PacketRule → Bool
-is_needed r = (fault_row (packet_fault r 0 0)).doubts
+is_needed r = (fault_row (packet_fault r 0 0)).invalidates
 
 -- There is no report of the stretch that a receiver depends on: the frames of the whole
 -- transmission rise; no packet of the stretch breaks one of these rules; at no end of it wrong
 -- content or a missing header is active, whether it is reported there or was before; and at each
 -- end the due page is known, and was known at the `within` frames before.
-pub record IsUntold (g : Criteria) (frames : Transmission) (a b : ℕ) : Type 0 where
+pub record IsUnreported (g : Criteria) (frames : Transmission) (a b : ℕ) : Type 0 where
   pub stretch : IsStretch frames a b
   pub rising : IsRising frames
   pub packets :
       (r : PacketRule)
       → IsTrue (is_needed r)
       → AtPackets (λ before p. IsFalse (breaks r g.watched before p)) frames a b
-  pub content : AtEnds (λ n f. (standing_at g frames n f).content ≡ None) frames a b
-  pub gap : AtEnds (λ n f. IsFalse (standing_at g frames n f).gap) frames a b
-  pub undecided : AtEnds (λ n f. IsFalse (standing_at g frames n f).undecided) frames a b
+  pub content : AtEnds (λ n f. (active_faults_at g frames n f).content ≡ None) frames a b
+  pub gap : AtEnds (λ n f. IsFalse (active_faults_at g frames n f).gap) frames a b
+  pub undecided : AtEnds (λ n f. IsFalse (active_faults_at g frames n f).undecided) frames a b
 
 -- The page is open at no end of the frames from a to b.
 abbrev pub NoneOpen : Criteria → Transmission → ℕ → ℕ → Type 0
 NoneOpen g frames a b =
-    AtEnds (λ n f. IsFalse (standing_at g frames n f).incomplete) frames a b
+    AtEnds (λ n f. IsFalse (active_faults_at g frames n f).incomplete) frames a b
 
 -- The criteria of a programme and options, if subtitles of the file may have been refused and the
 -- due page is unknown at these frames for that reason.
@@ -92,13 +92,13 @@ criteria_unsure programme options unread any_refused undecided =
 -- the stretch, its pages are complete, so the due page is on screens, too. So the reports of a
 -- refused transmission show which rest may be trusted: frames in rising order, from the first
 -- header of the page in a stretch.
-abbrev pub LawOfUntoldStretch : Type 0
-LawOfUntoldStretch =
+abbrev pub LawOfUnreportedStretch : Type 0
+LawOfUnreportedStretch =
     (programme : ProgrammeValue) (transmission : Transmission) (options : OptionsValue)
     → (unread : Option Unread) (any_refused : Bool) (undecided : ℕ → Bool) (a b : ℕ)
     → IsFalse options.keeps
     → options.within ≡ 0
-    → IsUntold (criteria_unsure programme options unread any_refused undecided) transmission a b
+    → IsUnreported (criteria_unsure programme options unread any_refused undecided) transmission a b
     → IsSufficient programme transmission options a b
     × (IsTrue options.asks_complete
     → NoneOpen (criteria_unsure programme options unread any_refused undecided) transmission a b

@@ -5,14 +5,14 @@ use Rattle.std.specs.List.{AllByRecursion, concat}
 use Rattle.stl_file.specs.Gsi.{gsi_size}
 use Rattle.stl_file.specs.Reader.{findings_for}
 use Rattle.stl_file.specs.SubtitleBlocks.{IsBlock}
-use Rattle.stl_file.specs.TakenOut.{is_read_whole, taken_out}
+use Rattle.stl_file.specs.TakenOut.{is_read_to_the_end, taken_out}
 use Rattle.stl_rows.specs.declared.layout.Drawing.{Drawing}
 use Rattle.stl_rows.specs.Judged.{JudgedValue, has_refused, judged_of, judges}
 use Rattle.stl_rows.specs.Loading.{of_day}
 use Rattle.sub_plan.specs.Options.{OptionsValue}
 use Rattle.sub_rules.specs.FrameRules.{Unread, criteria_of_judged, is_due_undecided}
-use Rattle.sub_rules.specs.PieceEvents.{all_of_pieces}
-use Rattle.sub_rules.specs.Pieces.{Piece}
+use Rattle.sub_rules.specs.PesPacketEvents.{all_of_pes_packets}
+use Rattle.sub_rules.specs.PesPackets.{PesPacket}
 
 -- A part of a file is judged like the file from which the blocks of all other subtitles were
 -- removed, if nothing ends reading: the same subtitles can be relied on, and a transmission can be
@@ -22,7 +22,7 @@ LawOfJudgedParts =
     (drawing : Drawing) (gsi : List ℕ) (blocks : List (List ℕ))
     → length gsi ≡ gsi_size
     → AllByRecursion IsBlock blocks
-    → is_read_whole (findings_for drawing.scope (gsi ++ concat blocks)) ≡ true
+    → is_read_to_the_end (findings_for drawing.scope (gsi ++ concat blocks)) ≡ true
     → (judged_of drawing (gsi ++ concat blocks)
     ≡ judged_of (of_day drawing) (gsi ++ concat (taken_out drawing.scope None blocks)))
     × (judges drawing (gsi ++ concat blocks)
@@ -34,9 +34,9 @@ LawOfJudgedParts =
 abbrev pub LawOfJudgedAlike : Type 0
 LawOfJudgedAlike =
     (one other : JudgedValue) (options : OptionsValue) (unread : Option Unread)
-    → (pieces : List Piece)
+    → (pes_packets : List PesPacket)
     → one.programme ≡ other.programme
     → has_refused one ≡ has_refused other
     → ((frame : ℕ) → is_due_undecided one frame ≡ is_due_undecided other frame)
-    → all_of_pieces (criteria_of_judged one options unread) pieces
-    ≡ all_of_pieces (criteria_of_judged other options unread) pieces
+    → all_of_pes_packets (criteria_of_judged one options unread) pes_packets
+    ≡ all_of_pes_packets (criteria_of_judged other options unread) pes_packets

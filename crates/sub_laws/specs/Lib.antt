@@ -13,5 +13,5 @@ pub mod Repeats
 pub mod Robust
 pub mod Stretch
 pub mod Sufficient
-pub mod ToldRepeats
-pub mod UndueContent
+pub mod ReportedRepeats
+pub mod UnexpectedContent

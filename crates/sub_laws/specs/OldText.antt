@@ -11,7 +11,7 @@ use Rattle.ttx_page.specs.Span.{holds_beginning}
 use Rattle.stl_rows.specs.Programme.{ProgrammeValue}
 use Rattle.sub_plan.specs.Options.{OptionsValue}
 use Rattle.sub_plan.specs.Schedule.{due_in}
-use Rattle.sub_rules.specs.Repeats.{GoodBy, IsDueWithin, IsWholePage}
+use Rattle.sub_rules.specs.Repeats.{GoodBy, IsDueWithin, IsCorrectPage}
 use Rattle.sub_rules.specs.Transmission.{Transmission, first_frame, last_frame, on_air}
 use Rattle.sub_rules.specs.Transmission.{packets_between}
 use Rattle.sub_laws.specs.LostRows.{IsGot}
@@ -38,7 +38,7 @@ pub record HoldsWhatIsDue
       → IsCell row column
       → IsDueWithin programme transmission options f row column (cell new.page row column)
   pub cells :
-      IsWholePage keeps programme options.page transmission f
+      IsCorrectPage keeps programme options.page transmission f
       → HoldsDuePage programme f IsExcused new.page
   pub at_once : options.within ≡ 0 → HoldsDuePage programme f IsExcused new.page
 

@@ -19,7 +19,7 @@ use Rattle.stl_rows.specs.Programme.{IsProgramme, ProgrammeValue}
 use Rattle.sub_plan.specs.Options.{IsOptions, OptionsValue}
 use Rattle.sub_rules.specs.Good.{HoldsHeader}
 use Rattle.sub_rules.specs.Repeats.{FinishesAgainBy, GoodBy, HasEndedPage, IsDueWithin}
-use Rattle.sub_rules.specs.Repeats.{IsWholePage, KeepsDueCodes, KeepsRulesBy, SomeFinishedBy}
+use Rattle.sub_rules.specs.Repeats.{IsCorrectPage, KeepsDueCodes, KeepsRulesBy, SomeFinishedBy}
 use Rattle.sub_rules.specs.Transmission.{IsRising, Transmission, first_frame, last_frame, on_air}
 use Rattle.sub_rules.specs.Transmission.{on_air_until}
 use Rattle.sub_laws.specs.CleanStretch.{AtPackets, IsStretch}
@@ -58,7 +58,7 @@ pub record IsServedForgetting
   pub cells :
       IsTrue (holds_header (kind options.page) sent)
       → IsFresh keeps anew options.page sent old
-      → IsWholePage keeps programme options.page transmission f
+      → IsCorrectPage keeps programme options.page transmission f
       → HoldsDuePage programme f IsExcused new.page
 
 -- Receivers of the class that may forget the page, or start again at each header, recover in the
@@ -105,7 +105,7 @@ ShownForgetting keeps anew class programme transmission options a b =
     → ShowsForgetting class anew options.page old got new
     → IsTrue (holds_header (kind options.page) (on_air transmission g j f))
     → IsFresh keeps anew options.page (on_air transmission g j f) old.held
-    → IsWholePage keeps programme options.page transmission f
+    → IsCorrectPage keeps programme options.page transmission f
     → HasEndedPage options.page transmission f
     → (page : Rows)
     × (new.screen ≡ Some page)

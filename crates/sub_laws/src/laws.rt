@@ -2,9 +2,9 @@
 //!
 //! The functions do nothing: the contract of each is a law about the definitions of `specs/`.
 ghost use Rattle.sub_laws.specs.AtOnce.{LawOfNoDelay, LawOfTrustWithoutDelay};
-ghost use Rattle.sub_laws.specs.BrokenPlaces.{LawOfBrokenPlaces, LawOfNothingTold};
-ghost use Rattle.sub_laws.specs.BrokenPlaces.{LawOfNothingToldRepeats};
-ghost use Rattle.sub_laws.specs.CleanStretch.{LawOfUntoldStretch};
+ghost use Rattle.sub_laws.specs.BrokenPlaces.{LawOfBrokenPlaces, LawOfNothingReported};
+ghost use Rattle.sub_laws.specs.BrokenPlaces.{LawOfNothingReportedRepeats};
+ghost use Rattle.sub_laws.specs.CleanStretch.{LawOfUnreportedStretch};
 ghost use Rattle.sub_laws.specs.DelayOfFiles.{LawOfLongerDelayOfFiles};
 ghost use Rattle.sub_laws.specs.JudgedFiles.{LawOfJudgedAlike, LawOfJudgedParts};
 ghost use Rattle.sub_laws.specs.Laws.{LawOfAllKept, LawOfGood, LawOfWindow};
@@ -12,7 +12,7 @@ ghost use Rattle.sub_laws.specs.OldText.{LawOfOldText};
 ghost use Rattle.sub_laws.specs.OnScreen.{LawOfCompletePlan};
 ghost use Rattle.sub_rules.specs.Kept.{LawOfRightCells};
 ghost use Rattle.sub_rules.specs.PesReading.{LawOfExactFrames};
-ghost use Rattle.sub_rules.specs.PieceEvents.{LawOfFirstTold};
+ghost use Rattle.sub_rules.specs.PesPacketEvents.{LawOfFirstReported};
 ghost use Rattle.sub_laws.specs.Planned.{LawOfPlan, LawOfPlanRead};
 ghost use Rattle.sub_laws.specs.Repeats.{LawOfFollowedStretch, LawOfGoodRepeats, LawOfKeptOnAir};
 ghost use Rattle.sub_laws.specs.Repeats.{LawOfLongerRepeats};
@@ -20,7 +20,7 @@ ghost use Rattle.sub_laws.specs.Repeats.{LawOfPlanRepeats, LawOfRepeatedStretch}
 ghost use Rattle.sub_rules.specs.Repeats.{LawOfMayKeep, LawOfNoRepeats, LawOfNoneKeeps};
 ghost use Rattle.sub_laws.specs.Stretch.{LawOfWholeRecovery, LawOfWholeStretch};
 ghost use Rattle.sub_laws.specs.Sufficient.{LawOfStretch, LawOfSufficientParts};
-ghost use Rattle.sub_laws.specs.ToldRepeats.{LawOfUntoldRepeats};
+ghost use Rattle.sub_laws.specs.ReportedRepeats.{LawOfUnreportedRepeats};
 
 use stl_file::law_of_scope;
 
@@ -78,14 +78,14 @@ pub fn law_of_longer_delay_of_files()
 /// A stretch without reports that a receiver depends on is sufficient, whatever else is reported,
 /// there or elsewhere, also if repeats may keep the page; and if the page is open at no end of it,
 /// its frames are finished in time.
-pub fn law_of_untold_repeats()
-    ensures { LawOfUntoldRepeats }
+pub fn law_of_unreported_repeats()
+    ensures { LawOfUnreportedRepeats }
 {}
 
 /// If none may keep it, the stretch has the sufficient parts of the rules; and if the page is open
 /// at no end of the stretch, its pages are complete.
-pub fn law_of_untold_stretch()
-    ensures { LawOfUntoldStretch }
+pub fn law_of_unreported_stretch()
+    ensures { LawOfUnreportedStretch }
 {}
 
 /// If receivers recover in all frames of a transmission, it is robust, also with lost rows.
@@ -136,24 +136,24 @@ pub fn law_of_broken_places()
 
 /// Whether reading a PES file stops at its first skipped PES packet or goes on, the first fault is
 /// the same.
-#[tactic(auto, using(sub_rules::proofs::PieceEventLemmas::first_told_is))]
-pub fn law_of_first_told()
-    ensures { LawOfFirstTold }
+#[tactic(auto, using(sub_rules::proofs::PesPacketEventLemmas::first_reported_is))]
+pub fn law_of_first_reported()
+    ensures { LawOfFirstReported }
 {}
 
 /// There is no event for the PES packets of a file exactly if none of them is skipped, their frames
 /// are good by the options, whether repeats may keep the page or not, and the file was read to its
 /// end.
-#[tactic(auto, using(crate::proofs::NothingToldLemmas::law_of_nothing_told_repeats))]
-pub fn law_of_nothing_told_repeats()
-    ensures { LawOfNothingToldRepeats }
+#[tactic(auto, using(crate::proofs::NothingReportedLemmas::law_of_nothing_reported_repeats))]
+pub fn law_of_nothing_reported_repeats()
+    ensures { LawOfNothingReportedRepeats }
 {}
 
 /// If none may keep it and `within` is 0, that means a good transmission, with complete pages if
 /// these are required.
-#[tactic(auto, using(crate::proofs::NothingToldLemmas::law_of_nothing_told))]
-pub fn law_of_nothing_told()
-    ensures { LawOfNothingTold }
+#[tactic(auto, using(crate::proofs::NothingReportedLemmas::law_of_nothing_reported))]
+pub fn law_of_nothing_reported()
+    ensures { LawOfNothingReported }
 {}
 
 /// If repeats may keep the page, whatever receivers do at a header that does not erase it: in a

@@ -11,9 +11,9 @@ use Rattle.ttx_packet.specs.PageId.{PageIdValue}
 use Rattle.ttx_page.specs.Screen.{Display}
 use Rattle.ttx_page.proofs.RunLemmas.{RunsBy-append}
 use Rattle.ttx_pes.specs.DataUnit.{UnitValue}
-use Rattle.ttx_pes.specs.PesPacket.{PesValue}
+use Rattle.ttx_pes.specs.PesGrammar.{PesValue}
 use Rattle.ttx_pes.specs.Reader.{FailsWithin, TakesPackets}
-use Rattle.ttx_pes.specs.Pieces.{behind_piece}
+use Rattle.ttx_pes.specs.PesPackets.{rest_after_pes_packet}
 use Rattle.sub_rules.specs.Fault.{is_pes_read}
 use Rattle.sub_rules.specs.Events.{unread_fault}
 use Rattle.sub_plan.specs.FrameTime.{clock_of}
@@ -22,11 +22,11 @@ use Rattle.sub_rules.specs.PacketRules.{packets_of_units}
 use Rattle.sub_rules.specs.PesReading.{ReadsAs}
 use Rattle.sub_rules.specs.Transmission.{Transmission}
 use Rattle.sub_rules.specs.declared.fault.CheckFault.{CheckFault}
-use Rattle.sub_rules.specs.declared.piece.NextPiece.{NextPiece}
-use Rattle.sub_rules.specs.declared.piece.NextPiece.TheVariants.{Sent}
+use Rattle.sub_rules.specs.declared.pes_packet.NextPesPacket.{NextPesPacket}
+use Rattle.sub_rules.specs.declared.pes_packet.NextPesPacket.TheVariants.{Sent}
 use Rattle.sub_rules.specs.declared.sending.Sending.{Sending}
-use Rattle.sub_rules.proofs.PesReadingLemmas.{ReadsNext, TellsNext, reads_end, reads_next}
-use Rattle.sub_rules.proofs.PesReadingLemmas.{reads_unread, told_fault}
+use Rattle.sub_rules.proofs.PesReadingLemmas.{ReadsNext, ReportsNext, reads_end, reads_next}
+use Rattle.sub_rules.proofs.PesReadingLemmas.{reads_unread, reported_fault}
 use Rattle.sub_rules.proofs.FrameLists.{joined_more}
 use Rattle.sub_listen.specs.Run.{AreHeard, EndsAfter, FailsListening, HearsFile, IsHeard}
 use Rattle.sub_listen.specs.Run.{RefusesAfter, first_in_frame, least_after, least_frame}
@@ -93,7 +93,7 @@ fails_listening l n f old mid new taken place within heard is =
 
 module _
     (leaves : ℕ → ℕ) (l : Listening) (frames : Transmission) (unread : Option Unread)
-    (told : Option (List ℕ)) (w : PageIdValue) (old : Display)
+    (reported : Option (List ℕ)) (w : PageIdValue) (old : Display)
   where
     module _
         (n number sent least : ℕ) (remaining : Option (List ℕ)) (now : Display)
@@ -104,8 +104,8 @@ module _
         ends_so :
             (result : Result (Unit {0}) ListenFault)
             → MatchResult result (λ _. EndsAfter l frames unread n) (RefusesAfter l frames unread n)
-            → (n < length frames → TakesPackets (n + 1) told left)
-            → HearsFile leaves l frames unread told left w old now result
+            → (n < length frames → TakesPackets (n + 1) reported left)
+            → HearsFile leaves l frames unread reported left w old now result
         ends_so result ends stops = record {
           runs = record { n = n; heard = reached.heard; run = reached.run; ends = ends };
           stops = stops;
@@ -114,8 +114,8 @@ module _
         -- The file ends.
         pub ends_at_end :
             (v : PesValue)
-            → TellsNext (clock_of l.options) n reached.rest v (Ok None)
-            → HearsFile leaves l frames unread told left w old now (Ok tt)
+            → ReportsNext (clock_of l.options) n reached.rest v (Ok None)
+            → HearsFile leaves l frames unread reported left w old now (Ok tt)
         ends_at_end v is =
             let at =
             reads_end (clock_of l.options) n reached.rest frames unread v reached.left is in
@@ -125,10 +125,10 @@ module _
 
         -- It can't be read on.
         pub ends_unread :
-            (v : PesValue) (answer : Result (Option NextPiece) CheckFault) (f : CheckFault)
-            → TellsNext (clock_of l.options) n reached.rest v answer
-            → told_fault answer ≡ Some f
-            → HearsFile leaves l frames unread told left w old now (Err (fault.File f))
+            (v : PesValue) (answer : Result (Option NextPesPacket) CheckFault) (f : CheckFault)
+            → ReportsNext (clock_of l.options) n reached.rest v answer
+            → reported_fault answer ≡ Some f
+            → HearsFile leaves l frames unread reported left w old now (Err (fault.File f))
         ends_unread v answer f is of =
             let at =
             reads_unread (clock_of l.options) n reached.rest frames unread v answer f
@@ -146,8 +146,8 @@ module _
 
         module _
             (v : PesValue) (sending : Sending)
-            (is : TellsNext (clock_of l.options) n reached.rest v (Ok (Some (Sent sending))))
-            (taken : TakesPackets (n + 1) told left)
+            (is : ReportsNext (clock_of l.options) n reached.rest v (Ok (Some (Sent sending))))
+            (taken : TakesPackets (n + 1) reported left)
           where
             abbrev frame : ℕ
             frame = sending.frame
@@ -160,7 +160,7 @@ module _
             -- Its next frame is not after the one before.
             pub ends_order :
                 frame < least
-                → HearsFile leaves l frames unread told left w old now
+                → HearsFile leaves l frames unread reported left w old now
                 (Err (fault.File (check.Order n)))
             ends_order early =
                 let frame_is = next.sent.frame_is in
@@ -172,7 +172,7 @@ module _
             pub ends_late :
                 least ≤ frame
                 → l.at < frame
-                → HearsFile leaves l frames unread told left w old now (Ok tt)
+                → HearsFile leaves l frames unread reported left w old now (Ok tt)
             ends_late rises late =
                 let frame_is = next.sent.frame_is in
                 let least_is = reached.least_is in
@@ -195,7 +195,7 @@ module _
                 → least ≤ frame
                 → frame ≤ l.at
                 → first_lost_header (reception_of l) number (packets_of_units v.units) ≡ Some place
-                → HearsFile leaves l frames unread told left w old now
+                → HearsFile leaves l frames unread reported left w old now
                 (Err (fault.LostHeader frame (before + place)))
             ends_lost before place first rises in_time lost =
                 let least_is = reached.least_is in
@@ -212,7 +212,7 @@ module _
                 → least ≤ frame
                 → frame ≤ l.at
                 → first_lost_header (reception_of l) number (packets_of_units v.units) ≡ None
-                → left ≡ Some (behind_piece reached.rest)
+                → left ≡ Some (rest_after_pes_packet reached.rest)
                 → RunsThrough l leaves w now
                 (as_heard l number (packets_of_units v.units)) after
                 → Reaches leaves l frames unread w old left (n + 1) (number + length v.units)
@@ -238,7 +238,7 @@ module _
                 let place : 0 + length (packets_before frames n) ≡ number = omega arith in
                 record {
                   within = omega arith;
-                  rest = behind_piece reached.rest;
+                  rest = rest_after_pes_packet reached.rest;
                   rest_is = left_is;
                   left = next.left;
                   heard = λ i below_next.

@@ -13,4 +13,4 @@ mod listening;
 mod reception;
 
 pub use laws::law_of_listening;
-pub use listening::{ListenFault, listen, listen_pieces};
+pub use listening::{ListenFault, listen, listen_pes_packets};

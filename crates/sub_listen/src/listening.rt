@@ -16,9 +16,9 @@ ghost use Rattle.sub_listen.specs.declared.listening.ListenFault.TheVariants.{Fi
 use crate::reception::{first_lost_header, hear_units};
 use sub_io::{FaultCode, Source};
 use sub_request::Listening;
-use sub_rules::{CheckFault, NextPiece, next_piece};
+use sub_rules::{CheckFault, NextPesPacket, next_pes_packet};
 use ttx_page::{Page, Receiver};
-use ttx_pes::{ComparingReader, FilePieces, Pieces};
+use ttx_pes::{ComparingReader, FilePesPackets, PesPackets};
 
 /// Why a PES file can't be received.
 #[derive(Clone, Copy, Debug, PartialEq, Eq)]
@@ -91,8 +91,8 @@ pub fn listen<R: Receiver + Drop, S: Source>(
     ensures own { IfErr result (λ f. is_stl_fault f ≡ false) }
     ensures count { CountsIf S.failure_count pes.old (failed is_failed_read result) pes.new }
 {
-    let mut pieces = FilePieces::new(pes);
-    listen_pieces(receiver, screen, &mut pieces, listening)
+    let mut pes_packets = FilePesPackets::new(pes);
+    listen_pes_packets(receiver, screen, &mut pes_packets, listening)
 }
 
 /// Passes the PES packets of a file to a receiver with a screen, as `listen` does those of a
@@ -101,7 +101,7 @@ pub fn listen<R: Receiver + Drop, S: Source>(
 /// # Errors
 ///
 /// Returns the faults of `listen`.
-pub fn listen_pieces<R: Receiver + Drop, P: Pieces>(
+pub fn listen_pes_packets<R: Receiver + Drop, P: PesPackets>(
     receiver: &mut R,
     screen: &mut Option<Page>,
     pes: &mut P,
@@ -129,13 +129,13 @@ pub fn listen_pieces<R: Receiver + Drop, P: Pieces>(
     let mut sent = 0;
     let mut index = 0;
     'packets: loop {
-        let next = next_piece(&mut reader, pes, &listening.options, index)?;
-        let Some(piece) = next else {
+        let next = next_pes_packet(&mut reader, pes, &listening.options, index)?;
+        let Some(pes_packet) = next else {
             return Ok(());
         };
-        let frame = match piece {
-            NextPiece::Passed(fault) => return Err(ListenFault::File(fault)),
-            NextPiece::Sent(sending) => sending.frame,
+        let frame = match pes_packet {
+            NextPesPacket::Skipped(fault) => return Err(ListenFault::File(fault)),
+            NextPesPacket::Sent(sending) => sending.frame,
         };
         if frame < least {
             let fault = CheckFault::Order { pes: index };

@@ -7,7 +7,7 @@ ghost use Rattle.ttx_packet.specs.PacketAddress.{address};
 ghost use Rattle.ttx_page.specs.Page.{blank};
 ghost use Rattle.ttx_page.specs.PacketKind.{is_this_page, kind};
 ghost use Rattle.ttx_page.specs.Screen.{Display, display};
-ghost use Rattle.ttx_pes.specs.PesPacket.{most_units};
+ghost use Rattle.ttx_pes.specs.PesGrammar.{most_units};
 ghost use Rattle.sub_rules.specs.PacketRules.{packets_of_units};
 ghost use Rattle.sub_listen.specs.Reception.{RunsThrough, as_heard, begins_anew};
 ghost use Rattle.sub_listen.specs.Reception.{first_lost_header, is_heard, is_lost, is_taken};

@@ -1,5 +1,5 @@
 -- Copying bytes: a PES packet at their beginning, and bytes that begin none. Main lemmas:
--- piece_copied, rest_stays, more_copied.
+-- pes_packet_copied, rest_stays, more_copied.
 use Rattle.std.proofs.Common.{◌≡◌, ◌∙◌, ap, sym, subst, arith, ℕ, ◌+◌, ◌<◌, ◌≤◌, ◌++◌, List}
 use Rattle.std.proofs.Common.{[], Bool, Option, Some, None, Ok, length, take, drop}
 use Rattle.std.proofs.Common.{length-append, take-add, take-append-drop}
@@ -10,80 +10,82 @@ use Rattle.std.proofs.KnownBytes.{Appends-nil, Appends-trans}
 use Rattle.std.specs.Prelude.{◌==◌, ◌&&◌}
 use Rattle.std.specs.Io.KnownBytes.{Appends, Consumes, IsAtEnd, Keeps}
 use Rattle.ttx_pes.specs.Advancing.{IsRest, rest_fault}
-use Rattle.ttx_pes.specs.PesPacket.{payload_size}
-use Rattle.ttx_pes.specs.PieceRange.{piece_size}
-use Rattle.ttx_pes.specs.Pieces.{IsPiece}
-use Rattle.ttx_pes.specs.Reading.{is_filled, is_mark}
+use Rattle.ttx_pes.specs.PesGrammar.{payload_size}
+use Rattle.ttx_pes.specs.PesPacketRange.{pes_packet_size}
+use Rattle.ttx_pes.specs.PesPackets.{IsPesPacket}
+use Rattle.ttx_pes.specs.Reading.{is_filled, is_gap_marker}
 use Rattle.ttx_pes.specs.declared.fault.PesFault.{PesFault}
-use Rattle.ttx_pes.specs.declared.pieces.Came.TheVariants.{Piece}
-use Rattle.ttx_pes.proofs.LimitedLemmas.{piece_is, rest_told}
-use Rattle.ttx_pes.proofs.PieceRoomLemmas.{piece_sized}
+use Rattle.ttx_pes.specs.declared.pes_packets.Received.TheVariants.{PesPacket}
+use Rattle.ttx_pes.proofs.LimitedLemmas.{pes_packet_is, rest_reported}
+use Rattle.ttx_pes.proofs.PesPacketBufferLemmas.{pes_packet_sized}
 use Rattle.sub_io.specs.Device.{AppendsPrefix}
 use Rattle.sub_io.proofs.DeviceLemmas.{AppendsPrefix-first, AppendsPrefix-second}
 use Rattle.sub_listing.specs.Copying.{CopiesNext, HasCopied}
 use Rattle.sub_listing.specs.Extracting.{refusal_at}
 
 -- Bytes that were read from the beginning of others.
-pub record IsFrontOf (b front : List ℕ) (left : Option (List ℕ)) : Type 0 where
-  pub same : take (length front) b ≡ front
-  pub left_is : left ≡ Some (drop (length front) b)
-  pub within : length front ≤ length b
-  pub end : IsAtEnd left → length b ≡ length front
+pub record IsPrefixOf (b prefix : List ℕ) (left : Option (List ℕ)) : Type 0 where
+  pub same : take (length prefix) b ≡ prefix
+  pub left_is : left ≡ Some (drop (length prefix) b)
+  pub within : length prefix ≤ length b
+  pub end : IsAtEnd left → length b ≡ length prefix
 
-pub front_taken : (b front : List ℕ) (left : Option (List ℕ))
-    → Consumes (Some b) left front
-    → IsFrontOf b front left
-front_taken b front left taken =
+pub prefix_taken : (b prefix : List ℕ) (left : Option (List ℕ))
+    → Consumes (Some b) left prefix
+    → IsPrefixOf b prefix left
+prefix_taken b prefix left taken =
     grind (arith, nat_tests, length-append, take-append_seam, drop-append_seam)
 
 -- What a buffer got from the beginning of bytes.
-pub room_taken : (b room : List ℕ) (n : ℕ) (left : Option (List ℕ))
+pub buffer_taken : (b room : List ℕ) (n : ℕ) (left : Option (List ℕ))
     → n ≤ length room
     → Consumes (Some b) left (take n room)
     → (take n b ≡ take n room) × (left ≡ Some (drop n b)) × (n ≤ length b)
     × (IsAtEnd left → length b ≡ n)
-room_taken b room n left fits taken = grind (arith, nat_tests, front_taken, length-take-le)
+buffer_taken b room n left fits taken = grind (arith, nat_tests, prefix_taken, length-take-le)
 
 -- ---- the next part of the bytes
 
 -- A PES packet fits into the room. For `take`.
-pub piece_fits : (p : List ℕ) → IsPiece p → length p ≤ 1656
-piece_fits p is = (piece_sized p is).2
+pub pes_packet_fits : (p : List ℕ) → IsPesPacket p → length p ≤ 1656
+pes_packet_fits p is = (pes_packet_sized p is).2
 
 -- A PES packet that was read from these bytes was written.
-pub piece_copied : (bytes p : List ℕ) (told left old new : Option (List ℕ)) (is_a_mark : Bool)
-    → told ≡ Some bytes
-    → IsPiece p
-    → Consumes told left p
-    → is_a_mark ≡ is_mark p
+pub pes_packet_copied : (bytes p : List ℕ) (reported left old new : Option (List ℕ))
+    (is_a_gap_marker : Bool)
+    → reported ≡ Some bytes
+    → IsPesPacket p
+    → Consumes reported left p
+    → is_a_gap_marker ≡ is_gap_marker p
     → Appends old new p
-    → CopiesNext bytes left old new (Ok (Piece is_a_mark))
-piece_copied bytes p told left old new is_a_mark is piece taken mark written =
+    → CopiesNext bytes left old new (Ok (PesPacket is_a_gap_marker))
+pes_packet_copied bytes p reported left old new is_a_gap_marker is pes_packet taken gap_marker
+    written =
     let here : Consumes (Some bytes) left p = rw is at taken in
-    let front = front_taken bytes p left here in (
+    let prefix = prefix_taken bytes p left here in (
       length p,
       size left here,
-      mark
+      gap_marker
           ∙ ap (λ (l : List ℕ). (length p == payload_size) && is_filled (drop 6 l))
-          (sym front.same),
+          (sym prefix.same),
       record {
-        left_is = front.left_is;
-        written = subst (Appends old new) (sym front.same) written;
+        left_is = prefix.left_is;
+        written = subst (Appends old new) (sym prefix.same) written;
       },
     )
   where
     size : (left : Option (List ℕ)) → Consumes (Some bytes) left p
-        → piece_size bytes ≡ Some (length p)
+        → pes_packet_size bytes ≡ Some (length p)
     size None taken = absurd taken
-    size (Some rest) taken = ap piece_size taken ∙ piece_is p rest piece
+    size (Some rest) taken = ap pes_packet_size taken ∙ pes_packet_is p rest pes_packet
 
 -- A part of it was.
-pub part_of_piece : (bytes p : List ℕ) (told left old new : Option (List ℕ))
-    → told ≡ Some bytes
-    → Consumes told left p
+pub part_of_pes_packet : (bytes p : List ℕ) (reported left old new : Option (List ℕ))
+    → reported ≡ Some bytes
+    → Consumes reported left p
     → AppendsPrefix old new p
     → AppendsPrefix old new bytes
-part_of_piece bytes p told left old new is taken part = go left (rw is at taken)
+part_of_pes_packet bytes p reported left old new is taken part = go left (rw is at taken)
   where
     go : (left : Option (List ℕ)) → Consumes (Some bytes) left p → AppendsPrefix old new bytes
     go None taken = absurd taken
@@ -91,12 +93,12 @@ part_of_piece bytes p told left old new is taken part = go left (rw is at taken)
         subst (AppendsPrefix old new) (sym taken) (AppendsPrefix-first old new p rest part)
 
 -- Nothing is left.
-pub none_left : (bytes : List ℕ) (told left : Option (List ℕ))
-    → told ≡ Some bytes
-    → Keeps told left
+pub none_left : (bytes : List ℕ) (reported left : Option (List ℕ))
+    → reported ≡ Some bytes
+    → Keeps reported left
     → IsAtEnd left
     → bytes ≡ []
-none_left bytes told left is kept end = go left (rw is at kept) end
+none_left bytes reported left is kept end = go left (rw is at kept) end
   where
     go : (left : Option (List ℕ)) → Keeps (Some bytes) left → IsAtEnd left → bytes ≡ []
     go None kept end = absurd kept
@@ -108,18 +110,19 @@ unfolding refusal_at
 refused_rest b f some is = grind (arith, nat_tests)
 
 -- They begin no PES packet, and are all there.
-pub rest_stays : (bytes : List ℕ) (told left behind : Option (List ℕ)) (f : PesFault)
-    → told ≡ Some bytes
-    → Keeps told left
-    → IsRest told behind f
+pub rest_stays : (bytes : List ℕ) (reported left following : Option (List ℕ)) (f : PesFault)
+    → reported ≡ Some bytes
+    → Keeps reported left
+    → IsRest reported following f
     → (refusal_at bytes ≡ Some f) × (left ≡ Some bytes)
-rest_stays bytes told left behind f is kept rest = (
-  refused_rest bytes f (some behind (rw is at rest.consumed))
-      (rest_told told behind f rest bytes is),
+rest_stays bytes reported left following f is kept rest = (
+  refused_rest bytes f (some following (rw is at rest.consumed))
+      (rest_reported reported following f rest bytes is),
   stays left (rw is at kept),
 )
   where
-    some : (behind : Option (List ℕ)) → Consumes (Some bytes) behind rest.bytes → 0 < length bytes
+    some : (following : Option (List ℕ)) → Consumes (Some bytes) following rest.bytes → 0 < length
+        bytes
     some None taken = absurd taken
     some (Some more) taken =
         omega (arith, rest.shows.some, ap length taken, length-append rest.bytes more)
@@ -138,10 +141,10 @@ pub record HasCopiedSome
   pub within : read ≤ length bytes
   pub copied : HasCopied bytes left old new read
 
-pub none_copied : (bytes : List ℕ) (told old : Option (List ℕ))
-    → told ≡ Some bytes
-    → HasCopiedSome bytes told old old 0
-none_copied bytes told old is = record {
+pub none_copied : (bytes : List ℕ) (reported old : Option (List ℕ))
+    → reported ≡ Some bytes
+    → HasCopiedSome bytes reported old old 0
+none_copied bytes reported old is = record {
   read = 0;
   enough = omega arith;
   within = omega arith;
@@ -157,21 +160,21 @@ pub more_copied : (bytes room : List ℕ) (left next old mid new : Option (List 
     → Appends mid new (take n room)
     → HasCopiedSome bytes next old new (least + 1)
 more_copied bytes room left next old mid new least n some taken fits other written =
-    let front =
-    room_taken (drop some.read bytes) room n next fits (rw some.copied.left_is at taken) in
+    let prefix =
+    buffer_taken (drop some.read bytes) room n next fits (rw some.copied.left_is at taken) in
     let rest = length-drop some.read bytes in
     let within = some.within in
-    let there = front.2 in
+    let there = prefix.2 in
     let enough = some.enough in
     record {
       read = some.read + n;
       enough = omega (arith, enough, other);
       within = omega (arith, rest, within, there);
       copied = record {
-        left_is = front.1 ∙ ap Some (drop-drop n some.read bytes);
+        left_is = prefix.1 ∙ ap Some (drop-drop n some.read bytes);
         written =
             subst (Appends old new)
-            (ap (λ l. take some.read bytes ++ l) (sym front.0)
+            (ap (λ l. take some.read bytes ++ l) (sym prefix.0)
             ∙ sym (take-add some.read n bytes))
             (Appends-trans old mid new (take some.read bytes) (take n room) some.copied.written
             written);
@@ -210,4 +213,4 @@ pub all_copied : (bytes : List ℕ) (left next old mid : Option (List ℕ)) (lea
     → IsAtEnd next
     → Appends old mid bytes
 all_copied bytes left next old mid least some taken end =
-    grind (arith, nat_tests, front_taken, length-drop, take_all)
+    grind (arith, nat_tests, prefix_taken, length-drop, take_all)

@@ -5,12 +5,12 @@ use Rattle.std.proofs.Common.{◌≡◌, refl, sym, inr, arith, ℕ, ◌+◌, �
 use Rattle.std.proofs.Common.{Option, Some, None}
 use Rattle.std.specs.Io.KnownBytes.{Consumes, Keeps}
 use Rattle.ttx_pes.specs.Outcome.{PesOutcome, ReadsPackets, ends, fails, gives}
-use Rattle.ttx_pes.specs.PesPacket.{PesValue}
-use Rattle.ttx_pes.specs.Reader.{FailsAtPacket, FailsWithin, TakesPackets, TakesPesPacket}
+use Rattle.ttx_pes.specs.PesGrammar.{PesValue}
+use Rattle.ttx_pes.specs.Reader.{FailsAtPacket, FailsWithin, TakesPackets, TakesValidPesPacket}
 use Rattle.ttx_pes.specs.Reader.{TakesRefused}
 use Rattle.ttx_pes.specs.declared.fault.PesFault.{PesFault}
 use Rattle.ttx_pes.specs.declared.fault.PesFault.TheVariants.{Read}
-use Rattle.sub_rules.specs.Pieces.{FailsAtPiece}
+use Rattle.sub_rules.specs.PesPackets.{FailsAtPesPacket}
 use Rattle.sub_rules.specs.declared.fault.CheckFault.TheVariants.{Pes}
 use Rattle.sub_listing.specs.DeviceCall.{SinkCall, SourceCall}
 use Rattle.sub_listing.specs.Faults.{check_line}
@@ -28,9 +28,9 @@ pub known_kept : (old mid : Option (List ℕ)) (bytes : List ℕ)
     → Keeps old mid
     → old ≡ Some bytes
     → mid ≡ Some bytes
-known_kept None mid bytes kept told = cc
-known_kept (Some x) None bytes kept told = absurd kept
-known_kept (Some x) (Some y) bytes kept told = cc
+known_kept None mid bytes kept reported = cc
+known_kept (Some x) None bytes kept reported = absurd kept
+known_kept (Some x) (Some y) bytes kept reported = cc
 
 -- What is consumed afterwards is consumed from the start.
 pub consumed_kept : (old mid new : Option (List ℕ)) (bytes : List ℕ)
@@ -55,8 +55,8 @@ within_kept old mid new kept f = grind (arith, nat_tests, consumed_kept)
 
 packet_kept : (old mid new : Option (List ℕ)) (v : PesValue)
     → Keeps old mid
-    → TakesPesPacket mid new v
-    → TakesPesPacket old new v
+    → TakesValidPesPacket mid new v
+    → TakesValidPesPacket old new v
 packet_kept old mid new v kept t = grind (arith, nat_tests, consumed_kept)
 
 refused_kept : (old mid new : Option (List ℕ)) (f : PesFault)
@@ -78,11 +78,11 @@ pub fails_packet_kept : (n : ℕ) (old mid new : Option (List ℕ))
     → FailsAtPacket n old new
 fails_packet_kept n old mid new kept f = grind (arith, nat_tests, packets_kept)
 
-pub fails_piece_kept : (n : ℕ) (old mid new : Option (List ℕ))
+pub fails_pes_packet_kept : (n : ℕ) (old mid new : Option (List ℕ))
     → Keeps old mid
-    → FailsAtPiece n mid new
-    → FailsAtPiece n old new
-fails_piece_kept n old mid new kept f = grind (arith, nat_tests, consumed_kept)
+    → FailsAtPesPacket n mid new
+    → FailsAtPesPacket n old new
+fails_pes_packet_kept n old mid new kept f = grind (arith, nat_tests, consumed_kept)
 
 -- ---- a source that failed before anything was consumed
 
@@ -92,8 +92,9 @@ fails_within_first old new kept = grind (arith, nat_tests, consumed_none)
 pub fails_first_packet : (old new : Option (List ℕ)) → Keeps old new → FailsAtPacket 0 old new
 fails_first_packet old new kept = grind (arith, nat_tests, consumed_none, fails_within_first)
 
-pub fails_first_piece : (old new : Option (List ℕ)) → Keeps old new → FailsAtPiece 0 old new
-fails_first_piece old new kept = grind (arith, nat_tests, consumed_none, fails_within_first)
+pub fails_first_pes_packet : (old new : Option (List ℕ)) → Keeps old new → FailsAtPesPacket 0 old
+    new
+fails_first_pes_packet old new kept = grind (arith, nat_tests, consumed_none, fails_within_first)
 
 -- ---- the listing
 
@@ -124,22 +125,22 @@ prints_found
 pub prints_failed : (first : FirstNumber) (number : ℕ) (source : SourceCall) (out : SinkCall)
     (status : Status)
     → ((n : ℕ) → first.known ≡ Some n → number ≤ n)
-    → number ≡ first.passed
+    → number ≡ first.skipped
     → ((n : ℕ) → first.known ≡ Some n → first.left ≡ Some n)
     → Keeps source.known source.left
     → source.new_count ≡ source.old_count + 1
     → PrintsOrFails out (fault_listing (counted_from number (check_line (Pes 0 Read)))) status
     → PrintsFrom ListsPackets first source out status
-prints_failed first number source out status before passed same kept risen printed = record {
+prints_failed first number source out status before skipped same kept risen printed = record {
   number = number;
-  starts = λ n is. inr (before n is, passed, same n is, (risen, kept));
+  starts = λ n is. inr (before n is, skipped, same n is, (risen, kept));
   prints = record {
     ending = Some Fault;
     listing = pes_listing number 0 (fails Read);
     is_listed = record {
       outcome = fails Read;
       listing_is = refl;
-      exact = λ bytes told ok. cc;
+      exact = λ bytes reported ok. cc;
       taken = λ other. (
         refl,
         λ is. fails_within_first source.known source.left kept,

@@ -1,5 +1,5 @@
--- Digits in lanes: the results of a table look-up (looked_up), and interleaved digits (in_turns).
--- Digits of split lists: encode_with-append, drop-encode_with.
+-- Digits in lanes: the results of a table look-up (looked_up), and interleaved digits
+-- (interleaved_are). Digits of split lists: encode_with-append, drop-encode_with.
 use Rattle.std.proofs.Common.{◌≡◌, ℕ, zero, suc, ◌+◌, ◌*◌, ◌/◌, ◌%◌, ◌^◌, ◌<◌, ◌≤◌, List, [], ◌∷◌}
 use Rattle.std.proofs.Common.{◌++◌, map, length, get_or, drop, replicate, bit_and, refl, sym, ap}
 use Rattle.std.proofs.Common.{◌∙◌, subst, arith, w8, Fits, take, ap₂, take_all, length-drop}
@@ -68,20 +68,20 @@ looked_up t g v js long fits e small =
     lane_fits (x ∷ xs) (suc i) h = lane_fits xs i h.1
 
 -- Upper and lower digits of 16 bytes, interleaved.
-abbrev by_turns : List ℕ → List ℕ → List ℕ
-by_turns firsts seconds =
+abbrev interleaved : List ℕ → List ℕ → List ℕ
+interleaved firsts seconds =
     pick_l 0 (firsts ++ seconds)
     (0 ∷ 16 ∷ 1 ∷ 17 ∷ 2 ∷ 18 ∷ 3 ∷ 19 ∷ 4 ∷ 20 ∷ 5 ∷ 21 ∷ 6 ∷ 22 ∷ 7 ∷ 23 ∷ [])
     ++ pick_l 0 (firsts ++ seconds)
     (8 ∷ 24 ∷ 9 ∷ 25 ∷ 10 ∷ 26 ∷ 11 ∷ 27 ∷ 12 ∷ 28 ∷ 13 ∷ 29 ∷ 14 ∷ 30 ∷ 15 ∷ 31 ∷ [])
 
 -- They are the digits of the bytes.
-pub in_turns : (t v : List ℕ) → length v ≡ 16
-    → by_turns (map (λ b. get_or t (b / 16) 0) v) (map (λ b. get_or t (b % 16) 0) v)
+pub interleaved_are : (t v : List ℕ) → length v ≡ 16
+    → interleaved (map (λ b. get_or t (b / 16) 0) v) (map (λ b. get_or t (b % 16) 0) v)
     ≡ encode_with t v
 unfolding encode_with
-in_turns t v long =
-    subst (λ l. by_turns (map (λ b. get_or t (b / 16) 0) l) (map (λ b. get_or t (b % 16) 0) l)
+interleaved_are t v long =
+    subst (λ l. interleaved (map (λ b. get_or t (b / 16) 0) l) (map (λ b. get_or t (b % 16) 0) l)
     ≡ encode_with t l)
     (pick_l_whole 0 v 16 long) refl
 

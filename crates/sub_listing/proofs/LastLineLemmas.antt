@@ -2,7 +2,7 @@
 use Rattle.std.proofs.lemmas.Bool.Decides.{nat_tests}
 use Rattle.std.proofs.Common.{◌≡◌, ℕ, ◌+◌, ◌<◌, Bool, true, false, if◌then◌else◌, List, Option}
 use Rattle.std.proofs.Common.{arith, refl}
-use Rattle.sub_listing.specs.LastLine.{HoldsLastLine, IsAlone, PutsLine}
+use Rattle.sub_listing.specs.LastLine.{BuffersLastLineOnly, IsAlone, PutsLine}
 
 -- A count that rose counted a failure.
 pub risen_fails : (old new : ℕ) (fails : Bool)
@@ -13,10 +13,10 @@ risen_fails old new true risen counted = refl
 risen_fails old new false risen counted = absurd (omega (arith, risen, counted))
 
 -- The text that was written is that line.
-pub last_alone : {K : Type 0} (contents : K → Option (List ℕ)) (held : K → ℕ)
+pub last_alone : {K : Type 0} (contents : K → Option (List ℕ)) (buffered : K → ℕ)
     (IsPush : K → List ℕ → Option ℕ → K → Type 0) (before new : K) (text put : List ℕ)
-    → IsAlone (held before) text
+    → IsAlone (buffered before) text
     → put ≡ text
     → PutsLine contents IsPush before put new
-    → HoldsLastLine contents held IsPush new
-last_alone contents held IsPush before new text put alone same line = grind (arith, nat_tests)
+    → BuffersLastLineOnly contents buffered IsPush new
+last_alone contents buffered IsPush before new text put alone same line = grind (arith, nat_tests)

@@ -1,5 +1,5 @@
--- A listing that is printed one part after another. Main lemmas: front-more, front-end, front-cut,
--- gives-next, gives-last.
+-- A listing that is printed one part after another. Main lemmas: prefix-more, prefix-end,
+-- prefix-cut, gives-next, gives-last.
 use Rattle.std.proofs.lemmas.Bool.Decides.{nat_tests}
 use Rattle.std.proofs.Common.{◌≡◌, ap, refl, sym, subst, arith, ℕ, ◌+◌, ◌<◌, ◌≤◌, List, []}
 use Rattle.std.proofs.Common.{◌∷◌, ◌++◌, append_assoc, drop, length, inl, inr, Bool, false, true}
@@ -12,8 +12,8 @@ use Rattle.sub_io.proofs.DeviceLemmas.{AppendsPrefix-first, AppendsPrefix-second
 use Rattle.sub_io.proofs.DeviceLemmas.{AppendsPrefix-whole}
 use Rattle.ttx_pes.specs.Outcome as pes
 use Rattle.ttx_pes.specs.Outcome.{ReadsPackets, outcome_after}
-use Rattle.ttx_pes.specs.PesPacket.{PesValue}
-use Rattle.ttx_pes.specs.Reader.{TellsPacket}
+use Rattle.ttx_pes.specs.PesGrammar.{PesValue}
+use Rattle.ttx_pes.specs.Reader.{ReportsPacket}
 use Rattle.ttx_pes.specs.Reading.{most_packets, rest_after}
 use Rattle.ttx_pes.specs.declared.progress.Progress.TheVariants.{Reading}
 use Rattle.ttx_pes.proofs.OutcomeLemmas.{outcome_after-next}
@@ -41,23 +41,23 @@ use Rattle.sub_listing.specs.declared.status.Status.TheVariants.{Fault}
 
 -- What was printed since the sink had `old` is the beginning of each listing that is still
 -- possible.
-pub record IsFront
+pub record IsPrefix
     (Before After : IsListed)
-    (told left old now : Option (List ℕ))
+    (reported left old now : Option (List ℕ))
     : Type 0 where
   pub text : List ℕ
   pub printed : Appends old now text
   pub listed :
       (end : Option (List ℕ)) (ending : Option Status) (more : Listing)
       → After left end ending more
-      → Before told end ending (followed text more)
+      → Before reported end ending (followed text more)
 
 -- Nothing was printed so far. For `list`.
-pub front-none :
+pub prefix-none :
     (Before : IsListed)
-    (told old : Option (List ℕ))
-    → IsFront Before Before told told old old
-front-none Before told old = record {
+    (reported old : Option (List ℕ))
+    → IsPrefix Before Before reported reported old old
+prefix-none Before reported old = record {
   text = [];
   printed = Appends-nil old;
   listed = λ end ending more is. is;
@@ -71,13 +71,13 @@ followed-twice first second more =
     (sym (append_assoc first second more.text))
 
 -- What was printed stays when lines are flushed. For `list`.
-pub front-kept :
+pub prefix-kept :
     (Before After : IsListed)
-    (told left old now new : Option (List ℕ))
-    → IsFront Before After told left old now
+    (reported left old now new : Option (List ℕ))
+    → IsPrefix Before After reported left old now
     → Keeps now new
-    → IsFront Before After told left old new
-front-kept Before After told left old now new i kept = grind (arith, nat_tests)
+    → IsPrefix Before After reported left old new
+prefix-kept Before After reported left old now new i kept = grind (arith, nat_tests)
 
 -- The count of a source's failures, if the sink failed. For `list`.
 pub counts-fault : (old new : ℕ) (failed : Bool) → RisesIf old failed new → Counts old Fault new
@@ -89,34 +89,34 @@ pub counts-status : (old new : ℕ) (status : Status) → RisesIf old (has_faile
 counts-status old new status risen = grind (arith, nat_tests)
 
 -- The next lines were printed, and more may follow. For `list`.
-pub front-more :
+pub prefix-more :
     (Before At After : IsListed)
-    (told left rest old now new : Option (List ℕ)) (text : List ℕ)
-    → IsFront Before At told left old now
+    (reported left rest old now new : Option (List ℕ)) (text : List ℕ)
+    → IsPrefix Before At reported left old now
     → Gives At After left rest text None
     → Appends now new text
-    → IsFront Before After told rest old new
-front-more Before At After told left rest old now new text i gives p = record {
+    → IsPrefix Before After reported rest old new
+prefix-more Before At After reported left rest old now new text i gives p = record {
   text = i.text ++ text;
   printed = Appends-trans old now new i.text text i.printed p;
   listed = λ end ending more is.
-      subst (Before told end ending) (followed-twice i.text text more)
+      subst (Before reported end ending) (followed-twice i.text text more)
       (i.listed end ending (followed text more) (gives.0 end ending more is));
 }
 
 -- The last lines were printed. For `list`.
-pub front-end :
+pub prefix-end :
     (Before At After : IsListed) (source : SourceCall) (out : SinkCall)
     (left now : Option (List ℕ)) (text : List ℕ)
     (status : Status)
-    → IsFront Before At source.known left out.old now
+    → IsPrefix Before At source.known left out.old now
     → Gives At After left source.left text (Some status)
     → Appends now out.new text
     → out.new_count ≡ out.old_count
     → RisesIf source.old_count (has_failed (Some status)) source.new_count
     → PrintsListing Before source out status
 unfolding PrintsOrFails
-front-end Before At After source out left now text status i gives p same counted = record {
+prefix-end Before At After source out left now text status i gives p same counted = record {
   ending = Some status;
   listing = followed i.text (record { text = text; status = status });
   is_listed = i.listed source.left (Some status)
@@ -127,18 +127,18 @@ front-end Before At After source out left now text status i gives p same counted
 }
 
 -- The sink failed at these lines, whatever should follow them. For `list`.
-pub front-cut :
+pub prefix-cut :
     (Before At After : IsListed) (source : SourceCall) (out : SinkCall)
     (left now : Option (List ℕ)) (text : List ℕ)
     (end : Option Status)
-    → IsFront Before At source.known left out.old now
+    → IsPrefix Before At source.known left out.old now
     → Gives At After left source.left text end
     → AppendsPrefix now out.new text
     → out.new_count ≡ out.old_count + 1
     → RisesIf source.old_count (has_failed end) source.new_count
     → PrintsListing Before source out Fault
 unfolding PrintsOrFails
-front-cut Before At After source out left now text None i gives p risen counted =
+prefix-cut Before At After source out left now text None i gives p risen counted =
     let more = gives.1 in record {
       ending = None;
       listing = followed i.text (followed text more.0);
@@ -153,7 +153,7 @@ front-cut Before At After source out left now text None i gives p risen counted 
         refl,
       );
     }
-front-cut Before At After source out left now text (Some status) i gives p risen counted = record {
+prefix-cut Before At After source out left now text (Some status) i gives p risen counted = record {
   ending = Some status;
   listing = followed i.text (record { text = text; status = status });
   is_listed = i.listed source.left (Some status)
@@ -164,16 +164,16 @@ front-cut Before At After source out left now text (Some status) i gives p risen
 }
 
 -- Lines were cut, since the sink failed when earlier lines were flushed. For `list`.
-pub front-stopped :
+pub prefix-stopped :
     (Before At : IsListed) (source : SourceCall) (out : SinkCall) (left now : Option (List ℕ))
-    → IsFront Before At source.known left out.old now
+    → IsPrefix Before At source.known left out.old now
     → IsCut At left source.left
     → Keeps now out.new
     → out.new_count ≡ out.old_count + 1
     → source.new_count ≡ source.old_count
     → PrintsListing Before source out Fault
 unfolding PrintsOrFails
-front-stopped Before At source out left now i cut kept risen counted = record {
+prefix-stopped Before At source out left now i cut kept risen counted = record {
   ending = None;
   listing = followed i.text cut.0;
   is_listed = i.listed source.left None cut.0 cut.1;
@@ -190,9 +190,10 @@ front-stopped Before At source out left now i cut kept risen counted = record {
 -- There is a listing if the sink failed.
 pub lists-some :
     (O : Type 0) (listing_of : O → Listing) (given : List ℕ → O)
-    (Takes : Bool → Option (List ℕ) → O → Option (List ℕ) → Type 0) (told left : Option (List ℕ))
+    (Takes : Bool → Option (List ℕ) → O → Option (List ℕ) → Type 0)
+    (reported left : Option (List ℕ))
     → O
-    → IsCut (Lists listing_of given Takes) told left
+    → IsCut (Lists listing_of given Takes) reported left
 lists-some O listing_of given Takes None left o = (
   listing_of o,
   record {
@@ -216,51 +217,53 @@ lists-some O listing_of given Takes (Some b) left o = (
 pub gives-next :
     (O : Type 0) (before after : O → Listing) (given given' : List ℕ → O)
     (Takes Takes' : Bool → Option (List ℕ) → O → Option (List ℕ) → Type 0)
-    (piece : O → O) (told left : Option (List ℕ)) (text : List ℕ)
-    → ((o : O) → before (piece o) ≡ followed text (after o))
+    (pes_packet : O → O) (reported left : Option (List ℕ)) (text : List ℕ)
+    → ((o : O) → before (pes_packet o) ≡ followed text (after o))
     → ((o : O) (failed : Bool) (end : Option (List ℕ))
-    → Takes' failed left o end → Takes failed told (piece o) end)
-    → IfKnown told (λ bytes.
-    (rest : List ℕ) × (left ≡ Some rest) × (given bytes ≡ piece (given' rest)))
+    → Takes' failed left o end → Takes failed reported (pes_packet o) end)
+    → IfKnown reported (λ bytes.
+    (rest : List ℕ) × (left ≡ Some rest) × (given bytes ≡ pes_packet (given' rest)))
     → O
-    → Gives (Lists before given Takes) (Lists after given' Takes') told left text None
-gives-next O before after given given' Takes Takes' piece told left text lines tells reads o =
+    → Gives (Lists before given Takes) (Lists after given' Takes') reported left text None
+gives-next O before after given given' Takes Takes' pes_packet reported left text lines reports
+    reads o =
     grind (arith, nat_tests, lists-some)
 
 -- The last lines were made, and they are those of this outcome. For the listers.
 pub gives-last :
     (O : Type 0) (listing_of : O → Listing) (given : List ℕ → O)
     (Takes : Bool → Option (List ℕ) → O → Option (List ℕ) → Type 0)
-    (told left : Option (List ℕ)) (o : O) (text : List ℕ) (failed : Bool)
+    (reported left : Option (List ℕ)) (o : O) (text : List ℕ) (failed : Bool)
     → text ≡ (listing_of o).text
     → has_failed (Some (listing_of o).status) ≡ failed
-    → IfKnown told (λ bytes. failed ≡ false → o ≡ given bytes)
-    → Takes failed told o left
-    → Lists listing_of given Takes told left (Some (listing_of o).status)
+    → IfKnown reported (λ bytes. failed ≡ false → o ≡ given bytes)
+    → Takes failed reported o left
+    → Lists listing_of given Takes reported left (Some (listing_of o).status)
     (record { text = text; status = (listing_of o).status })
-gives-last O listing_of given Takes told left o text failed line is exact taken =
+gives-last O listing_of given Takes reported left o text failed line is exact taken =
     grind (arith, nat_tests)
 
 -- ---- PES packets
 
 -- A PES packet was read, and what is read after it is listed afterwards. For `PacketLister`.
 pub gives-packet :
-    (first index : ℕ) (v : PesValue) (told left : Option (List ℕ)) (text : List ℕ)
+    (first index : ℕ) (v : PesValue) (reported left : Option (List ℕ)) (text : List ℕ)
     → index ≤ most_packets
-    → TellsPacket (Reading index) told left (Ok (Some v))
+    → ReportsPacket (Reading index) reported left (Ok (Some v))
     → text ≡ frame_lines (number_in_file first index) v
     → Gives (Lists (pes_listing first index) (outcome_after index) ReadsPackets)
-    (Lists (pes_listing first (index + 1)) (outcome_after (index + 1)) ReadsPackets) told left text
+    (Lists (pes_listing first (index + 1)) (outcome_after (index + 1)) ReadsPackets) reported left
+    text
     None
-gives-packet first index v told left text few tells lines =
+gives-packet first index v reported left text few reports lines =
     gives-next _ (pes_listing first index) (pes_listing first (index + 1)) (outcome_after index)
-    (outcome_after (index + 1)) ReadsPackets ReadsPackets (pes.gives v) told left text
+    (outcome_after (index + 1)) ReadsPackets ReadsPackets (pes.gives v) reported left text
     (λ o. ap (λ t. followed t (pes_listing first (index + 1) o)) (sym lines))
-    (λ o failed end reads. (left, tells.packet, reads))
+    (λ o failed end reads. (left, reports.packet, reads))
     (λ bytes is. (
       rest_after bytes,
-      tells.left index refl bytes is,
-      outcome_after-next index bytes (Ok (Some v)) few (tells.exact index refl bytes is refl),
+      reports.left index refl bytes is,
+      outcome_after-next index bytes (Ok (Some v)) few (reports.exact index refl bytes is refl),
     ))
     pes.ends
 
@@ -287,18 +290,18 @@ kind_by-failed false = refl
 
 -- The GSI block was read, and what its reader gives follows. For `SubtitleLister`.
 pub gives-opened :
-    (count : ℕ) (r : ReaderValue) (told left : Option (List ℕ))
+    (count : ℕ) (r : ReaderValue) (reported left : Option (List ℕ))
     → r.block ≡ 0
     → r.progress ≡ progress.Reading
     → IsGsi r.gsi
-    → Consumes told left r.gsi
-    → IfKnown told (λ bytes. left ≡ Some (drop gsi_size bytes))
-    → IfKnown told (λ bytes. opened_at bytes ≡ Ok r)
-    → Gives (ListsFrom None count) (ListsFrom (Some r) count) told left [] None
+    → Consumes reported left r.gsi
+    → IfKnown reported (λ bytes. left ≡ Some (drop gsi_size bytes))
+    → IfKnown reported (λ bytes. opened_at bytes ≡ Ok r)
+    → Gives (ListsFrom None count) (ListsFrom (Some r) count) reported left [] None
 unfolding findings_for
-gives-opened count r told left start reading gsi taken rest opened =
+gives-opened count r reported left start reading gsi taken rest opened =
     gives-next _ (subtitles_listing count) (subtitles_listing count) outcome_of (outcome_left r)
-    ReadsFile (λ failed. ReadsSubtitles failed r.block) (λ o. o) told left [] (λ o. refl)
+    ReadsFile (λ failed. ReadsSubtitles failed r.block) (λ o. o) reported left [] (λ o. refl)
     (λ o failed end reads. inr (left, r.gsi, gsi, taken, rw start at reads))
     (λ bytes is. (
       drop gsi_size bytes,
@@ -309,17 +312,17 @@ gives-opened count r told left start reading gsi taken rest opened =
 
 -- It was refused, or its source failed.
 pub gives-refused :
-    (count : ℕ) (f : StlFault) (told left : Option (List ℕ)) (text : List ℕ)
+    (count : ℕ) (f : StlFault) (reported left : Option (List ℕ)) (text : List ℕ)
     → text ≡ line_of (stl_line f 0)
-    → IfKnown told (λ bytes. stl_fault.is_file_read f ≡ false → opened_at bytes ≡ Err f)
+    → IfKnown reported (λ bytes. stl_fault.is_file_read f ≡ false → opened_at bytes ≡ Err f)
     → (stl_fault.is_file_read f ≡ true
-    → (bytes : List ℕ) × (length bytes < gsi_size) × Consumes told left bytes)
-    → (stl_fault.is_format f ≡ true → RefusesOpening told left f)
-    → ListsFrom None count told left (Some (status_of (kind_by (stl_fault.is_file_read f))))
+    → (bytes : List ℕ) × (length bytes < gsi_size) × Consumes reported left bytes)
+    → (stl_fault.is_format f ≡ true → RefusesOpening reported left f)
+    → ListsFrom None count reported left (Some (status_of (kind_by (stl_fault.is_file_read f))))
     (record { text = text; status = status_of (kind_by (stl_fault.is_file_read f)) })
 unfolding findings_for
-gives-refused count f told left text line exact failed refused =
-    gives-last _ (subtitles_listing count) outcome_of ReadsFile told left (fails f 0) text
+gives-refused count f reported left text line exact failed refused =
+    gives-last _ (subtitles_listing count) outcome_of ReadsFile reported left (fails f 0) text
     (stl_fault.is_file_read f) line (kind_by-failed (stl_fault.is_file_read f))
     (λ bytes is fine. rw (opened_bad (gsi_of false bytes) f (exact bytes is fine)) refl)
     (inl (record {

@@ -16,7 +16,7 @@ use Rattle.stl_file.specs.Gsi.{gsi_size}
 use Rattle.stl_file.specs.Scope.{whole}
 use Rattle.stl_file.specs.Subtitle.{SubtitleValue}
 use Rattle.stl_file.proofs.FileLemmas.{file_complete, file_sound, outcome_of-first}
-use Rattle.sub_listing.specs.Writing.{TellsRead, most_read}
+use Rattle.sub_listing.specs.Writing.{ReportsRead, most_read}
 use Rattle.sub_listing.specs.declared.normal.InputFault.TheVariants as input
 
 -- ---- what was written
@@ -37,8 +37,8 @@ pub answers_first : (s read : List ℕ) (old new : Option (List ℕ)) (answer : 
 answers_first s read old new answer first answers =
     go answer (subst (λ (b : List ℕ). NormalAnswers b old new answer) first answers)
   where
-    front : take gsi_size (take most_read s) ≡ take gsi_size s
-    front = take-take gsi_size most_read s (omega arith)
+    prefix : take gsi_size (take most_read s) ≡ take gsi_size s
+    prefix = take-take gsi_size most_read s (omega arith)
 
     go : (answer : Result ℕ NormalFault)
         → NormalAnswers (take most_read s) old new answer
@@ -47,12 +47,12 @@ answers_first s read old new answer first answers =
       subtitles = w.subtitles;
       is_file = first-is_file s w.subtitles w.is_file;
       count = w.count;
-      wrote = rw (← front) (w.wrote);
+      wrote = rw (← prefix) (w.wrote);
     }
     go (Err normal.Write) w = record {
       subtitles = w.subtitles;
       is_file = first-is_file s w.subtitles w.is_file;
-      wrote = rw (← front) (w.wrote);
+      wrote = rw (← prefix) (w.wrote);
     }
     go (Err (normal.Refused f block)) w =
         (ap subtitles_of (sym (outcome_of-first s)) ∙ w.0, w.1)
@@ -111,7 +111,7 @@ pub memory-wanted : (x y z : Option (List ℕ)) (n : ℕ) (xs ps : List ℕ)
     → n ≢ 0
     → Consumes x y xs
     → Consumes y z (take n ps)
-    → TellsRead x z input.Memory
+    → ReportsRead x z input.Memory
 memory-wanted x y z n xs ps room some p q =
     let long = length-append xs (take n ps) in
     let part = length-take-le n ps room in
@@ -122,5 +122,5 @@ pub block-at : (x y z : Option (List ℕ)) (block : ℕ) (xs : List ℕ)
     → Consumes x y xs
     → Keeps y z
     → block ≡ block_of_byte (length xs)
-    → TellsRead x z (input.Read block)
+    → ReportsRead x z (input.Read block)
 block-at x y z block xs p kept is = (xs, Consumes-kept x y z _ p kept, is)

@@ -2,7 +2,7 @@
 use Rattle.std.proofs.Common.{◌≡◌, ◌∙◌, ap, refl, sym, subst, arith, ℕ, ◌+◌, ◌<◌, ◌≤◌, ◌||◌}
 use Rattle.std.proofs.Common.{not, List, [], ◌∷◌, ◌++◌, map, Bool, true, false, append_assoc, drop}
 use Rattle.std.proofs.Common.{take, inl, inr}
-use Rattle.sub_io.specs.HandingOn.{HandsOnIfWaiting}
+use Rattle.sub_io.specs.Flushing.{FlushesIfPending}
 use Rattle.std.proofs.lemmas.List.{map-append, take-append-drop}
 use Rattle.std.proofs.lemmas.Bool.{true≢false}
 use Rattle.std.proofs.lemmas.Bool.Decides.{nat_tests}
@@ -10,7 +10,7 @@ use Rattle.std.proofs.KnownBytes.{Appends-nil, Appends-trans}
 use Rattle.sub_io.proofs.DeviceLemmas.{AppendsPrefix-first, AppendsPrefix-second}
 use Rattle.sub_io.specs.Device.{AppendsPrefix}
 use Rattle.std.specs.Io.KnownBytes.{Appends}
-use Rattle.sub_io.specs.Telling.{Tells, TellsInTurn, TellsSome}
+use Rattle.sub_io.specs.Reporting.{Reports, ReportsInOrder, ReportsSome}
 use Rattle.stl_rows.specs.declared.fault.LoadFault.{LoadFault}
 use Rattle.stl_rows.specs.declared.fault.LoadFaultKind.{LoadFaultKind}
 use Rattle.stl_rows.specs.declared.fault.LoadFaultKind.TheVariants as load
@@ -20,7 +20,7 @@ use Rattle.sub_listing.specs.EventLines.{event_line, event_lines, most_counted, 
 use Rattle.sub_listing.specs.EventLines.{subtitle_event, subtitle_events}
 use Rattle.sub_listing.specs.FaultLine.{place_text}
 use Rattle.sub_listing.specs.Printer.{PrinterValue, PrintsEvent, PrintsEvents, StaysPrinted}
-use Rattle.sub_listing.specs.Printer.{HandsOnLines, can_fail, counted}
+use Rattle.sub_listing.specs.Printer.{FlushesLines, can_fail, counted}
 
 counted-twice : (r m n : ℕ) → counted (counted r m) n ≡ counted r (m + n)
 unfolding counted
@@ -176,42 +176,42 @@ prints-taken event a b n items failing prints =
     subst (λ (es : List Event). PrintsEvents a es b) whole
     (prints-prefix a b (map event (take n items)) (map event (drop n items)) failing prints)
 
--- What stays the same at each event stays the same at all. For `tell_every_fault`.
-same-in_turn : {A D N : Type 0} (IsTold : D → A → D → Type 0) (name : D → N)
-    (one : (s t : D) (x : A) → IsTold s x t → name t ≡ name s) (old new : D) (items : List A)
-    → TellsInTurn IsTold old new items
+-- What stays the same at each event stays the same at all. For `report_every_fault`.
+same-one_by_one : {A D N : Type 0} (IsReported : D → A → D → Type 0) (name : D → N)
+    (one : (s t : D) (x : A) → IsReported s x t → name t ≡ name s) (old new : D) (items : List A)
+    → ReportsInOrder IsReported old new items
     → name new ≡ name old
-same-in_turn IsTold name one old new [] told = ap name told
-same-in_turn IsTold name one old new (x ∷ xs) (mid, first, rest) =
-    same-in_turn IsTold name one mid new xs rest ∙ one old mid x first
+same-one_by_one IsReported name one old new [] reported = ap name reported
+same-one_by_one IsReported name one old new (x ∷ xs) (mid, first, rest) =
+    same-one_by_one IsReported name one mid new xs rest ∙ one old mid x first
 
-pub same_all : {A D N : Type 0} (IsTold : D → A → D → Type 0) (name : D → N)
-    (one : (s t : D) (x : A) → IsTold s x t → name t ≡ name s) (old new : D)
-    → TellsSome IsTold old new
+pub same_all : {A D N : Type 0} (IsReported : D → A → D → Type 0) (name : D → N)
+    (one : (s t : D) (x : A) → IsReported s x t → name t ≡ name s) (old new : D)
+    → ReportsSome IsReported old new
     → name new ≡ name old
-same_all IsTold name one old new some =
-    same-in_turn IsTold name one old new some.items some.told.in_turn
+same_all IsReported name one old new some =
+    same-one_by_one IsReported name one old new some.items some.reported.one_by_one
 
-module _ {A D : Type 0} (IsTold : D → A → D → Type 0) (value : D → PrinterValue)
+module _ {A D : Type 0} (IsReported : D → A → D → Type 0) (value : D → PrinterValue)
     (event : A → Event)
-    (one : (s t : D) (x : A) → IsTold s x t → PrintsEvent (value s) (event x) (value t)) where
+    (one : (s t : D) (x : A) → IsReported s x t → PrintsEvent (value s) (event x) (value t)) where
   -- Nothing is reported to a printer whose sink failed.
-  last_told : (mid new : D) (items : List A) → TellsInTurn IsTold mid new items
+  last_reported : (mid new : D) (items : List A) → ReportsInOrder IsReported mid new items
       → (value mid).failed ≡ true
       → (items ≡ []) × (new ≡ mid)
-  last_told mid new [] told failing = (refl, told)
-  last_told mid new (y ∷ ys) (next, second, others) failing =
+  last_reported mid new [] reported failing = (refl, reported)
+  last_reported mid new (y ∷ ys) (next, second, others) failing =
       absurd (true≢false (sym failing ∙ (one mid next y second).goes_on))
 
   -- One event followed by others.
   step : (old mid new : D) (x : A) (xs : List A) (b : Bool) → (value mid).failed ≡ b
       → PrintsEvent (value old) (event x) (value mid)
-      → TellsInTurn IsTold mid new xs
+      → ReportsInOrder IsReported mid new xs
       → ((value mid).failed ≡ false → (value mid).refused ≤ most_counted
       → PrintsEvents (value mid) (map event xs) (value new))
       → PrintsEvents (value old) (map event (x ∷ xs)) (value new)
   step old mid new x xs true failing here rest more =
-      let end = last_told mid new xs rest failing in
+      let end = last_reported mid new xs rest failing in
       rw (end.0, end.1) (prints-cut (value old) (value mid) (event x) [] here failing)
   step old mid new x xs false holds here rest more =
       let bound : (value mid).refused ≤ most_counted =
@@ -219,33 +219,33 @@ module _ {A D : Type 0} (IsTold : D → A → D → Type 0) (value : D → Print
       prints-more (value old) (value mid) (value new) (event x) (map event xs) here holds
       (more holds bound)
 
-  in_turn : (old new : D) (items : List A)
+  one_by_one : (old new : D) (items : List A)
       → (value old).failed ≡ false
       → (value old).refused ≤ most_counted
-      → TellsInTurn IsTold old new items
+      → ReportsInOrder IsReported old new items
       → PrintsEvents (value old) (map event items) (value new)
-  in_turn old new [] goes few told = rw told (prints-none (value old) goes few)
-  in_turn old new (x ∷ xs) goes few (mid, first, rest) =
+  one_by_one old new [] goes few reported = rw reported (prints-none (value old) goes few)
+  one_by_one old new (x ∷ xs) goes few (mid, first, rest) =
       step old mid new x xs (value mid).failed refl (one old mid x first) rest
-      (λ holds bound. in_turn mid new xs holds bound rest)
+      (λ holds bound. one_by_one mid new xs holds bound rest)
 
   -- A printer has printed the events that were reported to it.
   pub prints_all : (old new : D) (items : List A)
       → (value old).failed ≡ false
       → (value old).refused ≤ most_counted
-      → Tells IsTold old new items
+      → Reports IsReported old new items
       → PrintsEvents (value old) (map event items) (value new)
-  prints_all old new items goes few told = in_turn old new items goes few told.in_turn
+  prints_all old new items goes few reported = one_by_one old new items goes few reported.one_by_one
 
 map-same : (events : List Event) → map (λ (e : Event). e) events ≡ events
 map-same [] = refl
 map-same (e ∷ events) = ap (λ (es : List Event). e ∷ es) (map-same events)
 
 -- A list of events is printed as it is reported.
-pub as_told : (a b : PrinterValue) (events : List Event)
+pub as_reported : (a b : PrinterValue) (events : List Event)
     → PrintsEvents a (map (λ (e : Event). e) events) b
     → PrintsEvents a events b
-as_told a b events prints =
+as_reported a b events prints =
     subst (λ (es : List Event). PrintsEvents a es b) (map-same events) prints
 
 -- A device that has not failed, and whose count is unchanged, has not said stop.
@@ -285,23 +285,23 @@ stopped_fails a b is h1 goes room stays stopped = grind (arith, nat_tests, still
 failed_as : (a b : PrinterValue) (ok : Bool)
     → a.failed ≡ false
     → a.count < 0xFFFF_FFFF_FFFF_FFFF
-    → HandsOnLines a ok b
+    → FlushesLines a ok b
     → b.failed ≡ not ok
 failed_as a b true goes room on = cannot_fail _ _ (λ is. true≢false (sym is ∙ on.stopped))
 failed_as a b false goes room on = stopped_fails a b b.failed refl goes room on.stays on.stopped
 
 -- What stays the same when a printer flushes. For reading the next PES packet.
-module _ {P N : Type 0} (name : P → N) (value : P → PrinterValue) (is_waiting : P → Bool)
-    (IsHandedOn : P → Bool → P → Type 0) (s t : P) (ok : Bool)
-    (call : HandsOnIfWaiting is_waiting IsHandedOn s ok t)
-    (one : IsHandedOn s ok t → (name t ≡ name s) × HandsOnLines (value s) ok (value t)) where
-  pub handed_same : name t ≡ name s
-  handed_same = elim call [ inl same ↦ ap name same.1 | inr on ↦ (one on.1).0 ]
+module _ {P N : Type 0} (name : P → N) (value : P → PrinterValue) (has_pending_reports : P → Bool)
+    (IsFlushed : P → Bool → P → Type 0) (s t : P) (ok : Bool)
+    (call : FlushesIfPending has_pending_reports IsFlushed s ok t)
+    (one : IsFlushed s ok t → (name t ≡ name s) × FlushesLines (value s) ok (value t)) where
+  pub flush_same : name t ≡ name s
+  flush_same = elim call [ inl same ↦ ap name same.1 | inr on ↦ (one on.1).0 ]
 
-  pub handed_stays : StaysPrinted (value s) (value t)
-  handed_stays = grind (arith, nat_tests, stays-none)
+  pub flush_stays : StaysPrinted (value s) (value t)
+  flush_stays = grind (arith, nat_tests, stays-none)
 
-  pub handed_failed : (value s).failed ≡ false
+  pub flush_failed : (value s).failed ≡ false
       → (value s).count < 0xFFFF_FFFF_FFFF_FFFF
       → (value t).failed ≡ not ok
-  handed_failed goes room = grind (arith, nat_tests, failed_as)
+  flush_failed goes room = grind (arith, nat_tests, failed_as)

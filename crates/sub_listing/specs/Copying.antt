@@ -5,10 +5,12 @@ use Rattle.std.specs.Prelude.{Option, Some, Result, Ok, Err}
 use Rattle.std.specs.Io.KnownBytes.{Appends, Keeps}
 use Rattle.sub_io.specs.Device.{AppendsPrefix}
 use Rattle.ttx_pes.specs.Fault.{is_read}
-use Rattle.ttx_pes.specs.PieceRange.{behind_pieces, count_pieces, first_pieces, piece_size}
-use Rattle.ttx_pes.specs.declared.pieces.Came.{Came}
-use Rattle.ttx_pes.specs.declared.pieces.Came.TheVariants.{End, Piece, Rest}
-use Rattle.sub_listing.specs.Extracting.{begins_with_mark, count_marks, most_pieces, refusal_at}
+use Rattle.ttx_pes.specs.PesPacketRange.{rest_after_pes_packets, count_pes_packets}
+use Rattle.ttx_pes.specs.PesPacketRange.{first_pes_packets, pes_packet_size}
+use Rattle.ttx_pes.specs.declared.pes_packets.Received.{Received}
+use Rattle.ttx_pes.specs.declared.pes_packets.Received.TheVariants.{End, PesPacket, Rest}
+use Rattle.sub_listing.specs.Extracting.{begins_with_gap_marker, count_gap_markers}
+use Rattle.sub_listing.specs.Extracting.{most_pes_packets, refusal_at}
 use Rattle.sub_listing.specs.declared.copying.CopyFault.{CopyFault}
 use Rattle.sub_listing.specs.declared.copying.CopyFault.TheVariants as fault
 
@@ -23,14 +25,14 @@ is_copy_write fault.Read = false
 is_copy_write fault.Write = true
 
 -- A PES packet was copied.
-abbrev pub is_piece : {A : Type 0} → Came A → Bool
-is_piece (Piece answer) = true
-is_piece _ = false
+abbrev pub is_pes_packet : {A : Type 0} → Received A → Bool
+is_pes_packet (PesPacket answer) = true
+is_pes_packet _ = false
 
 -- Unreadable bytes would be reported as a failed source, which never happens.
-abbrev pub tells_read : {A : Type 0} → Came A → Bool
-tells_read (Rest f) = is_read f
-tells_read _ = false
+abbrev pub reports_read : {A : Type 0} → Received A → Bool
+reports_read (Rest f) = is_read f
+reports_read _ = false
 
 -- The first `read` bytes were consumed, and the file has them.
 pub record HasCopied
@@ -40,11 +42,12 @@ pub record HasCopied
 
 -- What was copied of these bytes.
 abbrev pub CopiesNext :
-    List ℕ → Option (List ℕ) → Option (List ℕ) → Option (List ℕ) → Result (Came Bool) CopyFault
+    List ℕ → Option (List ℕ) → Option (List ℕ) → Option (List ℕ) → Result (Received Bool) CopyFault
     → Type 0
 CopiesNext bytes left old new (Ok End) = (bytes ≡ []) × Keeps old new
-CopiesNext bytes left old new (Ok (Piece is_mark)) =
-    (size : ℕ) × (piece_size bytes ≡ Some size) × (is_mark ≡ begins_with_mark size bytes)
+CopiesNext bytes left old new (Ok (PesPacket is_gap_marker)) =
+    (size : ℕ) × (pes_packet_size bytes ≡ Some size) × (is_gap_marker ≡ begins_with_gap_marker size
+    bytes)
     × HasCopied bytes left old new size
 CopiesNext bytes left old new (Ok (Rest f)) =
     (refusal_at bytes ≡ Some f) × (left ≡ Some bytes) × (new ≡ old)
@@ -55,13 +58,13 @@ CopiesNext bytes left old new (Err fault.Write) = AppendsPrefix old new bytes
 abbrev pub CopiesRest :
     List ℕ → Option (List ℕ) → Option (List ℕ) → Result (Unit {0}) CopyFault → Type 0
 CopiesRest bytes old new (Ok u) =
-    AppendsPrefix old new bytes × (length bytes < most_pieces → Appends old new bytes)
+    AppendsPrefix old new bytes × (length bytes < most_pes_packets → Appends old new bytes)
 CopiesRest bytes old new (Err f) = AppendsPrefix old new bytes
 
 -- So many PES packets were copied, `gaps` gap markers among them.
-pub record HasCopiedPieces
-    (bytes : List ℕ) (left old new : Option (List ℕ)) (pieces gaps : ℕ) : Type 0 where
-  pub left_is : left ≡ Some (behind_pieces pieces bytes)
-  pub written : Appends old new (first_pieces pieces bytes)
-  pub number : count_pieces pieces bytes ≡ pieces
-  pub marks : gaps ≡ count_marks pieces bytes
+pub record HasCopiedPesPackets
+    (bytes : List ℕ) (left old new : Option (List ℕ)) (pes_packets gaps : ℕ) : Type 0 where
+  pub left_is : left ≡ Some (rest_after_pes_packets pes_packets bytes)
+  pub written : Appends old new (first_pes_packets pes_packets bytes)
+  pub number : count_pes_packets pes_packets bytes ≡ pes_packets
+  pub gap_markers : gaps ≡ count_gap_markers pes_packets bytes

@@ -33,8 +33,8 @@ source_call remaining failure_count old new = record {
 -- its count of failures.
 abbrev pub read_call :
     {D : Type 0} → (D → Option (List ℕ)) → (D → Option (List ℕ)) → (D → ℕ) → D → D → SourceCall
-read_call told left failure_count old new = record {
-  known = told old;
+read_call reported left failure_count old new = record {
+  known = reported old;
   left = left new;
   old_count = failure_count old;
   new_count = failure_count new;

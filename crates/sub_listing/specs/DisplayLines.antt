@@ -45,8 +45,8 @@ abbrev pub seen_page : Bool → Display → Option Rows
 seen_page asks_complete d = if asks_complete then d.screen else Some d.held.page
 
 -- If a header was received, the printed page has 24 rows of 40 codes.
-abbrev pub IsSeenWhole : Bool → Display → Type 0
-IsSeenWhole asks_complete d =
+abbrev pub IsSeenComplete : Bool → Display → Type 0
+IsSeenComplete asks_complete d =
     IsTrue d.held.heard → IfSome (seen_page asks_complete d) IsPage
 
 -- The output for a receiver with a screen.

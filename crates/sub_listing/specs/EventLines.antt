@@ -5,7 +5,7 @@ use Rattle.stl_rows.specs.declared.fault.LoadFault.{LoadFault}
 use Rattle.sub_rules.specs.Fault.{check_code, place_of, rule_code}
 use Rattle.sub_rules.specs.declared.end_rule.EndRule.{EndRule}
 use Rattle.sub_rules.specs.declared.event.Event.{Event}
-use Rattle.sub_rules.specs.declared.event.Event.TheVariants.{Ended, PassedUntil, Told, Trusted}
+use Rattle.sub_rules.specs.declared.event.Event.TheVariants.{Ended, SkippedUntil, Reported, Trusted}
 use Rattle.sub_rules.specs.declared.fault.CheckFault.{CheckFault}
 use Rattle.sub_rules.specs.declared.fault.CheckFault.TheVariants.{Subtitles}
 use Rattle.sub_listing.specs.Faults.{check_line}
@@ -18,8 +18,8 @@ ended_line rule frame =
     codes "ended " ++ code_text (rule_code rule) ++ frame_text frame ++ codes "\n"
 
 -- PES packets were skipped up to the one that this fault names.
-abbrev pub passed_line : ℕ → CheckFault → List ℕ
-passed_line first f =
+abbrev pub skipped_line : ℕ → CheckFault → List ℕ
+skipped_line first f =
     codes "ended " ++ code_text (check_code f) ++ place_text first (place_of f) ++ codes "\n"
 
 -- These frames are trusted, the first and the last one included.
@@ -29,9 +29,9 @@ trusted_line from to =
 
 -- The line of an event.
 abbrev pub event_line : ℕ → Event → List ℕ
-event_line first (Told f) = line_of (counted_from first (check_line f))
+event_line first (Reported f) = line_of (counted_from first (check_line f))
 event_line first (Ended rule frame) = ended_line rule frame
-event_line first (PassedUntil f) = passed_line first f
+event_line first (SkippedUntil f) = skipped_line first f
 event_line first (Trusted from to) = trusted_line from to
 
 -- The lines of events.
@@ -41,9 +41,9 @@ event_lines first (e ∷ events) = event_line first e ++ event_lines first event
 
 -- 1 if the event is a fault, otherwise 0.
 abbrev pub refusal : Event → ℕ
-refusal (Told f) = 1
+refusal (Reported f) = 1
 refusal (Ended rule frame) = 0
-refusal (PassedUntil f) = 0
+refusal (SkippedUntil f) = 0
 refusal (Trusted from to) = 0
 
 -- The number of faults among the events.
@@ -53,7 +53,7 @@ refusals (e ∷ events) = refusal e + refusals events
 
 -- A fault of the subtitle file, as an event.
 abbrev pub subtitle_event : LoadFault → Event
-subtitle_event f = Told (Subtitles f)
+subtitle_event f = Reported (Subtitles f)
 
 -- Faults of the subtitle file, as events.
 abbrev pub subtitle_events : List LoadFault → List Event

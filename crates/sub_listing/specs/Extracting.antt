@@ -6,9 +6,10 @@ use Rattle.std.specs.Prelude.{Option, Some, None, Result, Ok, Err, if◌then◌e
 use Rattle.std.specs.Io.KnownBytes.{Appends, Keeps}
 use Rattle.sub_io.specs.Device.{AppendsPrefix, RisesIf, failed}
 use Rattle.sub_io.specs.Reading.{IfKnown}
-use Rattle.ttx_pes.specs.PesPacket.{payload_size}
-use Rattle.ttx_pes.specs.PieceRange.{behind_pieces, by_piece, count_pieces, first_pieces}
-use Rattle.ttx_pes.specs.PieceRange.{piece_size}
+use Rattle.ttx_pes.specs.PesGrammar.{payload_size}
+use Rattle.ttx_pes.specs.PesPacketRange.{rest_after_pes_packets, by_pes_packet, count_pes_packets}
+use Rattle.ttx_pes.specs.PesPacketRange.{first_pes_packets}
+use Rattle.ttx_pes.specs.PesPacketRange.{pes_packet_size}
 use Rattle.ttx_pes.specs.Advancing.{rest_fault}
 use Rattle.ttx_pes.specs.Reading.{is_filled}
 use Rattle.ttx_pes.specs.declared.fault.PesFault.{PesFault}
@@ -30,23 +31,23 @@ use Rattle.sub_listing.specs.declared.status.Status.{Status}
 -- ---- the bytes
 
 -- The first `size` bytes are a gap marker: 184 bytes, all FF from byte 6 on.
-abbrev pub begins_with_mark : ℕ → List ℕ → Bool
-begins_with_mark size b = (size == payload_size) && is_filled (drop 6 (take size b))
+abbrev pub begins_with_gap_marker : ℕ → List ℕ → Bool
+begins_with_gap_marker size b = (size == payload_size) && is_filled (drop 6 (take size b))
 
 -- How many of the first n PES packets are gap markers.
-unfoldable pub count_marks : ℕ → List ℕ → ℕ
-count_marks zero b = 0
-count_marks (suc n) b =
-    by_piece (piece_size b)
-    (λ size. (if begins_with_mark size b then 1 else 0) + count_marks n (drop size b)) 0
+unfoldable pub count_gap_markers : ℕ → List ℕ → ℕ
+count_gap_markers zero b = 0
+count_gap_markers (suc n) b =
+    by_pes_packet (pes_packet_size b)
+    (λ size. (if begins_with_gap_marker size b then 1 else 0) + count_gap_markers n (drop size b)) 0
 
 -- Why the bytes begin no PES packet, if there are any.
 unfoldable pub refusal_at : List ℕ → Option PesFault
 refusal_at b = if length b == 0 then None else rest_fault b
 
 -- The greatest number that is counted.
-abbrev pub most_pieces : ℕ
-most_pieces = 0xFFFF_FFFF_FFFF_FFFF
+abbrev pub most_pes_packets : ℕ
+most_pes_packets = 0xFFFF_FFFF_FFFF_FFFF
 
 -- ---- the written bytes
 
@@ -56,9 +57,9 @@ is_extract_read (Read pes) = true
 is_extract_read _ = false
 
 -- What is no PES packet would be reported as a failed source, which never happens.
-abbrev pub tells_refused_read : ExtractFault → Bool
-tells_refused_read (Refused f pes) = is_read f
-tells_refused_read _ = false
+abbrev pub reports_refused_read : ExtractFault → Bool
+reports_refused_read (Refused f pes) = is_read f
+reports_refused_read _ = false
 
 -- The file failed.
 abbrev pub is_extract_write : ExtractFault → Bool
@@ -67,9 +68,9 @@ is_extract_write _ = false
 
 -- The bytes are `pes` PES packets, `gaps` of them gap markers, and the file has all bytes.
 pub record AreGiven (bytes : List ℕ) (old new : Option (List ℕ)) (pes gaps : ℕ) : Type 0 where
-  pub pieces : count_pieces pes bytes ≡ pes
-  pub whole : behind_pieces pes bytes ≡ []
-  pub marks : gaps ≡ count_marks pes bytes
+  pub pes_packets : count_pes_packets pes bytes ≡ pes
+  pub whole : rest_after_pes_packets pes bytes ≡ []
+  pub gap_markers : gaps ≡ count_gap_markers pes bytes
   pub some : 0 < pes
   pub written : Appends old new bytes
 
@@ -77,22 +78,22 @@ pub record AreGiven (bytes : List ℕ) (old new : Option (List ℕ)) (pes gaps :
 -- there are more PES packets than can be counted, and it has some.
 pub record AreRefused
     (bytes : List ℕ) (old new : Option (List ℕ)) (f : PesFault) (pes : ℕ) : Type 0 where
-  pub pieces : count_pieces pes bytes ≡ pes
+  pub pes_packets : count_pes_packets pes bytes ≡ pes
   pub taken : AppendsPrefix old new bytes
-  pub written : length bytes < most_pieces → Appends old new bytes
+  pub written : length bytes < most_pes_packets → Appends old new bytes
   pub refused :
-      length bytes < most_pieces → refusal_at (behind_pieces pes bytes) ≡ Some f
+      length bytes < most_pes_packets → refusal_at (rest_after_pes_packets pes bytes) ≡ Some f
 
 -- The source failed after `pes` PES packets of the bytes. The file has these, and nothing of what
 -- follows unless that begins no PES packet.
 pub record AreCut (bytes : List ℕ) (old new : Option (List ℕ)) (pes : ℕ) : Type 0 where
-  pub pieces : count_pieces pes bytes ≡ pes
-  pub behind : Option (List ℕ)
-  pub given : Appends old behind (first_pieces pes bytes)
+  pub pes_packets : count_pes_packets pes bytes ≡ pes
+  pub following : Option (List ℕ)
+  pub given : Appends old following (first_pes_packets pes bytes)
   pub rest :
-      Keeps behind new
-      ⊎ ((f : PesFault) × (refusal_at (behind_pieces pes bytes) ≡ Some f)
-      × AppendsPrefix behind new (behind_pieces pes bytes))
+      Keeps following new
+      ⊎ ((f : PesFault) × (refusal_at (rest_after_pes_packets pes bytes) ≡ Some f)
+      × AppendsPrefix following new (rest_after_pes_packets pes bytes))
 
 -- The bytes that the file has, and the result. If the file failed, it has a prefix.
 abbrev pub Extracts :

@@ -10,12 +10,12 @@ use Rattle.sub_listing.specs.declared.status.Status.{Status}
 pub record FirstNumber : Type 0 where
   pub known : Option ℕ
   pub left : Option ℕ
-  pub passed : ℕ
+  pub skipped : ℕ
 
 -- The same for a call of such a source.
 abbrev pub first_number : {S : Type 0} → (S → Option ℕ) → (S → ℕ) → S → S → FirstNumber
-first_number number passed old new =
-    record { known = number old; left = number new; passed = passed new }
+first_number number skipped old new =
+    record { known = number old; left = number new; skipped = skipped new }
 
 -- The source failed, and nothing of it was consumed.
 abbrev pub FailsUntouched : SourceCall → Type 0
@@ -30,7 +30,7 @@ StartsAt first source number =
     (n : ℕ)
     → first.known ≡ Some n
     → (number ≡ n)
-    ⊎ ((number ≤ n) × (number ≡ first.passed) × (first.left ≡ Some n) × FailsUntouched source)
+    ⊎ ((number ≤ n) × (number ≡ first.skipped) × (first.left ≡ Some n) × FailsUntouched source)
 
 -- A source was listed with PES packets counted from such a number.
 pub record PrintsFrom

@@ -16,16 +16,16 @@ pub record PutsLine
   pub bytes : AppendsPrefix (contents old) (contents new) line
 
 -- Everything before the last line was flushed, and since then only this line was written.
-pub record HoldsLastLine
-    {K : Type 0} (contents : K → Option (List ℕ)) (held : K → ℕ)
+pub record BuffersLastLineOnly
+    {K : Type 0} (contents : K → Option (List ℕ)) (buffered : K → ℕ)
     (IsPush : K → List ℕ → Option ℕ → K → Type 0) (new : K) : Type 0 where
   pub before : K
-  pub settled : held before ≡ 0
-  pub told : FaultLine
-  pub line : PutsLine contents IsPush before (line_of told) new
+  pub settled : buffered before ≡ 0
+  pub reported : FaultLine
+  pub line : PutsLine contents IsPush before (line_of reported) new
 
 -- This is the last line of a listing, and everything before it was flushed.
-pub record IsAlone (held : ℕ) (text : List ℕ) : Type 0 where
-  pub settled : held ≡ 0
-  pub told : FaultLine
-  pub line : text ≡ line_of told
+pub record IsAlone (buffered : ℕ) (text : List ℕ) : Type 0 where
+  pub settled : buffered ≡ 0
+  pub reported : FaultLine
+  pub line : text ≡ line_of reported

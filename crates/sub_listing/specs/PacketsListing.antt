@@ -2,7 +2,7 @@
 use Rattle.std.specs.Prelude.{ℕ, ◌+◌, List, [], ◌∷◌, ◌++◌, codes, decimal}
 use Rattle.ttx_pes.specs.DataUnit.{UnitValue}
 use Rattle.ttx_pes.specs.Outcome.{PesOutcome, ReadsPackets, ends, fails, gives, outcome_after}
-use Rattle.ttx_pes.specs.PesPacket.{PesValue}
+use Rattle.ttx_pes.specs.PesGrammar.{PesValue}
 use Rattle.sub_listing.specs.Faults.{check_line}
 use Rattle.sub_rules.specs.declared.fault.CheckFault.TheVariants.{Pes}
 use Rattle.sub_listing.specs.Lines.{number_in_file, pes_line, unit_line}

@@ -68,6 +68,6 @@ pub record StaysPrinted (old new : PrinterValue) : Type 0 where
   pub risen : new.failed ≢ old.failed → (new.failed ≡ true) × (new.count ≡ old.count + 1)
 
 -- It was asked to flush its sink, and did so if `ok`.
-pub record HandsOnLines (old : PrinterValue) (ok : Bool) (new : PrinterValue) : Type 0 where
+pub record FlushesLines (old : PrinterValue) (ok : Bool) (new : PrinterValue) : Type 0 where
   pub stays : StaysPrinted old new
   pub stopped : (new.failed || not (can_fail new.count)) ≡ not ok

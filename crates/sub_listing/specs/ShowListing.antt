@@ -4,7 +4,7 @@ use Rattle.std.specs.Prelude.{◌≡◌, ◌⊎◌, ℕ, ◌+◌, ◌<◌, List,
 use Rattle.std.specs.Prelude.{Bool, true, false, None, Some, ◌-◌, ◌≤◌}
 use Rattle.stl_file.specs.Fault.{is_format, is_file_read}
 use Rattle.stl_file.specs.Gsi.{IsGsi, gsi_size}
-use Rattle.stl_file.specs.Reader.{FailsReading, Refuses, RefusesOpening, TakesPassed, ReaderValue}
+use Rattle.stl_file.specs.Reader.{FailsReading, Refuses, RefusesOpening, TakesSkipped, ReaderValue}
 use Rattle.stl_file.specs.Reader.{TakesSubtitle, outcome_left, outcome_of}
 use Rattle.stl_file.specs.Reading.{Outcome, ends, fails, gives}
 use Rattle.stl_file.specs.Scope.{whole}
@@ -19,14 +19,14 @@ use Rattle.sub_listing.specs.Listing.{IsListed, Lists, Listing, done, followed, 
 -- blocks; or what follows is no file. If the source failed, it failed at this block.
 abbrev pub ReadsSubtitles : Bool → ℕ → Option (List ℕ) → Outcome → Option (List ℕ) → Type 0
 ReadsSubtitles failed from known ends left =
-    (failed ≡ false) × (to : ℕ) × TakesPassed from to known left
+    (failed ≡ false) × (to : ℕ) × TakesSkipped from to known left
 ReadsSubtitles failed from known (fails f block) left =
     (is_file_read f ≡ failed)
     × (failed ≡ true → FailsReading whole from block None known left)
     × (is_format f ≡ true → Refuses from block known left f)
 ReadsSubtitles failed from known (gives s block more) left =
-    (behind : Option (List ℕ)) × TakesSubtitle from block known behind s
-    × ReadsSubtitles failed block behind more left
+    (following : Option (List ℕ)) × TakesSubtitle from block known following s
+    × ReadsSubtitles failed block following more left
 
 -- No GSI block was read: the source failed in it, or no file begins like this.
 pub record ReadsNoGsi (failed : Bool) (known : Option (List ℕ)) (outcome : Outcome)
@@ -42,8 +42,8 @@ pub record ReadsNoGsi (failed : Bool) (known : Option (List ℕ)) (outcome : Out
 abbrev pub ReadsFile : Bool → Option (List ℕ) → Outcome → Option (List ℕ) → Type 0
 ReadsFile failed known outcome left =
     ReadsNoGsi failed known outcome left
-    ⊎ ((behind : Option (List ℕ)) × (gsi : List ℕ) × IsGsi gsi × Consumes known behind gsi
-    × ReadsSubtitles failed 0 behind outcome left)
+    ⊎ ((following : Option (List ℕ)) × (gsi : List ℕ) × IsGsi gsi × Consumes known following gsi
+    × ReadsSubtitles failed 0 following outcome left)
 
 -- What is printed after `count` subtitles: each of them in turn, and at the end their number.
 abbrev pub subtitles_listing : ℕ → Outcome → Listing

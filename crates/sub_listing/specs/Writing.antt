@@ -8,7 +8,7 @@ use Rattle.stl_file.specs.Fault.{is_normal_write}
 use Rattle.stl_file.specs.NormalForm.{NormalAnswers}
 use Rattle.stl_file.specs.Reader.{block_of_byte}
 use Rattle.stl_rows.specs.Fault as load_fault
-use Rattle.stl_rows.specs.Loading.{EndsRecord, FailsLoading, TellsFault, loaded}
+use Rattle.stl_rows.specs.Loading.{EndsRecord, FailsLoading, ReportsFault, loaded}
 use Rattle.stl_rows.specs.Programme.{ProgrammeValue}
 use Rattle.stl_rows.specs.declared.fault.LoadFaultKind.TheVariants.{Memory}
 use Rattle.stl_rows.specs.declared.layout.Drawing.{Drawing}
@@ -96,7 +96,7 @@ Schedules drawing o serial known left old new (Err (write.Plan f)) =
     IfKnown known (λ bytes. IsOkAnd (loaded drawing bytes) (λ programme.
     WritesSchedule programme o serial old new (Err f)))
 Schedules drawing o serial known left old new (Err (write.Load f)) =
-    IfKnown known (λ bytes. TellsFault drawing bytes f.block f.kind)
+    IfKnown known (λ bytes. ReportsFault drawing bytes f.block f.kind)
     × (load_fault.is_load_read f ≡ true → FailsLoading drawing known left f.block)
     × Keeps old new
 Schedules drawing o serial known left old new answer = ⊥
@@ -116,10 +116,10 @@ most_read = 12800897
 
 -- The source failed at a byte of this block, after the consumed bytes; or an allocation was
 -- refused, which is needed only for consumed bytes.
-abbrev pub TellsRead : Option (List ℕ) → Option (List ℕ) → InputFault → Type 0
-TellsRead old new (input.Read block) =
+abbrev pub ReportsRead : Option (List ℕ) → Option (List ℕ) → InputFault → Type 0
+ReportsRead old new (input.Read block) =
     (bytes : List ℕ) × Consumes old new bytes × (block ≡ block_of_byte (length bytes))
-TellsRead old new input.Memory =
+ReportsRead old new input.Memory =
     (bytes : List ℕ) × Consumes old new bytes × (0 < length bytes)
 
 -- The file has the normal form of the input, or a prefix of it if it failed; or nothing, if the
@@ -129,5 +129,5 @@ Normalizes known left old new (Ok count) =
     IfKnown known (λ bytes. NormalAnswers bytes old new (Ok count))
 Normalizes known left old new (Err (write.Normal f)) =
     IfKnown known (λ bytes. NormalAnswers bytes old new (Err f))
-Normalizes known left old new (Err (write.Input f)) = TellsRead known left f × Keeps old new
+Normalizes known left old new (Err (write.Input f)) = ReportsRead known left f × Keeps old new
 Normalizes known left old new answer = ⊥

@@ -3,17 +3,17 @@ ghost use Rattle.std.specs.Prelude.{◌≡◌, Err, IfOk, OnErr, OnOk, false, le
 ghost use Rattle.std.specs.Io.KnownBytes.{Appends};
 ghost use Rattle.sub_io.specs.Device.{AppendsPrefix, CanFail, CountsIf, failed};
 ghost use Rattle.sub_io.specs.Reading.{IfKnown};
-ghost use Rattle.ttx_pes.specs.Advancing.{tells_rest};
-ghost use Rattle.ttx_pes.specs.Reading.{is_mark};
+ghost use Rattle.ttx_pes.specs.Advancing.{reports_rest};
+ghost use Rattle.ttx_pes.specs.Reading.{is_gap_marker};
 ghost use Rattle.sub_listing.specs.Copying.{CopiesNext, CopiesRest, is_copy_read};
-ghost use Rattle.sub_listing.specs.Copying.{is_copy_write, is_piece, tells_read};
+ghost use Rattle.sub_listing.specs.Copying.{is_copy_write, is_pes_packet, reports_read};
 
 use std::marker::Model;
 use sub_io::{Flush, put_all};
-use ttx_pes::{Came, Pieces, REST_ROOM, TakePiece, is_mark};
+use ttx_pes::{PesPackets, REST_BUFFER_SIZE, Received, TakePesPacket, is_gap_marker};
 
 // Room for the longest PES packet.
-const PIECE_ROOM: usize = 1656;
+const PES_PACKET_CAPACITY: usize = 1656;
 
 /// Which device failed.
 #[derive(Clone, Copy)]
@@ -26,12 +26,12 @@ pub enum CopyFault {
 
 /// The bytes of the PES packet that was read last. In contracts its value is a list.
 #[derive(Drop)]
-pub struct TakenPiece {
-    room: [u8; PIECE_ROOM],
+pub struct TakenPesPacket {
+    room: [u8; PES_PACKET_CAPACITY],
     len: usize,
 }
 
-impl Model for TakenPiece {
+impl Model for TakenPesPacket {
     ghost use Rattle.std.specs.Prelude.{ℕ, ◌≤◌, List, take};
 
     ghost Value = { List ℕ };
@@ -41,11 +41,11 @@ impl Model for TakenPiece {
     ghost invariant = { λ p. p.len ≤ 1656 };
 }
 
-impl TakenPiece {
+impl TakenPesPacket {
     /// Returns an empty value.
     pub fn new() -> Self {
-        TakenPiece {
-            room: [0; PIECE_ROOM],
+        TakenPesPacket {
+            room: [0; PES_PACKET_CAPACITY],
             len: 0,
         }
     }
@@ -59,28 +59,29 @@ impl TakenPiece {
     }
 }
 
-impl TakePiece for TakenPiece {
+impl TakePesPacket for TakenPesPacket {
     // Whether it is a gap marker.
     type Answer = bool;
 
-    ghost is_take = { λ old piece answer new. (new ≡ piece) × (answer ≡ is_mark piece) };
+    ghost is_take = { λ old pes_packet answer new. (new ≡ pes_packet) ×
+        (answer ≡ is_gap_marker pes_packet) };
 
-    #[tactic(auto, using(crate::proofs::CopyingLemmas::piece_fits))]
-    fn take(&mut self, piece: &[u8]) -> bool {
-        let (front, _) = self.room.split_at_mut(piece.len());
-        front.copy_from_slice(piece);
-        self.len = piece.len();
-        is_mark(piece)
+    #[tactic(auto, using(crate::proofs::CopyingLemmas::pes_packet_fits))]
+    fn take(&mut self, pes_packet: &[u8]) -> bool {
+        let (prefix, _) = self.room.split_at_mut(pes_packet.len());
+        prefix.copy_from_slice(pes_packet);
+        self.len = pes_packet.len();
+        is_gap_marker(pes_packet)
     }
 }
 
 // Writes bytes to a file and flushes it.
-fn put_and_hand_on<F: Flush>(file: &mut F, bytes: &[u8]) -> Result<(), CopyFault>
+fn put_and_flush<F: Flush>(file: &mut F, bytes: &[u8]) -> Result<(), CopyFault>
     requires { CanFail (F.failure_count file.old) }
     ensures ok { OnOk result (Appends (F.contents file.old) (F.contents file.new) bytes.now) }
     ensures err { OnErr result
         (AppendsPrefix (F.contents file.old) (F.contents file.new) bytes.now) }
-    ensures held { OnOk result (F.held file.new ≡ 0) }
+    ensures buffered { OnOk result (F.buffered file.new ≡ 0) }
     ensures write { OnErr result (result ≡ Err CopyFault.Write) }
     ensures count { CountsIf F.failure_count file.old (failed is_copy_write result) file.new }
 {
@@ -93,44 +94,45 @@ fn put_and_hand_on<F: Flush>(file: &mut F, bytes: &[u8]) -> Result<(), CopyFault
     }
 }
 
-/// Copies the next PES packet, if there is one, through `piece`, and flushes the file.
+/// Copies the next PES packet, if there is one, through `pes_packet`, and flushes the file.
 ///
 /// # Errors
 ///
 /// Returns `Read` if the device of the PES packets failed; nothing was copied then. Returns `Write`
 /// if the file failed, which has a prefix of the PES packet.
-pub fn copy_next<P: Pieces, F: Flush>(
-    pieces: &mut P,
+pub fn copy_next<P: PesPackets, F: Flush>(
+    pes_packets: &mut P,
     file: &mut F,
-    piece: &mut TakenPiece,
-) -> Result<Came<bool>, CopyFault>
-    requires pieces { CanFail (P.failure_count pieces.old) }
+    pes_packet: &mut TakenPesPacket,
+) -> Result<Received<bool>, CopyFault>
+    requires pes_packets { CanFail (P.failure_count pes_packets.old) }
     requires file { CanFail (F.failure_count file.old) }
-    ensures told { IfKnown (P.remaining pieces.old) (λ bytes.
-        CopiesNext bytes (P.remaining pieces.new) (F.contents file.old) (F.contents file.new)
+    ensures reported { IfKnown (P.remaining pes_packets.old) (λ bytes.
+        CopiesNext bytes (P.remaining pes_packets.new) (F.contents file.old) (F.contents file.new)
         result) }
-    ensures rest { tells_rest result ≡ true → P.is_rest pieces.new ≡ true }
-    ensures held { F.held file.old ≡ 0 → failed is_copy_write result ≡ false
-        → F.held file.new ≡ 0 }
-    ensures own { IfOk result (λ came. tells_read came ≡ false) }
-    ensures handed_on { IfOk result (λ came. is_piece came ≡ true → F.held file.new ≡ 0) }
-    ensures device { P.device pieces.new ≡ P.device pieces.old }
-    ensures pieces_count { CountsIf P.failure_count pieces.old (failed is_copy_read result)
-        pieces.new }
+    ensures rest { reports_rest result ≡ true → P.is_rest pes_packets.new ≡ true }
+    ensures buffered { F.buffered file.old ≡ 0 → failed is_copy_write result ≡ false
+        → F.buffered file.new ≡ 0 }
+    ensures own { IfOk result (λ received. reports_read received ≡ false) }
+    ensures flushed { IfOk result (λ received. is_pes_packet received ≡ true → F.buffered file.new ≡
+        0) }
+    ensures device { P.device pes_packets.new ≡ P.device pes_packets.old }
+    ensures pes_failures { CountsIf P.failure_count pes_packets.old (failed is_copy_read result)
+        pes_packets.new }
     ensures file_count { CountsIf F.failure_count file.old (failed is_copy_write result) file.new }
 {
-    let Ok(came) = pieces.next(piece) else {
+    let Ok(received) = pes_packets.next(pes_packet) else {
         return Err(CopyFault::Read);
     };
-    match came {
-        Came::Piece(is_mark) => {
-            if put_and_hand_on(file, piece.bytes()).is_err() {
+    match received {
+        Received::PesPacket(is_gap_marker) => {
+            if put_and_flush(file, pes_packet.bytes()).is_err() {
                 return Err(CopyFault::Write);
             }
-            Ok(Came::Piece(is_mark))
+            Ok(Received::PesPacket(is_gap_marker))
         }
-        Came::Rest(fault) => Ok(Came::Rest(fault)),
-        Came::End => Ok(Came::End),
+        Received::Rest(fault) => Ok(Received::Rest(fault)),
+        Received::End => Ok(Received::End),
     }
 }
 
@@ -141,29 +143,32 @@ pub fn copy_next<P: Pieces, F: Flush>(
 ///
 /// Returns `Read` if the device of the PES packets failed, `Write` if the file did. A prefix was
 /// copied.
-pub fn copy_rest<P: Pieces, F: Flush>(pieces: &mut P, file: &mut F) -> Result<(), CopyFault>
-    requires rest { P.is_rest pieces.old ≡ true }
-    requires pieces { CanFail (P.failure_count pieces.old) }
+pub fn copy_rest<P: PesPackets, F: Flush>(
+    pes_packets: &mut P,
+    file: &mut F,
+) -> Result<(), CopyFault>
+    requires rest { P.is_rest pes_packets.old ≡ true }
+    requires pes_packets { CanFail (P.failure_count pes_packets.old) }
     requires file { CanFail (F.failure_count file.old) }
-    ensures told { IfKnown (P.remaining pieces.old) (λ bytes.
+    ensures reported { IfKnown (P.remaining pes_packets.old) (λ bytes.
         CopiesRest bytes (F.contents file.old) (F.contents file.new) result) }
-    ensures held { F.held file.old ≡ 0 → failed is_copy_write result ≡ false
-        → F.held file.new ≡ 0 }
-    ensures device { P.device pieces.new ≡ P.device pieces.old }
-    ensures pieces_count { CountsIf P.failure_count pieces.old (failed is_copy_read result)
-        pieces.new }
+    ensures buffered { F.buffered file.old ≡ 0 → failed is_copy_write result ≡ false
+        → F.buffered file.new ≡ 0 }
+    ensures device { P.device pes_packets.new ≡ P.device pes_packets.old }
+    ensures pes_failures { CountsIf P.failure_count pes_packets.old (failed is_copy_read result)
+        pes_packets.new }
     ensures file_count { CountsIf F.failure_count file.old (failed is_copy_write result) file.new }
 {
-    let mut room = [0; REST_ROOM];
+    let mut room = [0; REST_BUFFER_SIZE];
     'reads: for turn in 0..u64::MAX {
-        let Ok(n) = pieces.read_rest(&mut room) else {
+        let Ok(n) = pes_packets.read_rest(&mut room) else {
             return Err(CopyFault::Read);
         };
         if n == 0 {
             return Ok(());
         }
         let (part, _) = room.split_at(n);
-        if put_and_hand_on(file, part).is_err() {
+        if put_and_flush(file, part).is_err() {
             return Err(CopyFault::Write);
         }
     }

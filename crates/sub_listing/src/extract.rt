@@ -4,12 +4,12 @@ ghost use Rattle.sub_io.specs.Device.{CountsIf, failed};
 ghost use Rattle.sub_listing.specs.DeviceCall.{CanFail, CountsFault, read_call, sink_call};
 ghost use Rattle.sub_listing.specs.Extracting.{EndsExtract, Extracts, extract_line};
 ghost use Rattle.sub_listing.specs.Extracting.{is_extract_read, is_extract_write};
-ghost use Rattle.sub_listing.specs.Extracting.{tells_refused_read};
+ghost use Rattle.sub_listing.specs.Extracting.{reports_refused_read};
 ghost use Rattle.sub_listing.specs.Faults.{check_line};
 ghost use Rattle.sub_listing.specs.FaultLine.{counted_from};
 ghost use Rattle.sub_rules.specs.declared.fault.CheckFault.TheVariants.{Pes};
 
-use crate::copying::{CopyFault, TakenPiece, copy_next, copy_rest};
+use crate::copying::{CopyFault, TakenPesPacket, copy_next, copy_rest};
 use crate::fault_line::FaultLine;
 use crate::faults::{line_of_check, line_of_file_write};
 use crate::lines::{Line, push_number, push_text};
@@ -17,7 +17,7 @@ use crate::printing::{print_done, print_fault_line};
 use crate::status::Status;
 use sub_io::{Close, Flush, Sink};
 use sub_rules::CheckFault;
-use ttx_pes::{Came, PesFault, Pieces};
+use ttx_pes::{PesFault, PesPackets, Received};
 
 /// What was written.
 #[derive(Clone, Copy)]
@@ -50,39 +50,39 @@ pub enum ExtractFault {
 }
 
 /// Writes PES packets one after another, with gap markers if they are those of a PID of a recording
-/// (ISO/IEC 13818-1; `RecordingPieces` of `mpeg_ts`), and prints their number, and how many of them
-/// are gap markers; or why what was written is no file of PES packets.
+/// (ISO/IEC 13818-1; `RecordingPesPackets` of `mpeg_ts`), and prints their number, and how many of
+/// them are gap markers; or why what was written is no file of PES packets.
 ///
 /// Each is flushed as soon as it has come, and the line is printed after the system has stored the
 /// file. Bytes that begin no PES packet are written, too. Returns `Fault` if a device failed.
-pub fn extract_packets<P: Pieces, F: Close, K: Sink>(
-    pieces: &mut P,
+pub fn extract_packets<P: PesPackets, F: Close, K: Sink>(
+    pes_packets: &mut P,
     file: &mut F,
     out: &mut K,
 ) -> Status
-    requires pieces { CanFail (P.failure_count pieces.old) }
+    requires pes_packets { CanFail (P.failure_count pes_packets.old) }
     requires file { CanFail (F.failure_count file.old) }
     requires out { CanFail (K.failure_count out.old) }
     ensures extract { EndsExtract
-        (read_call P.remaining P.left P.failure_count pieces.old pieces.new)
+        (read_call P.remaining P.left P.failure_count pes_packets.old pes_packets.new)
         (sink_call F.contents F.failure_count file.old file.new)
         (sink_call K.contents K.failure_count out.old out.new) result }
-    ensures device { P.device pieces.new ≡ P.device pieces.old }
-    ensures pieces_count { CountsFault P.failure_count pieces.old result pieces.new }
+    ensures device { P.device pes_packets.new ≡ P.device pes_packets.old }
+    ensures pes_failures { CountsFault P.failure_count pes_packets.old result pes_packets.new }
     ensures file_count { CountsFault F.failure_count file.old result file.new }
     ensures out_count { CountsFault K.failure_count out.old result out.new }
     ensures fault { result ≡ Status.Fault
-        → P.failure_count pieces.old + F.failure_count file.old + K.failure_count out.old
-        < P.failure_count pieces.new + F.failure_count file.new + K.failure_count out.new }
-    ensures held { result ≡ Status.Done → F.held file.new ≡ 0 }
+        → P.failure_count pes_packets.old + F.failure_count file.old + K.failure_count out.old
+        < P.failure_count pes_packets.new + F.failure_count file.new + K.failure_count out.new }
+    ensures buffered { result ≡ Status.Done → F.buffered file.new ≡ 0 }
     ensures stored { result ≡ Status.Done → F.is_stored file.new ≡ true }
     // Before a device may be asked, which may fail, everything is flushed. So if it failed, nothing
     // is held back.
-    ensures followed { F.held file.old ≡ 0
-        → P.failure_count pieces.old < P.failure_count pieces.new
-        → F.held file.new ≡ 0 }
+    ensures followed { F.buffered file.old ≡ 0
+        → P.failure_count pes_packets.old < P.failure_count pes_packets.new
+        → F.buffered file.new ≡ 0 }
 {
-    match write_pieces(pieces, file) {
+    match write_pes_packets(pes_packets, file) {
         Ok(extracted) => {
             let mut line = Line::new();
             push_number(&mut line, b"written ", extracted.pes);
@@ -95,26 +95,26 @@ pub fn extract_packets<P: Pieces, F: Close, K: Sink>(
 }
 
 // Copies all PES packets, and stores the file.
-fn write_pieces<P: Pieces, F: Close>(
-    pieces: &mut P,
+fn write_pes_packets<P: PesPackets, F: Close>(
+    pes_packets: &mut P,
     file: &mut F,
 ) -> Result<Extracted, ExtractFault>
-    requires pieces { CanFail (P.failure_count pieces.old) }
+    requires pes_packets { CanFail (P.failure_count pes_packets.old) }
     requires file { CanFail (F.failure_count file.old) }
-    ensures extracts { Extracts (P.remaining pieces.old) (F.contents file.old)
+    ensures extracts { Extracts (P.remaining pes_packets.old) (F.contents file.old)
         (F.contents file.new) result }
-    ensures device { P.device pieces.new ≡ P.device pieces.old }
-    ensures pieces_count { CountsIf P.failure_count pieces.old (failed is_extract_read result)
-        pieces.new }
+    ensures device { P.device pes_packets.new ≡ P.device pes_packets.old }
+    ensures pes_failures { CountsIf P.failure_count pes_packets.old (failed is_extract_read result)
+        pes_packets.new }
     ensures file_count { CountsIf F.failure_count file.old (failed is_extract_write result)
         file.new }
-    ensures held { F.held file.old ≡ 0 → failed is_extract_write result ≡ false
-        → F.held file.new ≡ 0 }
-    ensures own { IfErr result (λ f. tells_refused_read f ≡ false) }
-    ensures done { OnOk result (F.held file.new ≡ 0) }
+    ensures buffered { F.buffered file.old ≡ 0 → failed is_extract_write result ≡ false
+        → F.buffered file.new ≡ 0 }
+    ensures own { IfErr result (λ f. reports_refused_read f ≡ false) }
+    ensures done { OnOk result (F.buffered file.new ≡ 0) }
     ensures stored { OnOk result (F.is_stored file.new ≡ true) }
 {
-    match copy_pieces(pieces, file) {
+    match copy_pes_packets(pes_packets, file) {
         Ok(extracted) => match file.store() {
             Ok(()) => Ok(extracted),
             Err(_) => Err(ExtractFault::Write),
@@ -124,33 +124,36 @@ fn write_pieces<P: Pieces, F: Close>(
 }
 
 // Copies all PES packets, and what follows them.
-fn copy_pieces<P: Pieces, F: Flush>(pieces: &mut P, file: &mut F) -> Result<Extracted, ExtractFault>
-    requires pieces { CanFail (P.failure_count pieces.old) }
+fn copy_pes_packets<P: PesPackets, F: Flush>(
+    pes_packets: &mut P,
+    file: &mut F,
+) -> Result<Extracted, ExtractFault>
+    requires pes_packets { CanFail (P.failure_count pes_packets.old) }
     requires file { CanFail (F.failure_count file.old) }
-    ensures extracts { Extracts (P.remaining pieces.old) (F.contents file.old)
+    ensures extracts { Extracts (P.remaining pes_packets.old) (F.contents file.old)
         (F.contents file.new) result }
-    ensures device { P.device pieces.new ≡ P.device pieces.old }
-    ensures pieces_count { CountsIf P.failure_count pieces.old (failed is_extract_read result)
-        pieces.new }
+    ensures device { P.device pes_packets.new ≡ P.device pes_packets.old }
+    ensures pes_failures { CountsIf P.failure_count pes_packets.old (failed is_extract_read result)
+        pes_packets.new }
     ensures file_count { CountsIf F.failure_count file.old (failed is_extract_write result)
         file.new }
-    ensures held { F.held file.old ≡ 0 → failed is_extract_write result ≡ false
-        → F.held file.new ≡ 0 }
-    ensures own { IfErr result (λ f. tells_refused_read f ≡ false) }
-    ensures done { OnOk result (F.held file.new ≡ 0) }
+    ensures buffered { F.buffered file.old ≡ 0 → failed is_extract_write result ≡ false
+        → F.buffered file.new ≡ 0 }
+    ensures own { IfErr result (λ f. reports_refused_read f ≡ false) }
+    ensures done { OnOk result (F.buffered file.new ≡ 0) }
 {
-    let mut piece = TakenPiece::new();
+    let mut pes_packet = TakenPesPacket::new();
     let mut gaps = 0;
-    'pieces: for pes in 0..u64::MAX {
-        match copy_next(pieces, file, &mut piece) {
-            Ok(Came::End) => {
+    'pes_packets: for pes in 0..u64::MAX {
+        match copy_next(pes_packets, file, &mut pes_packet) {
+            Ok(Received::End) => {
                 if pes == 0 {
                     return Err(ExtractFault::Empty);
                 }
                 return Ok(Extracted { pes, gaps });
             }
-            Ok(Came::Piece(is_mark)) => gaps = counted(gaps, is_mark),
-            Ok(Came::Rest(fault)) => match copy_rest(pieces, file) {
+            Ok(Received::PesPacket(is_gap_marker)) => gaps = counted(gaps, is_gap_marker),
+            Ok(Received::Rest(fault)) => match copy_rest(pes_packets, file) {
                 Ok(()) => return Err(ExtractFault::Refused { fault, pes }),
                 Err(CopyFault::Read) => return Err(ExtractFault::Read { pes }),
                 Err(CopyFault::Write) => return Err(ExtractFault::Write),
@@ -166,11 +169,11 @@ fn copy_pieces<P: Pieces, F: Flush>(pieces: &mut P, file: &mut F) -> Result<Extr
 }
 
 // Returns the number of gap markers after one more PES packet.
-fn counted(gaps: u64, is_mark: bool) -> u64
+fn counted(gaps: u64, is_gap_marker: bool) -> u64
     requires { gaps < u64.MAX }
-    ensures { result ≡ gaps + (if is_mark then 1 else 0) }
+    ensures { result ≡ gaps + (if is_gap_marker then 1 else 0) }
 {
-    if is_mark { gaps + 1 } else { gaps }
+    if is_gap_marker { gaps + 1 } else { gaps }
 }
 
 // Returns the line of a fault.

@@ -33,7 +33,7 @@ pub use extract::extract_packets;
 pub use fault_line::{FaultLine, Kind};
 pub use faults::{line_of_check, line_of_failed_read, line_of_usage};
 pub use help::print_help;
-pub use lines::{LINE_ROOM, Line, push_decimal, push_number, push_text};
+pub use lines::{LINE_CAPACITY, Line, push_decimal, push_number, push_text};
 pub use normal::{InputFault, read_input, write_normal};
 pub use packet::show_packet;
 pub use packets::list_packets;

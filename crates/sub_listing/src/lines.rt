@@ -7,7 +7,7 @@ ghost use Rattle.std.specs.Prelude.{◌≡◌, ◌+◌, ◌%◌, ◌≤◌, ◌<
 ghost use Rattle.arrayvec.specs.ArrayVec.{array_vec_len};
 ghost use Rattle.hex.specs.Hex.{encode_lower};
 ghost use Rattle.stl_file.specs.TimeCode.{day};
-ghost use Rattle.sub_listing.specs.EventLines.{ended_line, event_line, passed_line, trusted_line};
+ghost use Rattle.sub_listing.specs.EventLines.{ended_line, event_line, skipped_line, trusted_line};
 ghost use Rattle.sub_listing.specs.Lines.{glyph, number_in_file, text_digits, time_text};
 ghost use Rattle.sub_listing.specs.Lines.{two_digits};
 ghost use Rattle.sub_listing.specs.FaultLine.{code_text, frame_text, line_of, place_text};
@@ -22,22 +22,22 @@ use sub_rules::{CheckFault, EndRule, Event, FaultPlace};
 use ttx_pes::MOST_PACKETS;
 
 /// Room for a number in decimal.
-pub const NUMBER_ROOM: usize = 20;
+pub const NUMBER_CAPACITY: usize = 20;
 
 /// Room for the digits of a subtitle's text.
-pub const TEXT_DIGITS_ROOM: usize = 2016;
+pub const TEXT_DIGITS_CAPACITY: usize = 2016;
 
 /// Room for the number and the name of a fault: a space between them, and 16 letters.
-const CODE_ROOM: usize = NUMBER_ROOM + 17;
+const CODE_CAPACITY: usize = NUMBER_CAPACITY + 17;
 
 /// Room for the place of a fault.
-const PLACE_ROOM: usize = 80;
+const PLACE_CAPACITY: usize = 80;
 
 /// Room for one line: the longest, `refused 72 Content` with its cell, has at most 117 bytes.
-pub const LINE_ROOM: usize = 128;
+pub const LINE_CAPACITY: usize = 128;
 
 /// One line.
-pub type Line = ArrayVec<u8, LINE_ROOM>;
+pub type Line = ArrayVec<u8, LINE_CAPACITY>;
 
 /// Appends a text for which there is room.
 pub fn push_text<const N: usize>(line: &mut ArrayVec<u8, N>, text: &[u8])
@@ -50,9 +50,9 @@ pub fn push_text<const N: usize>(line: &mut ArrayVec<u8, N>, text: &[u8])
 
 /// Appends a number in decimal.
 pub fn push_decimal<const N: usize>(line: &mut ArrayVec<u8, N>, number: u64)
-    requires { array_vec_len line.old + NUMBER_ROOM ≤ N }
+    requires { array_vec_len line.old + NUMBER_CAPACITY ≤ N }
     ensures items { line.new.items ≡ line.old.items ++ decimal number }
-    ensures len { array_vec_len line.new ≤ array_vec_len line.old + NUMBER_ROOM }
+    ensures len { array_vec_len line.new ≤ array_vec_len line.old + NUMBER_CAPACITY }
 {
     let mut digits = itoa::Buffer::new();
     push_text(line, digits.format(number).as_bytes());
@@ -60,9 +60,10 @@ pub fn push_decimal<const N: usize>(line: &mut ArrayVec<u8, N>, number: u64)
 
 /// Appends a number in decimal after a word.
 pub fn push_number<const N: usize>(line: &mut ArrayVec<u8, N>, word: &[u8], number: u64)
-    requires { array_vec_len line.old + length word.now + NUMBER_ROOM ≤ N }
+    requires { array_vec_len line.old + length word.now + NUMBER_CAPACITY ≤ N }
     ensures items { line.new.items ≡ line.old.items ++ word.now ++ decimal number }
-    ensures len { array_vec_len line.new ≤ array_vec_len line.old + length word.now + NUMBER_ROOM }
+    ensures len { array_vec_len line.new ≤ array_vec_len line.old + length word.now +
+        NUMBER_CAPACITY }
 {
     push_text(line, word);
     push_decimal(line, number);
@@ -121,14 +122,14 @@ pub fn push_time<const N: usize>(line: &mut ArrayVec<u8, N>, time: TimeCode)
 #[tactic(auto, unfolding(crate::specs::Lines::text_digits))]
 pub fn push_text_digits<const N: usize>(line: &mut ArrayVec<u8, N>, text: &[u8])
     requires few { length text.now ≤ 1008 }
-    requires room { array_vec_len line.old + TEXT_DIGITS_ROOM ≤ N }
+    requires room { array_vec_len line.old + TEXT_DIGITS_CAPACITY ≤ N }
     ensures items { line.new.items ≡ line.old.items ++ text_digits text.now }
-    ensures len { array_vec_len line.new ≤ array_vec_len line.old + TEXT_DIGITS_ROOM }
+    ensures len { array_vec_len line.new ≤ array_vec_len line.old + TEXT_DIGITS_CAPACITY }
 {
     if text.len() == 0 {
         return push_text(line, b"-");
     }
-    let mut room = [0; TEXT_DIGITS_ROOM];
+    let mut room = [0; TEXT_DIGITS_CAPACITY];
     let (digits, _) = room.split_at_mut(2 * text.len());
     let _ = hex::encode_to_slice(text, digits);
     push_text(line, digits);
@@ -146,37 +147,37 @@ pub fn glyph(code: u8) -> u8
 }
 
 /// Appends the line of a fault.
-pub fn push_fault_line<const N: usize>(line: &mut ArrayVec<u8, N>, told: &FaultLine)
-    requires { array_vec_len line.old + LINE_ROOM ≤ N }
-    ensures { line.new.items ≡ line.old.items ++ line_of told.now }
+pub fn push_fault_line<const N: usize>(line: &mut ArrayVec<u8, N>, reported: &FaultLine)
+    requires { array_vec_len line.old + LINE_CAPACITY ≤ N }
+    ensures { line.new.items ≡ line.old.items ++ line_of reported.now }
 {
-    match told.kind {
+    match reported.kind {
         Kind::Refused => push_text(line, b"refused "),
         Kind::Fault => push_text(line, b"fault "),
         Kind::Usage => push_text(line, b"usage "),
     }
-    push_code(line, &told.code);
-    push_place(line, told.place, told.first);
+    push_code(line, &reported.code);
+    push_place(line, reported.place, reported.first);
     push_text(line, b"\n");
 }
 
 /// Appends the line of an event: of a fault, of a rule that was broken up to a frame, or of trusted
 /// frames. The first PES packet that is read has the number `first` in its file.
 pub fn push_event<const N: usize>(line: &mut ArrayVec<u8, N>, event: Event, first: u64)
-    requires { array_vec_len line.old + LINE_ROOM ≤ N }
+    requires { array_vec_len line.old + LINE_CAPACITY ≤ N }
     ensures { line.new.items ≡ line.old.items ++ event_line first event }
 {
     match event {
-        Event::Told(fault) => push_fault_line(line, &line_of_check(fault).counted_from(first)),
+        Event::Reported(fault) => push_fault_line(line, &line_of_check(fault).counted_from(first)),
         Event::Ended { rule, frame } => push_ended(line, rule, frame),
-        Event::PassedUntil(fault) => push_passed(line, fault, first),
+        Event::SkippedUntil(fault) => push_skipped(line, fault, first),
         Event::Trusted { from, to } => push_trusted(line, from, to),
     }
 }
 
 // Appends the line of a rule that was broken up to a frame.
 fn push_ended<const N: usize>(line: &mut ArrayVec<u8, N>, rule: EndRule, frame: u32)
-    requires { array_vec_len line.old + LINE_ROOM ≤ N }
+    requires { array_vec_len line.old + LINE_CAPACITY ≤ N }
     ensures { line.new.items ≡ line.old.items ++ ended_line rule frame }
 {
     push_text(line, b"ended ");
@@ -186,9 +187,9 @@ fn push_ended<const N: usize>(line: &mut ArrayVec<u8, N>, rule: EndRule, frame: 
 }
 
 // Appends the line of PES packets that were skipped up to the one that the fault names.
-fn push_passed<const N: usize>(line: &mut ArrayVec<u8, N>, fault: CheckFault, first: u64)
-    requires { array_vec_len line.old + LINE_ROOM ≤ N }
-    ensures { line.new.items ≡ line.old.items ++ passed_line first fault }
+fn push_skipped<const N: usize>(line: &mut ArrayVec<u8, N>, fault: CheckFault, first: u64)
+    requires { array_vec_len line.old + LINE_CAPACITY ≤ N }
+    ensures { line.new.items ≡ line.old.items ++ skipped_line first fault }
 {
     push_text(line, b"ended ");
     push_code(line, &fault.code());
@@ -198,7 +199,7 @@ fn push_passed<const N: usize>(line: &mut ArrayVec<u8, N>, fault: CheckFault, fi
 
 // Appends the line of trusted frames.
 fn push_trusted<const N: usize>(line: &mut ArrayVec<u8, N>, from: u32, to: u32)
-    requires { array_vec_len line.old + LINE_ROOM ≤ N }
+    requires { array_vec_len line.old + LINE_CAPACITY ≤ N }
     ensures { line.new.items ≡ line.old.items ++ trusted_line from to }
 {
     push_text(line, b"trusted frames ");
@@ -210,9 +211,9 @@ fn push_trusted<const N: usize>(line: &mut ArrayVec<u8, N>, from: u32, to: u32)
 
 // Appends the number and the name of a fault.
 fn push_code<const N: usize>(line: &mut ArrayVec<u8, N>, code: &FaultCode)
-    requires { array_vec_len line.old + CODE_ROOM ≤ N }
+    requires { array_vec_len line.old + CODE_CAPACITY ≤ N }
     ensures items { line.new.items ≡ line.old.items ++ code_text code.now }
-    ensures len { array_vec_len line.new ≤ array_vec_len line.old + CODE_ROOM }
+    ensures len { array_vec_len line.new ≤ array_vec_len line.old + CODE_CAPACITY }
 {
     push_decimal(line, u64::from(code.number()));
     push_text(line, b" ");
@@ -221,9 +222,9 @@ fn push_code<const N: usize>(line: &mut ArrayVec<u8, N>, code: &FaultCode)
 
 // Appends the place of a fault, if the first PES packet that is read has this number in its file.
 fn push_place<const N: usize>(line: &mut ArrayVec<u8, N>, place: FaultPlace, first: u64)
-    requires { array_vec_len line.old + PLACE_ROOM ≤ N }
+    requires { array_vec_len line.old + PLACE_CAPACITY ≤ N }
     ensures items { line.new.items ≡ line.old.items ++ place_text first place }
-    ensures len { array_vec_len line.new ≤ array_vec_len line.old + PLACE_ROOM }
+    ensures len { array_vec_len line.new ≤ array_vec_len line.old + PLACE_CAPACITY }
 {
     match place {
         FaultPlace::Nowhere => (),

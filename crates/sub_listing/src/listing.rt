@@ -4,7 +4,7 @@ ghost use Rattle.std.specs.Prelude.{Bool, List, Option, false, true};
 ghost use Rattle.std.specs.Borrow.{GName};
 ghost use Rattle.sub_io.specs.Device.{CountsIf};
 ghost use Rattle.sub_listing.specs.DeviceCall.{CanFail, CountsFault, read_call, sink_call};
-ghost use Rattle.sub_listing.specs.LastLine.{HoldsLastLine, IsAlone};
+ghost use Rattle.sub_listing.specs.LastLine.{BuffersLastLineOnly, IsAlone};
 ghost use Rattle.sub_listing.specs.Listing.{Gives, IsCut, IsListed, PrintsListing, has_failed};
 ghost use Rattle.sub_listing.specs.Printer.{StaysPrinted, printer_value};
 ghost use Rattle.sub_listing.specs.FaultLine.{line_of, status_of};
@@ -18,10 +18,10 @@ use arrayvec::ArrayVec;
 use sub_io::Flush;
 
 /// Room for the lines of one PES packet, or of one subtitle.
-pub const LINES_ROOM: usize = 7168;
+pub const LINES_CAPACITY: usize = 7168;
 
 /// The lines of one of them.
-pub type Text = ArrayVec<u8, LINES_ROOM>;
+pub type Text = ArrayVec<u8, LINES_CAPACITY>;
 
 /// Reads an input, a source or PES packets, and makes the lines of its parts.
 pub trait Lister<I> {
@@ -29,7 +29,7 @@ pub trait Lister<I> {
     ghost ready: { Self → Type 0 };
 
     /// How many parts it can still give at most.
-    ghost pieces: { Self → ℕ };
+    ghost pes_packets: { Self → ℕ };
 
     /// The listings that are possible from here on.
     ghost lists: { Self → IsListed };
@@ -78,18 +78,18 @@ pub trait Lister<I> {
             → left input.new ≡ known input.new }
         ensures ready { printer.new.failed ≡ false → result ≡ None → ready self.new }
         ensures fewer { printer.new.failed ≡ false → result ≡ None
-            → pieces self.new < pieces self.old }
+            → pes_packets self.new < pes_packets self.old }
         ensures count { printer.new.failed ≡ false
             → CountsIf failure_count input.old (has_failed result) input.new }
         ensures cut { printer.new.failed ≡ true
             → IsCut (lists self.old) (known input.old) (left input.new) }
         ensures cut_count { printer.new.failed ≡ true
             → failure_count input.new ≡ failure_count input.old }
-        ensures held { device input.new ≡ device input.old }
+        ensures buffered { device input.new ≡ device input.old }
         ensures followed { is_followed ≡ true
-            → (printer.old.waiting ≡ false → K.held printer.old.out.now ≡ 0)
+            → (printer.old.pending ≡ false → K.buffered printer.old.out.now ≡ 0)
             → has_failed result ≡ true → printer.new.failed ≡ false
-            → IsAlone (K.held printer.new.out.now) text.new.items };
+            → IsAlone (K.buffered printer.new.out.now) text.new.items };
 }
 
 /// Lists a file, one part after another.
@@ -103,21 +103,21 @@ pub fn list<I, L: Lister<I>, K: Flush>(lister: &mut L, input: &mut I, out: &mut 
         (read_call L.known L.left L.failure_count input.old input.new)
         (sink_call K.contents K.failure_count out.old out.new) result }
     ensures input_count { CountsFault L.failure_count input.old result input.new }
-    ensures held { L.device input.new ≡ L.device input.old }
+    ensures buffered { L.device input.new ≡ L.device input.old }
     ensures out_count { CountsFault K.failure_count out.old result out.new }
     ensures fault { result ≡ Status.Fault
         → L.failure_count input.old + K.failure_count out.old
         < L.failure_count input.new + K.failure_count out.new }
     ensures followed { L.is_followed ≡ true
-        → K.held out.old ≡ 0
+        → K.buffered out.old ≡ 0
         → L.failure_count input.old < L.failure_count input.new
-        → HoldsLastLine K.contents K.held K.is_push out.new }
+        → BuffersLastLineOnly K.contents K.buffered K.is_push out.new }
 {
     let mut printer = Printer {
         out,
         refused: 0,
         failed: false,
-        waiting: false,
+        pending: false,
         first: 0,
     };
     list_to(lister, input, &mut printer)
@@ -138,19 +138,19 @@ fn list_to<I, L: Lister<I>, K: Flush>(
         (read_call L.known L.left L.failure_count input.old input.new)
         (sink_call K.contents K.failure_count printer.old.out.now printer.new.out.now) result }
     ensures input_count { CountsFault L.failure_count input.old result input.new }
-    ensures held { L.device input.new ≡ L.device input.old }
+    ensures buffered { L.device input.new ≡ L.device input.old }
     ensures out_count { CountsFault K.failure_count printer.old.out.now result
         printer.new.out.now }
     ensures fault { result ≡ Status.Fault
         → L.failure_count input.old + K.failure_count printer.old.out.now
         < L.failure_count input.new + K.failure_count printer.new.out.now }
     ensures followed { L.is_followed ≡ true
-        → (printer.old.waiting ≡ false → K.held printer.old.out.now ≡ 0)
+        → (printer.old.pending ≡ false → K.buffered printer.old.out.now ≡ 0)
         → L.failure_count input.old < L.failure_count input.new
-        → HoldsLastLine K.contents K.held K.is_push printer.new.out.now }
+        → BuffersLastLineOnly K.contents K.buffered K.is_push printer.new.out.now }
 {
     let mut text = Text::new();
-    'pieces: loop {
+    'pes_packets: loop {
         text.clear();
         let end = lister.next(input, printer, &mut text);
         if printer.failed {
@@ -167,13 +167,13 @@ fn list_to<I, L: Lister<I>, K: Flush>(
 }
 
 /// Ends a listing with the line of a fault.
-pub fn end_with(text: &mut Text, told: &FaultLine) -> Option<Status>
+pub fn end_with(text: &mut Text, reported: &FaultLine) -> Option<Status>
     requires { text.old.items ≡ [] }
-    ensures line { text.new.items ≡ line_of told.now }
-    ensures end { result ≡ Some (status_of told.now.kind) }
+    ensures line { text.new.items ≡ line_of reported.now }
+    ensures end { result ≡ Some (status_of reported.now.kind) }
 {
-    push_fault_line(text, told);
-    Some(told.status())
+    push_fault_line(text, reported);
+    Some(reported.status())
 }
 
 /// Ends a listing with the number of items that were listed.

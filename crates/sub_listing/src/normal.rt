@@ -6,7 +6,7 @@ ghost use Rattle.stl_file.specs.Fault.{is_normal_write};
 ghost use Rattle.stl_file.specs.NormalForm.{NormalAnswers};
 ghost use Rattle.stl_file.specs.Reader.{block_of_byte};
 ghost use Rattle.sub_listing.specs.DeviceCall.{CountsFault, sink_call, source_call};
-ghost use Rattle.sub_listing.specs.Writing.{EndsWork, Normalizes, TellsRead, is_input_read};
+ghost use Rattle.sub_listing.specs.Writing.{EndsWork, Normalizes, ReportsRead, is_input_read};
 ghost use Rattle.sub_listing.specs.Writing.{most_read};
 
 use crate::status::Status;
@@ -20,7 +20,7 @@ use sub_io::{Close, Sink, Source};
 const MOST_READ: usize = 12_800_897;
 
 /// The maximum number of bytes of one pull.
-const PULL_ROOM: usize = 4096;
+const PULL_CAPACITY: usize = 4096;
 
 /// Why the input was not read.
 #[derive(Clone, Copy, Debug, PartialEq, Eq)]
@@ -56,7 +56,7 @@ pub fn write_normal<S: Source, F: Close, K: Sink>(
     ensures input_count { CountsFault S.failure_count input.old result input.new }
     ensures file_count { CountsFault F.failure_count file.old result file.new }
     ensures out_count { CountsFault K.failure_count out.old result out.new }
-    ensures held { result ≡ Status.Done → F.held file.new ≡ 0 }
+    ensures buffered { result ≡ Status.Done → F.buffered file.new ≡ 0 }
     ensures stored { result ≡ Status.Done → F.is_stored file.new ≡ true }
 {
     write(alloc, &NormalWork, b" subtitles\n", input, file, out)
@@ -92,7 +92,7 @@ fn put_normal<F: Close>(bytes: &[u8], file: &mut F) -> Result<u32, NormalFault>
     ensures answer { (s : List ℕ) → bytes.now ≡ take most_read s
         → NormalAnswers s (F.contents file.old) (F.contents file.new) result }
     ensures count { CountsIf F.failure_count file.old (failed is_normal_write result) file.new }
-    ensures held { OnOk result (F.held file.new ≡ 0) }
+    ensures buffered { OnOk result (F.buffered file.new ≡ 0) }
     ensures stored { OnOk result (F.is_stored file.new ≡ true) }
 {
     match normal(bytes, file) {
@@ -118,17 +118,17 @@ pub fn read_input<A: Allocator + Drop, S: Source>(
     requires { CanFail (S.failure_count input.old) }
     ensures bytes { IfKnown (S.remaining input.old) (λ bytes.
         IfOk result (λ v. v.items ≡ take most_read bytes)) }
-    ensures read { IfErr result (TellsRead (S.remaining input.old) (S.remaining input.new)) }
+    ensures read { IfErr result (ReportsRead (S.remaining input.old) (S.remaining input.new)) }
     ensures count { CountsIf S.failure_count input.old (failed is_input_read result) input.new }
 {
     let mut bytes = Vec::new(alloc);
-    let mut room = [0; PULL_ROOM];
-    'pieces: while bytes.len() < MOST_READ {
-        let piece = &mut room[..PULL_ROOM.min(MOST_READ - bytes.len())];
-        match input.pull(piece) {
+    let mut room = [0; PULL_CAPACITY];
+    'pes_packets: while bytes.len() < MOST_READ {
+        let pes_packet = &mut room[..PULL_CAPACITY.min(MOST_READ - bytes.len())];
+        match input.pull(pes_packet) {
             Ok(0) => return Ok(bytes),
             Ok(len) => {
-                let Ok(()) = bytes.extend_from_slice(&piece[..len]) else {
+                let Ok(()) = bytes.extend_from_slice(&pes_packet[..len]) else {
                     return Err(InputFault::Memory);
                 };
             }

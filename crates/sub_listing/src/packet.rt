@@ -17,23 +17,23 @@ use sub_io::{FaultCode, Sink};
 use ttx_packet::{Control, Header, Packet, is_odd};
 
 // Room for the line of an address.
-const ADDRESS_ROOM: usize = 64;
+const ADDRESS_CAPACITY: usize = 64;
 
 // Room for the control bits that are set.
-const CONTROL_ROOM: usize = 40;
+const CONTROL_CAPACITY: usize = 40;
 
 // Room for the line of a page header.
-const HEADER_ROOM: usize = 80;
+const HEADER_CAPACITY: usize = 80;
 
 // Room for the line of 40 text bytes.
-const TEXT_ROOM: usize = 48;
+const TEXT_CAPACITY: usize = 48;
 
 // Room for all the output of one packet.
-const PACKET_ROOM: usize = 256;
+const PACKET_CAPACITY: usize = 256;
 
-const _: () = prove!(ADDRESS_ROOM + HEADER_ROOM + TEXT_ROOM <= PACKET_ROOM);
+const _: () = prove!(ADDRESS_CAPACITY + HEADER_CAPACITY + TEXT_CAPACITY <= PACKET_CAPACITY);
 
-type Text = ArrayVec<u8, PACKET_ROOM>;
+type Text = ArrayVec<u8, PACKET_CAPACITY>;
 
 const HEX_DIGITS: [u8; 16] = *b"0123456789ABCDEF";
 
@@ -100,9 +100,9 @@ fn push_packet(text: &mut Text, packet: &Packet) -> Result<(), PacketFault>
 
 // Appends a packet's address as a line.
 fn push_address(line: &mut Text, magazine: u8, packet_number: u8)
-    requires { array_vec_len line.old + ADDRESS_ROOM ≤ PACKET_ROOM }
+    requires { array_vec_len line.old + ADDRESS_CAPACITY ≤ PACKET_CAPACITY }
     ensures items { line.new.items ≡ line.old.items ++ address_line magazine packet_number }
-    ensures len { array_vec_len line.new ≤ array_vec_len line.old + ADDRESS_ROOM }
+    ensures len { array_vec_len line.new ≤ array_vec_len line.old + ADDRESS_CAPACITY }
 {
     let shown_magazine = if magazine == 0 { 8 } else { magazine };
     push_number(line, b"magazine ", u64::from(shown_magazine));
@@ -112,9 +112,9 @@ fn push_address(line: &mut Text, magazine: u8, packet_number: u8)
 
 // Appends the contents of a page header as a line.
 fn push_header(line: &mut Text, header: &Header)
-    requires { array_vec_len line.old + HEADER_ROOM ≤ PACKET_ROOM }
+    requires { array_vec_len line.old + HEADER_CAPACITY ≤ PACKET_CAPACITY }
     ensures items { line.new.items ≡ line.old.items ++ header_line header.now }
-    ensures len { array_vec_len line.new ≤ array_vec_len line.old + HEADER_ROOM }
+    ensures len { array_vec_len line.new ≤ array_vec_len line.old + HEADER_CAPACITY }
 {
     push_text(line, b"page ");
     push_hex(line, header.page);
@@ -129,7 +129,7 @@ fn push_header(line: &mut Text, header: &Header)
 // Appends a byte as two upper case hexadecimal digits.
 #[tactic(auto, unfolding(crate::specs::Lines::hex_two))]
 fn push_hex(line: &mut Text, byte: u8)
-    requires { array_vec_len line.old + 2 ≤ PACKET_ROOM }
+    requires { array_vec_len line.old + 2 ≤ PACKET_CAPACITY }
     ensures items { line.new.items ≡ line.old.items ++ hex_two byte }
     ensures len { array_vec_len line.new ≡ array_vec_len line.old + 2 }
 {
@@ -139,12 +139,12 @@ fn push_hex(line: &mut Text, byte: u8)
 
 // Appends the control bits that are set, or ` none`.
 fn push_control(line: &mut Text, header: &Header)
-    requires { array_vec_len line.old + CONTROL_ROOM ≤ PACKET_ROOM }
+    requires { array_vec_len line.old + CONTROL_CAPACITY ≤ PACKET_CAPACITY }
     ensures items { line.new.items ≡ line.old.items ++ control_list header.now }
-    ensures len { array_vec_len line.new ≤ array_vec_len line.old + CONTROL_ROOM }
+    ensures len { array_vec_len line.new ≤ array_vec_len line.old + CONTROL_CAPACITY }
 {
     let control = header.control;
-    let mut names = ArrayVec::<u8, CONTROL_ROOM>::new();
+    let mut names = ArrayVec::<u8, CONTROL_CAPACITY>::new();
     push_name(&mut names, control.contains(Control::C4), b" C4");
     push_name(&mut names, control.contains(Control::C5), b" C5");
     push_name(&mut names, control.contains(Control::C6), b" C6");
@@ -164,8 +164,8 @@ fn push_control(line: &mut Text, header: &Header)
 }
 
 // Appends the name of a bit that is set.
-fn push_name(names: &mut ArrayVec<u8, CONTROL_ROOM>, is_set: bool, name: &[u8])
-    requires { array_vec_len names.old + length name.now ≤ CONTROL_ROOM }
+fn push_name(names: &mut ArrayVec<u8, CONTROL_CAPACITY>, is_set: bool, name: &[u8])
+    requires { array_vec_len names.old + length name.now ≤ CONTROL_CAPACITY }
     ensures items { names.new.items ≡ names.old.items ++ marked is_set name.now }
     ensures len { array_vec_len names.new ≤ array_vec_len names.old + length name.now }
 {
@@ -177,7 +177,7 @@ fn push_name(names: &mut ArrayVec<u8, CONTROL_ROOM>, is_set: bool, name: &[u8])
 // Appends text bytes between bars as a line.
 fn push_text_line(line: &mut Text, bytes: &[u8])
     requires short { length bytes.now ≤ 40 }
-    requires room { array_vec_len line.old + TEXT_ROOM ≤ PACKET_ROOM }
+    requires room { array_vec_len line.old + TEXT_CAPACITY ≤ PACKET_CAPACITY }
     ensures { line.new.items ≡ line.old.items ++ text_line bytes.now }
 {
     push_text(line, b"text |");

@@ -3,53 +3,55 @@ ghost use Rattle.std.specs.Prelude.{◌≡◌, ℕ, ◌+◌, ◌-◌, ◌<◌, �
 ghost use Rattle.std.specs.Prelude.{OnOk, false, is_err, true};
 ghost use Rattle.arrayvec.specs.ArrayVec.{array_vec_len};
 ghost use Rattle.sub_io.specs.Device.{CanFail};
-ghost use Rattle.ttx_pes.specs.LentPacket.{NothingWaits};
+ghost use Rattle.ttx_pes.specs.BorrowedPacket.{NothingIsPending};
 ghost use Rattle.ttx_pes.specs.Outcome.{ReadsPackets, outcome_after};
 ghost use Rattle.ttx_pes.specs.Reading.{most_packets};
 ghost use Rattle.ttx_pes.specs.declared.progress.Progress.TheVariants.{Reading};
 ghost use Rattle.sub_listing.specs.FirstPacket.{PrintsFrom, first_number};
 ghost use Rattle.sub_listing.specs.Lines.{number_in_file, unit_line};
 ghost use Rattle.sub_listing.specs.DeviceCall.{CountsFault, read_call, sink_call};
-ghost use Rattle.sub_listing.specs.LastLine.{HoldsLastLine};
+ghost use Rattle.sub_listing.specs.LastLine.{BuffersLastLineOnly};
 ghost use Rattle.sub_listing.specs.Listing.{Lists};
 ghost use Rattle.sub_listing.specs.PacketsListing.{ListsPackets, frame_lines, pes_listing};
 ghost use Rattle.sub_listing.specs.Printer.{StaysPrinted, printer_value};
 
 use crate::faults::{line_of_check, line_of_failed_read};
 use crate::lines::{number_in_file, push_lower_hex, push_number, push_text};
-use crate::listing::{LINES_ROOM, Lister, Text, end_at, end_with, list};
+use crate::listing::{LINES_CAPACITY, Lister, Text, end_at, end_with, list};
 use crate::printer::Printer;
 use crate::printing::print_fault_line;
 use crate::status::Status;
 use sub_io::{Flush, Stopped};
 use sub_rules::CheckFault;
-use ttx_pes::{Compared, ComparingReader, MOST_UNITS, NumberedPieces, Pieces, Unit, hand_on_first};
+use ttx_pes::{
+    Compared, ComparingReader, MOST_UNITS, NumberedPesPackets, PesPackets, Unit, flush_first,
+};
 
 /// Lists the PES packets of a file (EN 300 472), each by its number in the file, and then how many
 /// were listed, or why the file is refused.
 ///
 /// Lines before a refusal stay. Returns `Fault` if a device failed.
-pub fn list_packets<P: NumberedPieces, K: Flush>(pieces: &mut P, out: &mut K) -> Status
-    requires pieces { CanFail (P.failure_count pieces.old) }
+pub fn list_packets<P: NumberedPesPackets, K: Flush>(pes_packets: &mut P, out: &mut K) -> Status
+    requires pes_packets { CanFail (P.failure_count pes_packets.old) }
     requires out { CanFail (K.failure_count out.old) }
     ensures listing { PrintsFrom ListsPackets
-        (first_number P.first P.passed pieces.old pieces.new)
-        (read_call P.remaining P.left P.failure_count pieces.old pieces.new)
+        (first_number P.first P.skipped pes_packets.old pes_packets.new)
+        (read_call P.remaining P.left P.failure_count pes_packets.old pes_packets.new)
         (sink_call K.contents K.failure_count out.old out.new) result }
-    ensures device { P.device pieces.new ≡ P.device pieces.old }
-    ensures pieces_count { CountsFault P.failure_count pieces.old result pieces.new }
+    ensures device { P.device pes_packets.new ≡ P.device pes_packets.old }
+    ensures pes_failures { CountsFault P.failure_count pes_packets.old result pes_packets.new }
     ensures out_count { CountsFault K.failure_count out.old result out.new }
     ensures fault { result ≡ Status.Fault
-        → P.failure_count pieces.old + K.failure_count out.old
-        < P.failure_count pieces.new + K.failure_count out.new }
+        → P.failure_count pes_packets.old + K.failure_count out.old
+        < P.failure_count pes_packets.new + K.failure_count out.new }
     // Before a device may be asked, which may fail, everything is flushed. So if it failed, only
     // the line of its failure may be held back.
-    ensures followed { K.held out.old ≡ 0
-        → P.failure_count pieces.old < P.failure_count pieces.new
-        → HoldsLastLine K.contents K.held K.is_push out.new }
+    ensures followed { K.buffered out.old ≡ 0
+        → P.failure_count pes_packets.old < P.failure_count pes_packets.new
+        → BuffersLastLineOnly K.contents K.buffered K.is_push out.new }
 {
-    match pieces.find_first() {
-        Ok(first) => list(&mut PacketLister::new(first), pieces, out),
+    match pes_packets.find_first() {
+        Ok(first) => list(&mut PacketLister::new(first), pes_packets, out),
         Err(at) => print_fault_line(&line_of_failed_read(at), out),
     }
 }
@@ -93,10 +95,10 @@ impl PacketLister {
     }
 }
 
-impl<P: Pieces> Lister<P> for PacketLister {
+impl<P: PesPackets> Lister<P> for PacketLister {
     ghost ready = { λ l. (l.reader.progress ≡ Reading l.index) × (l.index ≤ most_packets) };
 
-    ghost pieces = { λ l. most_packets - l.index };
+    ghost pes_packets = { λ l. most_packets - l.index };
 
     ghost lists = { λ l. Lists (pes_listing l.first l.index) (outcome_after l.index) ReadsPackets };
 
@@ -116,7 +118,7 @@ impl<P: Pieces> Lister<P> for PacketLister {
         printer: &mut Printer<'_, K>,
         text: &mut Text,
     ) -> Option<Status> {
-        if hand_on_lines(input, printer).is_err() {
+        if flush_lines(input, printer).is_err() {
             return Some(Status::Fault);
         }
         match self.reader.next(input) {
@@ -125,16 +127,16 @@ impl<P: Pieces> Lister<P> for PacketLister {
             Ok(Compared::Other) => self.list_read(text),
             Err(fault) => {
                 let pes = self.index;
-                let told = line_of_check(CheckFault::Pes { fault, pes });
-                end_with(text, &told.counted_from(self.first))
+                let reported = line_of_check(CheckFault::Pes { fault, pes });
+                end_with(text, &reported.counted_from(self.first))
             }
         }
     }
 }
 
 // Flushes earlier lines if a device may be asked for the next PES packet.
-fn hand_on_lines<P: Pieces, K: Flush>(
-    pieces: &P,
+fn flush_lines<P: PesPackets, K: Flush>(
+    pes_packets: &P,
     printer: &mut Printer<'_, K>,
 ) -> Result<(), Stopped>
     requires out { CanFail (K.failure_count printer.old.out.now) }
@@ -146,11 +148,11 @@ fn hand_on_lines<P: Pieces, K: Flush>(
         (printer_value (K.contents printer.new.out.now) (K.failure_count printer.new.out.now)
         printer.new.refused printer.new.failed printer.new.first) }
     ensures failed { printer.new.failed ≡ is_err result }
-    ensures settled { OnOk result (NothingWaits printer.new.waiting (P.ready pieces.now)) }
-    ensures holds { (printer.old.waiting ≡ false → K.held printer.old.out.now ≡ 0)
-        → OnOk result (printer.new.waiting ≡ false → K.held printer.new.out.now ≡ 0) }
+    ensures settled { OnOk result (NothingIsPending printer.new.pending (P.ready pes_packets.now)) }
+    ensures holds { (printer.old.pending ≡ false → K.buffered printer.old.out.now ≡ 0)
+        → OnOk result (printer.new.pending ≡ false → K.buffered printer.new.out.now ≡ 0) }
 {
-    hand_on_first(pieces, printer)
+    flush_first(pes_packets, printer)
 }
 
 // Room for the line of a PES packet.
@@ -160,7 +162,7 @@ const PES_LINE: usize = 64;
 const UNIT_LINE: usize = 192;
 
 // A part has room for the lines of a PES packet and of all its units.
-const _: () = prove!(PES_LINE + MOST_UNITS * UNIT_LINE <= LINES_ROOM);
+const _: () = prove!(PES_LINE + MOST_UNITS * UNIT_LINE <= LINES_CAPACITY);
 
 // Appends the lines of a PES packet with this number in its file, and of its Teletext units.
 fn push_frame(text: &mut Text, number: u64, reader: &ComparingReader)
@@ -178,7 +180,7 @@ fn push_frame(text: &mut Text, number: u64, reader: &ComparingReader)
 
 // Appends the line of a Teletext unit: its fields, and its packet in the bit order of Teletext.
 fn push_unit(text: &mut Text, number: usize, unit: &Unit)
-    requires { array_vec_len text.old + UNIT_LINE ≤ LINES_ROOM }
+    requires { array_vec_len text.old + UNIT_LINE ≤ LINES_CAPACITY }
     ensures items { text.new.items ≡ text.old.items ++ unit_line number unit.now }
     ensures len { array_vec_len text.new ≤ array_vec_len text.old + UNIT_LINE }
 {

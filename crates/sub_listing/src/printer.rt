@@ -6,7 +6,7 @@ ghost use Rattle.sub_io.specs.Device.{AppendsPrefix, CanFail, CountsFailure};
 ghost use Rattle.sub_listing.specs.EventLines.{refusal, subtitle_event};
 ghost use Rattle.sub_listing.specs.LastLine.{PutsLine};
 ghost use Rattle.sub_listing.specs.StaysPrinted.{line_stays};
-ghost use Rattle.sub_listing.specs.Printer.{HandsOnLines, PrintsEvent, can_fail, counted};
+ghost use Rattle.sub_listing.specs.Printer.{FlushesLines, PrintsEvent, can_fail, counted};
 ghost use Rattle.sub_listing.specs.Printer.{printer_value};
 
 use crate::lines::{Line, push_event};
@@ -26,7 +26,7 @@ pub struct Printer<'a, K> {
     /// The sink failed.
     pub failed: bool,
     /// Lines were written that the sink may hold back.
-    pub waiting: bool,
+    pub pending: bool,
     /// The number in its file of the first PES packet that is read, counted from 0.
     pub first: u64,
 }
@@ -39,14 +39,14 @@ impl<'a, K: Flush> Printer<'a, K> {
     /// Returns `Stopped` if the sink fails, or has failed before.
     fn flush(&mut self) -> Result<(), Stopped>
         ensures same { self.new.out.ghost_name ≡ self.old.out.ghost_name }
-        ensures lines { HandsOnLines
+        ensures lines { FlushesLines
             (printer_value (K.contents self.old.out.now) (K.failure_count self.old.out.now)
             self.old.refused self.old.failed self.old.first) (is_ok result)
             (printer_value (K.contents self.new.out.now) (K.failure_count self.new.out.now)
             self.new.refused self.new.failed self.new.first) }
-        ensures still { OnOk result (self.new.waiting ≡ false) }
-        ensures held { OnOk result (K.held self.new.out.now ≡ 0) }
-        ensures waits { OnErr result (self.new.waiting ≡ self.old.waiting) }
+        ensures still { OnOk result (self.new.pending ≡ false) }
+        ensures buffered { OnOk result (K.buffered self.new.out.now ≡ 0) }
+        ensures has_pending { OnErr result (self.new.pending ≡ self.old.pending) }
     {
         if self.failed || self.out.failures() == u64::MAX {
             return Err(Stopped);
@@ -55,7 +55,7 @@ impl<'a, K: Flush> Printer<'a, K> {
             self.failed = true;
             return Err(Stopped);
         }
-        self.waiting = false;
+        self.pending = false;
         Ok(())
     }
 }
@@ -81,9 +81,9 @@ impl<'a, K: Sink> Printer<'a, K> {
         ensures stopped { OnErr result (self.new.failed ≡ true) }
         ensures line { PutsLine K.contents K.is_push self.old.out.now lines.now self.new.out.now }
         // Otherwise a live list would keep its lines until the sink is full.
-        ensures waits { self.new.waiting ≡ true }
+        ensures has_pending { self.new.pending ≡ true }
     {
-        self.waiting = true;
+        self.pending = true;
         match put_all(self.out, lines) {
             Ok(()) => Ok(()),
             Err(_) => {
@@ -104,7 +104,7 @@ impl<'a, K: Sink> Printer<'a, K> {
             (printer_value (K.contents self.new.out.now) (K.failure_count self.new.out.now)
             self.new.refused self.new.failed self.new.first) }
         ensures stopped { self.new.failed ≡ is_err result }
-        ensures waits { self.new.waiting ≡ true }
+        ensures has_pending { self.new.pending ≡ true }
     {
         let mut line = Line::new();
         push_event(&mut line, event, self.first);
@@ -129,19 +129,19 @@ fn refusal(event: Event) -> u64
     ensures { result ≡ refusal event }
 {
     match event {
-        Event::Told(_) => 1,
-        Event::Ended { .. } | Event::PassedUntil(_) | Event::Trusted { .. } => 0,
+        Event::Reported(_) => 1,
+        Event::Ended { .. } | Event::SkippedUntil(_) | Event::Trusted { .. } => 0,
     }
 }
 
 impl<K: Flush> Audience<Event> for Printer<'_, K> {
-    ghost is_told = { λ s event t. (t.out.ghost_name ≡ s.out.ghost_name)
+    ghost is_reported = { λ s event t. (t.out.ghost_name ≡ s.out.ghost_name)
         × PrintsEvent
         (printer_value (K.contents s.out.now) (K.failure_count s.out.now) s.refused s.failed
         s.first) event
         (printer_value (K.contents t.out.now) (K.failure_count t.out.now) t.refused t.failed
         t.first)
-        × (t.waiting ≡ false → K.held t.out.now ≡ 0) };
+        × (t.pending ≡ false → K.buffered t.out.now ≡ 0) };
 
     ghost has_stopped = { λ p. p.failed || not (can_fail (K.failure_count p.out.now)) };
 
@@ -150,20 +150,20 @@ impl<K: Flush> Audience<Event> for Printer<'_, K> {
     /// # Errors
     ///
     /// Returns `Stopped` if the sink failed, which has a prefix of the line.
-    fn tell(&mut self, item: Event) -> Result<(), Stopped> {
+    fn report(&mut self, item: Event) -> Result<(), Stopped> {
         self.print(item)
     }
 }
 
 impl<K: Flush> Audience<LoadFault> for Printer<'_, K> {
-    ghost is_told = { λ s fault t. (t.out.ghost_name ≡ s.out.ghost_name)
+    ghost is_reported = { λ s fault t. (t.out.ghost_name ≡ s.out.ghost_name)
         × PrintsEvent
         (printer_value (K.contents s.out.now) (K.failure_count s.out.now) s.refused s.failed
         s.first)
         (subtitle_event fault)
         (printer_value (K.contents t.out.now) (K.failure_count t.out.now) t.refused t.failed
         t.first)
-        × (t.waiting ≡ false → K.held t.out.now ≡ 0) };
+        × (t.pending ≡ false → K.buffered t.out.now ≡ 0) };
 
     ghost has_stopped = { λ p. p.failed || not (can_fail (K.failure_count p.out.now)) };
 
@@ -172,27 +172,27 @@ impl<K: Flush> Audience<LoadFault> for Printer<'_, K> {
     /// # Errors
     ///
     /// Returns `Stopped` if the sink failed, which has a prefix of the line.
-    fn tell(&mut self, item: LoadFault) -> Result<(), Stopped> {
-        self.print(Event::Told(CheckFault::Subtitles(item)))
+    fn report(&mut self, item: LoadFault) -> Result<(), Stopped> {
+        self.print(Event::Reported(CheckFault::Subtitles(item)))
     }
 }
 
 impl<K: Flush> Live for Printer<'_, K> {
-    ghost is_waiting = { λ p. p.waiting };
+    ghost has_pending_reports = { λ p. p.pending };
 
-    ghost held = { λ p. K.held p.out.now };
+    ghost buffered = { λ p. K.buffered p.out.now };
 
-    ghost is_handed_on = { λ s ok t. (t.out.ghost_name ≡ s.out.ghost_name)
-        × HandsOnLines
+    ghost is_flushed = { λ s ok t. (t.out.ghost_name ≡ s.out.ghost_name)
+        × FlushesLines
         (printer_value (K.contents s.out.now) (K.failure_count s.out.now) s.refused s.failed
         s.first) ok
         (printer_value (K.contents t.out.now) (K.failure_count t.out.now) t.refused t.failed
         t.first)
-        × (s.waiting ≡ true → t.waiting ≡ false → K.held t.out.now ≡ 0) };
+        × (s.pending ≡ true → t.pending ≡ false → K.buffered t.out.now ≡ 0) };
 
     /// Returns whether lines were written since the sink was last flushed.
-    fn waits(&self) -> bool {
-        self.waiting
+    fn has_pending(&self) -> bool {
+        self.pending
     }
 
     /// Flushes the sink.
@@ -200,25 +200,25 @@ impl<K: Flush> Live for Printer<'_, K> {
     /// # Errors
     ///
     /// Returns `Stopped` if the sink fails, or has failed before.
-    fn hand_on(&mut self) -> Result<(), Stopped> {
+    fn flush_pending(&mut self) -> Result<(), Stopped> {
         self.flush()
     }
 }
 
 impl<K: Flush> LiveAudience<Event> for Printer<'_, K> {
-    ghost stays_told = { record {
-      told = λ before old new item ok is waits on.
-          (on.0 ∙ is.0, line_stays _ _ _ item is.1 on.1.stays, on.2 waits);
+    ghost stays_reported = { record {
+      reported = λ before old new item ok is has_pending on.
+          (on.0 ∙ is.0, line_stays _ _ _ item is.1 on.1.stays, on.2 has_pending);
       stopped = λ old new ok on. on.1.stopped;
-      waits = λ before new item is. is.2;
+      has_pending = λ before new item is. is.2;
     } };
 }
 
 impl<K: Flush> LiveAudience<LoadFault> for Printer<'_, K> {
-    ghost stays_told = { record {
-      told = λ before old new item ok is waits on.
-          (on.0 ∙ is.0, line_stays _ _ _ (subtitle_event item) is.1 on.1.stays, on.2 waits);
+    ghost stays_reported = { record {
+      reported = λ before old new item ok is has_pending on.
+          (on.0 ∙ is.0, line_stays _ _ _ (subtitle_event item) is.1 on.1.stays, on.2 has_pending);
       stopped = λ old new ok on. on.1.stopped;
-      waits = λ before new item is. is.2;
+      has_pending = λ before new item is. is.2;
     } };
 }

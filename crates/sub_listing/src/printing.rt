@@ -32,21 +32,21 @@ pub fn print_done<K: Sink>(text: &[u8], out: &mut K) -> Status
 ///
 /// Returns `Fault` if the sink fails, which has a prefix of the line then.
 #[tactic(auto, unfolding(crate::specs::Listing::PrintsOrFails))]
-pub fn print_fault_line<K: Sink>(told: &FaultLine, out: &mut K) -> Status
+pub fn print_fault_line<K: Sink>(reported: &FaultLine, out: &mut K) -> Status
     requires { CanFail (K.failure_count out.old) }
     ensures printed { PrintsOrFails (sink_call K.contents K.failure_count out.old out.new)
-        (fault_listing told.now) result }
+        (fault_listing reported.now) result }
     ensures count { CountsFault K.failure_count out.old result out.new }
-    ensures fault { status_of told.now.kind ≡ Status.Fault → result ≡ Status.Fault }
+    ensures fault { status_of reported.now.kind ≡ Status.Fault → result ≡ Status.Fault }
     ensures not_done { result ≢ Status.Done }
-    ensures line { PutsLine K.contents K.is_push out.old (line_of told.now) out.new }
-    ensures failed { result ≡ Status.Fault → status_of told.now.kind ≢ Status.Fault
+    ensures line { PutsLine K.contents K.is_push out.old (line_of reported.now) out.new }
+    ensures failed { result ≡ Status.Fault → status_of reported.now.kind ≢ Status.Fault
         → K.failure_count out.new ≡ K.failure_count out.old + 1 }
 {
     let mut line = Line::new();
-    push_fault_line(&mut line, told);
+    push_fault_line(&mut line, reported);
     match put_all(out, line.as_slice()) {
-        Ok(()) => told.status(),
+        Ok(()) => reported.status(),
         Err(_) => Status::Fault,
     }
 }

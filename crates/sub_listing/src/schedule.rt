@@ -40,7 +40,7 @@ pub fn write_schedule<S: Source, F: Close, K: Sink>(
     ensures input_count { CountsFault S.failure_count input.old result input.new }
     ensures file_count { CountsFault F.failure_count file.old result file.new }
     ensures out_count { CountsFault K.failure_count out.old result out.new }
-    ensures held { result ≡ Status.Done → F.held file.new ≡ 0 }
+    ensures buffered { result ≡ Status.Done → F.buffered file.new ≡ 0 }
     ensures stored { result ≡ Status.Done → F.is_stored file.new ≡ true }
 {
     let Drawing {
@@ -103,7 +103,7 @@ fn put_schedule<F: Close>(
     ensures written { WritesSchedule programme.now options.now serial
         (F.contents file.old) (F.contents file.new) result }
     ensures count { CountsIf F.failure_count file.old (failed is_plan_write result) file.new }
-    ensures held { OnOk result (F.held file.new ≡ 0) }
+    ensures buffered { OnOk result (F.buffered file.new ≡ 0) }
     ensures stored { OnOk result (F.is_stored file.new ≡ true) }
 {
     let count = schedule(programme, options, serial, file)?;

@@ -7,10 +7,10 @@ ghost use Rattle.sub_listing.specs.DeviceCall.{CanFail, CountsFault, sink_call};
 ghost use Rattle.sub_listing.specs.Lines.{glyph};
 ghost use Rattle.sub_listing.specs.Listing.{PrintsOrFails, done};
 ghost use Rattle.ttx_page.specs.Screen.{display};
-ghost use Rattle.sub_listing.specs.DisplayLines.{IsSeenWhole, display_text, page_text, row_text};
+ghost use Rattle.sub_listing.specs.DisplayLines.{IsSeenComplete, display_text, page_text, row_text};
 ghost use Rattle.sub_listing.specs.DisplayLines.{seen_page, seen_text};
 
-use crate::lines::{LINE_ROOM, glyph, push_text, push_two_digits};
+use crate::lines::{LINE_CAPACITY, glyph, push_text, push_two_digits};
 use crate::printing::print_done;
 use crate::status::Status;
 use arrayvec::ArrayVec;
@@ -18,21 +18,21 @@ use sub_io::Sink;
 use ttx_page::{Page, Receiver};
 
 // Room for the line of a row: 40 characters, and ten before and after them.
-const ROW_ROOM: usize = 50;
+const ROW_CAPACITY: usize = 50;
 
 // Room for the lines of 24 rows.
-const ROWS_ROOM: usize = 1200;
+const ROWS_CAPACITY: usize = 1200;
 
-const _: () = prove!(24 * ROW_ROOM <= ROWS_ROOM);
+const _: () = prove!(24 * ROW_CAPACITY <= ROWS_CAPACITY);
 
 // Room for these and the two lines before them.
-const STATE_ROOM: usize = 1456;
+const STATE_CAPACITY: usize = 1456;
 
-const _: () = prove!(2 * LINE_ROOM + ROWS_ROOM <= STATE_ROOM);
+const _: () = prove!(2 * LINE_CAPACITY + ROWS_CAPACITY <= STATE_CAPACITY);
 
-type Rows = ArrayVec<u8, ROWS_ROOM>;
+type Rows = ArrayVec<u8, ROWS_CAPACITY>;
 
-type Text = ArrayVec<u8, STATE_ROOM>;
+type Text = ArrayVec<u8, STATE_CAPACITY>;
 
 /// Prints whether a receiver has received its page, and the page or, if complete pages are
 /// required, its screen.
@@ -45,7 +45,7 @@ pub fn print_state<R: Receiver, K: Sink>(
     requires { CanFail (K.failure_count out.old) }
     ensures printed { PrintsOrFails (sink_call K.contents K.failure_count out.old out.new)
         (done (display_text asks_complete (display (R.state receiver.now) screen.now))) result }
-    ensures page { IsSeenWhole asks_complete (display (R.state receiver.now) screen.now) }
+    ensures page { IsSeenComplete asks_complete (display (R.state receiver.now) screen.now) }
     ensures count { CountsFault K.failure_count out.old result out.new }
     ensures fault { result ≡ Status.Fault → K.failure_count out.old < K.failure_count out.new }
 {
@@ -66,7 +66,7 @@ pub fn print_state<R: Receiver, K: Sink>(
 
 // Appends the lines of a receiver's page, or of its screen.
 fn push_seen<R: Receiver>(text: &mut Text, receiver: &R, screen: &Option<Page>, asks_complete: bool)
-    requires { array_vec_len text.old + ROWS_ROOM ≤ STATE_ROOM }
+    requires { array_vec_len text.old + ROWS_CAPACITY ≤ STATE_CAPACITY }
     ensures items { text.new.items ≡ text.old.items
         ++ seen_text asks_complete (display (R.state receiver.now) screen.now) }
     ensures page { IfSome (seen_page asks_complete (display (R.state receiver.now) screen.now))
@@ -81,7 +81,7 @@ fn push_seen<R: Receiver>(text: &mut Text, receiver: &R, screen: &Option<Page>, 
 
 // Appends the lines of the rows of a page with a cell other than a space.
 fn push_page(text: &mut Text, page: &Page)
-    requires { array_vec_len text.old + ROWS_ROOM ≤ STATE_ROOM }
+    requires { array_vec_len text.old + ROWS_CAPACITY ≤ STATE_CAPACITY }
     ensures items { text.new.items ≡ text.old.items ++ page_text page.now }
     ensures page { IsPage page.now }
 {
@@ -98,9 +98,9 @@ fn push_page(text: &mut Text, page: &Page)
 
 // Appends the line of a row, if it has a cell other than a space.
 fn push_row(rows: &mut Rows, row: u8, cells: &[u8; 40])
-    requires { array_vec_len rows.old + ROW_ROOM ≤ ROWS_ROOM }
+    requires { array_vec_len rows.old + ROW_CAPACITY ≤ ROWS_CAPACITY }
     ensures items { rows.new.items ≡ rows.old.items ++ row_text row cells.now }
-    ensures len { array_vec_len rows.new ≤ array_vec_len rows.old + ROW_ROOM }
+    ensures len { array_vec_len rows.new ≤ array_vec_len rows.old + ROW_CAPACITY }
 {
     if is_blank(cells) {
         return;

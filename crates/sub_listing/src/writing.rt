@@ -50,7 +50,7 @@ pub trait Work {
             input.new }
         ensures file_count { CountsIf F.failure_count file.old (failed is_file_failure result)
             file.new }
-        ensures held { OnOk result (F.held file.new ≡ 0) }
+        ensures buffered { OnOk result (F.buffered file.new ≡ 0) }
         ensures stored { OnOk result (F.is_stored file.new ≡ true) };
 }
 
@@ -76,7 +76,7 @@ pub fn write<W: Work, S: Source, F: Close, K: Sink>(
     ensures input_count { CountsFault S.failure_count input.old result input.new }
     ensures file_count { CountsFault F.failure_count file.old result file.new }
     ensures out_count { CountsFault K.failure_count out.old result out.new }
-    ensures held { result ≡ Status.Done → F.held file.new ≡ 0 }
+    ensures buffered { result ≡ Status.Done → F.buffered file.new ≡ 0 }
     ensures stored { result ≡ Status.Done → F.is_stored file.new ≡ true }
 {
     match work.work(alloc, input, file) {

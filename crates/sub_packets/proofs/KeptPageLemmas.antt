@@ -1,12 +1,12 @@
--- The properties of the kept page agree with the packets: `wrong_heard`, `undue_heard`,
+-- The properties of the kept page agree with the packets: `wrong_heard`, `unexpected_heard`,
 -- `incomplete_heard`.
 use Rattle.std.proofs.lemmas.Bool.Decides.{nat_tests}
 use Rattle.std.proofs.Common.{◌≡◌, ℕ, ◌&&◌, List, Bool, arith, ap, refl}
 use Rattle.ttx_page.specs.Page.{Rows}
 use Rattle.ttx_page.specs.PacketKind.{kind}
 use Rattle.ttx_page.specs.Span.{is_open_after}
-use Rattle.sub_rules.specs.Events.{undue_after, wrong_after}
-use Rattle.sub_packets.specs.KeptPage.{is_incomplete_kept, undue_kept, wrong_kept}
+use Rattle.sub_rules.specs.Events.{unexpected_after, wrong_after}
+use Rattle.sub_packets.specs.KeptPage.{is_incomplete_kept, unexpected_kept, wrong_kept}
 use Rattle.sub_packets.specs.Listener.{Knows}
 use Rattle.sub_packets.specs.declared.listener.Listener.{Listener}
 use Rattle.sub_packets.proofs.KeptLemmas.{row_of_code}
@@ -20,15 +20,15 @@ module _ (heard : List (List ℕ)) (s : Listener) (known : Knows heard s) where
       first_cell-same _ _
       (λ row column is.
       let kept_is = shown_is heard s known row column is in
-      let came = row_of_code s.watched.keeps s.watched.page heard row column in
+      let received = row_of_code s.watched.keeps s.watched.page heard row column in
       let again = known.again_is row is.0 is.1 in
       grind (arith, nat_tests))
 
-  pub undue_heard : (due : ℕ → Rows) (first f n : ℕ)
-      → undue_kept s due first f n
-      ≡ undue_after s.watched.keeps s.watched.page heard due first f n
-  unfolding undue_kept undue_after
-  undue_heard due first f n =
+  pub unexpected_heard : (due : ℕ → Rows) (first f n : ℕ)
+      → unexpected_kept s due first f n
+      ≡ unexpected_after s.watched.keeps s.watched.page heard due first f n
+  unfolding unexpected_kept unexpected_after
+  unexpected_heard due first f n =
       first_cell-same _ _
       (λ row column is. let kept_is = shown_is heard s known row column is in rw kept_is refl)
 

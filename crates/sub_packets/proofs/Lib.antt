@@ -3,9 +3,9 @@ pub mod KeptPageLemmas
 pub mod ListenerLemmas
 pub mod PacketEventLemmas
 pub mod PacketRuleLemmas
-pub mod PassedLemmas
-pub mod PassedRunLemmas
+pub mod SkippedLemmas
+pub mod SkippedRunLemmas
 pub mod RuleSetLemmas
 pub mod SentAgainLemmas
-pub mod UndueLemmas
+pub mod UnexpectedLemmas
 pub mod WrongCellLemmas

@@ -1,5 +1,5 @@
 -- Sets of rules: if the set is empty no rule passes the test, `no_rules`; the events of the first
--- remaining rule, `told_next`.
+-- remaining rule, `reported_next`.
 use Rattle.std.proofs.Common.{◌≡◌, ℕ, suc, ◌+◌, ◌*◌, ◌/◌, ◌%◌, ◌<◌, Bool, true, false, ◌==◌}
 use Rattle.std.proofs.Common.{List, [], ◌∷◌, ◌++◌, length, get_or, drop, map, refl, ◌∙◌, ap}
 use Rattle.std.proofs.Common.{arith, cond, drop-cons}
@@ -22,28 +22,28 @@ lowest_bit : (b : Bool) (n : ℕ)
 lowest_bit true n = let bit : (1 + 2 * n) % 2 ≡ 1 = omega arith in (rw bit refl, omega arith)
 lowest_bit false n = let bit : (0 + 2 * n) % 2 ≡ 0 = omega arith in (rw bit refl, omega arith)
 
-module _ {A : Type 0} (tell : PacketRule → A) (test : PacketRule → Bool) where
+module _ {A : Type 0} (report : PacketRule → A) (test : PacketRule → Bool) where
   -- The events of a list, by its first rule.
-  told_first : (r : PacketRule) (rules : List PacketRule)
-      → map tell (filter test (r ∷ rules))
-      ≡ cond (test r) (tell r ∷ []) [] ++ map tell (filter test rules)
-  told_first r rules = grind (arith, nat_tests)
+  reported_first : (r : PacketRule) (rules : List PacketRule)
+      → map report (filter test (r ∷ rules))
+      ≡ cond (test r) (report r ∷ []) [] ++ map report (filter test rules)
+  reported_first r rules = grind (arith, nat_tests)
 
   -- The events of the first remaining rule and of the others, and the rest of the set. For
-  -- `tell_rules`.
-  pub told_next : (rules : List PacketRule) (i : ℕ) (d : PacketRule) (left : ℕ) (told : A)
+  -- `report_rules`.
+  pub reported_next : (rules : List PacketRule) (i : ℕ) (d : PacketRule) (left : ℕ) (reported : A)
       → i < length rules
-      → told ≡ tell (get_or rules i d)
+      → reported ≡ report (get_or rules i d)
       → left ≡ rule_set test (drop i rules)
-      → (map tell (filter test (drop i rules))
-      ≡ cond (left % 2 == 1) (told ∷ []) [] ++ map tell (filter test (drop (i + 1) rules)))
+      → (map report (filter test (drop i rules))
+      ≡ cond (left % 2 == 1) (reported ∷ []) [] ++ map report (filter test (drop (i + 1) rules)))
       × (left / 2 ≡ rule_set test (drop (i + 1) rules))
   unfolding rule_set
-  told_next rules i d left told l is e =
+  reported_next rules i d left reported l is e =
       let r : PacketRule = get_or rules i d in
       let next : suc i ≡ i + 1 = omega arith in
       let rest : drop i rules ≡ r ∷ drop (i + 1) rules = drop-cons rules i d l ∙ rw next refl in
       let set : left ≡ cond (test r) 1 0 + 2 * rule_set test (drop (i + 1) rules) =
       e ∙ ap (rule_set test) rest in
       let bit = lowest_bit (test r) (rule_set test (drop (i + 1) rules)) in
-      rw (rest, set, bit.0, bit.1, is) (told_first r (drop (i + 1) rules), refl)
+      rw (rest, set, bit.0, bit.1, is) (reported_first r (drop (i + 1) rules), refl)

@@ -20,7 +20,8 @@ use Rattle.sub_packets.specs.Listener.{BreakNone, Knows, KnowsLast, WereJudged, 
 use Rattle.sub_rules.specs.Kept.{last_header}
 use Rattle.sub_rules.specs.PacketRules.{first_header, header_count}
 use Rattle.sub_rules.specs.PacketTests.{broken_rules, breaks, is_other_mode, packet_rules}
-use Rattle.sub_packets.specs.SentAgain.{BeginsWithHeader, BreakAlike, LawOfSentAgain, LookAlike}
+use Rattle.sub_packets.specs.SentAgain.{BeginsWithHeader, BreakSameRules, LawOfSentAgain}
+use Rattle.sub_packets.specs.SentAgain.{HaveSameContent}
 use Rattle.sub_packets.specs.declared.listener.Listener.{Listener}
 use Rattle.sub_rules.specs.declared.packet_rule.PacketRule.{PacketRule}
 use Rattle.sub_rules.specs.declared.packet_rule.PacketRule.TheVariants as rule
@@ -44,26 +45,26 @@ header_of w p e = grind (arith, nat_tests)
 -- ---- what the rules look back to
 
 -- If each rule is broken in both cases or in neither, the broken rules are the same.
-rules_alike :
+rules_equal :
     (w : Watched) (b c : List (List ℕ)) (p : List ℕ)
     → ((r : PacketRule) → breaks r w b p ≡ breaks r w c p)
     → broken_rules w b p ≡ broken_rules w c p
 unfolding broken_rules
-rules_alike w b c p same = ap (λ test. filter test packet_rules) (λ k r. same r k)
+rules_equal w b c p same = ap (λ test. filter test packet_rules) (λ k r. same r k)
 
 -- A packet breaks the same rules after two lists that look alike.
-breaks_alike :
+breaks_equal :
     (w : Watched) (b c : List (List ℕ)) (p : List ℕ)
-    → LookAlike w b c
+    → HaveSameContent w b c
     → (r : PacketRule)
     → breaks r w b p ≡ breaks r w c p
 unfolding breaks
-breaks_alike w b c p same x = grind (arith, nat_tests)
+breaks_equal w b c p same x = grind (arith, nat_tests)
 
 -- The state fits either of two lists that look alike.
-knows_alike :
-    (b c : List (List ℕ)) (s : Listener) → LookAlike s.watched b c → Knows b s → Knows c s
-knows_alike b c s same k = grind (arith, nat_tests)
+knows_equal :
+    (b c : List (List ℕ)) (s : Listener) → HaveSameContent s.watched b c → Knows b s → Knows c s
+knows_equal b c s same k = grind (arith, nat_tests)
 
 -- With the same header again, the first header stays.
 same_first : (o : Option Header) (h : Header)
@@ -103,7 +104,7 @@ module _
     -- page header does, which exists by then.
     alike :
         (others more : List (List ℕ))
-        → LookAlike w (heard ++ first ∷ more) ((heard ++ first ∷ others) ++ first ∷ more)
+        → HaveSameContent w (heard ++ first ∷ more) ((heard ++ first ∷ others) ++ first ∷ more)
     alike others more =
         let h = header_of w first is in
         let held = or_left _ _ is_header in
@@ -151,20 +152,20 @@ module _
 
     -- Each of the packets breaks the same rules again.
     breaks_again : (others : List (List ℕ))
-        → BreakAlike w heard (heard ++ first ∷ others) (first ∷ others)
+        → BreakSameRules w heard (heard ++ first ∷ others) (first ∷ others)
     breaks_again others zero l =
-        rules_alike w (heard ++ []) ((heard ++ first ∷ others) ++ []) first
+        rules_equal w (heard ++ []) ((heard ++ first ∷ others) ++ []) first
         (λ r.
         rw (append-nil heard, append-nil (heard ++ first ∷ others)) (sym (first_again others r)))
-    breaks_again others (suc k) l = grind (arith, nat_tests, rules_alike, breaks_alike, alike)
+    breaks_again others (suc k) l = grind (arith, nat_tests, rules_equal, breaks_equal, alike)
 
 pub law_of_sent_again : LawOfSentAgain
 law_of_sent_again w heard packets begins =
     let first = begins.first in
     let others = begins.others in
     subst
-    (λ ps. BreakAlike w heard (heard ++ ps) ps
-    × LookAlike w (heard ++ ps) ((heard ++ ps) ++ ps)) (sym begins.packets_are) (
+    (λ ps. BreakSameRules w heard (heard ++ ps) ps
+    × HaveSameContent w (heard ++ ps) ((heard ++ ps) ++ ps)) (sym begins.packets_are) (
       breaks_again w heard first begins.is_header others,
       alike w heard first begins.is_header others others,
     )
@@ -195,12 +196,12 @@ heard_again heard last ps headers s known is same =
     let clean : BreakNone s.watched heard last (length last) =
     subst (λ xs. BreakNone s.watched xs last (length last)) (sym j.heard_is)
     (λ k l. sym (law.0 k l) ∙ j.clean k l) in
-    let alike : LookAlike s.watched heard (heard ++ last) =
-    subst (λ xs. LookAlike s.watched xs (xs ++ last)) (sym j.heard_is) law.1 in
+    let alike : HaveSameContent s.watched heard (heard ++ last) =
+    subst (λ xs. HaveSameContent s.watched xs (xs ++ last)) (sym j.heard_is) law.1 in
     let begun = begun_by s.watched last j.begins in
     let begun_is = known.begun_is headers is in (
       subst (λ (xs : List (List ℕ)). BreakNone s.watched heard xs (length xs)) same clean,
-      grind (arith, nat_tests, knows_alike, alike),
+      grind (arith, nat_tests, knows_equal, alike),
       sym j.count ∙ ap (header_count s.watched.page) same,
       λ from.
           sym

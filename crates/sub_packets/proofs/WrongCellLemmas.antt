@@ -132,7 +132,7 @@ first_cell-same p q same =
         let place : Option ℕ → Option (ℕ × ℕ) = option_map (λ column. (above + 1, column)) in
         ap place (in_row above (first_below_is 24 first above is).0)
 
--- If none is found, no cell passes. For `no_undue`.
+-- If none is found, no cell passes. For `no_unexpected`.
 below_fails : (n : ℕ) (test : ℕ → Bool) → first_below n test ≡ None
     → (k : ℕ) → k < n → test k ≡ false
 below_fails zero test none k l = absurd (omega arith)
@@ -198,7 +198,7 @@ differing_found :
     → FindsFirst test o
 differing_found test a b o is same = grind (arith, nat_tests)
 
--- For `wrong_is` and `undue_is`.
+-- For `wrong_is` and `unexpected_is`.
 pub first_difference :
     (test : ℕ → ℕ → Bool) (a b : Rows) (o : Option (ℕ × ℕ))
     → ((row column : ℕ)

@@ -20,8 +20,8 @@ wrong_kept s = first_cell (λ row column. not (is_right_kept s row column))
 
 -- The first cell whose code is neither a space nor was due there at frame f or at one of the n
 -- frames before it, from `first` on.
-unfoldable pub undue_kept : Listener → (ℕ → Rows) → ℕ → ℕ → ℕ → Option (ℕ × ℕ)
-undue_kept s due first f n =
+unfoldable pub unexpected_kept : Listener → (ℕ → Rows) → ℕ → ℕ → ℕ → Option (ℕ × ℕ)
+unexpected_kept s due first f n =
     first_cell
     (λ row column.
     not (cell s.comparison.page row column == space)

@@ -3,4 +3,4 @@ pub mod KeptPage
 pub mod Listener
 pub mod Missing
 pub mod SentAgain
-pub mod Undue
+pub mod Unexpected

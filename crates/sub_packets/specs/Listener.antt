@@ -87,19 +87,19 @@ is_of_mode (Some first) serial = is_same_bit first serial
 
 -- A header, without coding errors, has the C11 of the first header, is no header of the page, and
 -- does not end it while it is open.
-abbrev pub is_passed_header : ℕ → Header → Listener → Bool
-is_passed_header magazine h s =
+abbrev pub is_skipped_header : ℕ → Header → Listener → Bool
+is_skipped_header magazine h s =
     is_of_mode s.serial (c11 h)
     && (if s.is_open then not (magazine == s.watched.page.magazine) && not (c11 h)
     else not (magazine == s.watched.page.magazine && h.page == s.watched.page.page))
 
 -- The packet, coming next, breaks no rule and leaves the state as it is.
-pub record IsPassed (heard : List (List ℕ)) (p : List ℕ) (s : Listener) : Type 0 where
+pub record IsSkipped (heard : List (List ℕ)) (p : List ℕ) (s : Listener) : Type 0 where
   pub breaks_none : rule_set (λ r. breaks r s.watched heard p) packet_rules ≡ 0
   pub knows : Knows (heard ++ p ∷ []) s
 
 -- Whenever the packet comes, it is no header of the page, breaks no rule, and leaves the state as
 -- it is.
-pub record IsAlwaysPassed (p : List ℕ) (s : Listener) : Type 0 where
+pub record IsAlwaysSkipped (p : List ℕ) (s : Listener) : Type 0 where
   pub no_header : is_this_page (kind s.watched.page p) ≡ false
-  pub passed : (heard : List (List ℕ)) → Knows heard s → IsPassed heard p s
+  pub skipped : (heard : List (List ℕ)) → Knows heard s → IsSkipped heard p s

@@ -19,7 +19,7 @@ pub record BeginsWithHeader (w : Watched) (packets : List (List ℕ)) : Type 0 w
 -- Both lists of packets leave everything that the rules look back to the same: the first page
 -- header, the last header of the page, whether the page is open, and the packets since its last
 -- header and since its text began.
-pub record LookAlike (w : Watched) (one other : List (List ℕ)) : Type 0 where
+pub record HaveSameContent (w : Watched) (one other : List (List ℕ)) : Type 0 where
   pub header_is : first_header one ≡ first_header other
   pub last_is : last_header w.page one ≡ last_header w.page other
   pub open_is : is_open_after (kind w.page) one ≡ is_open_after (kind w.page) other
@@ -27,8 +27,8 @@ pub record LookAlike (w : Watched) (one other : List (List ℕ)) : Type 0 where
   pub text_is : text_span w.keeps (kind w.page) one ≡ text_span w.keeps (kind w.page) other
 
 -- Each of these packets breaks the same rules after the one list as after the other.
-abbrev pub BreakAlike : Watched → List (List ℕ) → List (List ℕ) → List (List ℕ) → Type 0
-BreakAlike w one other packets =
+abbrev pub BreakSameRules : Watched → List (List ℕ) → List (List ℕ) → List (List ℕ) → Type 0
+BreakSameRules w one other packets =
     (k : ℕ)
     → k < length packets
     → broken_rules w (one ++ take k packets) (slice_index_or packets k [])
@@ -41,5 +41,5 @@ abbrev pub LawOfSentAgain : Type 0
 LawOfSentAgain =
     (w : Watched) (heard packets : List (List ℕ))
     → BeginsWithHeader w packets
-    → BreakAlike w heard (heard ++ packets) packets
-    × LookAlike w (heard ++ packets) ((heard ++ packets) ++ packets)
+    → BreakSameRules w heard (heard ++ packets) packets
+    × HaveSameContent w (heard ++ packets) ((heard ++ packets) ++ packets)

@@ -9,7 +9,8 @@ ghost use Rattle.ttx_page.specs.Page.{IsRow, row_at};
 ghost use Rattle.ttx_page.specs.PacketKind.{kind};
 ghost use Rattle.sub_packets.specs.Listener.{rule_set};
 ghost use Rattle.sub_rules.specs.PacketRules.{codes_of};
-ghost use Rattle.sub_rules.specs.PacketTests.{breaks, is_of_enhancement, repeats_page, may_come};
+ghost use Rattle.sub_rules.specs.PacketTests.{breaks, is_of_enhancement, repeats_page};
+ghost use Rattle.sub_rules.specs.PacketTests.{may_follow_as_header};
 ghost use Rattle.sub_rules.specs.PacketTests.{is_subtitle_header, packet_rules};
 
 use crate::listener::Listener;
@@ -71,13 +72,13 @@ impl Listener {
         ensures { (heard : List (List ℕ)) → Knows heard self.now
             → result ≡ is_subtitle_header self.now.watched heard header.now }
     {
-        self.may_come(header) && has_subtitle_bits(self.watched.national, header)
+        self.may_follow_as_header(header) && has_subtitle_bits(self.watched.national, header)
     }
 
     // Returns whether a header of the page erases it, or repeats it if repeats may keep the page.
-    fn may_come(&self, header: &Header) -> bool
+    fn may_follow_as_header(&self, header: &Header) -> bool
         ensures { (heard : List (List ℕ)) → Knows heard self.now
-            → result ≡ may_come self.now.watched heard header.now }
+            → result ≡ may_follow_as_header self.now.watched heard header.now }
     {
         is_erasing(header) || (self.watched.keeps && self.repeats_page(header))
     }

@@ -5,7 +5,7 @@ ghost use Rattle.std.specs.Prelude.{Some, slice_set};
 ghost use Rattle.ttx_page.specs.Differing.{row_differing};
 ghost use Rattle.ttx_page.specs.Page.{AreCodes, DiffersFirst, IsCell, IsPage, IsRow, blank, cell};
 ghost use Rattle.ttx_page.specs.Page.{row_at};
-ghost use Rattle.stl_rows.specs.DuePage.{TellsNextEdge};
+ghost use Rattle.stl_rows.specs.DuePage.{ReportsNextEdge};
 ghost use Rattle.stl_rows.specs.Programme.{IsProgramme};
 ghost use Rattle.sub_plan.specs.Schedule.{due_in};
 ghost use Rattle.sub_packets.specs.Comparison.{recounted};
@@ -65,7 +65,7 @@ impl Comparison {
         guess: usize,
     ) -> (Option<u32>, usize)
         ensures due { self.new ≡ record self.old { due = due_in programme.now frame } }
-        ensures edge { TellsNextEdge programme.now.records frame result.0 }
+        ensures edge { ReportsNextEdge programme.now.records frame result.0 }
         ensures programme { IsProgramme programme.now.drawing programme.now.records }
     {
         self.wrong = None;

@@ -2,7 +2,7 @@
 //! begins with one of the packets or with the first, and whether none breaks a rule.
 ghost use Rattle.std.specs.Prelude.{◌≡◌, ◌+◌, ◌<◌, ◌&&◌, ◌||◌, ◌==◌, if◌then◌else◌, None, Some};
 ghost use Rattle.std.specs.Prelude.{nat_lt};
-ghost use Rattle.ttx_pes.specs.PesPacket.{most_units};
+ghost use Rattle.ttx_pes.specs.PesGrammar.{most_units};
 
 /// Returns the number of headers after one more packet.
 pub(crate) fn counted(headers: u8, is_header: bool) -> u8

@@ -19,10 +19,10 @@ mod listener;
 mod packet_rules;
 mod rule_set;
 mod taker;
-mod undue;
+mod unexpected;
 mod wrong_cell;
 
 pub use comparison::Comparison;
 pub use laws::law_of_sent_again;
 pub use listener::Listener;
-pub use taker::{Taker, tell_if};
+pub use taker::{Taker, report_if};

@@ -5,16 +5,16 @@ ghost use Rattle.std.specs.Prelude.{replicate};
 ghost use Rattle.std.specs.Prelude.{◌&&◌, ◌==◌, not, Some};
 ghost use Rattle.std.specs.Prelude.{slice_index_or, slice_set};
 ghost use Rattle.std.specs.List.{filter};
-ghost use Rattle.sub_io.specs.Telling.{Tells};
+ghost use Rattle.sub_io.specs.Reporting.{Reports};
 ghost use Rattle.ttx_packet.specs.PageHeader.{HasExactHeader, coded_header, header};
 ghost use Rattle.ttx_page.specs.Page.{AreCodes, IsPage, IsRow, blank};
 ghost use Rattle.ttx_page.specs.PacketKind.{begins_text, is_this_page, kind};
 ghost use Rattle.ttx_page.specs.Span.{is_open_after};
-ghost use Rattle.ttx_pes.specs.PesPacket.{most_units};
-ghost use Rattle.stl_rows.specs.DuePage.{TellsNextEdge};
+ghost use Rattle.ttx_pes.specs.PesGrammar.{most_units};
+ghost use Rattle.stl_rows.specs.DuePage.{ReportsNextEdge};
 ghost use Rattle.stl_rows.specs.Programme.{IsProgramme};
 ghost use Rattle.sub_plan.specs.Schedule.{due_in};
-ghost use Rattle.sub_rules.specs.Events.{packets_told};
+ghost use Rattle.sub_rules.specs.Events.{packets_reported};
 ghost use Rattle.sub_rules.specs.PacketRules.{header_count, packets_of_units};
 ghost use Rattle.sub_rules.specs.Events.{packet_fault};
 ghost use Rattle.sub_rules.specs.PacketTests.{breaks, packet_rules};
@@ -24,7 +24,7 @@ use crate::last_heard::{
     begins_with, counted, has_begun, has_begun_before, last_headers, stays_clean,
 };
 use crate::packet_rules::{begins_text, first_serial, is_of_mode, is_serial, text_codes};
-use crate::rule_set::tell_rules;
+use crate::rule_set::report_rules;
 use crate::taker::Taker;
 use stl_rows::Programme;
 use sub_rules::{Event, Watched};
@@ -74,9 +74,9 @@ struct Heard {
 
 impl Listener {
     ghost use Rattle.sub_packets.specs.KeptPage.{is_incomplete_kept};
-    ghost use Rattle.sub_packets.specs.Listener.{IsPassed, Knows, KnowsLast, IsAlwaysPassed};
+    ghost use Rattle.sub_packets.specs.Listener.{IsSkipped, Knows, KnowsLast, IsAlwaysSkipped};
     ghost use Rattle.sub_packets.specs.Listener.{begins_frame};
-    ghost use Rattle.sub_packets.specs.Listener.{is_passed_header, rule_set};
+    ghost use Rattle.sub_packets.specs.Listener.{is_skipped_header, rule_set};
 
     /// Returns the state before the first packet, with this page due.
     pub fn new(watched: Watched, due: Page) -> Self
@@ -107,7 +107,7 @@ impl Listener {
         ensures due { self.new ≡ record self.old {
           comparison = record self.old.comparison { due = due_in programme.now frame };
         } }
-        ensures edge { TellsNextEdge programme.now.records frame result.0 }
+        ensures edge { ReportsNextEdge programme.now.records frame result.0 }
         ensures programme { IsProgramme programme.now.drawing programme.now.records }
     {
         self.comparison.draw_due(programme, frame, guess)
@@ -145,8 +145,8 @@ impl Listener {
             × (result ≡ header_count self.old.watched.page (packets_of_units units.now))
             × (self.new.begun ≡ begins_frame self.old.watched from self.old.begun
             (packets_of_units units.now))
-            × Tells A.is_told taker.old taker.new
-            (packets_told self.old.watched frame from heard (packets_of_units units.now)
+            × Reports A.is_reported taker.old taker.new
+            (packets_reported self.old.watched frame from heard (packets_of_units units.now)
             (length (packets_of_units units.now))) }
     {
         if again {
@@ -175,8 +175,8 @@ impl Listener {
             × (result ≡ header_count self.old.watched.page (packets_of_units units.now))
             × (self.new.begun ≡ begins_frame self.old.watched from self.old.begun
             (packets_of_units units.now))
-            × Tells A.is_told taker.old taker.new
-            (packets_told self.old.watched frame from heard (packets_of_units units.now)
+            × Reports A.is_reported taker.old taker.new
+            (packets_reported self.old.watched frame from heard (packets_of_units units.now)
             (length (packets_of_units units.now))) }
     {
         let mut headers = 0;
@@ -186,7 +186,7 @@ impl Listener {
         let mut k = 0;
         while k < units.len() {
             let sent = units.packet(k);
-            if self.is_passed(self.is_open, &sent) {
+            if self.is_skipped(self.is_open, &sent) {
                 k = self.next_heard(units, k + 1);
             } else {
                 let heard = self.judge(&sent.packet(), frame, from + k as u32, taker);
@@ -213,12 +213,12 @@ impl Listener {
         requires { from ≤ length units.now }
         ensures from { from ≤ result }
         ensures within { result ≤ length units.now }
-        ensures passed { (k : ℕ) → from ≤ k → k < result
-            → IsAlwaysPassed (slice_index_or (packets_of_units units.now) k []) self.now }
+        ensures skipped { (k : ℕ) → from ≤ k → k < result
+            → IsAlwaysSkipped (slice_index_or (packets_of_units units.now) k []) self.now }
     {
         let is_open = self.is_open;
         for k in from..units.len() {
-            if !self.is_passed(is_open, &units.packet(k)) {
+            if !self.is_skipped(is_open, &units.packet(k)) {
                 return k;
             }
         }
@@ -228,12 +228,12 @@ impl Listener {
     // Returns whether a packet breaks no rule and changes nothing, as its first two bytes show, or
     // the first ten of a page header.
     #[inline(always)]
-    fn is_passed(&self, is_open: bool, packet: &SentPacket<'_>) -> bool
+    fn is_skipped(&self, is_open: bool, packet: &SentPacket<'_>) -> bool
         requires { is_open ≡ self.now.is_open }
         ensures no_header { IsTrue result
             → is_this_page (kind self.now.watched.page packet.now) ≡ false }
-        ensures passed { (heard : List (List ℕ)) → Knows heard self.now → IsTrue result
-            → IsPassed heard packet.now self.now }
+        ensures skipped { (heard : List (List ℕ)) → Knows heard self.now → IsTrue result
+            → IsSkipped heard packet.now self.now }
     {
         let Some((magazine, packet_number)) = packet.exact_address() else {
             return false;
@@ -244,7 +244,7 @@ impl Listener {
         if self.is_for_page(is_open, magazine, packet) {
             return false;
         }
-        self.passes_header(magazine, packet)
+        self.skips_header(magazine, packet)
     }
 
     // Returns whether a page header is of the page or ends it, from its magazine and page number
@@ -267,23 +267,23 @@ impl Listener {
 
     // Returns whether a page header breaks no rule and changes nothing.
     //
-    // Kept out of `is_passed`, which would otherwise keep less in registers for other packets.
+    // Kept out of `is_skipped`, which would otherwise keep less in registers for other packets.
     #[inline(never)]
-    fn passes_header(&self, magazine: u8, packet: &SentPacket<'_>) -> bool
+    fn skips_header(&self, magazine: u8, packet: &SentPacket<'_>) -> bool
         ensures { IsTrue result → HasExactHeader packet.now × ((h : Header)
             × (coded_header packet.now ≡ Some h)
-            × (is_passed_header magazine h self.now ≡ true)) }
+            × (is_skipped_header magazine h self.now ≡ true)) }
     {
         match packet.exact_header() {
-            Some(header) => self.is_passed_header(magazine, &header),
+            Some(header) => self.is_skipped_header(magazine, &header),
             None => false,
         }
     }
 
     // Returns whether a page header without coding errors breaks no rule and changes nothing.
     #[inline(always)]
-    fn is_passed_header(&self, magazine: u8, header: &Header) -> bool
-        ensures { result ≡ is_passed_header magazine header.now self.now }
+    fn is_skipped_header(&self, magazine: u8, header: &Header) -> bool
+        ensures { result ≡ is_skipped_header magazine header.now self.now }
     {
         let is_serial = is_serial(header);
         if !is_of_mode(self.serial, is_serial) {
@@ -309,16 +309,16 @@ impl Listener {
         ensures clean { (heard : List (List ℕ)) → Knows heard self.old
             → result.is_clean ≡ true
             → rule_set (λ r. breaks r self.old.watched heard packet.now) packet_rules ≡ 0 }
-        ensures told { (heard : List (List ℕ)) → Knows heard self.old
-            → Tells A.is_told taker.old taker.new
-            (map (λ r. Event.Told (packet_fault r frame number))
+        ensures reported { (heard : List (List ℕ)) → Knows heard self.old
+            → Reports A.is_reported taker.old taker.new
+            (map (λ r. Event.Reported (packet_fault r frame number))
             (filter (λ r. breaks r self.old.watched heard packet.now) packet_rules)) }
         ensures knows { (heard : List (List ℕ)) → Knows heard self.old
             → Knows (heard ++ packet.now ∷ []) self.new }
     {
         let (found, page_header) = PacketKind::with_header(self.watched.page, packet);
         let rules = self.broken_rules(packet, found, page_header);
-        tell_rules(rules, frame, number, taker);
+        report_rules(rules, frame, number, taker);
         let is_header = self.hear(packet, found, page_header);
         let begins = begins_text(self.watched.keeps, &found);
         let is_clean = rules.has_none();

@@ -2,12 +2,12 @@
 ghost use Rattle.std.specs.Prelude.{◌≡◌, ◌+◌, ◌*◌, ◌==◌, ◌<◌, ◌≤◌, Bool, map};
 ghost use Rattle.std.specs.Prelude.{if◌then◌else◌};
 ghost use Rattle.std.specs.List.{filter};
-ghost use Rattle.sub_io.specs.Telling.{Tells};
+ghost use Rattle.sub_io.specs.Reporting.{Reports};
 ghost use Rattle.sub_rules.specs.Events.{packet_fault};
 ghost use Rattle.sub_packets.specs.Listener.{rule_set};
 ghost use Rattle.sub_rules.specs.PacketTests.{packet_rules};
 
-use crate::taker::{Taker, tell_if};
+use crate::taker::{Taker, report_if};
 use sub_rules::{CheckFault, Event, PacketRule};
 
 // The rules, in the order of their reports.
@@ -70,18 +70,18 @@ impl RuleSet {
 }
 
 /// Reports the rules of a set, broken by a packet of a frame, in their order.
-pub(crate) fn tell_rules<A: Taker>(rules: RuleSet, frame: u32, packet: u32, taker: &mut A)
+pub(crate) fn report_rules<A: Taker>(rules: RuleSet, frame: u32, packet: u32, taker: &mut A)
     ensures { (test : PacketRule → Bool) → rules.0 ≡ rule_set test packet_rules
-        → Tells A.is_told taker.old taker.new
-        (map (λ r. Event.Told (packet_fault r frame packet)) (filter test packet_rules)) }
+        → Reports A.is_reported taker.old taker.new
+        (map (λ r. Event.Reported (packet_fault r frame packet)) (filter test packet_rules)) }
 {
     if rules.has_none() {
         return;
     }
     let mut left = rules.0;
     for rule in &RULES {
-        let told = Event::Told(fault_of(*rule, frame, packet));
-        tell_if(left % 2 == 1, told, taker);
+        let reported = Event::Reported(fault_of(*rule, frame, packet));
+        report_if(left % 2 == 1, reported, taker);
         left /= 2;
     }
 }

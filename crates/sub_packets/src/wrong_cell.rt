@@ -5,7 +5,7 @@ ghost use Rattle.ttx_page.specs.Page.{IsCell, cell, space};
 ghost use Rattle.sub_packets.specs.Missing.{earlier};
 
 use crate::listener::Listener;
-use crate::undue::excuse_row;
+use crate::unexpected::excuse_row;
 use ttx_page::Page;
 
 impl Listener {

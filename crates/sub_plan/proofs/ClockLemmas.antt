@@ -4,7 +4,7 @@ use Rattle.std.proofs.Common.{◌≡◌, ◌≢◌, ℕ, zero, suc, ◌+◌, ◌
 use Rattle.std.proofs.Common.{◌↔◌, Option, Some, None, refl, sym, ◌∙◌, arith, MatchOption}
 use Rattle.stl_file.specs.TimeCode.{day}
 use Rattle.sub_plan.specs.FrameTime.{clock, frame_below, frame_of_pts, near_frame, pts_of}
-use Rattle.sub_plan.specs.FrameTime.{ticks_since}
+use Rattle.sub_plan.specs.FrameTime.{ticks_after}
 use Rattle.sub_plan.specs.Laws.{LawOfClock, LawOfExactClock, LawOfNearClock}
 
 -- The frame that is found below a number has the PTS; if none is found, none has it.
@@ -52,7 +52,7 @@ near_read :
     (origin pts frame : ℕ)
     → pts < 2 ^ 33
     → frame < day
-    → ticks_since origin pts / 3600 ≡ frame
+    → ticks_after origin pts / 3600 ≡ frame
     → near_frame origin pts ≡ Some frame
 unfolding near_frame
 near_read origin pts frame low in_day is = grind (arith, nat_tests)
@@ -64,7 +64,7 @@ ticks_of :
     → frame < day
     → ticks < 3600
     → pts ≡ (pts_of origin frame + (2 ^ 33 - 900) + ticks) % 2 ^ 33
-    → ticks_since origin pts / 3600 ≡ frame
+    → ticks_after origin pts / 3600 ≡ frame
 ticks_of origin frame ticks pts low in_day few is = omega (arith, low, in_day, few, is)
 
 pub law_of_near_clock : LawOfNearClock

@@ -26,15 +26,15 @@ abbrev pub frame_in_day : ℕ → Option ℕ
 frame_in_day frame = if nat_lt frame day then Some frame else None
 
 -- The ticks from the first tick of frame 0, which is 900 before its PTS, to this PTS.
-abbrev pub ticks_since : ℕ → ℕ → ℕ
-ticks_since origin pts = (pts + (2 ^ 33 - origin) + 900) % 2 ^ 33
+abbrev pub ticks_after : ℕ → ℕ → ℕ
+ticks_after origin pts = (pts + (2 ^ 33 - origin) + 900) % 2 ^ 33
 
 -- The frame of the day whose ticks include this PTS of 33 bits. They begin 900 before the frame's
 -- own PTS. So a PTS may be a quarter of a frame early, as multiplexers may make it, and those of
 -- two fields, half a frame apart, belong to one frame (own).
 unfoldable pub near_frame : ℕ → ℕ → Option ℕ
 near_frame origin pts =
-    if nat_lt pts (2 ^ 33) then frame_in_day (ticks_since origin pts / 3600) else None
+    if nat_lt pts (2 ^ 33) then frame_in_day (ticks_after origin pts / 3600) else None
 
 -- A clock converts a PTS to a frame of the day, or to `None`.
 abbrev pub Clock : Type 0

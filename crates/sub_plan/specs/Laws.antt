@@ -13,7 +13,7 @@ use Rattle.ttx_page.specs.Page.{Rows, cell, row_at, IsCell, IsPage}
 use Rattle.ttx_page.specs.PacketKind.{kind}
 use Rattle.ttx_page.specs.Shown.{shown}
 use Rattle.ttx_page.specs.Span.{span}
-use Rattle.ttx_pes.specs.PesPacket.{IsPesValue}
+use Rattle.ttx_pes.specs.PesGrammar.{IsPesValue}
 use Rattle.stl_rows.specs.declared.national.National.{National}
 use Rattle.stl_rows.specs.Programme.{IsProgramme, ProgrammeValue}
 use Rattle.stl_file.specs.TimeCode.{day}

@@ -7,7 +7,7 @@ use Rattle.std.specs.Prelude.{◌==◌, nat_eq, filter, if◌then◌else◌, Opt
 use Rattle.std.specs.List.{flat_map, range_with_len}
 use Rattle.std.specs.Cmp.Lexicographic.{pointwise}
 use Rattle.ttx_page.specs.Page.{Rows}
-use Rattle.ttx_pes.specs.PesPacket.{PesValue, canonical_packet, numbered_frame}
+use Rattle.ttx_pes.specs.PesGrammar.{PesValue, canonical_packet, numbered_frame}
 use Rattle.stl_rows.specs.declared.national.National.{National}
 use Rattle.stl_rows.specs.DuePage.{due}
 use Rattle.stl_rows.specs.Programme.{ProgrammeValue, first_in, last_out}

@@ -1,7 +1,7 @@
 -- The frames between two bases, as the code visits them. No public clause uses this.
 use Rattle.std.specs.Prelude.{ℕ, ◌-◌, ◌%◌, List, ◌==◌, filter}
 use Rattle.std.specs.List.{range_with_len}
-use Rattle.ttx_pes.specs.PesPacket.{canonical_packet}
+use Rattle.ttx_pes.specs.PesGrammar.{canonical_packet}
 use Rattle.sub_plan.specs.Schedule.{pes_value}
 
 -- The frames before `end` whose distance from `from` is a multiple of `every`.

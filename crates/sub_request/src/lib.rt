@@ -14,10 +14,10 @@
 
 mod files;
 mod listening;
-mod pes_packets;
+mod pes_selection;
 mod request;
 
 pub use files::{FileNames, Output, PesInput, StlInput};
 pub use listening::{Flip, Listening, ReceiverKind};
-pub use pes_packets::{PesPackets, TransportStream};
+pub use pes_selection::{PesSelection, TransportStream};
 pub use request::{Request, UsageFault};

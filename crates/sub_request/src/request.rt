@@ -2,7 +2,7 @@
 ghost use Rattle.std.specs.Prelude.{◌≡◌};
 
 use crate::listening::Listening;
-use crate::pes_packets::{PesPackets, TransportStream};
+use crate::pes_selection::{PesSelection, TransportStream};
 use mpeg_ts::SurveyOptions;
 use stl_file::Scope;
 use stl_rows::{Layout, National};
@@ -124,7 +124,7 @@ pub enum Request<'a> {
     /// `packets PES`: lists PES packets and their Teletext units.
     Packets {
         /// The PES packets.
-        pes: PesPackets<'a>,
+        pes: PesSelection<'a>,
     },
     /// `show STL`: lists subtitles.
     Show {
@@ -160,7 +160,7 @@ pub enum Request<'a> {
         /// The name of the subtitle file.
         stl: &'a str,
         /// The PES packets.
-        pes: PesPackets<'a>,
+        pes: PesSelection<'a>,
         /// The page, the repeat bound, the PTS of frame 0, whether complete pages are required, and
         /// within how many frames the page has to be right.
         options: Options,
@@ -176,7 +176,7 @@ pub enum Request<'a> {
     /// `listen PES`: runs one receiver.
     Listen {
         /// The PES packets.
-        pes: PesPackets<'a>,
+        pes: PesSelection<'a>,
         /// What the receiver gets.
         listening: Listening,
     },

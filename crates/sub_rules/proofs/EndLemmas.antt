@@ -2,7 +2,8 @@
 -- after it.
 use Rattle.std.proofs.lemmas.Bool.Decides.{nat_tests}
 use Rattle.std.proofs.Common.{◌≡◌, ℕ, ◌+◌, ◌-◌, ◌<◌, arith}
-use Rattle.sub_rules.specs.Events.{end_before, gap_length, latest, standing_at, standing_before}
+use Rattle.sub_rules.specs.Events.{end_before, gap_length, latest, active_faults_at}
+use Rattle.sub_rules.specs.Events.{active_faults_before}
 use Rattle.sub_rules.specs.FrameRules.{Criteria, frame_at}
 use Rattle.sub_rules.specs.Transmission.{Transmission}
 
@@ -15,9 +16,9 @@ unfolding gap_length
 gap_length-is frames n h1 = grind (arith, nat_tests)
 
 -- The active faults at the end before.
-pub standing_before_is :
+pub active_faults_before_is :
     (g : Criteria) (frames : Transmission) (n f : ℕ)
     → 0 < n
-    → standing_before g frames n f ≡ standing_at g frames n (end_before frames n f)
-unfolding standing_before
-standing_before_is g frames n f h1 = grind (arith, nat_tests)
+    → active_faults_before g frames n f ≡ active_faults_at g frames n (end_before frames n f)
+unfolding active_faults_before
+active_faults_before_is g frames n f h1 = grind (arith, nat_tests)

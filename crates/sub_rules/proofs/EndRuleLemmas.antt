@@ -1,18 +1,19 @@
 -- The table of the rules of a frame's end. A property of each rule in it holds of any rule,
 -- `each_end_rule`; no fault is active if and only if none of a rule is, `rules_none`,
--- `stands_nothing`; no event at an end passes a test that no event of a rule passes, `end_any`.
+-- `no_active_faults_is`; no event at an end passes a test that no event of a rule passes,
+-- `end_any`.
 use Rattle.std.proofs.lemmas.Bool.Decides.{nat_tests}
 use Rattle.std.proofs.Common.{◌≡◌, ℕ, Bool, true, false, List, [], ◌∷◌, Option, Some, None}
 use Rattle.std.proofs.Common.{is_some, not, refl, ◌∙◌, ap, arith, flat_map}
 use Rattle.std.proofs.lemmas.List.Folds.{list_any-append}
 use Rattle.std.specs.List.{AllByRecursion, list_any}
 use Rattle.sub_rules.specs.Events.{broken_at, end_events, end_fault, end_rules}
-use Rattle.sub_rules.specs.Events.{nothing_stands, rule_events}
-use Rattle.sub_rules.specs.Trusted.{stands_none}
+use Rattle.sub_rules.specs.Events.{no_active_faults, rule_events}
+use Rattle.sub_rules.specs.Trusted.{has_no_active_faults}
 use Rattle.sub_rules.specs.declared.end_rule.EndRule.{EndRule}
 use Rattle.sub_rules.specs.declared.event.Event.{Event}
-use Rattle.sub_rules.specs.declared.event.Event.TheVariants.{Ended, Told}
-use Rattle.sub_rules.specs.declared.standing.Standing.{Standing}
+use Rattle.sub_rules.specs.declared.event.Event.TheVariants.{Ended, Reported}
+use Rattle.sub_rules.specs.declared.active_faults.ActiveFaults.{ActiveFaults}
 
 -- ---- all of them
 
@@ -22,24 +23,25 @@ each_end_rule P h rule = grind arith
 
 -- ---- no active faults
 
-pub nothing_at : (rule : EndRule) → broken_at rule nothing_stands ≡ None
+pub nothing_at : (rule : EndRule) → broken_at rule no_active_faults ≡ None
 nothing_at rule = grind arith
 
 -- If no rule has an active fault.
-pub rules_none : (s : Standing) → ((rule : EndRule) → broken_at rule s ≡ None)
-    → stands_none s ≡ true
+pub rules_none : (s : ActiveFaults) → ((rule : EndRule) → broken_at rule s ≡ None)
+    → has_no_active_faults s ≡ true
 rules_none s none = ap not (go end_rules)
   where
     go : (rules : List EndRule) → list_any (λ rule. is_some (broken_at rule s)) rules ≡ false
     go [] = refl
     go (rule ∷ rules) = rw (none rule) (go rules)
 
-pub stands_nothing : (s : Standing) → stands_none s ≡ true → s ≡ nothing_stands
+pub no_active_faults_is : (s : ActiveFaults) → has_no_active_faults s ≡ true → s ≡ no_active_faults
 unfolding end_rules
-stands_nothing s e = grind (arith, nat_tests)
+no_active_faults_is s e = grind (arith, nat_tests)
 
-pub none_at : (s : Standing) → stands_none s ≡ true → (rule : EndRule) → broken_at rule s ≡ None
-none_at s e rule = ap (broken_at rule) (stands_nothing s e) ∙ nothing_at rule
+pub none_at : (s : ActiveFaults) → has_no_active_faults s ≡ true → (rule : EndRule) → broken_at rule
+    s ≡ None
+none_at s e rule = ap (broken_at rule) (no_active_faults_is s e) ∙ nothing_at rule
 
 -- ---- the events at an end
 
@@ -49,19 +51,20 @@ from_none : (rule : EndRule) (a b : ℕ) (o : Option (ℕ × ℕ)) (f : ℕ)
 from_none rule a b None f = refl
 from_none rule a b (Some cell) f = refl
 
-pub end_from_none : (a b : ℕ) (new : Standing) (f : ℕ)
-    → end_events nothing_stands a new f ≡ end_events nothing_stands b new f
+pub end_from_none : (a b : ℕ) (new : ActiveFaults) (f : ℕ)
+    → end_events no_active_faults a new f ≡ end_events no_active_faults b new f
 unfolding end_events
 end_from_none a b new f = grind (arith, nat_tests, nothing_at, from_none)
 
 module _ (test : Event → Bool)
-    (told : (rule : EndRule) (f : ℕ) (cell : ℕ × ℕ) → test (Told (end_fault rule f cell)) ≡ false)
+    (reported : (rule : EndRule) (f : ℕ) (cell : ℕ × ℕ) → test (Reported (end_fault rule f cell)) ≡
+    false)
     (ended : (rule : EndRule) (f : ℕ) → test (Ended rule f) ≡ false) where
   rule_any : (rule : EndRule) (before f : ℕ) (old new : Option (ℕ × ℕ))
       → list_any test (rule_events rule old before new f) ≡ false
   rule_any rule before f old new = grind (arith, nat_tests)
 
-  rules_any : (old : Standing) (before : ℕ) (new : Standing) (f : ℕ) (rules : List EndRule)
+  rules_any : (old : ActiveFaults) (before : ℕ) (new : ActiveFaults) (f : ℕ) (rules : List EndRule)
       → list_any test
       (flat_map (λ rule. rule_events rule (broken_at rule old) before (broken_at rule new) f) rules)
       ≡ false
@@ -74,7 +77,7 @@ module _ (test : Event → Bool)
       (flat_map (λ r. rule_events r (broken_at r old) before (broken_at r new) f) rules) in
       grind (arith, nat_tests)
 
-  pub end_any : (old : Standing) (before : ℕ) (new : Standing) (f : ℕ)
+  pub end_any : (old : ActiveFaults) (before : ℕ) (new : ActiveFaults) (f : ℕ)
       → list_any test (end_events old before new f) ≡ false
   unfolding end_events
   end_any old before new f = rules_any old before new f end_rules

@@ -5,10 +5,11 @@ use Rattle.std.proofs.Common.{◌≡◌, ℕ, zero, suc, ◌+◌, ◌-◌, ◌�
 use Rattle.std.proofs.Common.{Option, refl, sym, ap, ◌∙◌, arith, take-take}
 use Rattle.sub_rules.specs.Events.{end_before, events_at_end, gap_length, is_gap, is_silent}
 use Rattle.sub_rules.specs.Events.{is_incomplete, is_late, is_unfinished, latest, order_events}
-use Rattle.sub_rules.specs.Events.{since_before, since_frames, since_in_gap, standing_at}
-use Rattle.sub_rules.specs.Events.{standing_before, unfinished_since}
+use Rattle.sub_rules.specs.Events.{first_unfinished_before, first_unfinished_in_frames}
+use Rattle.sub_rules.specs.Events.{first_unfinished_in_gap, active_faults_at}
+use Rattle.sub_rules.specs.Events.{active_faults_before, unfinished_since}
 use Rattle.sub_rules.specs.FrameRules.{Criteria, frame_at}
-use Rattle.sub_rules.specs.PieceEvents.{steps_at_end, steps_of_arrival, steps_of_gap}
+use Rattle.sub_rules.specs.PesPacketEvents.{steps_at_end, steps_of_arrival, steps_of_gap}
 use Rattle.sub_rules.specs.Transmission.{SentFrame, Transmission}
 
 module _ (g : Criteria) (xs ys : Transmission) (n : ℕ)
@@ -47,24 +48,27 @@ module _ (g : Criteria) (xs ys : Transmission) (n : ℕ)
     unfolding is_incomplete
     unfinished_same k f l = rw (frames_same k l) refl
 
-    gap_since_same : (k : ℕ) (since : Option ℕ) (m : ℕ) → k ≤ n
-        → since_in_gap g xs k since m ≡ since_in_gap g ys k since m
-    unfolding since_in_gap
-    gap_since_same k since zero l = refl
-    gap_since_same k since (suc m) l =
+    gap_first_unfinished_same : (k : ℕ) (first_unfinished : Option ℕ) (m : ℕ) → k ≤ n
+        → first_unfinished_in_gap g xs k first_unfinished m ≡ first_unfinished_in_gap g ys k
+        first_unfinished m
+    unfolding first_unfinished_in_gap
+    gap_first_unfinished_same k first_unfinished zero l = refl
+    gap_first_unfinished_same k first_unfinished (suc m) l =
         rw (
-          gap_since_same k since m l,
+          gap_first_unfinished_same k first_unfinished m l,
           unfinished_same k (latest xs k + suc m) l,
           latest-same k,
         ) refl
 
-    since_same : (k : ℕ) → k ≤ n → since_frames g xs k ≡ since_frames g ys k
-    unfolding since_frames
-    since_same zero l = refl
-    since_same (suc i) l =
+    first_unfinished_same : (k : ℕ) → k ≤ n → first_unfinished_in_frames g xs k ≡
+        first_unfinished_in_frames g ys k
+    unfolding first_unfinished_in_frames
+    first_unfinished_same zero l = refl
+    first_unfinished_same (suc i) l =
         rw (
-          gap_since_same i (since_frames g xs i) (gap_length xs i) (omega arith),
-          since_same i (omega arith),
+          gap_first_unfinished_same i (first_unfinished_in_frames g xs i) (gap_length xs i)
+              (omega arith),
+          first_unfinished_same i (omega arith),
           gap_length-same i,
           unfinished_same (suc i) (frame_at xs i) l,
           frame_at-same i,
@@ -75,15 +79,16 @@ module _ (g : Criteria) (xs ys : Transmission) (n : ℕ)
     unfolding unfinished_since
     unfinished_since-same k f l =
         rw (
-          gap_since_same k (since_frames g xs k) (f - latest xs k) l,
-          since_same k l,
+          gap_first_unfinished_same k (first_unfinished_in_frames g xs k) (f - latest xs k) l,
+          first_unfinished_same k l,
           latest-same k,
         ) refl
 
-    pub since_before-same : (k f : ℕ) → k ≤ n → since_before g xs k f ≡ since_before g ys k f
-    unfolding since_before
-    since_before-same zero f l = refl
-    since_before-same (suc k) f l = unfinished_since-same (suc k) (f - 1) l
+    pub first_unfinished_before-same : (k f : ℕ) → k ≤ n → first_unfinished_before g xs k f ≡
+        first_unfinished_before g ys k f
+    unfolding first_unfinished_before
+    first_unfinished_before-same zero f l = refl
+    first_unfinished_before-same (suc k) f l = unfinished_since-same (suc k) (f - 1) l
 
     pub is_late-same : (k f : ℕ) → k ≤ n → is_late g xs k f ≡ is_late g ys k f
     unfolding is_late
@@ -94,23 +99,24 @@ module _ (g : Criteria) (xs ys : Transmission) (n : ℕ)
     is_silent-same zero f = refl
     is_silent-same (suc k) f = rw (latest-same (suc k)) refl
 
-    pub standing_at-same : (k f : ℕ) → k ≤ n → standing_at g xs k f ≡ standing_at g ys k f
-    unfolding standing_at is_gap is_incomplete
-    standing_at-same k f l =
+    pub active_faults_at-same : (k f : ℕ) → k ≤ n → active_faults_at g xs k f ≡ active_faults_at g
+        ys k f
+    unfolding active_faults_at is_gap is_incomplete
+    active_faults_at-same k f l =
         rw (is_late-same k f l, frames_same k l, frame_at-same 0, is_silent-same k f) refl
 
-    pub standing_before-same : (i f : ℕ) → i ≤ n
-        → standing_before g xs i f ≡ standing_before g ys i f
-    unfolding standing_before
-    standing_before-same zero f l = refl
-    standing_before-same (suc i) f l =
-        ap (standing_at g xs (suc i)) (end_same (suc i) f)
-        ∙ standing_at-same (suc i) (end_before ys (suc i) f) l
+    pub active_faults_before-same : (i f : ℕ) → i ≤ n
+        → active_faults_before g xs i f ≡ active_faults_before g ys i f
+    unfolding active_faults_before
+    active_faults_before-same zero f l = refl
+    active_faults_before-same (suc i) f l =
+        ap (active_faults_at g xs (suc i)) (end_same (suc i) f)
+        ∙ active_faults_at-same (suc i) (end_before ys (suc i) f) l
 
     pub events_at_end-same : (i k f : ℕ) → i ≤ n → k ≤ n
         → events_at_end g xs i k f ≡ events_at_end g ys i k f
     events_at_end-same i k f l m =
-        rw (standing_before-same i f l, end_same i f, standing_at-same k f m) refl
+        rw (active_faults_before-same i f l, end_same i f, active_faults_at-same k f m) refl
 
     -- ---- steps
 
@@ -118,7 +124,7 @@ module _ (g : Criteria) (xs ys : Transmission) (n : ℕ)
         → steps_at_end g xs i k f ≡ steps_at_end g ys i k f
     steps_at_end-same i k f l m =
         rw (
-          since_before-same i f l,
+          first_unfinished_before-same i f l,
           unfinished_since-same k f m,
           is_late-same k f m,
           events_at_end-same i k f l m,
@@ -142,5 +148,5 @@ module _ (g : Criteria) (xs ys : Transmission) (n : ℕ)
           gap_length-same i,
           steps_of_gap-same i (gap_length ys i) l,
           frame_at-same i,
-          since_before-same i (frame_at ys i) l,
+          first_unfinished_before-same i (frame_at ys i) l,
         ) refl

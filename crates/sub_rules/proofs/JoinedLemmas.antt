@@ -2,7 +2,7 @@
 -- packet, `sent_after-other`, `sent_after-same`; more packets of the last frame,
 -- `with_packets-push`, `with_packets-frames`; some PES packets, and then others,
 -- `joined_after-append`, `steps_of_each-append`; some packets of a frame, and then others,
--- `packets_told-append`.
+-- `packets_reported-append`.
 use Rattle.std.proofs.lemmas.Bool.Decides.{nat_tests}
 use Rattle.std.proofs.Common.{◌≡◌, ℕ, zero, suc, ◌+◌, ◌<◌, ◌≤◌, true, false, List, [], ◌∷◌}
 use Rattle.std.proofs.Common.{◌++◌, length, map, take, refl, sym, ap, ◌∙◌, arith}
@@ -11,12 +11,13 @@ use Rattle.std.proofs.Math.Seq.{take-append-add}
 use Rattle.std.proofs.lemmas.List.{append-nil, get_or_append_left, get_or-append-add}
 use Rattle.std.specs.List.{AllByRecursion}
 use lib.Seq.{take-append-le}
-use Rattle.sub_rules.specs.Events.{packets_told}
+use Rattle.sub_rules.specs.Events.{packets_reported}
 use Rattle.sub_rules.specs.FrameRules.{Criteria, frame_at, packets_before, packets_of_frame}
-use Rattle.sub_rules.specs.PieceEvents.{steps_of_each}
-use Rattle.sub_rules.specs.Pieces.{Piece, frames_of, goes_on_with, joined, joined_after, sent_after}
-use Rattle.sub_rules.specs.Pieces.{with_packets}
-use Rattle.sub_rules.specs.Pieces.Piece.{Passed, Sent}
+use Rattle.sub_rules.specs.PesPacketEvents.{steps_of_each}
+use Rattle.sub_rules.specs.PesPackets.{PesPacket, frames_of, goes_on_with, joined, joined_after}
+use Rattle.sub_rules.specs.PesPackets.{sent_after}
+use Rattle.sub_rules.specs.PesPackets.{with_packets}
+use Rattle.sub_rules.specs.PesPackets.PesPacket.{Skipped, Sent}
 use Rattle.sub_rules.specs.Transmission.{SentFrame, Transmission}
 use Rattle.sub_rules.specs.declared.packet_rule.Watched.{Watched}
 use Rattle.sub_rules.proofs.PacketLists.{Each-append}
@@ -192,14 +193,15 @@ module _ (P : List ℕ → Type 0) where
 
 -- ---- PES packets
 
-pub frames_of-append : (xs ys : List Piece) → frames_of (xs ++ ys) ≡ frames_of xs ++ frames_of ys
+pub frames_of-append : (xs ys : List PesPacket) → frames_of (xs ++ ys) ≡ frames_of xs ++ frames_of
+    ys
 unfolding frames_of
 frames_of-append [] ys = refl
 frames_of-append (Sent s ∷ xs) ys = ap (λ (fs : Transmission). s ∷ fs) (frames_of-append xs ys)
-frames_of-append (Passed u ∷ xs) ys = frames_of-append xs ys
+frames_of-append (Skipped u ∷ xs) ys = frames_of-append xs ys
 
 -- The steps of the first PES packets, and then of the others.
-pub steps_of_each-append : (g : Criteria) (sent : Transmission) (pes n : ℕ) (xs ys : List Piece)
+pub steps_of_each-append : (g : Criteria) (sent : Transmission) (pes n : ℕ) (xs ys : List PesPacket)
     → n ≡ pes + length xs
     → steps_of_each g sent pes (xs ++ ys)
     ≡ steps_of_each g sent pes xs
@@ -210,56 +212,56 @@ steps_of_each-append g sent pes n (Sent s ∷ xs) ys d =
     let next = sent_after g.within sent s in
     let rest = steps_of_each-append g next (suc pes) n xs ys (omega arith) in
     grind (arith, nat_tests, append_assoc)
-steps_of_each-append g sent pes n (Passed u ∷ xs) ys d =
+steps_of_each-append g sent pes n (Skipped u ∷ xs) ys d =
     let rest = steps_of_each-append g sent (suc pes) n xs ys (omega arith) in
     grind (arith, nat_tests, append_assoc)
 
 -- ---- packets of a frame
 
 -- The events of the first packets depend only on these.
-pub packets_told-first :
+pub packets_reported-first :
     (w : Watched) (frame from : ℕ) (before xs ys : List (List ℕ)) (n : ℕ)
     → n ≤ length xs
-    → packets_told w frame from before (xs ++ ys) n ≡ packets_told w frame from before xs n
-unfolding packets_told
-packets_told-first w frame from before xs ys zero l = refl
-packets_told-first w frame from before xs ys (suc n) l =
+    → packets_reported w frame from before (xs ++ ys) n ≡ packets_reported w frame from before xs n
+unfolding packets_reported
+packets_reported-first w frame from before xs ys zero l = refl
+packets_reported-first w frame from before xs ys (suc n) l =
     rw (
-      packets_told-first w frame from before xs ys n (omega arith),
+      packets_reported-first w frame from before xs ys n (omega arith),
       take-append-le n xs ys (omega arith),
       get_or_append_left xs ys [] n (omega arith),
     ) refl
 
 -- The events of some packets, and then of the first n of others.
-packets_told-then :
+packets_reported-then :
     (w : Watched) (frame from : ℕ) (before xs ys : List (List ℕ)) (n : ℕ)
-    → packets_told w frame from before (xs ++ ys) (length xs + n)
-    ≡ packets_told w frame from before xs (length xs)
-    ++ packets_told w frame (from + length xs) (before ++ xs) ys n
-unfolding packets_told
-packets_told-then w frame from before xs ys zero =
+    → packets_reported w frame from before (xs ++ ys) (length xs + n)
+    ≡ packets_reported w frame from before xs (length xs)
+    ++ packets_reported w frame (from + length xs) (before ++ xs) ys n
+unfolding packets_reported
+packets_reported-then w frame from before xs ys zero =
     let none : length xs + 0 ≡ length xs = omega arith in
-    ap (packets_told w frame from before (xs ++ ys)) none
-    ∙ packets_told-first w frame from before xs ys (length xs) (omega arith)
-    ∙ sym (append-nil (packets_told w frame from before xs (length xs)))
-packets_told-then w frame from before xs ys (suc n) =
+    ap (packets_reported w frame from before (xs ++ ys)) none
+    ∙ packets_reported-first w frame from before xs ys (length xs) (omega arith)
+    ∙ sym (append-nil (packets_reported w frame from before xs (length xs)))
+packets_reported-then w frame from before xs ys (suc n) =
     let more : length xs + suc n ≡ suc (length xs + n) = omega arith in
     let number : from + (length xs + n) ≡ from + length xs + n = omega arith in
-    ap (packets_told w frame from before (xs ++ ys)) more
+    ap (packets_reported w frame from before (xs ++ ys)) more
     ∙ rw (
-      packets_told-then w frame from before xs ys n,
+      packets_reported-then w frame from before xs ys n,
       take-append-add xs ys n,
       get_or-append-add xs ys n [],
       number,
       sym (append_assoc before xs (take n ys)),
-    ) (append_assoc (packets_told w frame from before xs (length xs)) _ _)
+    ) (append_assoc (packets_reported w frame from before xs (length xs)) _ _)
 
 -- The events of the packets of a frame that come in two parts.
-pub packets_told-append :
+pub packets_reported-append :
     (w : Watched) (frame from : ℕ) (before xs ys : List (List ℕ))
-    → packets_told w frame from before (xs ++ ys) (length (xs ++ ys))
-    ≡ packets_told w frame from before xs (length xs)
-    ++ packets_told w frame (from + length xs) (before ++ xs) ys (length ys)
-packets_told-append w frame from before xs ys =
-    ap (packets_told w frame from before (xs ++ ys)) (length-append xs ys)
-    ∙ packets_told-then w frame from before xs ys (length ys)
+    → packets_reported w frame from before (xs ++ ys) (length (xs ++ ys))
+    ≡ packets_reported w frame from before xs (length xs)
+    ++ packets_reported w frame (from + length xs) (before ++ xs) ys (length ys)
+packets_reported-append w frame from before xs ys =
+    ap (packets_reported w frame from before (xs ++ ys)) (length-append xs ys)
+    ∙ packets_reported-then w frame from before xs ys (length ys)

@@ -1,4 +1,4 @@
-pub mod AnyToldLemmas
+pub mod AnyReportedLemmas
 pub mod CodeWordLemmas
 pub mod CodesLemmas
 pub mod EndLemmas
@@ -9,8 +9,8 @@ pub mod FrameLists
 pub mod JoinedLemmas
 pub mod PacketLists
 pub mod PesReadingLemmas
-pub mod PieceEventLemmas
-pub mod PieceFileLemmas
+pub mod PesPacketEventLemmas
+pub mod PesPacketFileLemmas
 pub mod PrefixEventLemmas
 pub mod StepEventLemmas
 pub mod TestLemmas

@@ -4,8 +4,8 @@ use Rattle.std.proofs.lemmas.Bool.Decides.{nat_tests}
 use Rattle.std.proofs.Common.{◌≡◌, ℕ, suc, ◌+◌, ◌<◌, ◌≤◌, List, [], ◌∷◌, length, drop, get_or}
 use Rattle.std.proofs.Common.{Option, Some, None, Result, Ok, Err, refl, ap, arith}
 use Rattle.std.proofs.lemmas.List.{get_or-map, get_or-drop, length-drop, drop-drop}
-use Rattle.ttx_pes.specs.PesPacket.{PesValue}
-use Rattle.ttx_pes.specs.Pieces.{behind_piece}
+use Rattle.ttx_pes.specs.PesGrammar.{PesValue}
+use Rattle.ttx_pes.specs.PesPackets.{rest_after_pes_packet}
 use Rattle.ttx_pes.specs.Reading.{answer_at, rest_after, most_packets}
 use Rattle.ttx_pes.specs.SentUnits.{packets_of_units}
 use Rattle.sub_plan.specs.FrameTime.{Clock}
@@ -13,15 +13,15 @@ use Rattle.sub_rules.specs.Events.{unread_fault}
 use Rattle.sub_rules.specs.FrameRules.{Unread}
 use Rattle.sub_rules.specs.PesFrames.{IsReadAs}
 use Rattle.sub_rules.specs.PesReading.{ReadsAs, file_at}
-use Rattle.sub_rules.specs.Pieces.{Piece, ReadsPieces, TellsPiece, pieces_at}
-use Rattle.sub_rules.specs.Pieces.{read_until_passed}
+use Rattle.sub_rules.specs.PesPackets.{PesPacket, ReadsPesPackets, ReportsPesPacket, pes_packets_at}
+use Rattle.sub_rules.specs.PesPackets.{read_until_skipped}
 use Rattle.sub_rules.specs.Sendings.{IsSentFrame}
 use Rattle.sub_rules.specs.Transmission.{SentFrame, Transmission}
 use Rattle.sub_rules.specs.declared.fault.CheckFault.{CheckFault}
-use Rattle.sub_rules.specs.declared.piece.NextPiece.{NextPiece}
-use Rattle.sub_rules.specs.declared.piece.NextPiece.TheVariants as next
+use Rattle.sub_rules.specs.declared.pes_packet.NextPesPacket.{NextPesPacket}
+use Rattle.sub_rules.specs.declared.pes_packet.NextPesPacket.TheVariants as next
 use Rattle.sub_rules.specs.declared.sending.Sending.{Sending}
-use Rattle.sub_rules.proofs.PieceFileLemmas.{file_at-next}
+use Rattle.sub_rules.proofs.PesPacketFileLemmas.{file_at-next}
 
 -- A frame of the list is the first of the frames from it on.
 is_sent :
@@ -60,18 +60,18 @@ reads_more clock given bytes v s frames unread few is sent reads =
 
 -- The result of reading the bytes after n PES packets; v is the value of the PES packet that is
 -- sent.
-abbrev pub TellsNext :
-    Clock → ℕ → List ℕ → PesValue → Result (Option NextPiece) CheckFault → Type 0
-TellsNext clock n bytes v answer =
-    (pieces : List Piece) (unread : Option Unread)
-    → ReadsPieces clock n bytes pieces unread
-    → TellsPiece clock n bytes pieces unread v answer
+abbrev pub ReportsNext :
+    Clock → ℕ → List ℕ → PesValue → Result (Option NextPesPacket) CheckFault → Type 0
+ReportsNext clock n bytes v answer =
+    (pes_packets : List PesPacket) (unread : Option Unread)
+    → ReadsPesPackets clock n bytes pes_packets unread
+    → ReportsPesPacket clock n bytes pes_packets unread v answer
 
 -- The fault because of which no frame is read.
-abbrev pub told_fault : Result (Option NextPiece) CheckFault → Option CheckFault
-told_fault (Ok (Some (next.Passed f))) = Some f
-told_fault (Err f) = Some f
-told_fault _ = None
+abbrev pub reported_fault : Result (Option NextPesPacket) CheckFault → Option CheckFault
+reported_fault (Ok (Some (next.Skipped f))) = Some f
+reported_fault (Err f) = Some f
+reported_fault _ = None
 
 -- A PES packet that is sent is the next frame of the list.
 pub record ReadsNext
@@ -79,20 +79,20 @@ pub record ReadsNext
     (v : PesValue) (frame : ℕ)
     : Type 0 where
   pub sent : IsSentFrame frames n frame (packets_of_units v.units)
-  pub left : ReadsAs clock (n + 1) (behind_piece bytes) (drop (n + 1) frames) unread
+  pub left : ReadsAs clock (n + 1) (rest_after_pes_packet bytes) (drop (n + 1) frames) unread
 
 pub reads_next :
     (clock : Clock) (n : ℕ) (bytes : List ℕ) (frames : Transmission) (unread : Option Unread)
     (v : PesValue) (sending : Sending)
     → ReadsAs clock n bytes (drop n frames) unread
-    → TellsNext clock n bytes v (Ok (Some (next.Sent sending)))
+    → ReportsNext clock n bytes v (Ok (Some (next.Sent sending)))
     → ReadsNext clock n bytes frames unread v sending.frame
-unfolding file_at read_until_passed
-reads_next clock n bytes frames unread v sending reads tells =
-    let file = pieces_at clock n bytes in
-    let rest = file_at clock (n + 1) (behind_piece bytes) in
+unfolding file_at read_until_skipped
+reads_next clock n bytes frames unread v sending reads reports =
+    let file = pes_packets_at clock n bytes in
+    let rest = file_at clock (n + 1) (rest_after_pes_packet bytes) in
     let s : SentFrame = record { frame = sending.frame; packets = packets_of_units v.units } in
-    let is = (tells file.pieces file.unread refl).0 in
+    let is = (reports file.pes_packets file.unread refl).0 in
     let first = is.first in
     let left = is.left in
     grind (arith, nat_tests, drop-drop 1 n frames, is_sent frames n s rest.frames)
@@ -102,24 +102,24 @@ pub reads_end :
     (clock : Clock) (n : ℕ) (bytes : List ℕ) (frames : Transmission) (unread : Option Unread)
     (v : PesValue)
     → ReadsAs clock n bytes (drop n frames) unread
-    → TellsNext clock n bytes v (Ok None)
+    → ReportsNext clock n bytes v (Ok None)
     → (length frames ≤ n) × (unread ≡ None)
-unfolding file_at read_until_passed
-reads_end clock n bytes frames unread v reads tells =
-    let file = pieces_at clock n bytes in
-    let is = tells file.pieces file.unread refl in
+unfolding file_at read_until_skipped
+reads_end clock n bytes frames unread v reads reports =
+    let file = pes_packets_at clock n bytes in
+    let is = reports file.pes_packets file.unread refl in
     grind (arith, nat_tests, length-drop n frames)
 
 -- So it is if the result is a fault, after which the bytes can't be read on.
 pub reads_unread :
     (clock : Clock) (n : ℕ) (bytes : List ℕ) (frames : Transmission) (unread : Option Unread)
-    (v : PesValue) (answer : Result (Option NextPiece) CheckFault) (f : CheckFault)
+    (v : PesValue) (answer : Result (Option NextPesPacket) CheckFault) (f : CheckFault)
     → ReadsAs clock n bytes (drop n frames) unread
-    → TellsNext clock n bytes v answer
-    → told_fault answer ≡ Some f
+    → ReportsNext clock n bytes v answer
+    → reported_fault answer ≡ Some f
     → (length frames ≤ n) × (u : Unread) × (unread ≡ Some u) × (f ≡ unread_fault n (Some u))
-unfolding file_at read_until_passed
-reads_unread clock n bytes frames unread v answer f reads tells of =
-    let file = pieces_at clock n bytes in
-    let is = tells file.pieces file.unread refl in
+unfolding file_at read_until_skipped
+reads_unread clock n bytes frames unread v answer f reads reports of =
+    let file = pes_packets_at clock n bytes in
+    let is = reports file.pes_packets file.unread refl in
     grind (arith, nat_tests, length-drop n frames)

@@ -1,6 +1,6 @@
 -- The events of a frame depend only on the frames up to it: `frame_events-prefix`; so do the first
 -- frame of the unfinished run, `unfinished_since-prefix`, whether that is late, `is_late-prefix`,
--- the active faults, `standing_at-prefix`, and the steps of a frame.
+-- the active faults, `active_faults_at-prefix`, and the steps of a frame.
 use Rattle.std.proofs.lemmas.Bool.Decides.{nat_tests}
 use Rattle.std.proofs.Common.{◌≡◌, ℕ, zero, suc, ◌-◌, ◌<◌, ◌≤◌, ◌++◌}
 use Rattle.std.proofs.Common.{length, get_or, Option, refl, arith}
@@ -9,11 +9,12 @@ use lib.Seq.{take-append-le}
 use Rattle.sub_rules.specs.Events.{end_before, events_at_end, is_silent}
 use Rattle.sub_rules.specs.Events.{first_header_events, gap_length}
 use Rattle.sub_rules.specs.Events.{is_gap, is_incomplete, is_late, is_unfinished, latest}
-use Rattle.sub_rules.specs.Events.{order_events, since_before, since_frames, since_in_gap}
-use Rattle.sub_rules.specs.Events.{standing_at, standing_before, unfinished_since}
+use Rattle.sub_rules.specs.Events.{order_events, first_unfinished_before}
+use Rattle.sub_rules.specs.Events.{first_unfinished_in_frames, first_unfinished_in_gap}
+use Rattle.sub_rules.specs.Events.{active_faults_at, active_faults_before, unfinished_since}
 use Rattle.sub_rules.specs.FrameRules.{Criteria, Unread, frame_at, packets_before, packets_of_frame}
-use Rattle.sub_rules.specs.PieceEvents.{steps_at_end, steps_of_arrival, steps_of_ending}
-use Rattle.sub_rules.specs.PieceEvents.{steps_of_gap}
+use Rattle.sub_rules.specs.PesPacketEvents.{steps_at_end, steps_of_arrival, steps_of_ending}
+use Rattle.sub_rules.specs.PesPacketEvents.{steps_of_gap}
 use Rattle.sub_rules.specs.Transmission.{Transmission}
 use Rattle.sub_rules.proofs.FrameEvents.{frame_events, gap_events}
 
@@ -54,20 +55,30 @@ module _ (g : Criteria) (u : Option Unread) (done more : Transmission) where
   unfolding is_incomplete
   unfinished_same n f l = rw (take-append-le n done more l) refl
 
-  gap_since_same : (n : ℕ) (since : Option ℕ) (k : ℕ) → n ≤ length done
-      → since_in_gap g all n since k ≡ since_in_gap h done n since k
-  unfolding since_in_gap
-  gap_since_same n since zero l = grind (arith, nat_tests)
-  gap_since_same n since (suc k) l =
-      grind (arith, nat_tests, unfinished_same, latest-prefix, (gap_since_same n since k l))
+  gap_first_unfinished_same : (n : ℕ) (first_unfinished : Option ℕ) (k : ℕ) → n ≤ length done
+      → first_unfinished_in_gap g all n first_unfinished k ≡ first_unfinished_in_gap h done n
+      first_unfinished k
+  unfolding first_unfinished_in_gap
+  gap_first_unfinished_same n first_unfinished zero l = grind (arith, nat_tests)
+  gap_first_unfinished_same n first_unfinished (suc k) l =
+      grind (
+        arith,
+        nat_tests,
+        unfinished_same,
+        latest-prefix,
+        (gap_first_unfinished_same n
+            first_unfinished k l),
+      )
 
-  since_same : (n : ℕ) → n ≤ length done → since_frames g all n ≡ since_frames h done n
-  unfolding since_frames
-  since_same zero l = refl
-  since_same (suc i) l =
+  first_unfinished_same : (n : ℕ) → n ≤ length done → first_unfinished_in_frames g all n ≡
+      first_unfinished_in_frames h done n
+  unfolding first_unfinished_in_frames
+  first_unfinished_same zero l = refl
+  first_unfinished_same (suc i) l =
       rw (
-        gap_since_same i (since_frames g all i) (gap_length all i) (omega arith),
-        since_same i (omega arith),
+        gap_first_unfinished_same i (first_unfinished_in_frames g all i) (gap_length all i)
+            (omega arith),
+        first_unfinished_same i (omega arith),
         gap_length-prefix i l,
         unfinished_same (suc i) (frame_at all i) l,
         frame_at-prefix i l,
@@ -77,13 +88,13 @@ module _ (g : Criteria) (u : Option Unread) (done more : Transmission) where
       → unfinished_since g all n f ≡ unfinished_since h done n f
   unfolding unfinished_since
   unfinished_since-prefix n f l =
-      grind (arith, nat_tests, gap_since_same, since_same, latest-prefix)
+      grind (arith, nat_tests, gap_first_unfinished_same, first_unfinished_same, latest-prefix)
 
-  pub since_before-prefix : (n f : ℕ) → n ≤ length done
-      → since_before g all n f ≡ since_before h done n f
-  unfolding since_before
-  since_before-prefix zero f l = refl
-  since_before-prefix (suc n) f l = unfinished_since-prefix (suc n) (f - 1) l
+  pub first_unfinished_before-prefix : (n f : ℕ) → n ≤ length done
+      → first_unfinished_before g all n f ≡ first_unfinished_before h done n f
+  unfolding first_unfinished_before
+  first_unfinished_before-prefix zero f l = refl
+  first_unfinished_before-prefix (suc n) f l = unfinished_since-prefix (suc n) (f - 1) l
 
   pub is_late-prefix : (n f : ℕ) → 0 < length done → n ≤ length done
       → is_late g all n f ≡ is_late h done n f
@@ -97,10 +108,10 @@ module _ (g : Criteria) (u : Option Unread) (done more : Transmission) where
   is_silent-prefix zero f l = refl
   is_silent-prefix (suc n) f l = rw (latest-prefix (suc n) l) refl
 
-  pub standing_at-prefix : (n f : ℕ) → 0 < length done → n ≤ length done
-      → standing_at g all n f ≡ standing_at h done n f
-  unfolding standing_at is_gap is_incomplete
-  standing_at-prefix n f some l =
+  pub active_faults_at-prefix : (n f : ℕ) → 0 < length done → n ≤ length done
+      → active_faults_at g all n f ≡ active_faults_at h done n f
+  unfolding active_faults_at is_gap is_incomplete
+  active_faults_at-prefix n f some l =
       rw (
         is_late-prefix n f some l,
         take-append-le n done more l,
@@ -112,15 +123,15 @@ module _ (g : Criteria) (u : Option Unread) (done more : Transmission) where
       → end_before all i f ≡ end_before done i f
   before_same i f some l = rw (latest-prefix i l, frame_at-prefix (i - 1) (omega arith)) refl
 
-  stood_same : (i f : ℕ) → 0 < length done → i ≤ length done
-      → standing_before g all i f ≡ standing_before h done i f
-  unfolding standing_before
-  stood_same i f h1 h2 = grind (arith, nat_tests, before_same, standing_at-prefix)
+  active_before_same : (i f : ℕ) → 0 < length done → i ≤ length done
+      → active_faults_before g all i f ≡ active_faults_before h done i f
+  unfolding active_faults_before
+  active_before_same i f h1 h2 = grind (arith, nat_tests, before_same, active_faults_at-prefix)
 
   pub events_at_end-prefix : (i n f : ℕ) → 0 < length done → i ≤ length done → n ≤ length done
       → events_at_end g all i n f ≡ events_at_end h done i n f
   events_at_end-prefix i n f some l m =
-      grind (arith, nat_tests, stood_same, before_same, standing_at-prefix)
+      grind (arith, nat_tests, active_before_same, before_same, active_faults_at-prefix)
 
   pub gap_events-prefix : (i n : ℕ) → 0 < length done → i ≤ length done
       → gap_events g all i n ≡ gap_events h done i n
@@ -165,7 +176,7 @@ module _ (g : Criteria) (u : Option Unread) (done more : Transmission) where
       grind (
         arith,
         nat_tests,
-        since_before-prefix,
+        first_unfinished_before-prefix,
         unfinished_since-prefix,
         is_late-prefix,
         events_at_end-prefix,
@@ -188,7 +199,7 @@ module _ (g : Criteria) (u : Option Unread) (done more : Transmission) where
         gap_length-prefix,
         steps_of_gap-prefix,
         frame_at-prefix,
-        since_before-prefix,
+        first_unfinished_before-prefix,
       )
 
   pub steps_of_ending-prefix : (i : ℕ) → i < length done
@@ -201,5 +212,5 @@ module _ (g : Criteria) (u : Option Unread) (done more : Transmission) where
         frame_at-prefix,
         steps_at_end-prefix,
         packets_of_frame-prefix,
-        standing_at-prefix,
+        active_faults_at-prefix,
       )

@@ -1,14 +1,16 @@
--- The events of one list of steps after another, `told_after-append`, and the steps before them,
+-- The events of one list of steps after another, `reported_after-append`, and the steps before
+-- them,
 -- `past_after-append`.
 use Rattle.std.proofs.lemmas.Bool.Decides.{nat_tests}
 use Rattle.std.proofs.Common.{◌≡◌, ◌&&◌, List, [], ◌∷◌, ◌++◌, refl, sym, ap, ◌∙◌, append_assoc}
 use Rattle.std.proofs.Common.{arith}
 use Rattle.sub_rules.specs.declared.event.Event.{Event}
-use Rattle.sub_rules.specs.Trusted.{CheckStep, tells_none, told_after, told_at}
+use Rattle.sub_rules.specs.Trusted.{CheckStep, reports_none, reported_after, reported_at}
 
 -- Two lists have no events if and only if neither has.
-pub tells_none-two : (xs ys : List Event) → tells_none (xs ++ ys) ≡ (tells_none xs && tells_none ys)
-tells_none-two xs ys = grind (arith, nat_tests)
+pub reports_none-two : (xs ys : List Event) → reports_none (xs ++ ys) ≡
+    (reports_none xs && reports_none ys)
+reports_none-two xs ys = grind (arith, nat_tests)
 
 -- ---- steps, one after another
 
@@ -23,10 +25,10 @@ unfolding past_after
 past_after-append t [] ys = refl
 past_after-append t (x ∷ xs) ys = past_after-append (x ∷ t) xs ys
 
-pub told_after-append : (t xs ys : List CheckStep)
-    → told_after t (xs ++ ys) ≡ told_after t xs ++ told_after (past_after t xs) ys
-unfolding told_after past_after
-told_after-append t [] ys = refl
-told_after-append t (x ∷ xs) ys =
-    ap (λ (l : List Event). told_at t x ++ l) (told_after-append (x ∷ t) xs ys)
-    ∙ sym (append_assoc (told_at t x) _ _)
+pub reported_after-append : (t xs ys : List CheckStep)
+    → reported_after t (xs ++ ys) ≡ reported_after t xs ++ reported_after (past_after t xs) ys
+unfolding reported_after past_after
+reported_after-append t [] ys = refl
+reported_after-append t (x ∷ xs) ys =
+    ap (λ (l : List Event). reported_at t x ++ l) (reported_after-append (x ∷ t) xs ys)
+    ∙ sym (append_assoc (reported_at t x) _ _)

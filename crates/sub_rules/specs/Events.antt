@@ -29,13 +29,13 @@ use Rattle.sub_rules.specs.Transmission.{SentFrame, Transmission}
 use Rattle.sub_rules.specs.declared.end_rule.EndRule.{EndRule}
 use Rattle.sub_rules.specs.declared.end_rule.EndRule.TheVariants as end
 use Rattle.sub_rules.specs.declared.event.Event.{Event}
-use Rattle.sub_rules.specs.declared.event.Event.TheVariants.{Ended, PassedUntil, Told, Trusted}
+use Rattle.sub_rules.specs.declared.event.Event.TheVariants.{Ended, SkippedUntil, Reported, Trusted}
 use Rattle.sub_rules.specs.declared.fault.CheckFault.{CheckFault}
 use Rattle.sub_rules.specs.declared.fault.CheckFault.TheVariants as fault
 use Rattle.sub_rules.specs.declared.packet_rule.PacketRule.{PacketRule}
 use Rattle.sub_rules.specs.declared.packet_rule.PacketRule.TheVariants as rule
 use Rattle.sub_rules.specs.declared.packet_rule.Watched.{Watched}
-use Rattle.sub_rules.specs.declared.standing.Standing.{Standing}
+use Rattle.sub_rules.specs.declared.active_faults.ActiveFaults.{ActiveFaults}
 
 -- ---- active faults at an end
 
@@ -44,21 +44,21 @@ unfoldable pub end_rules : List EndRule
 end_rules = end.Content ∷ end.Gap ∷ end.Incomplete ∷ end.Undecided ∷ end.Silent ∷ []
 
 -- The place of a broken rule about the whole frame: (0, 0), no cell.
-abbrev pub whole_frame : Bool → Option (ℕ × ℕ)
-whole_frame true = Some (0, 0)
-whole_frame false = None
+abbrev pub entire_frame : Bool → Option (ℕ × ℕ)
+entire_frame true = Some (0, 0)
+entire_frame false = None
 
 -- The place at which a rule is broken, if it is.
-abbrev pub broken_at : EndRule → Standing → Option (ℕ × ℕ)
+abbrev pub broken_at : EndRule → ActiveFaults → Option (ℕ × ℕ)
 broken_at end.Content s = s.content
-broken_at end.Gap s = whole_frame s.gap
-broken_at end.Incomplete s = whole_frame s.incomplete
-broken_at end.Undecided s = whole_frame s.undecided
-broken_at end.Silent s = whole_frame s.silent
+broken_at end.Gap s = entire_frame s.gap
+broken_at end.Incomplete s = entire_frame s.incomplete
+broken_at end.Undecided s = entire_frame s.undecided
+broken_at end.Silent s = entire_frame s.silent
 
 -- There is no active fault.
-abbrev pub nothing_stands : Standing
-nothing_stands = record {
+abbrev pub no_active_faults : ActiveFaults
+no_active_faults = record {
   content = None;
   gap = false;
   incomplete = false;
@@ -135,50 +135,54 @@ unfoldable pub gap_length : Transmission → ℕ → ℕ
 gap_length frames zero = 0
 gap_length frames (suc i) = frame_at frames (suc i) - (latest frames (suc i) + 1)
 
--- The first frame of the run of unfinished ends up to that of frame f; `since` is that of the run
--- up to the end before.
+-- The first frame of the run of unfinished ends up to that of frame f; `first_unfinished` is that
+-- of the run up to the end before.
 abbrev pub unfinished_from : Option ℕ → Bool → ℕ → Option ℕ
-unfinished_from since unfinished f = if unfinished then Some (unwrap_or since f) else None
+unfinished_from first_unfinished unfinished f = if unfinished then Some (unwrap_or first_unfinished
+    f) else None
 
 -- The same for k frames of the day after the first n frames of the list, given that of the run up
 -- to the end of these.
-unfoldable pub since_in_gap : Criteria → Transmission → ℕ → Option ℕ → ℕ → Option ℕ
-since_in_gap g frames n since zero = since
-since_in_gap g frames n since (suc k) =
+unfoldable pub first_unfinished_in_gap : Criteria → Transmission → ℕ → Option ℕ → ℕ → Option ℕ
+first_unfinished_in_gap g frames n first_unfinished zero = first_unfinished
+first_unfinished_in_gap g frames n first_unfinished (suc k) =
     let f = latest frames n + suc k in
-    unfinished_from (since_in_gap g frames n since k) (is_unfinished g frames n f) f
+    unfinished_from (first_unfinished_in_gap g frames n first_unfinished k)
+    (is_unfinished g frames n f) f
 
 -- The same up to the end of frame n - 1 of the list; none before the first one.
-unfoldable pub since_frames : Criteria → Transmission → ℕ → Option ℕ
-since_frames g frames zero = None
-since_frames g frames (suc i) =
-    unfinished_from (since_in_gap g frames i (since_frames g frames i) (gap_length frames i))
+unfoldable pub first_unfinished_in_frames : Criteria → Transmission → ℕ → Option ℕ
+first_unfinished_in_frames g frames zero = None
+first_unfinished_in_frames g frames (suc i) =
+    unfinished_from (first_unfinished_in_gap g frames i (first_unfinished_in_frames g frames i)
+    (gap_length frames i))
     (is_unfinished g frames (suc i) (frame_at frames i)) (frame_at frames i)
 
 -- The first frame of the run of unfinished ends up to that of frame f, after n frames of the list;
 -- `None` if that end is finished.
 unfoldable pub unfinished_since : Criteria → Transmission → ℕ → ℕ → Option ℕ
 unfinished_since g frames n f =
-    since_in_gap g frames n (since_frames g frames n) (f - latest frames n)
+    first_unfinished_in_gap g frames n (first_unfinished_in_frames g frames n) (f - latest frames n)
 
 -- The same up to the end before that of frame f, with n frames of the list up to it.
-unfoldable pub since_before : Criteria → Transmission → ℕ → ℕ → Option ℕ
-since_before g frames zero f = None
-since_before g frames (suc i) f = unfinished_since g frames (suc i) (f - 1)
+unfoldable pub first_unfinished_before : Criteria → Transmission → ℕ → ℕ → Option ℕ
+first_unfinished_before g frames zero f = None
+first_unfinished_before g frames (suc i) f = unfinished_since g frames (suc i) (f - 1)
 
 -- The next frame is the TCO of a subtitle of which no end was finished: it began at or after the
 -- first of the unfinished ends, or had begun before the first frame of the list, and that is the
 -- first of them.
 abbrev pub is_missed : Option ℕ → ℕ → ℕ → Bool
-is_missed None first since = false
-is_missed (Some tci) first since = nat_le since tci || (since == first && nat_lt tci first)
+is_missed None first first_unfinished = false
+is_missed (Some tci) first first_unfinished = nat_le first_unfinished tci ||
+    (first_unfinished == first && nat_lt tci first)
 
--- An end of frame f with unfinished ends since `since` is overdue: the page must be right by now. A
--- finished end is not overdue.
+-- An end of frame f with unfinished ends since `first_unfinished` is overdue: the page must be
+-- right by now. A finished end is not overdue.
 abbrev pub is_overdue : Criteria → ℕ → Option ℕ → ℕ → Bool
 is_overdue g first None f = false
-is_overdue g first (Some since) f =
-    nat_le (since + g.within) f || is_missed (g.ending (f + 1)) first since
+is_overdue g first (Some first_unfinished) f =
+    nat_le (first_unfinished + g.within) f || is_missed (g.ending (f + 1)) first first_unfinished
 
 -- An unfinished end of frame f, after n frames of the list, is late. If `within` is 0 every one is
 -- late, otherwise those that are overdue.
@@ -196,9 +200,9 @@ was_due due first f (suc n) row column code =
 
 -- The first cell that, after these packets, has neither a space nor a code that was due at frame f
 -- or at one of the n frames before it, from the first frame on.
-unfoldable pub undue_after :
+unfoldable pub unexpected_after :
     Bool → PageIdValue → List (List ℕ) → (ℕ → Rows) → ℕ → ℕ → ℕ → Option (ℕ × ℕ)
-undue_after keeps page packets due first f n =
+unexpected_after keeps page packets due first f n =
     first_cell
     (λ row column.
     not (kept keeps page packets row column == space)
@@ -217,23 +221,24 @@ undecided_within g frames f = was_undecided g.undecided (frame_at frames 0) f g.
 
 -- The first cell with a code that was not due within these frames, after n frames of the list.
 -- `None` if the due page is unknown at one of them, since any code may have been due.
-abbrev pub undue_cell : Criteria → Transmission → ℕ → ℕ → Option (ℕ × ℕ)
-undue_cell g frames n f =
+abbrev pub unexpected_cell : Criteria → Transmission → ℕ → ℕ → Option (ℕ × ℕ)
+unexpected_cell g frames n f =
     if undecided_within g frames f
     then None
     else
-    undue_after g.watched.keeps g.watched.page (packets_before frames n) g.due (frame_at frames 0)
+    unexpected_after g.watched.keeps g.watched.page (packets_before frames n) g.due
+    (frame_at frames 0)
     f g.within
 
 -- The first wrong cell at the end of frame f, after n frames of the list: if the end is late, each
 -- cell must be right; otherwise its code must have been due within these frames.
 abbrev pub broken_cell : Criteria → Transmission → ℕ → ℕ → Option (ℕ × ℕ)
 broken_cell g frames n f =
-    if is_late g frames n f then wrong_cell g frames n f else undue_cell g frames n f
+    if is_late g frames n f then wrong_cell g frames n f else unexpected_cell g frames n f
 
 -- The active faults at the end of frame f, after n frames of the list.
-unfoldable pub standing_at : Criteria → Transmission → ℕ → ℕ → Standing
-standing_at g frames n f = record {
+unfoldable pub active_faults_at : Criteria → Transmission → ℕ → ℕ → ActiveFaults
+active_faults_at g frames n f = record {
   content = broken_cell g frames n f;
   gap = is_gap g frames n f;
   incomplete = is_late g frames n f && is_incomplete g frames n;
@@ -255,16 +260,16 @@ end_fault end.Silent f cell = fault.Silent f
 -- before, of frame `before`, and the place at which it is broken now.
 abbrev pub rule_events : EndRule → Option (ℕ × ℕ) → ℕ → Option (ℕ × ℕ) → ℕ → List Event
 rule_events rule None before None f = []
-rule_events rule None before (Some new) f = Told (end_fault rule f new) ∷ []
+rule_events rule None before (Some new) f = Reported (end_fault rule f new) ∷ []
 rule_events rule (Some old) before None f = Ended rule before ∷ []
 rule_events rule (Some old) before (Some new) f =
     if (old.0 == new.0) && (old.1 == new.1)
     then []
-    else Ended rule before ∷ Told (end_fault rule f new) ∷ []
+    else Ended rule before ∷ Reported (end_fault rule f new) ∷ []
 
 -- The events at the end of frame f, given the active faults at the end before, of frame `before`,
 -- and those now: for each rule in order.
-unfoldable pub end_events : Standing → ℕ → Standing → ℕ → List Event
+unfoldable pub end_events : ActiveFaults → ℕ → ActiveFaults → ℕ → List Event
 end_events old before new f =
     flat_map (λ rule. rule_events rule (broken_at rule old) before (broken_at rule new) f) end_rules
 
@@ -277,14 +282,16 @@ end_before frames i f =
     if nat_lt (latest frames i + 1) f then f - 1 else frame_at frames (i - 1)
 
 -- The active faults at that end; none before the first one.
-unfoldable pub standing_before : Criteria → Transmission → ℕ → ℕ → Standing
-standing_before g frames zero f = nothing_stands
-standing_before g frames (suc i) f = standing_at g frames (suc i) (end_before frames (suc i) f)
+unfoldable pub active_faults_before : Criteria → Transmission → ℕ → ℕ → ActiveFaults
+active_faults_before g frames zero f = no_active_faults
+active_faults_before g frames (suc i) f = active_faults_at g frames (suc i)
+    (end_before frames (suc i) f)
 
 -- The events at the end of frame f, after i frames of the list at the end before, and n now.
 abbrev pub events_at_end : Criteria → Transmission → ℕ → ℕ → ℕ → List Event
 events_at_end g frames i n f =
-    end_events (standing_before g frames i f) (end_before frames i f) (standing_at g frames n f) f
+    end_events (active_faults_before g frames i f) (end_before frames i f)
+    (active_faults_at g frames n f) f
 
 -- ---- events of a PES packet
 
@@ -298,12 +305,12 @@ is_early (Some first_in) frame = nat_lt first_in frame
 unfoldable pub order_events : Criteria → Transmission → ℕ → List Event
 order_events g frames zero =
     if is_early g.first_in (frame_at frames 0)
-    then Told (fault.Early (frame_at frames 0)) ∷ []
+    then Reported (fault.Early (frame_at frames 0)) ∷ []
     else []
 order_events g frames (suc i) =
     if nat_lt (frame_at frames i) (frame_at frames (suc i))
     then []
-    else Told (fault.Order (suc i)) ∷ []
+    else Reported (fault.Order (suc i)) ∷ []
 
 -- The fault of a packet that breaks a rule.
 abbrev pub packet_fault : PacketRule → ℕ → ℕ → CheckFault
@@ -316,35 +323,35 @@ packet_fault rule.RowChanged frame packet = fault.RowChanged frame packet
 packet_fault rule.Enhancement frame packet = fault.Enhancement frame packet
 
 -- The events of packet k of a frame, after these packets: all rules that it breaks.
-unfoldable pub rules_told : Watched → ℕ → ℕ → List (List ℕ) → List ℕ → List Event
-rules_told w frame k before p =
-    map (λ (r : PacketRule). Told (packet_fault r frame k)) (broken_rules w before p)
+unfoldable pub rules_reported : Watched → ℕ → ℕ → List (List ℕ) → List ℕ → List Event
+rules_reported w frame k before p =
+    map (λ (r : PacketRule). Reported (packet_fault r frame k)) (broken_rules w before p)
 
 -- The events of the first n of some packets of a frame, which are counted from `from` on, after
 -- these packets.
-unfoldable pub packets_told : Watched → ℕ → ℕ → List (List ℕ) → List (List ℕ) → ℕ → List Event
-packets_told w frame from before packets zero = []
-packets_told w frame from before packets (suc n) =
-    packets_told w frame from before packets n
-    ++ rules_told w frame (from + n) (before ++ take n packets) (slice_index_or packets n [])
+unfoldable pub packets_reported : Watched → ℕ → ℕ → List (List ℕ) → List (List ℕ) → ℕ → List Event
+packets_reported w frame from before packets zero = []
+packets_reported w frame from before packets (suc n) =
+    packets_reported w frame from before packets n
+    ++ rules_reported w frame (from + n) (before ++ take n packets) (slice_index_or packets n [])
 
 -- The events of the first n packets of a frame, after these packets.
 abbrev pub packet_events : Watched → ℕ → List (List ℕ) → List (List ℕ) → ℕ → List Event
-packet_events w frame before packets n = packets_told w frame 0 before packets n
+packet_events w frame before packets n = packets_reported w frame 0 before packets n
 
 -- The event of the first frame after its packets, if it has no header of the page.
 unfoldable pub first_header_events : Criteria → Transmission → ℕ → List Event
 first_header_events g frames zero =
     if holds_header (kind g.watched.page) (packets_of_frame frames 0)
     then []
-    else Told (fault.NoFirstHeader (frame_at frames 0)) ∷ []
+    else Reported (fault.NoFirstHeader (frame_at frames 0)) ∷ []
 first_header_events g frames (suc i) = []
 
 -- ---- events of the whole transmission
 
 -- At the last end, all active faults end.
-abbrev pub endings : Standing → ℕ → List Event
-endings last frame = end_events last frame nothing_stands frame
+abbrev pub endings : ActiveFaults → ℕ → List Event
+endings last frame = end_events last frame no_active_faults frame
 
 -- The fault of the bytes after the frames, as PES packet `pes`; for a file without frames, that it
 -- is empty.
@@ -371,25 +378,25 @@ is_pending g frames =
 abbrev pub late_events : Criteria → Transmission → List Event
 late_events g frames =
     if is_short g.last_out (end_frame frames) || is_pending g frames
-    then Told (fault.Late (end_frame frames)) ∷ []
+    then Reported (fault.Late (end_frame frames)) ∷ []
     else []
 
 -- The events after the last frame, given why the rest of the file cannot be read, if it cannot.
 abbrev pub rest_events : Criteria → Transmission → Option Unread → List Event
-rest_events g frames (Some unread) = Told (unread_fault (length frames) (Some unread)) ∷ []
+rest_events g frames (Some unread) = Reported (unread_fault (length frames) (Some unread)) ∷ []
 rest_events g frames None = late_events g frames
 
 -- The events after the last frame of the list; for an empty list, the reason.
 unfoldable pub closing_events : Criteria → Transmission → ℕ → List Event
-closing_events g frames zero = Told (unread_fault 0 g.unread) ∷ []
+closing_events g frames zero = Reported (unread_fault 0 g.unread) ∷ []
 closing_events g frames (suc n) =
-    endings (standing_at g frames (suc n) (end_frame frames)) (end_frame frames)
+    endings (active_faults_at g frames (suc n) (end_frame frames)) (end_frame frames)
     ++ rest_events g frames g.unread
 
 -- The first fault.
-abbrev pub first_told : List Event → Option CheckFault
-first_told [] = None
-first_told (Told f ∷ more) = Some f
-first_told (Ended rule frame ∷ more) = first_told more
-first_told (Trusted from to ∷ more) = first_told more
-first_told (PassedUntil f ∷ more) = first_told more
+abbrev pub first_reported : List Event → Option CheckFault
+first_reported [] = None
+first_reported (Reported f ∷ more) = Some f
+first_reported (Ended rule frame ∷ more) = first_reported more
+first_reported (Trusted from to ∷ more) = first_reported more
+first_reported (SkippedUntil f ∷ more) = first_reported more

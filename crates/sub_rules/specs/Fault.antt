@@ -16,7 +16,7 @@ use Rattle.sub_rules.specs.declared.fault_place.FaultPlace.{FaultPlace}
 use Rattle.sub_rules.specs.declared.fault_place.FaultPlace.TheVariants as place
 use Rattle.sub_rules.specs.declared.fault_row.FaultRow.{FaultRow}
 use Rattle.ttx_pes.specs.Fault as pes
-use Rattle.ttx_pes.specs.Fault.{is_of_piece, pes_code}
+use Rattle.ttx_pes.specs.Fault.{is_of_pes_packet, pes_code}
 use Rattle.ttx_pes.specs.declared.fault.PesFault.TheVariants.{Read}
 
 -- A rule of a frame's end.
@@ -36,12 +36,12 @@ load_place _ block = place.Block block
 
 -- The row of a fault for which no PES packet is skipped.
 abbrev pub coded_row : FaultCodeValue → FaultPlace → Bool → FaultRow
-coded_row code place doubts =
-    record { code = code; place = place; doubts = doubts; is_passed = false }
+coded_row code place invalidates =
+    record { code = code; place = place; invalidates = invalidates; is_skipped = false }
 
 -- The row of a fault with this number and name, for which no PES packet is skipped.
 abbrev pub rule_row : ℕ → List ℕ → FaultPlace → Bool → FaultRow
-rule_row number name place doubts = coded_row (fault_code number name) place doubts
+rule_row number name place invalidates = coded_row (fault_code number name) place invalidates
 
 -- The row of a fault of a pair of files: its number and name; its place; whether its frame is no
 -- longer fault-free; and whether the PES packet is skipped. Receivers depend neither on C11 nor on
@@ -49,10 +49,10 @@ rule_row number name place doubts = coded_row (fault_code number name) place dou
 abbrev pub fault_row : CheckFault → FaultRow
 fault_row (fault.Subtitles f) = coded_row (load_code f.kind) (load_place f.kind f.block) false
 fault_row (fault.Pes n f) =
-    record (coded_row (pes_code f) (place.Pes n) true) { is_passed = is_of_piece f }
+    record (coded_row (pes_code f) (place.Pes n) true) { is_skipped = is_of_pes_packet f }
 fault_row fault.Empty = rule_row 60 (codes "Empty") place.Nowhere false
 fault_row (fault.OffFrame n) =
-    record (rule_row 61 (codes "OffFrame") (place.Pes n) true) { is_passed = true }
+    record (rule_row 61 (codes "OffFrame") (place.Pes n) true) { is_skipped = true }
 fault_row (fault.Order n) = rule_row 62 (codes "Order") (place.Pes n) true
 fault_row (fault.Early f) = rule_row 63 (codes "Early") (place.Frame f) false
 fault_row (fault.Address f k) = rule_row 64 (codes "Address") (place.Packet f k) true
@@ -81,12 +81,12 @@ place_of f = (fault_row f).place
 -- The first frame that is no longer trusted because of a fault, if there is one, by the fault's
 -- place. For a PES packet it is `last`, the frame of the PES packet before, to which its contents
 -- may belong; at a late end it is the frame since which the page is wrong.
-abbrev pub doubted_frame : ℕ → Option ℕ → Bool → FaultPlace → Option ℕ
-doubted_frame last late true (place.Pes n) = Some last
-doubted_frame last late true (place.Frame f) = Some (unwrap_or late f)
-doubted_frame last late true (place.Packet f k) = Some f
-doubted_frame last late true (place.Cell f r c) = Some (unwrap_or late f)
-doubted_frame last late _ _ = None
+abbrev pub invalidated_frame : ℕ → Option ℕ → Bool → FaultPlace → Option ℕ
+invalidated_frame last late true (place.Pes n) = Some last
+invalidated_frame last late true (place.Frame f) = Some (unwrap_or late f)
+invalidated_frame last late true (place.Packet f k) = Some f
+invalidated_frame last late true (place.Cell f r c) = Some (unwrap_or late f)
+invalidated_frame last late _ _ = None
 
 -- Replaces the PES packet in the place of a fault, if it has one.
 abbrev pub fault_at_pes : ℕ → CheckFault → CheckFault

@@ -7,8 +7,8 @@ pub mod PacketRules
 pub mod PacketTests
 pub mod PesFrames
 pub mod PesReading
-pub mod PieceEvents
-pub mod Pieces
+pub mod PesPacketEvents
+pub mod PesPackets
 pub mod Repeats
 pub mod Sendings
 pub mod Transmission

@@ -75,12 +75,12 @@ repeats_page complete page before h =
     && not (complete && is_open_after (kind page) before)
 
 -- A header of the page after these packets erases it or, if repeats may keep the page, repeats it.
-abbrev pub may_come : Watched → List (List ℕ) → Header → Bool
-may_come w before h = c4 h || (w.keeps && repeats_page w.complete w.page before h)
+abbrev pub may_follow_as_header : Watched → List (List ℕ) → Header → Bool
+may_follow_as_header w before h = c4 h || (w.keeps && repeats_page w.complete w.page before h)
 
 -- The header is allowed here, and has the control bits of a subtitle.
 abbrev pub is_subtitle_header : Watched → List (List ℕ) → Header → Bool
-is_subtitle_header w before h = may_come w before h && has_subtitle_bits w.national h
+is_subtitle_header w before h = may_follow_as_header w before h && has_subtitle_bits w.national h
 
 -- The packet is a header of the page that breaks this rule.
 abbrev pub is_wrong_header : Watched → List (List ℕ) → PacketKind → Bool

@@ -3,11 +3,11 @@
 use Rattle.std.specs.Prelude.{◌≡◌, ℕ, ◌<◌, ◌≤◌, List, length, map, Some}
 use Rattle.std.specs.List.{AllZip, concat}
 use Rattle.ttx_pes.specs.DataUnit.{UnitValue}
-use Rattle.ttx_pes.specs.PesPacket.{IsPesPacket, PesValue}
+use Rattle.ttx_pes.specs.PesGrammar.{IsValidPesPacket, PesValue}
 use Rattle.ttx_pes.specs.Reading.{most_packets}
 use Rattle.stl_file.specs.TimeCode.{day}
 use Rattle.sub_plan.specs.FrameTime.{Clock, pts_of}
-use Rattle.sub_rules.specs.Pieces.{joined}
+use Rattle.sub_rules.specs.PesPackets.{joined}
 use Rattle.sub_rules.specs.Transmission.{SentFrame, Transmission, IsRising}
 
 -- A PES packet carries a frame: it has the PTS of the frame, which is a frame of the day, and its
@@ -22,7 +22,7 @@ pub record IsSentAs (origin : ℕ) (pes : PesValue) (s : SentFrame) : Type 0 whe
 pub record Carries (origin : ℕ) (bytes : List ℕ) (frames : Transmission) : Type 0 where
   pub values : List PesValue
   pub packets : List (List ℕ)
-  pub each : AllZip IsPesPacket values packets
+  pub each : AllZip IsValidPesPacket values packets
   pub few : length packets ≤ most_packets
   pub joined : bytes ≡ concat packets
   pub sent : AllZip (IsSentAs origin) values frames
@@ -43,7 +43,7 @@ pub record CarriesBy
   pub values : List PesValue
   pub packets : List (List ℕ)
   pub sendings : Transmission
-  pub each : AllZip IsPesPacket values packets
+  pub each : AllZip IsValidPesPacket values packets
   pub few : length packets ≤ most_packets
   pub is_whole : bytes ≡ concat packets
   pub read : AllZip (IsReadAs clock) values sendings

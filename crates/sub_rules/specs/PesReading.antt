@@ -5,12 +5,12 @@ use Rattle.sub_rules.specs.FrameRules.{Unread}
 use Rattle.sub_plan.specs.FrameTime.{Clock, clock_of}
 use Rattle.sub_plan.specs.Options.{OptionsValue}
 use Rattle.sub_rules.specs.PesFrames.{Carries, CarriesBy}
-use Rattle.sub_rules.specs.Pieces.{PesFileValue, pieces_at, until_passed_over}
+use Rattle.sub_rules.specs.PesPackets.{PesFileValue, pes_packets_at, until_first_skipped}
 use Rattle.sub_rules.specs.Transmission.{Transmission}
 
 -- The frames in the bytes after `given` PES packets, up to the first packet that would be skipped.
 unfoldable pub file_at : Clock → ℕ → List ℕ → PesFileValue
-file_at clock given bytes = until_passed_over (pieces_at clock given bytes)
+file_at clock given bytes = until_first_skipped (pes_packets_at clock given bytes)
 
 -- The frames of a PES file.
 abbrev pub pes_file_of : Clock → List ℕ → PesFileValue

@@ -27,8 +27,8 @@ use Rattle.sub_rules.specs.Transmission.{last_frame, on_air_until}
 
 -- At the end of frame f each cell is right. If repeats must not keep the page, it shows the due
 -- code (`LawOfRightCells`).
-abbrev pub IsWholePage : Bool → ProgrammeValue → PageIdValue → Transmission → ℕ → Type 0
-IsWholePage keeps programme page transmission f =
+abbrev pub IsCorrectPage : Bool → ProgrammeValue → PageIdValue → Transmission → ℕ → Type 0
+IsCorrectPage keeps programme page transmission f =
     (row column : ℕ)
     → IsCell row column
     → IsRight keeps page (on_air_until transmission f) (due_in programme f) row column
@@ -104,7 +104,7 @@ pub record IsFinishedBy
     (keeps : Bool) (programme : ProgrammeValue) (transmission : Transmission)
     (options : OptionsValue) (f : ℕ)
     : Type 0 where
-  pub whole : IsWholePage keeps programme options.page transmission f
+  pub whole : IsCorrectPage keeps programme options.page transmission f
   pub ended : IsTrue options.asks_complete → HasEndedPage options.page transmission f
 
 -- At least one of the frames from a to b is finished.

@@ -20,18 +20,18 @@ use Rattle.std.specs.Prelude.{if◌then◌else◌}
 use Rattle.std.specs.List.{list_any}
 use Rattle.std.specs.Option.{option_or}
 use Rattle.sub_rules.specs.Events.{broken_at, end_rules}
-use Rattle.sub_rules.specs.Fault.{doubted_frame, fault_at_pes, fault_row}
+use Rattle.sub_rules.specs.Fault.{invalidated_frame, fault_at_pes, fault_row}
 use Rattle.sub_rules.specs.declared.event.Event.{Event}
-use Rattle.sub_rules.specs.declared.event.Event.TheVariants.{Told, Trusted}
+use Rattle.sub_rules.specs.declared.event.Event.TheVariants.{Reported, Trusted}
 use Rattle.sub_rules.specs.declared.fault.CheckFault.TheVariants as fault
-use Rattle.sub_rules.specs.declared.standing.Standing.{Standing}
+use Rattle.sub_rules.specs.declared.active_faults.ActiveFaults.{ActiveFaults}
 
 -- A step of checking a file.
 pub data CheckStep : Type 0 where
   -- The following steps belong to this PES packet.
   AtPes : ℕ → CheckStep
   -- An event.
-  Says : Event → CheckStep
+  Emits : Event → CheckStep
   -- The packets of a frame with this number follow.
   Begins : ℕ → CheckStep
   -- The following steps belong to the end of this frame. The second argument is the first frame of
@@ -50,10 +50,10 @@ pub data CheckStep : Type 0 where
 -- ---- the current position
 
 -- The PES packet of the current events.
-unfoldable pub pes_told : List CheckStep → ℕ
-pes_told [] = 0
-pes_told (AtPes pes ∷ past) = pes
-pes_told (m ∷ past) = pes_told past
+unfoldable pub current_pes : List CheckStep → ℕ
+current_pes [] = 0
+current_pes (AtPes pes ∷ past) = pes
+current_pes (m ∷ past) = current_pes past
 
 -- The frame of the last PES packet; 0 before the first one.
 unfoldable pub last_begun : List CheckStep → ℕ
@@ -62,54 +62,54 @@ last_begun (Begins f ∷ past) = f
 last_begun (m ∷ past) = last_begun past
 
 -- The first frame of the unfinished ends up to the last end.
-unfoldable pub since_of : List CheckStep → Option ℕ
-since_of [] = None
-since_of (AtEnd f since late ∷ past) = since
-since_of (m ∷ past) = since_of past
+unfoldable pub first_unfinished_of : List CheckStep → Option ℕ
+first_unfinished_of [] = None
+first_unfinished_of (AtEnd f first_unfinished late ∷ past) = first_unfinished
+first_unfinished_of (m ∷ past) = first_unfinished_of past
 
 -- The same, if the last end is late.
 unfoldable pub late_of : List CheckStep → Option ℕ
 late_of [] = None
-late_of (AtEnd f since late ∷ past) = if late then since else None
+late_of (AtEnd f first_unfinished late ∷ past) = if late then first_unfinished else None
 late_of (m ∷ past) = late_of past
 
 -- The first frame of the unfinished ends up to the frame before the last one that began or ended,
 -- if that is needed.
 unfoldable pub back_of : List CheckStep → Option ℕ
 back_of [] = None
-back_of (GoesBack since ∷ past) = since
+back_of (GoesBack first_unfinished ∷ past) = first_unfinished
 back_of (m ∷ past) = back_of past
 
 -- The step is an event.
-abbrev pub is_said : CheckStep → Bool
-is_said (Says e) = true
-is_said m = false
+abbrev pub is_emitted : CheckStep → Bool
+is_emitted (Emits e) = true
+is_emitted m = false
 
 -- ---- fault-free frames
 
 -- The first frame that is no longer trusted because of this event; only a fault can have one. A
 -- fault at a late end affects the frames since which the page is wrong.
-unfoldable pub doubted_by : List CheckStep → Event → Option ℕ
-doubted_by past (Told f) =
-    doubted_frame (last_begun past) (late_of past) (fault_row f).doubts (fault_row f).place
-doubted_by past event = None
+unfoldable pub invalidated_by : List CheckStep → Event → Option ℕ
+invalidated_by past (Reported f) =
+    invalidated_frame (last_begun past) (late_of past) (fault_row f).invalidates (fault_row f).place
+invalidated_by past event = None
 
 -- The step reports that a frame is not after the frame before.
-unfoldable pub tells_fall : CheckStep → Bool
-tells_fall (Says (Told (fault.Order pes))) = true
-tells_fall m = false
+unfoldable pub reports_order_fault : CheckStep → Bool
+reports_order_fault (Emits (Reported (fault.Order pes))) = true
+reports_order_fault m = false
 
 -- The last frame is fault-free so far: frames rose up to it, and no fault since its beginning
 -- affects a frame.
-unfoldable pub stays_quiet : List CheckStep → Bool
-stays_quiet [] = true
-stays_quiet (Begins f ∷ past) = not (list_any tells_fall past)
-stays_quiet (Says e ∷ past) = stays_quiet past && is_none (doubted_by past e)
-stays_quiet (m ∷ past) = stays_quiet past
+unfoldable pub stays_fault_free : List CheckStep → Bool
+stays_fault_free [] = true
+stays_fault_free (Begins f ∷ past) = not (list_any reports_order_fault past)
+stays_fault_free (Emits e ∷ past) = stays_fault_free past && is_none (invalidated_by past e)
+stays_fault_free (m ∷ past) = stays_fault_free past
 
 -- No fault is active at an end.
-abbrev pub stands_none : Standing → Bool
-stands_none s = not (list_any (λ rule. is_some (broken_at rule s)) end_rules)
+abbrev pub has_no_active_faults : ActiveFaults → Bool
+has_no_active_faults s = not (list_any (λ rule. is_some (broken_at rule s)) end_rules)
 
 -- ---- runs of fault-free frames
 
@@ -118,26 +118,28 @@ stands_none s = not (list_any (λ rule. is_some (broken_at rule s)) end_rules)
 -- run.
 unfoldable pub run_of : List CheckStep → Option ℕ
 run_of [] = None
-run_of (Says e ∷ past) = if is_none (doubted_by past e) then run_of past else None
+run_of (Emits e ∷ past) = if is_none (invalidated_by past e) then run_of past else None
 run_of (Ends f has_beginning none ∷ past) =
-    if stays_quiet past && none
+    if stays_fault_free past && none
     then option_or (run_of past) (if has_beginning then Some f else None)
     else None
 run_of (Closes are_left more ∷ past) = None
 run_of (m ∷ past) = run_of past
 
 -- The frame, if the page was right at its end.
-abbrev pub whole_at : ℕ → Option ℕ → Option ℕ
-whole_at f since = if is_none since then Some f else None
+abbrev pub correct_at : ℕ → Option ℕ → Option ℕ
+correct_at f first_unfinished = if is_none first_unfinished then Some f else None
 
 -- The first frame of the run, from its first header on, at whose end the page was right.
 -- Meaningless without a current run.
-unfoldable pub whole_of : List CheckStep → Option ℕ
-whole_of [] = None
-whole_of (AtEnd f since late ∷ past) = option_or (whole_of past) (whole_at f since)
-whole_of (Ends f has_beginning none ∷ past) =
-    option_or (if is_none (run_of past) then None else whole_of past) (whole_at f (since_of past))
-whole_of (m ∷ past) = whole_of past
+unfoldable pub first_correct_of : List CheckStep → Option ℕ
+first_correct_of [] = None
+first_correct_of (AtEnd f first_unfinished late ∷ past) = option_or (first_correct_of past)
+    (correct_at f first_unfinished)
+first_correct_of (Ends f has_beginning none ∷ past) =
+    option_or (if is_none (run_of past) then None else first_correct_of past)
+    (correct_at f (first_unfinished_of past))
+first_correct_of (m ∷ past) = first_correct_of past
 
 -- ---- trusted frames, and when they are reported
 
@@ -151,37 +153,39 @@ trusted run whole f = []
 -- without the last ones with unfinished ends.
 abbrev pub trusted_up_to : List CheckStep → Option ℕ → List Event
 trusted_up_to past None = []
-trusted_up_to past (Some f) = trusted (run_of past) (whole_of past) (unwrap_or (back_of past) f)
+trusted_up_to past (Some f) = trusted (run_of past) (first_correct_of past)
+    (unwrap_or (back_of past) f)
 
 -- The first frame that is not trusted at the end of the file: the one since which the ends are
 -- unfinished; otherwise the last frame, if there are unread bytes that may belong to it.
 abbrev pub closing_at : List CheckStep → Bool → ℕ
 closing_at past left =
-    unwrap_or (since_of past)
+    unwrap_or (first_unfinished_of past)
     (if left then unwrap_or (back_of past) (last_begun past) else suc (last_begun past))
 
 -- Sets the PES packet of an event of a frame to `pes`, which counts skipped packets too.
 unfoldable pub at_pes : ℕ → Event → Event
-at_pes pes (Told refusal) = Told (fault_at_pes pes refusal)
+at_pes pes (Reported refusal) = Reported (fault_at_pes pes refusal)
 at_pes pes event = event
 
 -- There is no event.
-abbrev pub tells_none : List Event → Bool
-tells_none [] = true
-tells_none (e ∷ es) = false
+abbrev pub reports_none : List Event → Bool
+reports_none [] = true
+reports_none (e ∷ es) = false
 
 -- The events to report for a step: its event, preceded by the trusted frames up to the first one
 -- that it affects. At the end of the file, the trusted frames of the last run are reported only if
 -- anything else was, about either file.
-unfoldable pub told_at : List CheckStep → CheckStep → List Event
-told_at past (Says e) = trusted_up_to past (doubted_by past e) ++ at_pes (pes_told past) e ∷ []
-told_at past (Closes left more) =
-    if list_any is_said past || more
-    then trusted (run_of past) (whole_of past) (closing_at past left)
+unfoldable pub reported_at : List CheckStep → CheckStep → List Event
+reported_at past (Emits e) = trusted_up_to past (invalidated_by past e) ++ at_pes (current_pes past)
+    e ∷ []
+reported_at past (Closes left more) =
+    if list_any is_emitted past || more
+    then trusted (run_of past) (first_correct_of past) (closing_at past left)
     else []
-told_at past m = []
+reported_at past m = []
 
 -- The events to report for steps in order, after those in `past`.
-unfoldable pub told_after : List CheckStep → List CheckStep → List Event
-told_after past [] = []
-told_after past (m ∷ ms) = told_at past m ++ told_after (m ∷ past) ms
+unfoldable pub reported_after : List CheckStep → List CheckStep → List Event
+reported_after past [] = []
+reported_after past (m ∷ ms) = reported_at past m ++ reported_after (m ∷ past) ms

@@ -8,7 +8,7 @@ use crate::fault::CheckFault;
 pub enum Event {
     /// A rule is broken here. A rule of a frame's end is reported only if it was not broken at the
     /// end before, or, for the contents of the page, not at this cell.
-    Told(CheckFault),
+    Reported(CheckFault),
     /// A rule of a frame's end that was reported stays broken up to here.
     Ended {
         /// The rule.
@@ -18,7 +18,7 @@ pub enum Event {
     },
     /// Several consecutive PES packets were skipped for the fault that was reported for the first
     /// of them. This is the fault of the last.
-    PassedUntil(CheckFault),
+    SkippedUntil(CheckFault),
     /// These frames can stay on air unchanged, whatever is broken elsewhere: they have no fault
     /// that affects receivers, and the first one has a header of the page.
     Trusted {

@@ -152,7 +152,7 @@ impl CheckFault {
             CheckFault::Pes { pes, fault } => pes_row(pes, fault),
             CheckFault::Empty => rule_row(60, "Empty", FaultPlace::Nowhere, false),
             CheckFault::OffFrame { pes } => FaultRow {
-                is_passed: true,
+                is_skipped: true,
                 ..rule_row(61, "OffFrame", FaultPlace::Pes { pes }, true)
             },
             CheckFault::Order { pes } => rule_row(62, "Order", FaultPlace::Pes { pes }, true),
@@ -231,36 +231,47 @@ fn pes_row(pes: u32, fault: PesFault) -> FaultRow
     ensures { result ≡ fault_row (CheckFault.Pes pes fault) }
 {
     FaultRow {
-        is_passed: fault.is_of_piece(),
+        is_skipped: fault.is_of_pes_packet(),
         ..coded_row(fault.code(), FaultPlace::Pes { pes }, true)
     }
 }
 
 // Returns the row of a fault for which no PES packet is skipped.
-fn coded_row(code: FaultCode, place: FaultPlace, doubts: bool) -> FaultRow
-    ensures { result ≡ coded_row code place doubts }
+fn coded_row(code: FaultCode, place: FaultPlace, invalidates: bool) -> FaultRow
+    ensures { result ≡ coded_row code place invalidates }
 {
     FaultRow {
         code,
         place,
-        doubts,
-        is_passed: false,
+        invalidates,
+        is_skipped: false,
     }
 }
 
-fn rule_row(number: u8, name: &'static str, place: FaultPlace, doubts: bool) -> FaultRow
+fn rule_row(number: u8, name: &'static str, place: FaultPlace, invalidates: bool) -> FaultRow
     requires { length name.now ≤ 16 }
-    ensures { result ≡ rule_row number name.now place doubts }
+    ensures { result ≡ rule_row number name.now place invalidates }
 {
-    coded_row(FaultCode::new(number, name), place, doubts)
+    coded_row(FaultCode::new(number, name), place, invalidates)
 }
 
 // Returns the row of a fault of a packet.
-fn packet_row(number: u8, name: &'static str, frame: u32, packet: u32, doubts: bool) -> FaultRow
+fn packet_row(
+    number: u8,
+    name: &'static str,
+    frame: u32,
+    packet: u32,
+    invalidates: bool,
+) -> FaultRow
     requires { length name.now ≤ 16 }
-    ensures { result ≡ rule_row number name.now (Packet frame packet) doubts }
+    ensures { result ≡ rule_row number name.now (Packet frame packet) invalidates }
 {
-    rule_row(number, name, FaultPlace::Packet { frame, packet }, doubts)
+    rule_row(
+        number,
+        name,
+        FaultPlace::Packet { frame, packet },
+        invalidates,
+    )
 }
 
 fn frame_row(number: u8, name: &'static str, frame: u32) -> FaultRow

@@ -1,6 +1,6 @@
 //! The properties of faults, one row for each.
 ghost use Rattle.std.specs.Prelude.{◌≡◌};
-ghost use Rattle.sub_rules.specs.Fault.{doubted_frame};
+ghost use Rattle.sub_rules.specs.Fault.{invalidated_frame};
 
 use crate::fault_place::FaultPlace;
 use sub_io::FaultCode;
@@ -14,9 +14,9 @@ pub struct FaultRow {
     /// or a frame, a packet or a cell of the transmission.
     pub place: FaultPlace,
     /// The fault affects receivers, so its frame cannot stay on air unchanged.
-    pub doubts: bool,
+    pub invalidates: bool,
     /// The PES packet is skipped, and reading continues after it.
-    pub is_passed: bool,
+    pub is_skipped: bool,
 }
 
 impl FaultRow {
@@ -24,11 +24,11 @@ impl FaultRow {
     /// reported after a PES packet of frame `last`: the frame of its place. The contents of a
     /// faulty PES packet may belong to frame `last`. At a late end, the page has been wrong since
     /// frame `late`.
-    pub fn doubted(&self, last: u32, late: Option<u32>) -> Option<u32>
-        ensures { result ≡ doubted_frame last late self.now.doubts self.now.place }
+    pub fn invalidated(&self, last: u32, late: Option<u32>) -> Option<u32>
+        ensures { result ≡ invalidated_frame last late self.now.invalidates self.now.place }
     {
         match self.place {
-            _ if !self.doubts => None,
+            _ if !self.invalidates => None,
             FaultPlace::Pes { .. } => Some(last),
             FaultPlace::Packet { frame, .. } => Some(frame),
             FaultPlace::Frame { frame } | FaultPlace::Cell { frame, .. } => {

@@ -7,27 +7,27 @@
 //! crate.
 //!
 //! ```text
-//! next_piece(&mut reader, &mut source, &options, 0)?; // Some(Sent(Sending { frame: 250, .. }))
-//! CheckFault::Gap { frame: 250 }.code(); // 73 Gap
+//! next_pes_packet(&mut reader, &mut source, &options, 0)?; // Some(Sent(Sending { frame: 250, ..
+//! })) CheckFault::Gap { frame: 250 }.code(); // 73 Gap
 //! ```
 #![tactic(auto)]
 
+mod active_faults;
 mod end_rule;
 mod event;
 mod fault;
 mod fault_place;
 mod fault_row;
 mod packet_rule;
-mod piece;
+mod pes_packet;
 mod sending;
-mod standing;
 
+pub use active_faults::ActiveFaults;
 pub use end_rule::EndRule;
 pub use event::Event;
 pub use fault::CheckFault;
 pub use fault_place::FaultPlace;
 pub use fault_row::FaultRow;
 pub use packet_rule::{PacketRule, Watched};
-pub use piece::{NextPiece, next_piece};
+pub use pes_packet::{NextPesPacket, next_pes_packet};
 pub use sending::{Sending, units_of};
-pub use standing::Standing;

@@ -1,6 +1,6 @@
 //! The PES packets of a file with their frames.
 ghost use Rattle.std.specs.Prelude.{◌≡◌, ◌≤◌, length};
-ghost use Rattle.ttx_pes.specs.PesPacket.{IsPesValue, most_units};
+ghost use Rattle.ttx_pes.specs.PesGrammar.{IsPesValue, most_units};
 
 use ttx_pes::{ComparingReader, SentUnits};
 

@@ -1,6 +1,6 @@
 -- For `law_of_trusted_alike`. Two sets of criteria that agree whenever the first knows the due
 -- page: if it knew it at the last frames, an end is late for both or for neither, `late_same`, and
--- if no fault is active for the first none is for the second, `alike_quiet`.
+-- if no fault is active for the first none is for the second, `equal_fault_free`.
 use Rattle.std.proofs.lemmas.Bool.Decides.{nat_tests}
 use Rattle.std.proofs.Common.{◌≡◌, ℕ, ◌+◌, ◌-◌, ◌≤◌, inl, inr, Bool, true, false}
 use Rattle.std.proofs.Common.{◌&&◌, ◌||◌, ◌==◌, nat_le, Option, Some, None, length, refl, sym, ap}
@@ -10,18 +10,19 @@ use Rattle.std.proofs.lemmas.Option.{none-some}
 use Rattle.ttx_page.specs.Page.{Rows, cell}
 use Rattle.sub_rules.specs.Events.{broken_cell, is_gap, is_incomplete, is_late}
 use Rattle.sub_rules.specs.Events.{is_overdue, is_silent}
-use Rattle.sub_rules.specs.Events.{is_unfinished, undecided_within, undue_cell}
+use Rattle.sub_rules.specs.Events.{is_unfinished, undecided_within, unexpected_cell}
 use Rattle.sub_rules.specs.Events.{wrong_after, wrong_cell}
 use Rattle.sub_rules.specs.FrameRules.{Criteria, frame_at, packets_before}
 use Rattle.sub_rules.specs.Transmission.{Transmission}
 use Rattle.sub_laws.specs.CleanStretch.{IsEnd}
-use Rattle.sub_laws.proofs.DueCodeLemmas.{MayShow, none_undue, undue_none}
-use Rattle.sub_laws.proofs.FrameByFrame.{IsQuiet}
+use Rattle.sub_laws.proofs.DueCodeLemmas.{MayShow, none_unexpected, unexpected_none}
+use Rattle.sub_laws.proofs.FrameByFrame.{IsFaultFree}
 use Rattle.sub_laws.proofs.PrefixLemmas.{RiseTo, end_high}
-use Rattle.sub_laws.proofs.StandingLemmas.{always_known, known_at, known_back, quiet_parts}
-use Rattle.sub_laws.proofs.StandingLemmas.{undue_is}
-use Rattle.sub_laws.proofs.UnfinishedLemmas.{none_since, since_at, since_end, since_none}
-use Rattle.sub_laws.proofs.UnfinishedLemmas.{since_some}
+use Rattle.sub_laws.proofs.ActiveFaultsLemmas.{always_known, known_at, known_back, fault_free_parts}
+use Rattle.sub_laws.proofs.ActiveFaultsLemmas.{unexpected_is}
+use Rattle.sub_laws.proofs.UnfinishedLemmas.{none_first_unfinished, first_unfinished_at}
+use Rattle.sub_laws.proofs.UnfinishedLemmas.{first_unfinished_end, first_unfinished_none}
+use Rattle.sub_laws.proofs.UnfinishedLemmas.{first_unfinished_some}
 use Rattle.sub_laws.proofs.UnfinishedLemmas.{unfinished_at}
 
 -- The criteria that know the due page at each frame: these pages, the TCI of the subtitle whose TCO
@@ -38,18 +39,19 @@ criteria_known g due ending first_in last_out =
     }
 
 -- They agree with the other criteria whenever those know the due page.
-pub record AsksAlike (g : Criteria) (due : ℕ → Rows) (ending : ℕ → Option ℕ) : Type 0 where
+pub record HasSameCriteria (g : Criteria) (due : ℕ → Rows) (ending : ℕ → Option ℕ) : Type 0 where
   pub due_is : (f : ℕ) → g.undecided f ≡ false → due f ≡ g.due f
   pub ending_is : (f : ℕ) → g.undecided f ≡ false → ending (f + 1) ≡ g.ending (f + 1)
 
 or_true : (b : Bool) → (b || true) ≡ true
 or_true b = grind (arith, nat_tests)
 
-late_true : (since within f : ℕ) → since + within ≤ f → nat_le (since + within) f ≡ true
-late_true since within f l = grind (arith, nat_tests)
+late_true : (first_unfinished within f : ℕ) → first_unfinished + within ≤ f → nat_le
+    (first_unfinished + within) f ≡ true
+late_true first_unfinished within f l = grind (arith, nat_tests)
 
 module _ (g : Criteria) (due : ℕ → Rows) (ending : ℕ → Option ℕ) (first_in last_out : Option ℕ)
-    (alike : AsksAlike g due ending) where
+    (alike : HasSameCriteria g due ending) where
   abbrev h : Criteria
   h = criteria_known g due ending first_in last_out
 
@@ -81,24 +83,26 @@ module _ (g : Criteria) (due : ℕ → Rows) (ending : ℕ → Option ℕ) (firs
     IsKnownTo f = (e : ℕ) → first ≤ e → e ≤ f → f ≤ e + g.within → g.undecided e ≡ false
 
     overdue_same : (k f : ℕ) → f ≡ first + k → IsKnownTo f
-        → (o p : Option ℕ) → since_at un first k ≡ o → since_at un_known first k ≡ p
+        → (o p : Option ℕ) → first_unfinished_at un first k ≡ o → first_unfinished_at un_known first
+        k ≡ p
         → is_overdue h first p f ≡ is_overdue g first o f
     overdue_same k f at known None None is so = refl
     overdue_same k f at known None (Some r) is so =
         let own : g.undecided f ≡ false = known f (omega arith) (le_refl f) (omega arith) in
-        let whole : un f ≡ false = ap un at ∙ since_none un first k is in
+        let whole : un f ≡ false = ap un at ∙ first_unfinished_none un first k is in
         let none : un_known (first + k) ≡ false =
         ap un_known (sym at) ∙ same_un f own ∙ whole in
-        absurd (none-some r (sym (none_since un_known first k none) ∙ so))
+        absurd (none-some r (sym (none_first_unfinished un_known first k none) ∙ so))
     overdue_same k f at known (Some r) None is so =
-        let top = (since_some un first k r is).high in
-        let open_here = (since_some un first k r is).all f (omega arith) (omega arith) in
-        let none : un_known f ≡ false = ap un_known at ∙ since_none un_known first k so in
+        let top = (first_unfinished_some un first k r is).high in
+        let open_here = (first_unfinished_some un first k r is).all f (omega arith) (omega arith) in
+        let none : un_known f ≡ false = ap un_known at ∙ first_unfinished_none un_known first k so
+        in
         absurd (true≢false (sym (more_un f open_here) ∙ none))
     overdue_same k f at known (Some s) (Some r) is so =
         let own : g.undecided f ≡ false = known f (omega arith) (le_refl f) (omega arith) in
-        let one = since_some un first k s is in
-        let other = since_some un_known first k r so in
+        let one = first_unfinished_some un first k s is in
+        let other = first_unfinished_some un_known first k r so in
         let low = one.low in
         let high = one.high in
         let bottom = other.low in
@@ -142,9 +146,11 @@ module _ (g : Criteria) (due : ℕ → Rows) (ending : ℕ → Option ℕ) (firs
         let k : ℕ = f - first in
         let at : f ≡ first + k = omega arith in
         ap (λ (b : Bool). (g.within == 0) || b)
-        (ap (λ (o : Option ℕ). is_overdue h first o f) (since_end h t up k n f end at)
-        ∙ overdue_same k f at known (since_at un first k) (since_at un_known first k) refl refl
-        ∙ sym (ap (λ (o : Option ℕ). is_overdue g first o f) (since_end g t up k n f end at)))
+        (ap (λ (o : Option ℕ). is_overdue h first o f) (first_unfinished_end h t up k n f end at)
+        ∙ overdue_same k f at known (first_unfinished_at un first k) (first_unfinished_at un_known
+        first k) refl refl
+        ∙ sym (ap (λ (o : Option ℕ). is_overdue g first o f) (first_unfinished_end g t up k n f end
+        at)))
 
     module _ (n f : ℕ) (sure : undecided_within g t f ≡ false) where
       known_to : IsKnownTo f
@@ -176,28 +182,29 @@ module _ (g : Criteria) (due : ℕ → Rows) (ending : ℕ → Option ℕ) (firs
             same ∙ sym (ap (λ (rows : Rows). cell rows row column) (alike.due_is e known)),
           )
 
-      undue_too : undue_cell g t n f ≡ None → undue_cell h t n f ≡ None
-      undue_too e =
-          undue_is h t n f (always_known first f g.within)
-          ∙ none_undue g.watched.keeps g.watched.page (packets_before t n) due first f g.within
+      unexpected_too : unexpected_cell g t n f ≡ None → unexpected_cell h t n f ≡ None
+      unexpected_too e =
+          unexpected_is h t n f (always_known first f g.within)
+          ∙ none_unexpected g.watched.keeps g.watched.page (packets_before t n) due first f g.within
           (λ row column named.
           shows_too row column
-          (undue_none g.watched.keeps g.watched.page (packets_before t n) g.due first f g.within
-          (sym (undue_is g t n f sure) ∙ e) row column named))
+          (unexpected_none g.watched.keeps g.watched.page (packets_before t n) g.due first f
+          g.within
+          (sym (unexpected_is g t n f sure) ∙ e) row column named))
 
       content_too : (b : Bool) → is_late h t n f ≡ b → is_late g t n f ≡ b
           → broken_cell g t n f ≡ None
           → broken_cell h t n f ≡ None
       content_too true so is e = rw so (wrong_too (rw is at e))
-      content_too false so is e = rw so (undue_too (rw is at e))
+      content_too false so is e = rw so (unexpected_too (rw is at e))
 
       -- If no fault is active for the first, none is for the second.
-      pub alike_quiet : IsEnd t n f → IsQuiet g t n f → IsQuiet h t n f
+      pub equal_fault_free : IsEnd t n f → IsFaultFree g t n f → IsFaultFree h t n f
       unfolding is_gap is_incomplete is_silent
-      alike_quiet end quiet =
-          let parts = (quiet_parts g t n f).0 quiet in
+      equal_fault_free end fault_free =
+          let parts = (fault_free_parts g t n f).0 fault_free in
           let late = late_same n f end known_to in
-          (quiet_parts h t n f).1 (
+          (fault_free_parts h t n f).1 (
             content_too (is_late g t n f) late refl parts.0,
             parts.1,
             ap (λ (b : Bool). b && is_incomplete g t n) late ∙ parts.2,

@@ -1,5 +1,5 @@
 -- For `law_of_trusted_alike`. A programme with other subtitles agrees at the frames at which these
--- are not due, `alike_with`; so frames that are trusted without them are trusted with them:
+-- are not due, `equal_with`; so frames that are trusted without them are trusted with them:
 -- `law_of_trusted_alike`.
 use Rattle.std.proofs.lemmas.Bool.Decides.{nat_tests}
 use Rattle.std.proofs.Common.{◌≡◌, ℕ, ◌+◌, inl, inr, Bool, false}
@@ -12,8 +12,8 @@ use Rattle.sub_plan.specs.Options.{OptionsValue}
 use Rattle.sub_rules.specs.FrameRules.{Unread}
 use Rattle.sub_laws.specs.CleanStretch.{criteria_unsure}
 use Rattle.sub_trusted.specs.TrustedAlike.{HasOthers, IsDueAmong, LawOfTrustedAlike}
-use Rattle.sub_trusted.proofs.AlikeLateLemmas.{AsksAlike}
-use Rattle.sub_trusted.proofs.TrustedAlikeLemmas.{told_too}
+use Rattle.sub_trusted.proofs.AlikeLateLemmas.{HasSameCriteria}
+use Rattle.sub_trusted.proofs.TrustedAlikeLemmas.{reported_too}
 
 module _ (undecided : ℕ → Bool) (f : ℕ) (known : undecided f ≡ false) where
   -- A subtitle that is due only at other frames is not due here and does not end after this frame.
@@ -37,11 +37,11 @@ module _ (undecided : ℕ → Bool) (f : ℕ) (known : undecided f ≡ false) wh
 module _ (programme : ProgrammeValue) (options : OptionsValue) (unread : Option Unread)
     (any_refused : Bool) (undecided : ℕ → Bool) (records : List SubtitleValue)
     (others : HasOthers undecided programme.records records) where
-  alike_with :
-      AsksAlike (criteria_unsure programme options unread any_refused undecided)
+  equal_with :
+      HasSameCriteria (criteria_unsure programme options unread any_refused undecided)
       (due programme.drawing records) (tci_of_ending records)
   unfolding due tci_of_ending
-  alike_with = record {
+  equal_with = record {
     due_is = λ f known.
         ap (drawn_or_blank programme.drawing)
         (same_found undecided f known (is_due f) (not_due undecided f known) programme.records
@@ -53,11 +53,13 @@ module _ (programme : ProgrammeValue) (options : OptionsValue) (unread : Option 
   }
 
 pub law_of_trusted_alike : LawOfTrustedAlike
-law_of_trusted_alike programme options unread any_refused undecided records pieces from to b others
-    told
+law_of_trusted_alike programme options unread any_refused undecided records pes_packets from to b
+    others
+    reported
     low high whole =
-    told_too (criteria_unsure programme options unread any_refused undecided)
+    reported_too (criteria_unsure programme options unread any_refused undecided)
     (due programme.drawing records) (tci_of_ending records) (first_in records) (last_out records)
-    (alike_with programme options unread any_refused undecided records others) pieces from to told b
+    (equal_with programme options unread any_refused undecided records others) pes_packets from to
+    reported b
     low
     high whole

@@ -1,5 +1,5 @@
 -- For `law_of_all_trusted`. The state within a stretch that can stay, `Follows`: after the end of a
--- frame with a header there is a run, which is reported once a frame is in doubt, `follows_says`;
+-- frame with a header there is a run, which is reported once a frame is in doubt, `follows_emits`;
 -- and at an end, `end_leads`.
 use Rattle.std.proofs.lemmas.Bool.Decides.{nat_tests}
 use Rattle.std.proofs.Common.{◌≡◌, ℕ, ◌+◌, ◌-◌, ◌<◌, ◌≤◌, inl, inr, Bool, true, false, ◌==◌}
@@ -9,52 +9,54 @@ use Rattle.std.proofs.lemmas.Bool.{cases_lt}
 use Rattle.std.proofs.lemmas.Option.{none-some}
 use Rattle.std.specs.List.{list_any}
 use Rattle.sub_rules.specs.Events.{end_before, end_events, events_at_end}
-use Rattle.sub_rules.specs.Events.{standing_at, standing_before}
+use Rattle.sub_rules.specs.Events.{active_faults_at, active_faults_before}
 use Rattle.sub_rules.specs.FrameRules.{Criteria, frame_at}
-use Rattle.sub_rules.specs.PieceEvents.{goes_back, steps_at_end}
+use Rattle.sub_rules.specs.PesPacketEvents.{goes_back, steps_at_end}
 use Rattle.sub_rules.specs.Transmission.{Transmission}
-use Rattle.sub_rules.specs.Trusted.CheckStep.{Says}
+use Rattle.sub_rules.specs.Trusted.CheckStep.{Emits}
 use Rattle.sub_rules.specs.declared.event.Event.{Event}
 use Rattle.sub_laws.specs.CleanStretch.{IsEnd}
 use Rattle.sub_trusted.specs.TrustedFrames.{rising_part}
-use Rattle.sub_trusted.proofs.TrustedKeptLemmas.{SeesNone, whole_found}
+use Rattle.sub_trusted.proofs.TrustedKeptLemmas.{SeesNone, correct_found}
 use Rattle.sub_trusted.proofs.TrustedLookLemmas.{Backs, Looks, with_end}
 use Rattle.sub_trusted.proofs.AllTrustedStretchLemmas.{Fits}
-use Rattle.sub_trusted.proofs.LateDoubtLemmas.{before_is, end_doubt, seen_since}
-use Rattle.sub_trusted.proofs.AllTrustedLeadLemmas.{Leads, Leads-cons, said_told}
-use Rattle.sub_trusted.proofs.SaidStepLemmas.{IsSaid, back_past, back_to, doubt_of, is_order}
-use Rattle.sub_trusted.proofs.SaidStepLemmas.{rose, said}
+use Rattle.sub_trusted.proofs.LateInvalidationLemmas.{before_is, end_invalidation, seen_unfinished}
+use Rattle.sub_trusted.proofs.AllTrustedLeadLemmas.{Leads, Leads-cons, emitted_reported}
+use Rattle.sub_trusted.proofs.EmittedStepLemmas.{AreEmitted, back_past, back_to, invalidation_of}
+use Rattle.sub_trusted.proofs.EmittedStepLemmas.{is_order}
+use Rattle.sub_trusted.proofs.EmittedStepLemmas.{rose, emitted}
 use Rattle.sub_rules.proofs.EndRuleLemmas.{end_any}
 use Rattle.sub_rules.proofs.TrustedLemmas.{past_after}
-use Rattle.sub_rules.specs.Trusted.{CheckStep, back_of, run_of, since_of, tells_fall, whole_at}
-use Rattle.sub_rules.specs.Trusted.{whole_of}
-use Rattle.sub_rules.specs.declared.standing.Standing.{Standing}
+use Rattle.sub_rules.specs.Trusted.{CheckStep, back_of, run_of, first_unfinished_of}
+use Rattle.sub_rules.specs.Trusted.{reports_order_fault, correct_at}
+use Rattle.sub_rules.specs.Trusted.{first_correct_of}
+use Rattle.sub_rules.specs.declared.active_faults.ActiveFaults.{ActiveFaults}
 use Rattle.std.specs.Option.{option_or}
 
 -- ---- tests
 
 -- The page was already right within the run.
-pub whole_kept : (whole since : Option ℕ) (f w : ℕ) → whole ≡ Some w
-    → option_or whole (whole_at f since) ≡ Some w
-whole_kept whole since f w e = grind (arith, nat_tests)
+pub correct_kept : (whole first_unfinished : Option ℕ) (f w : ℕ) → whole ≡ Some w
+    → option_or whole (correct_at f first_unfinished) ≡ Some w
+correct_kept whole first_unfinished f w e = grind (arith, nat_tests)
 
 -- Or it is now.
-pub whole_now : (whole since : Option ℕ) (f : ℕ) → since ≡ None
+pub correct_now : (whole first_unfinished : Option ℕ) (f : ℕ) → first_unfinished ≡ None
     → ((w : ℕ) → whole ≡ Some w → w ≤ f)
-    → (w : ℕ) × (w ≤ f) × (option_or whole (whole_at f since) ≡ Some w)
-whole_now (Some w) since f none low = (w, low w refl, refl)
-whole_now None since f none low = (f, le_refl f, rw none refl)
+    → (w : ℕ) × (w ≤ f) × (option_or whole (correct_at f first_unfinished) ≡ Some w)
+correct_now (Some w) first_unfinished f none low = (w, low w refl, refl)
+correct_now None first_unfinished f none low = (f, le_refl f, rw none refl)
 
 -- It has been wrong since a frame after b, at the end of a later one.
-late_past : (late : Bool) (since : Option ℕ) (f b : ℕ) → b < f
-    → ((r : ℕ) → since ≡ Some r → b < r)
-    → b < unwrap_or (if late then since else None) f
-late_past late since f b past h = grind (arith, nat_tests)
+late_past : (late : Bool) (first_unfinished : Option ℕ) (f b : ℕ) → b < f
+    → ((r : ℕ) → first_unfinished ≡ Some r → b < r)
+    → b < unwrap_or (if late then first_unfinished else None) f
+late_past late first_unfinished f b past h = grind (arith, nat_tests)
 
 -- No report at an end is about the order of frames.
-pub end_orders : (old : Standing) (before : ℕ) (new : Standing) (f : ℕ)
+pub end_orders : (old : ActiveFaults) (before : ℕ) (new : ActiveFaults) (f : ℕ)
     → list_any is_order (end_events old before new f) ≡ false
-unfolding is_order tells_fall
+unfolding is_order reports_order_fault
 end_orders old before new f =
     end_any is_order (λ rule f cell. grind arith) (λ rule f. refl) old before new f
 
@@ -68,9 +70,9 @@ module _ (g : Criteria) (frames : Transmission) (a b i : ℕ)
   pub record Follows (n p : ℕ) (t : List CheckStep) : Type 0 where
     pub rises : n ≤ i → rose t ≡ true
     pub run : i < n → (from : ℕ) × (from ≤ top) × (run_of t ≡ Some from)
-    pub low : (from w : ℕ) → run_of t ≡ Some from → whole_of t ≡ Some w → w < p
-    pub whole : i < n → b < p → (w : ℕ) × (w ≤ b) × (whole_of t ≡ Some w)
-    pub since : i < n → b < p → (r : ℕ) → since_of t ≡ Some r → b < r
+    pub low : (from w : ℕ) → run_of t ≡ Some from → first_correct_of t ≡ Some w → w < p
+    pub whole : i < n → b < p → (w : ℕ) × (w ≤ b) × (first_correct_of t ≡ Some w)
+    pub first_unfinished : i < n → b < p → (r : ℕ) → first_unfinished_of t ≡ Some r → b < r
     pub back : i < n → b + 1 < p → (r : ℕ) → back_of t ≡ Some r → b < r
 
   pub follows_to : (n p q : ℕ) (t : List CheckStep) → Follows n p t
@@ -79,36 +81,42 @@ module _ (g : Criteria) (frames : Transmission) (a b i : ℕ)
   follows_to n p q t follows same = grind (arith, nat_tests)
 
   -- The same after events that cast doubt on no frame.
-  pub follows_said : (n p : ℕ) (t u : List CheckStep) (es : List Event) → Follows n p t
-      → IsSaid t u es
+  pub follows_emitted : (n p : ℕ) (t u : List CheckStep) (es : List Event) → Follows n p t
+      → AreEmitted t u es
       → (n ≤ i → list_any is_order es ≡ false)
-      → (i < n → doubt_of t es ≡ None)
+      → (i < n → invalidation_of t es ≡ None)
       → Follows n p u
-  follows_said n p t u es follows so orders none = grind (arith, nat_tests)
+  follows_emitted n p t u es follows so orders none = grind (arith, nat_tests)
 
   -- If a frame after the stretch is in doubt, the stretch is reported.
-  pub doubt_told : (n p : ℕ) (t : List CheckStep) (es : List Event) (x : ℕ) → Follows n p t → i < n
-      → doubt_of t es ≡ Some x
+  pub invalidation_reported : (n p : ℕ) (t : List CheckStep) (es : List Event) (x : ℕ) → Follows n p
+      t → i < n
+      → invalidation_of t es ≡ Some x
       → (b < back_to t x) × (b < p)
-      → (S : List CheckStep → Type 0) → Leads top b S t (map Says es)
-  doubt_told n p t es x follows l is past S = grind (arith, nat_tests, back_to, said_told)
+      → (S : List CheckStep → Type 0) → Leads top b S t (map Emits es)
+  invalidation_reported n p t es x follows l is past S = grind (
+    arith,
+    nat_tests,
+    back_to,
+    emitted_reported,
+  )
 
-  pub follows_says : (n p : ℕ) (t : List CheckStep) (es : List Event) → Follows n p t
+  pub follows_emits : (n p : ℕ) (t : List CheckStep) (es : List Event) → Follows n p t
       → (n ≤ i → list_any is_order es ≡ false)
-      → (i < n → (x : ℕ) → doubt_of t es ≡ Some x → (b < back_to t x) × (b < p))
-      → Leads top b (Follows n p) t (map Says es)
-  follows_says n p t es follows orders past = go (doubt_of t es) refl
+      → (i < n → (x : ℕ) → invalidation_of t es ≡ Some x → (b < back_to t x) × (b < p))
+      → Leads top b (Follows n p) t (map Emits es)
+  follows_emits n p t es follows orders past = go (invalidation_of t es) refl
     where
-      go : (o : Option ℕ) → doubt_of t es ≡ o → Leads top b (Follows n p) t (map Says es)
+      go : (o : Option ℕ) → invalidation_of t es ≡ o → Leads top b (Follows n p) t (map Emits es)
       go None is =
           inr
-          (follows_said n p t (past_after t (map Says es)) es follows (said t es) orders
+          (follows_emitted n p t (past_after t (map Emits es)) es follows (emitted t es) orders
           (λ l. is))
       go (Some x) is = elim (cases_lt i n) [
-        | inl l ↦ doubt_told n p t es x follows l is (past l x is) (Follows n p)
+        | inl l ↦ invalidation_reported n p t es x follows l is (past l x is) (Follows n p)
         | inr not_yet ↦
             inr
-            (follows_said n p t (past_after t (map Says es)) es follows (said t es) orders
+            (follows_emitted n p t (past_after t (map Emits es)) es follows (emitted t es) orders
             (λ l. absurd (omega arith)))
       ]
 
@@ -138,27 +146,33 @@ module _ (g : Criteria) (frames : Transmission) (a b i : ℕ)
     low = low;
     whole = λ l past.
         let (from, from_low, run) = follows.run l in
-        let now = looks.whole_is (ap is_some run) in
+        let now = looks.first_correct_is (ap is_some run) in
         elim (cases_lt b f) [
           | inl earlier ↦
-              let (w, high, is) = follows.whole l earlier in
-              (w, high, now ∙ whole_kept (whole_of t) (seen_since g frames m f) f w is)
+              let (w, high, is) = follows.whole l earlier in (
+                w,
+                high,
+                now ∙ correct_kept (first_correct_of t) (seen_unfinished g frames m f) f w
+                    is,
+              )
           | inr not_before ↦
               let here : b ≡ f = omega arith in
               let (w, high, is) =
-              whole_now (whole_of t) (seen_since g frames m f) f (fits.finished m f (end l) here)
+              correct_now (first_correct_of t) (seen_unfinished g frames m f) f
+              (fits.finished m f (end l) here)
               (λ w whole. let under = follows.low from w run whole in omega arith) in
               (w, omega arith, now ∙ is)
         ];
-    since = λ l past r is. fits.since m f r (end l) (omega arith) (sym looks.since_is ∙ is);
+    first_unfinished = λ l past r is. fits.first_unfinished m f r (end l) (omega arith)
+        (sym looks.first_unfinished_is ∙ is);
     back = λ l past r is. back_after n f r u backs (omega arith) (before l) (omega arith) is;
   }
     where
-      low : (from w : ℕ) → run_of u ≡ Some from → whole_of u ≡ Some w → w < q
+      low : (from w : ℕ) → run_of u ≡ Some from → first_correct_of u ≡ Some w → w < q
       low from w is whole =
           let run : run_of t ≡ Some from = sym looks.run_is ∙ is in
-          elim (whole_found (whole_of t) (seen_since g frames m f) f w
-          (sym (looks.whole_is (ap is_some run)) ∙ whole)) [
+          elim (correct_found (first_correct_of t) (seen_unfinished g frames m f) f w
+          (sym (looks.first_correct_is (ap is_some run)) ∙ whole)) [
             | inl before ↦ let under = follows.low from w run before in omega arith
             | inr (none, here) ↦ omega arith
           ]
@@ -170,17 +184,17 @@ module _ (g : Criteria) (frames : Transmission) (a b i : ℕ)
       → IsEnd (rising_part frames) m f
       → IsEnd (rising_part frames) n (f - 1)
       → a ≤ f
-      → doubt_of u (events_at_end g frames n m f) ≡ Some x
+      → invalidation_of u (events_at_end g frames n m f) ≡ Some x
       → (b < back_to u x) × (b < f + 1)
-  end_past n m f x t u looks backs some end before low doubt =
+  end_past n m f x t u looks backs some end before low invalidation =
       let finds =
-      end_doubt u (end_before frames n f) f (standing_before g frames n f)
-      (standing_at g frames m f) in
+      end_invalidation u (end_before frames n f) f (active_faults_before g frames n f)
+      (active_faults_at g frames m f) in
       grind (
         arith,
         nat_tests,
         late_past,
-        seen_since,
+        seen_unfinished,
         back_past,
         back_after,
         none-some,
@@ -199,12 +213,12 @@ module _ (g : Criteria) (frames : Transmission) (a b i : ℕ)
       with_end g frames (Leads top b (Follows n q)) n m f t none plain
       (λ v step ms silent. Leads-cons top b (Follows n q) v step ms)
       (λ u looks backs.
-      follows_says n q u (events_at_end g frames n m f)
+      follows_emits n q u (events_at_end g frames n m f)
       (end_follows n m f q t u looks backs next follows end before)
-      (λ l. end_orders (standing_before g frames n f) (end_before frames n f)
-      (standing_at g frames m f) f)
-      (λ l x doubt.
+      (λ l. end_orders (active_faults_before g frames n f) (end_before frames n f)
+      (active_faults_at g frames m f) f)
+      (λ l x invalidation.
       let past =
-      end_past n m f x t u looks backs (omega arith) (end l) (before l) (low l) doubt in
+      end_past n m f x t u looks backs (omega arith) (end l) (before l) (low l) invalidation in
       let high = past.1 in
       (past.0, omega arith)))

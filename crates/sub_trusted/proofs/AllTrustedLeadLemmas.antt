@@ -1,5 +1,5 @@
 -- For `law_of_all_trusted`. Steps that report a stretch as trusted, or leave a state that will:
--- `Leads`. A run is reported when a frame is in doubt, `said_told`.
+-- `Leads`. A run is reported when a frame is in doubt, `emitted_reported`.
 use Rattle.std.proofs.lemmas.Bool.Decides.{nat_tests}
 use Rattle.std.proofs.Common.{◌≡◌, ℕ, ◌-◌, ◌<◌, ◌≤◌, ◌⊎◌, inl, inr, List, [], ◌∷◌, ◌++◌, map}
 use Rattle.std.proofs.Common.{Contains, Option, Some, None, refl, sym, subst, arith, ◌∙◌}
@@ -7,28 +7,29 @@ use Rattle.std.proofs.lemmas.Bool.{lt-ltb}
 use Rattle.std.proofs.lemmas.List.Elements.{Contains-append_left, Contains-append_right}
 use Rattle.std.proofs.lemmas.Option.{none-some}
 use Rattle.std.specs.Option.{option_or}
-use Rattle.sub_rules.specs.Trusted.CheckStep.{Says}
+use Rattle.sub_rules.specs.Trusted.CheckStep.{Emits}
 use Rattle.sub_rules.specs.declared.event.Event.{Event}
 use Rattle.sub_rules.specs.declared.event.Event.TheVariants.{Trusted}
-use Rattle.sub_rules.proofs.TrustedLemmas.{past_after, past_after-append, told_after-append}
-use Rattle.sub_trusted.proofs.SaidStepLemmas.{back_to, doubt_after, doubt_of, kept}
-use Rattle.sub_rules.specs.Trusted.{CheckStep, at_pes, back_of, doubted_by, pes_told, run_of}
-use Rattle.sub_rules.specs.Trusted.{told_after, told_at, trusted, trusted_up_to, whole_of}
+use Rattle.sub_rules.proofs.TrustedLemmas.{past_after, past_after-append, reported_after-append}
+use Rattle.sub_trusted.proofs.EmittedStepLemmas.{back_to, invalidation_after, invalidation_of, kept}
+use Rattle.sub_rules.specs.Trusted.{CheckStep, at_pes, back_of, invalidated_by, current_pes, run_of}
+use Rattle.sub_rules.specs.Trusted.{reported_after, reported_at, trusted, trusted_up_to}
+use Rattle.sub_rules.specs.Trusted.{first_correct_of}
 
 -- ---- the report of a run
 
 -- The trusted frames of a run before frame x, if the page was right in it.
-pub put_told : (run whole : Option ℕ) (x from w : ℕ) → run ≡ Some from → whole ≡ Some w → w < x
+pub put_reported : (run whole : Option ℕ) (x from w : ℕ) → run ≡ Some from → whole ≡ Some w → w < x
     → Contains (trusted run whole x) (Trusted from (x - 1))
-put_told run whole x from w run_is whole_is l =
-    rw (run_is, whole_is, lt-ltb w x l) (0, omega arith, refl)
+put_reported run whole x from w run_is first_correct_is l =
+    rw (run_is, first_correct_is, lt-ltb w x l) (0, omega arith, refl)
 
 put_up_to : (t : List CheckStep) (d : Option ℕ) (x from w : ℕ) → d ≡ Some x → run_of t ≡ Some from
-    → whole_of t ≡ Some w
+    → first_correct_of t ≡ Some w
     → w < back_to t x
     → Contains (trusted_up_to t d) (Trusted from (back_to t x - 1))
 put_up_to t d x from w is run whole l =
-    rw is (put_told (run_of t) (whole_of t) (back_to t x) from w run whole l)
+    rw is (put_reported (run_of t) (first_correct_of t) (back_to t x) from w run whole l)
 
 or_none : (d rest : Option ℕ) (x : ℕ) → d ≡ None → option_or d rest ≡ Some x → rest ≡ Some x
 or_none d rest x none e = grind (arith, nat_tests)
@@ -40,54 +41,55 @@ pub kept_on : (run d : Option ℕ) (from : ℕ) → d ≡ None → run ≡ Some 
 kept_on run d from none is = grind (arith, nat_tests)
 
 -- It is reported with the first event that casts doubt on a frame.
-pub said_told : (t : List CheckStep) (es : List Event) (x from w : ℕ) → doubt_of t es ≡ Some x
+pub emitted_reported : (t : List CheckStep) (es : List Event) (x from w : ℕ) → invalidation_of t es
+    ≡ Some x
     → run_of t ≡ Some from
-    → whole_of t ≡ Some w
+    → first_correct_of t ≡ Some w
     → w < back_to t x
-    → Contains (told_after t (map Says es)) (Trusted from (back_to t x - 1))
-unfolding told_after told_at run_of whole_of back_of
-said_told t [] x from w is run whole l = absurd (none-some x is)
-said_told t (e ∷ es) x from w is run whole l =
+    → Contains (reported_after t (map Emits es)) (Trusted from (back_to t x - 1))
+unfolding reported_after reported_at run_of first_correct_of back_of
+emitted_reported t [] x from w is run whole l = absurd (none-some x is)
+emitted_reported t (e ∷ es) x from w is run whole l =
     go
     (λ none.
-    said_told (Says e ∷ t) es x from w
-    (doubt_after t e es ∙ or_none (doubted_by t e) (doubt_of t es) x none is)
-    (kept_on (run_of t) (doubted_by t e) from none run) whole l) (doubted_by t e) refl
+    emitted_reported (Emits e ∷ t) es x from w
+    (invalidation_after t e es ∙ or_none (invalidated_by t e) (invalidation_of t es) x none is)
+    (kept_on (run_of t) (invalidated_by t e) from none run) whole l) (invalidated_by t e) refl
   where
     rest : List Event
-    rest = told_after (Says e ∷ t) (map Says es)
+    rest = reported_after (Emits e ∷ t) (map Emits es)
 
-    go : (doubted_by t e ≡ None → Contains rest (Trusted from (back_to t x - 1)))
+    go : (invalidated_by t e ≡ None → Contains rest (Trusted from (back_to t x - 1)))
         → (d : Option ℕ)
-        → doubted_by t e ≡ d
-        → Contains (told_at t (Says e) ++ rest) (Trusted from (back_to t x - 1))
+        → invalidated_by t e ≡ d
+        → Contains (reported_at t (Emits e) ++ rest) (Trusted from (back_to t x - 1))
     go later None none =
-        Contains-append_right (told_at t (Says e)) rest (Trusted from (back_to t x - 1))
+        Contains-append_right (reported_at t (Emits e)) rest (Trusted from (back_to t x - 1))
         (later none)
     go later (Some y) some =
-        Contains-append_left (told_at t (Says e)) rest (Trusted from (back_to t x - 1))
-        (Contains-append_left (trusted_up_to t (doubted_by t e)) (at_pes (pes_told t) e ∷ [])
+        Contains-append_left (reported_at t (Emits e)) rest (Trusted from (back_to t x - 1))
+        (Contains-append_left (trusted_up_to t (invalidated_by t e)) (at_pes (current_pes t) e ∷ [])
         (Trusted from (back_to t x - 1))
-        (put_up_to t (doubted_by t e) x from w
-        (or_some (doubted_by t e) (doubt_of t es) x y some is) run whole l))
+        (put_up_to t (invalidated_by t e) x from w
+        (or_some (invalidated_by t e) (invalidation_of t es) x y some is) run whole l))
 
 -- ---- steps
 
 module _ (top b : ℕ) where
   -- Frames up to b, from one that is not after this one, are reported as trusted.
-  abbrev pub IsTold : List Event → Type 0
-  IsTold es = (from : ℕ) × (to : ℕ) × (from ≤ top) × (b ≤ to) × Contains es (Trusted from to)
+  abbrev pub IsReported : List Event → Type 0
+  IsReported es = (from : ℕ) × (to : ℕ) × (from ≤ top) × (b ≤ to) × Contains es (Trusted from to)
 
   -- The steps report them, or the state afterwards has this property.
   abbrev pub Leads : (List CheckStep → Type 0) → List CheckStep → List CheckStep → Type 0
-  Leads S t ms = IsTold (told_after t ms) ⊎ S (past_after t ms)
+  Leads S t ms = IsReported (reported_after t ms) ⊎ S (past_after t ms)
 
-  pub told_left : (xs ys : List Event) → IsTold xs → IsTold (xs ++ ys)
-  told_left xs ys (from, to, low, high, c) =
+  pub reported_left : (xs ys : List Event) → IsReported xs → IsReported (xs ++ ys)
+  reported_left xs ys (from, to, low, high, c) =
       (from, to, low, high, Contains-append_left xs ys (Trusted from to) c)
 
-  pub told_right : (xs ys : List Event) → IsTold ys → IsTold (xs ++ ys)
-  told_right xs ys (from, to, low, high, c) =
+  pub reported_right : (xs ys : List Event) → IsReported ys → IsReported (xs ++ ys)
+  reported_right xs ys (from, to, low, high, c) =
       (from, to, low, high, Contains-append_right xs ys (Trusted from to) c)
 
   pub Leads-nil : (S : List CheckStep → Type 0) (t : List CheckStep) → S t → Leads S t []
@@ -98,22 +100,22 @@ module _ (top b : ℕ) where
       (ms : List CheckStep)
       → Leads S (m ∷ t) ms
       → Leads S t (m ∷ ms)
-  unfolding told_after past_after
-  Leads-cons S t m ms h1 = grind (arith, nat_tests, told_right)
+  unfolding reported_after past_after
+  Leads-cons S t m ms h1 = grind (arith, nat_tests, reported_right)
 
   pub Leads-append : (S U : List CheckStep → Type 0) (t : List CheckStep) (xs ys : List CheckStep)
       → Leads S t xs
       → ((u : List CheckStep) → S u → Leads U u ys)
       → Leads U t (xs ++ ys)
-  Leads-append S U t xs ys (inl told) rest =
+  Leads-append S U t xs ys (inl reported) rest =
       inl
-      (subst IsTold (sym (told_after-append t xs ys))
-      (told_left (told_after t xs) (told_after (past_after t xs) ys) told))
+      (subst IsReported (sym (reported_after-append t xs ys))
+      (reported_left (reported_after t xs) (reported_after (past_after t xs) ys) reported))
   Leads-append S U t xs ys (inr s) rest = elim (rest (past_after t xs) s) [
-    | inl told ↦
+    | inl reported ↦
         inl
-        (subst IsTold (sym (told_after-append t xs ys))
-        (told_right (told_after t xs) (told_after (past_after t xs) ys) told))
+        (subst IsReported (sym (reported_after-append t xs ys))
+        (reported_right (reported_after t xs) (reported_after (past_after t xs) ys) reported))
     | inr u ↦ inr (subst U (sym (past_after-append t xs ys)) u)
   ]
 
@@ -122,5 +124,5 @@ module _ (top b : ℕ) where
       → A (past_after t ms)
       → Leads S t ms
       → Leads (λ u. A u × S u) t ms
-  Leads-both A S t ms is (inl told) = inl told
+  Leads-both A S t ms is (inl reported) = inl reported
   Leads-both A S t ms is (inr s) = inr (is, s)

@@ -1,6 +1,6 @@
 -- For `law_of_all_trusted`. The steps of a frame within a stretch that can stay: before its
 -- packets, `arrival_leads`, for its packets, `more_leads`, and for a skipped PES packet,
--- `passed_leads`.
+-- `skipped_leads`.
 use Rattle.std.proofs.lemmas.Bool.Decides.{nat_tests}
 use Rattle.std.proofs.Common.{◌≡◌, ℕ, zero, suc, ◌+◌, ◌-◌, ◌<◌, ◌≤◌, ◌⊎◌, inl, inr, Bool, true}
 use Rattle.std.proofs.Common.{false, List, [], ◌∷◌, ◌++◌, length, map, take, get_or, Option, Some}
@@ -12,66 +12,70 @@ use Rattle.std.proofs.lemmas.List.{get_or-append-add, get_or_append_left, take-a
 use Rattle.std.proofs.lemmas.List.Folds.{list_any-append}
 use Rattle.std.proofs.lemmas.Option.{none-some, same_Some}
 use Rattle.std.specs.List.{list_any}
-use Rattle.sub_rules.specs.Events.{gap_length, latest, order_events, packet_fault, packets_told}
-use Rattle.sub_rules.specs.Events.{rules_told, since_before, unread_fault}
+use Rattle.sub_rules.specs.Events.{gap_length, latest, order_events, packet_fault, packets_reported}
+use Rattle.sub_rules.specs.Events.{rules_reported, first_unfinished_before, unread_fault}
 use Rattle.sub_rules.specs.FrameRules.{Criteria, Unread, frame_at, packets_before, packets_of_frame}
-use Rattle.sub_rules.specs.PieceEvents.{goes_back, steps_at_end, steps_before, steps_of_arrival}
-use Rattle.sub_rules.specs.PieceEvents.{steps_of_gap}
+use Rattle.sub_rules.specs.PesPacketEvents.{goes_back, steps_at_end, steps_before, steps_of_arrival}
+use Rattle.sub_rules.specs.PesPacketEvents.{steps_of_gap}
 use Rattle.sub_rules.specs.Transmission.{Transmission}
-use Rattle.sub_rules.specs.Trusted.CheckStep.{Begins, GoesBack, Says}
+use Rattle.sub_rules.specs.Trusted.CheckStep.{Begins, GoesBack, Emits}
 use Rattle.sub_rules.specs.declared.event.Event.{Event}
-use Rattle.sub_rules.specs.declared.event.Event.TheVariants.{Told}
+use Rattle.sub_rules.specs.declared.event.Event.TheVariants.{Reported}
 use Rattle.sub_rules.specs.declared.packet_rule.PacketRule.{PacketRule}
 use Rattle.sub_rules.specs.declared.packet_rule.Watched.{Watched}
 use Rattle.sub_trusted.proofs.TrustedKeptLemmas.{Arrives, Closed, Keeps, Opens, Up, run_rises}
 use Rattle.sub_trusted.proofs.TrustedKeptLemmas.{up_of}
 use Rattle.sub_trusted.proofs.TrustedStepLemmas.{begins, begins_back, gap_step, more_sent}
-use Rattle.sub_trusted.proofs.TrustedStepLemmas.{order_step, passed}
-use Rattle.sub_trusted.proofs.TrustedStepLemmas.{passed_ended}
+use Rattle.sub_trusted.proofs.TrustedStepLemmas.{order_step, skipped}
+use Rattle.sub_trusted.proofs.TrustedStepLemmas.{skipped_ended}
 use Rattle.sub_trusted.proofs.AllTrustedStretchLemmas.{Fits, end_back, gap_in}
-use Rattle.sub_trusted.proofs.LateDoubtLemmas.{KeepsAll, before_is, order_at, packets_doubt}
-use Rattle.sub_trusted.proofs.LateDoubtLemmas.{passed_at}
+use Rattle.sub_trusted.proofs.LateInvalidationLemmas.{KeepsAll, before_is, order_at}
+use Rattle.sub_trusted.proofs.LateInvalidationLemmas.{packets_invalidation}
+use Rattle.sub_trusted.proofs.LateInvalidationLemmas.{skipped_at}
 use Rattle.sub_trusted.proofs.AllTrustedLeadLemmas.{Leads, Leads-append, Leads-both, Leads-cons}
 use Rattle.sub_trusted.proofs.AllTrustedLeadLemmas.{Leads-nil}
 use Rattle.sub_laws.proofs.PrefixLemmas.{RiseTo, rises_to}
 use Rattle.sub_laws.proofs.RisingEndLemmas.{latest_at}
-use Rattle.sub_trusted.proofs.SaidStepLemmas.{back_past, back_to, doubt_of, is_order, rose, said}
-use Rattle.sub_trusted.proofs.AllTrustedKeptLemmas.{Follows, doubt_told, end_leads, follows_said}
-use Rattle.sub_trusted.proofs.AllTrustedKeptLemmas.{follows_says, follows_to, top}
+use Rattle.sub_trusted.proofs.EmittedStepLemmas.{back_past, back_to, invalidation_of, is_order}
+use Rattle.sub_trusted.proofs.EmittedStepLemmas.{rose, emitted}
+use Rattle.sub_trusted.proofs.AllTrustedKeptLemmas.{Follows, invalidation_reported, end_leads}
+use Rattle.sub_trusted.proofs.AllTrustedKeptLemmas.{follows_emitted}
+use Rattle.sub_trusted.proofs.AllTrustedKeptLemmas.{follows_emits, follows_to, top}
 use Rattle.sub_trusted.proofs.TrustedFrameLemmas.{count_most, part_rises, risen}
 use Rattle.sub_rules.proofs.TrustedLemmas.{past_after}
-use Rattle.sub_rules.specs.Trusted.{CheckStep, back_of, last_begun, late_of, run_of, since_of}
-use Rattle.sub_rules.specs.Trusted.{stays_quiet, tells_fall, whole_of}
+use Rattle.sub_rules.specs.Trusted.{CheckStep, back_of, last_begun, late_of, run_of}
+use Rattle.sub_rules.specs.Trusted.{first_unfinished_of}
+use Rattle.sub_rules.specs.Trusted.{stays_fault_free, reports_order_fault, first_correct_of}
 
 -- ---- events that are not about the order
 
-rule_order : (frame k : ℕ) (r : PacketRule) → is_order (Told (packet_fault r frame k)) ≡ false
-unfolding is_order tells_fall
+rule_order : (frame k : ℕ) (r : PacketRule) → is_order (Reported (packet_fault r frame k)) ≡ false
+unfolding is_order reports_order_fault
 rule_order frame k r = grind (arith, nat_tests)
 
 rules_orders : (frame k : ℕ) (rs : List PacketRule)
-    → list_any is_order (map (λ (r : PacketRule). Told (packet_fault r frame k)) rs) ≡ false
+    → list_any is_order (map (λ (r : PacketRule). Reported (packet_fault r frame k)) rs) ≡ false
 rules_orders frame k [] = refl
 rules_orders frame k (r ∷ rs) = rw (rule_order frame k r) (rules_orders frame k rs)
 
 pub packets_orders : (w : Watched) (frame from : ℕ) (before packets : List (List ℕ)) (n : ℕ)
-    → list_any is_order (packets_told w frame from before packets n) ≡ false
-unfolding packets_told rules_told
+    → list_any is_order (packets_reported w frame from before packets n) ≡ false
+unfolding packets_reported rules_reported
 packets_orders w frame from before packets zero = refl
 packets_orders w frame from before packets (suc n) =
-    list_any-append is_order (packets_told w frame from before packets n) _
+    list_any-append is_order (packets_reported w frame from before packets n) _
     ∙ rw (packets_orders w frame from before packets n) (rules_orders frame (from + n) _)
 
-pub passed_orders : (pes : ℕ) (u : Unread)
-    → list_any is_order (Told (unread_fault pes (Some u)) ∷ []) ≡ false
-unfolding is_order tells_fall
-passed_orders pes u = grind (arith, nat_tests)
+pub skipped_orders : (pes : ℕ) (u : Unread)
+    → list_any is_order (Reported (unread_fault pes (Some u)) ∷ []) ≡ false
+unfolding is_order reports_order_fault
+skipped_orders pes u = grind (arith, nat_tests)
 
 -- Rising frames have no report about their order, and none is in doubt for it.
 order_orders : (g : Criteria) (frames : Transmission) (n : ℕ)
     → (0 < n → frame_at frames (n - 1) < frame_at frames n)
     → list_any is_order (order_events g frames n) ≡ false
-unfolding order_events is_order tells_fall
+unfolding order_events is_order reports_order_fault
 order_orders g frames n up = grind (arith, nat_tests)
 
 order_silent : (g : Criteria) (frames : Transmission) (n : ℕ) → 0 < n
@@ -99,13 +103,13 @@ keeps_part w before xs ys zs all k l r needed =
     ap (λ (ps : List (List ℕ)). get_or ps (length xs + k) []) assoc
     ∙ get_or-append-add xs (ys ++ zs) k []
     ∙ get_or_append_left ys zs [] k l in
-    let front : take (length xs + k) (xs ++ ys ++ zs) ≡ xs ++ take k ys =
+    let prefix : take (length xs + k) (xs ++ ys ++ zs) ≡ xs ++ take k ys =
     ap (take (length xs + k)) assoc
     ∙ take-append-add xs (ys ++ zs) k
     ∙ ap (λ (ps : List (List ℕ)). xs ++ ps) (take-append-le k ys zs (omega arith)) in
     let few : length xs + k < length (xs ++ ys ++ zs) =
     let whole = ap (λ (ps : List (List ℕ)). length ps) assoc in omega arith in
-    rw (append_assoc before xs (take k ys), sym at, sym front)
+    rw (append_assoc before xs (take k ys), sym at, sym prefix)
     (all (length xs + k) few r needed)
 
 module _ (g : Criteria) (frames : Transmission) (a b i : ℕ)
@@ -194,12 +198,12 @@ module _ (g : Criteria) (frames : Transmission) (a b i : ℕ)
   Past n u = Closed g frames 0 n u × Follow n (frame_at frames (n - 1) + 1) u
 
   order_leads : (n : ℕ) (t : List CheckStep) → n < length frames → Past n t
-      → Lead (Arriving n 0) t (map Says (order_events g frames n))
+      → Lead (Arriving n 0) t (map Emits (order_events g frames n))
   order_leads n t there (closed, follows) =
       Leads-both (top g frames a b i fits) b (Arrives g frames 0 n 0)
-      (Follow n (latest frames n + suc 0)) t (map Says (order_events g frames n))
+      (Follow n (latest frames n + suc 0)) t (map Emits (order_events g frames n))
       (order_step g frames 0 n t there closed).after
-      (follows_says g frames a b i fits n (latest frames n + suc 0) t
+      (follows_emits g frames a b i fits n (latest frames n + suc 0) t
       (order_events g frames n) (follows_to g frames a b i fits n
       (frame_at frames (n - 1) + 1) (latest frames n + suc 0) t follows (λ from is.
       let run = closed.keeps.run from is in
@@ -209,23 +213,23 @@ module _ (g : Criteria) (frames : Transmission) (a b i : ℕ)
       (λ early.
       order_orders g frames n
       (λ first. part_rises frames n first (let in_it = fits.there in omega arith)))
-      (λ l x doubt. past l x doubt))
+      (λ l x invalidation. past l x invalidation))
     where
-      past : i < n → (x : ℕ) → doubt_of t (order_events g frames n) ≡ Some x
+      past : i < n → (x : ℕ) → invalidation_of t (order_events g frames n) ≡ Some x
           → (b < back_to t x) × (b < latest frames n + suc 0)
-      past l x doubt =
+      past l x invalidation =
           let (from, low, is) = follows.run l in
           let run = closed.keeps.run from is in
           let most = count_most frames (length frames) n (omega arith) run.rises in
           let last = latest_at frames n run.rises (omega arith) in
-          let at : x ≡ last_begun t = order_at t g frames n x doubt in
+          let at : x ≡ last_begun t = order_at t g frames n x invalidation in
           let here = closed.last (omega arith) in
           elim (cases_lt n (risen frames)) [
             | inl more ↦
                 let none =
                 order_silent g frames n (omega arith) (part_rises frames n (omega arith) more) in
-                let nothing : doubt_of t [] ≡ Some x =
-                subst (λ (es : List Event). doubt_of t es ≡ Some x) none doubt in
+                let nothing : invalidation_of t [] ≡ Some x =
+                subst (λ (es : List Event). invalidation_of t es ≡ Some x) none invalidation in
                 absurd (none-some x nothing)
             | inr all ↦
                 let same : risen frames ≡ n = omega arith in
@@ -240,7 +244,7 @@ module _ (g : Criteria) (frames : Transmission) (a b i : ℕ)
   -- Frame n is being sent.
   pub record Sending (n : ℕ) (t : List CheckStep) : Type 0 where
     pub follows : Follow n (frame_at frames n) t
-    pub clean : i ≤ n → stays_quiet t ≡ true
+    pub clean : i ≤ n → stays_fault_free t ≡ true
     pub back : i < n → b < frame_at frames n → (r : ℕ) → back_of t ≡ Some r → b < r
 
   -- So are these packets of it so far.
@@ -249,12 +253,13 @@ module _ (g : Criteria) (frames : Transmission) (a b i : ℕ)
 
   -- Since which frame the page has been wrong before frame n.
   abbrev before_it : ℕ → Option ℕ
-  before_it n = since_before g frames n (frame_at frames n)
+  before_it n = first_unfinished_before g frames n (frame_at frames n)
 
   begins_open : (n : ℕ) (t : List CheckStep) → n < length frames
       → Arriving n (gap_length frames n) t
       → Lead (Open n []) (Begins (frame_at frames n) ∷ t) (steps_before g (before_it n))
-  unfolding run_of whole_of last_begun since_of late_of back_of stays_quiet tells_fall
+  unfolding run_of first_correct_of last_begun first_unfinished_of late_of back_of stays_fault_free
+      reports_order_fault
   begins_open n t there (arrives, follows) = go (goes_back g) refl
     where
       now : Follow n (frame_at frames n) t
@@ -311,7 +316,7 @@ module _ (g : Criteria) (frames : Transmission) (a b i : ℕ)
                 run = now.run;
                 low = now.low;
                 whole = now.whole;
-                since = now.since;
+                first_unfinished = now.first_unfinished;
                 back = λ l past r some. after l (omega arith) r some;
               };
               clean = clean;
@@ -323,10 +328,10 @@ module _ (g : Criteria) (frames : Transmission) (a b i : ℕ)
       → Lead (Open n []) t (steps_of_arrival g frames n)
   arrival_leads n t there past =
       Leads-append (top g frames a b i fits) b (Arriving n (gap_length frames n)) (Open n []) t
-      (map Says (order_events g frames n) ++ steps_of_gap g frames n (gap_length frames n))
+      (map Emits (order_events g frames n) ++ steps_of_gap g frames n (gap_length frames n))
       (Begins (frame_at frames n) ∷ steps_before g (before_it n))
       (Leads-append (top g frames a b i fits) b (Arriving n 0)
-      (Arriving n (gap_length frames n)) t (map Says (order_events g frames n))
+      (Arriving n (gap_length frames n)) t (map Emits (order_events g frames n))
       (steps_of_gap g frames n (gap_length frames n)) (order_leads n t there past)
       (λ u so. gaps_lead n (gap_length frames n) u there (le_refl (gap_length frames n)) so))
       (λ v here.
@@ -335,37 +340,39 @@ module _ (g : Criteria) (frames : Transmission) (a b i : ℕ)
 
   -- ---- while it is being sent
 
-  pub sending_says : (n : ℕ) (t : List CheckStep) (es : List Event) → Sending n t
+  pub sending_emits : (n : ℕ) (t : List CheckStep) (es : List Event) → Sending n t
       → list_any is_order es ≡ false
-      → (i ≡ n → doubt_of t es ≡ None)
-      → (i < n → (x : ℕ) → doubt_of t es ≡ Some x → (b < back_to t x) × (b < frame_at frames n))
-      → Lead (Sending n) t (map Says es)
-  sending_says n t es sending orders calm past = go (doubt_of t es) refl
+      → (i ≡ n → invalidation_of t es ≡ None)
+      → (i < n → (x : ℕ) → invalidation_of t es ≡ Some x → (b < back_to t x) ×
+      (b < frame_at frames n))
+      → Lead (Sending n) t (map Emits es)
+  sending_emits n t es sending orders calm past = go (invalidation_of t es) refl
     where
       back : i < n → b < frame_at frames n
-          → (r : ℕ) → back_of (past_after t (map Says es)) ≡ Some r
+          → (r : ℕ) → back_of (past_after t (map Emits es)) ≡ Some r
           → b < r
-      back l past r is = sending.back l past r (sym (said t es).back_is ∙ is)
+      back l past r is = sending.back l past r (sym (emitted t es).back_is ∙ is)
 
-      follow : (i < n → doubt_of t es ≡ None)
-          → Follow n (frame_at frames n) (past_after t (map Says es))
+      follow : (i < n → invalidation_of t es ≡ None)
+          → Follow n (frame_at frames n) (past_after t (map Emits es))
       follow none =
-          follows_said g frames a b i fits n (frame_at frames n) t
-          (past_after t (map Says es)) es sending.follows (said t es) (λ l. orders) none
+          follows_emitted g frames a b i fits n (frame_at frames n) t
+          (past_after t (map Emits es)) es sending.follows (emitted t es) (λ l. orders) none
 
-      go : (o : Option ℕ) → doubt_of t es ≡ o → Lead (Sending n) t (map Says es)
+      go : (o : Option ℕ) → invalidation_of t es ≡ o → Lead (Sending n) t (map Emits es)
       go None is =
           inr
           (record {
             follows = follow (λ l. is);
             clean = λ l.
-                (said t es).clean_is
-                ∙ clean_still (stays_quiet t) (doubt_of t es) (sending.clean l) is;
+                (emitted t es).clean_is
+                ∙ clean_still (stays_fault_free t) (invalidation_of t es) (sending.clean l) is;
             back = back;
           })
       go (Some x) is = elim (cases_lt i n) [
         | inl l ↦
-            doubt_told g frames a b i fits n (frame_at frames n) t es x sending.follows l is
+            invalidation_reported g frames a b i fits n (frame_at frames n) t es x sending.follows l
+            is
             (past l x is) (Sending n)
         | inr not_yet ↦
             inr
@@ -395,19 +402,19 @@ module _ (g : Criteria) (frames : Transmission) (a b i : ℕ)
       → packets_of_frame frames n ≡ packets ++ more ++ rest
       → Open n packets t
       → Lead (Open n (packets ++ more)) t
-      (map Says
-      (packets_told g.watched (frame_at frames n) (length packets)
+      (map Emits
+      (packets_reported g.watched (frame_at frames n) (length packets)
       (packets_before frames n ++ packets) more (length more)))
   more_leads n packets more rest t there whole (opens, sending) =
       let so_far : List (List ℕ) = packets_before frames n ++ packets in
       let es : List Event =
-      packets_told g.watched (frame_at frames n) (length packets) so_far more (length more) in
+      packets_reported g.watched (frame_at frames n) (length packets) so_far more (length more) in
       let finds =
-      packets_doubt t g.watched (frame_at frames n) (length packets) so_far
+      packets_invalidation t g.watched (frame_at frames n) (length packets) so_far
       more in
       Leads-both (top g frames a b i fits) b (Opens g frames 0 n (packets ++ more)) (Sending n) t
-      (map Says es) (more_sent g frames 0 n packets more t there opens).after
-      (sending_says n t es sending
+      (map Emits es) (more_sent g frames 0 n packets more t there opens).after
+      (sending_emits n t es sending
       (packets_orders g.watched (frame_at frames n) (length packets) so_far more (length more))
       (λ same.
       let here : frame_at frames i ≡ frame_at frames n = ap (frame_at frames) same in
@@ -415,14 +422,14 @@ module _ (g : Criteria) (frames : Transmission) (a b i : ℕ)
       let high = fits.high in
       let in_it = fits.there in
       finds.calm (keeps (omega arith) (omega arith) (omega arith)))
-      (λ l x doubt.
+      (λ l x invalidation.
       let (in_it, low) = later_in n packets t there (opens, sending) l in
-      let at : x ≡ frame_at frames n = finds.at x doubt in
+      let at : x ≡ frame_at frames n = finds.at x invalidation in
       elim (cases_lt b (frame_at frames n)) [
         | inl past ↦ (back_past t x b (omega arith) (sending.back l past), past)
         | inr not_past ↦
             let none = finds.calm (keeps in_it low (omega arith)) in
-            absurd (none-some x (sym none ∙ doubt))
+            absurd (none-some x (sym none ∙ invalidation))
       ]))
     where
       keeps : n < risen frames → a ≤ frame_at frames n → frame_at frames n ≤ b
@@ -433,23 +440,23 @@ module _ (g : Criteria) (frames : Transmission) (a b i : ℕ)
           (fits.packets n in_it low high))
 
   -- A PES packet is skipped before the next frame comes.
-  pub passed_past : (n pes : ℕ) (u : Unread) (t : List CheckStep) → n ≤ length frames
+  pub skipped_past : (n pes : ℕ) (u : Unread) (t : List CheckStep) → n ≤ length frames
       → (0 < n → n ≤ risen frames → (frame_at frames (n - 1) < a) ⊎ (b < frame_at frames (n - 1)))
       → Past n t
-      → Lead (Past n) t (map Says (Told (unread_fault pes (Some u)) ∷ []))
-  passed_past n pes u t within outside (closed, follows) =
-      let es : List Event = Told (unread_fault pes (Some u)) ∷ [] in
+      → Lead (Past n) t (map Emits (Reported (unread_fault pes (Some u)) ∷ []))
+  skipped_past n pes u t within outside (closed, follows) =
+      let es : List Event = Reported (unread_fault pes (Some u)) ∷ [] in
       let p : ℕ = frame_at frames (n - 1) + 1 in
-      Leads-both (top g frames a b i fits) b (Closed g frames 0 n) (Follow n p) t (map Says es)
-      (passed_ended g frames 0 n pes u t within closed).after
-      (follows_says g frames a b i fits n p t es follows (λ early. passed_orders pes u)
-      (λ l x doubt.
+      Leads-both (top g frames a b i fits) b (Closed g frames 0 n) (Follow n p) t (map Emits es)
+      (skipped_ended g frames 0 n pes u t within closed).after
+      (follows_emits g frames a b i fits n p t es follows (λ early. skipped_orders pes u)
+      (λ l x invalidation.
       let (from, low, run) = follows.run l in
       let most = count_most frames (length frames) n within (closed.keeps.run from run).rises in
       let up = rises_to frames n (closed.keeps.run from run).rises i (n - 1) (omega arith)
       (omega arith) in
       let from_low = fits.low in
-      let is : Some (last_begun t) ≡ Some x = sym (passed_at t pes u) ∙ doubt in
+      let is : Some (last_begun t) ≡ Some x = sym (skipped_at t pes u) ∙ invalidation in
       let same : last_begun t ≡ x = same_Some (last_begun t) x is in
       let last = closed.last (omega arith) in
       elim (outside (omega arith) most) [
@@ -461,16 +468,16 @@ module _ (g : Criteria) (frames : Transmission) (a b i : ℕ)
       ]))
 
   -- Or while one is being sent.
-  pub passed_leads : (n pes : ℕ) (packets : List (List ℕ)) (u : Unread) (t : List CheckStep)
+  pub skipped_leads : (n pes : ℕ) (packets : List (List ℕ)) (u : Unread) (t : List CheckStep)
       → n < length frames
       → (n < risen frames → (frame_at frames n < a) ⊎ (b < frame_at frames n))
       → Open n packets t
-      → Lead (Open n packets) t (map Says (Told (unread_fault pes (Some u)) ∷ []))
-  passed_leads n pes packets u t there outside (opens, sending) =
-      let es : List Event = Told (unread_fault pes (Some u)) ∷ [] in
+      → Lead (Open n packets) t (map Emits (Reported (unread_fault pes (Some u)) ∷ []))
+  skipped_leads n pes packets u t there outside (opens, sending) =
+      let es : List Event = Reported (unread_fault pes (Some u)) ∷ [] in
       Leads-both (top g frames a b i fits) b (Opens g frames 0 n packets) (Sending n) t
-      (map Says es) (passed g frames 0 n pes packets u t there opens).after
-      (sending_says n t es sending (passed_orders pes u)
+      (map Emits es) (skipped g frames 0 n pes packets u t there opens).after
+      (sending_emits n t es sending (skipped_orders pes u)
       (λ same.
       let here : frame_at frames i ≡ frame_at frames n = ap (frame_at frames) same in
       let low = fits.low in
@@ -480,9 +487,9 @@ module _ (g : Criteria) (frames : Transmission) (a b i : ℕ)
         | inl before ↦ absurd (omega arith)
         | inr after ↦ absurd (omega arith)
       ])
-      (λ l x doubt.
+      (λ l x invalidation.
       let (in_it, low) = later_in n packets t there (opens, sending) l in
-      let is : Some (last_begun t) ≡ Some x = sym (passed_at t pes u) ∙ doubt in
+      let is : Some (last_begun t) ≡ Some x = sym (skipped_at t pes u) ∙ invalidation in
       let same : last_begun t ≡ x = same_Some (last_begun t) x is in
       let last = opens.last in
       elim (outside in_it) [

@@ -4,12 +4,12 @@ pub mod AllTrustedEndingLemmas
 pub mod AllTrustedKeptLemmas
 pub mod AllTrustedLeadLemmas
 pub mod AllTrustedLemmas
-pub mod AllTrustedPieceLemmas
+pub mod AllTrustedPesPacketLemmas
 pub mod AllTrustedStepLemmas
 pub mod AllTrustedStretchLemmas
-pub mod DoubtLemmas
-pub mod LateDoubtLemmas
-pub mod SaidStepLemmas
+pub mod InvalidationLemmas
+pub mod LateInvalidationLemmas
+pub mod EmittedStepLemmas
 pub mod TrustedAlikeLemmas
 pub mod TrustedAsReadLemmas
 pub mod TrustedEndingLemmas
@@ -18,7 +18,7 @@ pub mod TrustedFrameLemmas
 pub mod TrustedKeptLemmas
 pub mod TrustedLookLemmas
 pub mod TrustedOnAirLemmas
-pub mod TrustedPassedLemmas
-pub mod TrustedPieceLemmas
+pub mod TrustedSkippedLemmas
+pub mod TrustedPesPacketLemmas
 pub mod TrustedRunLemmas
 pub mod TrustedStepLemmas

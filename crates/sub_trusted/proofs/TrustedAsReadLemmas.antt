@@ -25,12 +25,12 @@ use Rattle.stl_rows.specs.Programme.{ProgrammeValue}
 use Rattle.sub_plan.specs.Options.{OptionsValue}
 use Rattle.sub_rules.specs.Good.{HoldsHeader}
 use Rattle.sub_rules.specs.Kept.{has_row}
-use Rattle.sub_rules.specs.Repeats.{IsDueWithin, IsWholePage, SomeFinishedBy}
+use Rattle.sub_rules.specs.Repeats.{IsDueWithin, IsCorrectPage, SomeFinishedBy}
 use Rattle.sub_rules.specs.Transmission.{IsRising, Transmission, first_frame, on_air, on_air_until}
 use Rattle.sub_rules.specs.Transmission.{packets_between, packets_of}
 use Rattle.sub_laws.specs.OnScreen.{CompleteWithin}
 use Rattle.sub_laws.specs.Repeats.{FinishesInTimeBy, IsRepeatedStretch}
-use Rattle.sub_laws.specs.ToldRepeats.{IsSufficientRepeats}
+use Rattle.sub_laws.specs.ReportedRepeats.{IsSufficientRepeats}
 use Rattle.sub_trusted.specs.TrustedFrames.{IsAsRead}
 use Rattle.sub_laws.proofs.TransmissionLemmas.{packets_between-split, packets_between-void}
 
@@ -96,19 +96,19 @@ module _ (keeps : Bool) (programme : ProgrammeValue) (options : OptionsValue) (t
 
     module _ (f : ℕ) (low : a ≤ f) (high : f ≤ b) where
       -- What is on air from frame a on.
-      abbrev since : List (List ℕ)
-      since = packets_between t a (f + 1)
+      abbrev first_unfinished : List (List ℕ)
+      first_unfinished = packets_between t a (f + 1)
 
-      all_t : on_air_until t f ≡ packets_between t (first_frame t) a ++ since
+      all_t : on_air_until t f ≡ packets_between t (first_frame t) a ++ first_unfinished
       all_t = packets_between-split t (first_frame t) a (f + 1) rising from (omega arith)
 
-      all_u : on_air_until u f ≡ packets_between u (first_frame u) a ++ since
+      all_u : on_air_until u f ≡ packets_between u (first_frame u) a ++ first_unfinished
       all_u =
           packets_between-split u (first_frame u) a (f + 1) is.rising low_too (omega arith)
           ∙ ap (λ (ps : List (List ℕ)). packets_between u (first_frame u) a ++ ps)
           (sym (same_since t u a b rising is f low high))
 
-      begins_since : holds_beginning keeps (kind options.page) since ≡ true
+      begins_since : holds_beginning keeps (kind options.page) first_unfinished ≡ true
       begins_since =
           let split =
           packets_between-split t a (a + 1) (f + 1) rising (omega arith) (omega arith) in
@@ -117,18 +117,20 @@ module _ (keeps : Bool) (programme : ProgrammeValue) (options : OptionsValue) (t
           (packets_between t (a + 1) (f + 1)) in
           ap (holds_beginning keeps (kind options.page)) split ∙ both ∙ rw begins refl
 
-      holds : holds_header (kind options.page) since ≡ true
-      holds = beginning_is_header (kind options.page) keeps since begins_since
+      holds : holds_header (kind options.page) first_unfinished ≡ true
+      holds = beginning_is_header (kind options.page) keeps first_unfinished begins_since
 
       spanned_too : text_span keeps (kind options.page) (on_air_until t f)
           ≡ text_span keeps (kind options.page) (on_air_until u f)
       spanned_too =
           ap (text_span keeps (kind options.page)) all_t
           ∙ ap (while_open (kind options.page) false)
-          (from-later keeps (kind options.page) (packets_between t (first_frame t) a) since
+          (from-later keeps (kind options.page) (packets_between t (first_frame t) a)
+          first_unfinished
           begins_since
           ∙ sym
-          (from-later keeps (kind options.page) (packets_between u (first_frame u) a) since
+          (from-later keeps (kind options.page) (packets_between u (first_frame u) a)
+          first_unfinished
           begins_since))
           ∙ sym (ap (text_span keeps (kind options.page)) all_u)
 
@@ -144,13 +146,14 @@ module _ (keeps : Bool) (programme : ProgrammeValue) (options : OptionsValue) (t
       row_too row =
           ap (list_any (λ packet. is_row row (kind options.page packet)))
           (ap (span (kind options.page)) all_t
-          ∙ span-later options.page (packets_between t (first_frame t) a) since holds
-          ∙ sym (span-later options.page (packets_between u (first_frame u) a) since holds)
+          ∙ span-later options.page (packets_between t (first_frame t) a) first_unfinished holds
+          ∙ sym (span-later options.page (packets_between u (first_frame u) a) first_unfinished
+          holds)
           ∙ sym (ap (span (kind options.page)) all_u))
 
-      whole_too : IsWholePage keeps programme options.page t f
-          → IsWholePage keeps programme options.page u f
-      whole_too whole row column named =
+      correct_too : IsCorrectPage keeps programme options.page t f
+          → IsCorrectPage keeps programme options.page u f
+      correct_too whole row column named =
           let right = whole row column named in
           record {
             kept_is = sym (kept_too row column) ∙ right.kept_is;
@@ -161,15 +164,17 @@ module _ (keeps : Bool) (programme : ProgrammeValue) (options : OptionsValue) (t
           ≡ is_unended (kind options.page) (on_air_until u f)
       unended_too =
           ap (is_unended (kind options.page)) all_t
-          ∙ unended-later options.page (packets_between t (first_frame t) a) since holds
-          ∙ sym (unended-later options.page (packets_between u (first_frame u) a) since holds)
+          ∙ unended-later options.page (packets_between t (first_frame t) a) first_unfinished holds
+          ∙ sym (unended-later options.page (packets_between u (first_frame u) a) first_unfinished
+          holds)
           ∙ sym (ap (is_unended (kind options.page)) all_u)
 
-      holds_all : (v : Transmission) (before : List (List ℕ)) → on_air_until v f ≡ before ++ since
+      holds_all : (v : Transmission) (before : List (List ℕ)) → on_air_until v f ≡ before ++
+          first_unfinished
           → holds_header (kind options.page) (on_air_until v f) ≡ true
       holds_all v before at =
           ap (holds_header (kind options.page)) at
-          ∙ holds-append_right (kind options.page) before since holds
+          ∙ holds-append_right (kind options.page) before first_unfinished holds
 
       holds_t : holds_header (kind options.page) (on_air_until t f) ≡ true
       holds_t = holds_all t (packets_between t (first_frame t) a) all_t
@@ -211,7 +216,7 @@ module _ (keeps : Bool) (programme : ProgrammeValue) (options : OptionsValue) (t
           subst (IsDueWithin programme u options f row column) (kept_too f low high row column)
           (due_too f row column (kept keeps options.page (on_air_until t f) row column)
           (enough.codes f row column low high named));
-      whole = λ at_once f low high. whole_too f low high (enough.whole at_once f low high);
+      whole = λ at_once f low high. correct_too f low high (enough.whole at_once f low high);
     }
 
     -- Pages stay complete.
@@ -229,7 +234,7 @@ module _ (keeps : Bool) (programme : ProgrammeValue) (options : OptionsValue) (t
       after,
       before,
       record {
-        whole = whole_too f (le_trans low after) (le_trans before high) finished.whole;
+        whole = correct_too f (le_trans low after) (le_trans before high) finished.whole;
         ended = λ asks.
             sym (open_too f (le_trans low after) (le_trans before high)) ∙ finished.ended asks;
       },

@@ -9,80 +9,88 @@ use Rattle.std.proofs.lemmas.Bool.{true≢false}
 use Rattle.std.proofs.lemmas.Option.{none-some}
 use Rattle.ttx_page.specs.PacketKind.{kind}
 use Rattle.ttx_page.specs.Span.{holds_beginning}
-use Rattle.sub_rules.specs.Events.{events_at_end, first_header_events, latest, standing_at}
+use Rattle.sub_rules.specs.Events.{events_at_end, first_header_events, latest, active_faults_at}
 use Rattle.sub_rules.specs.FrameRules.{Criteria, end_frame, frame_at, packets_of_frame}
-use Rattle.sub_rules.specs.PieceEvents.{steps_at_end, steps_of_ending}
+use Rattle.sub_rules.specs.PesPacketEvents.{steps_at_end, steps_of_ending}
 use Rattle.sub_rules.specs.Transmission.{Transmission}
-use Rattle.sub_rules.specs.Trusted.CheckStep.{Ends, Says}
+use Rattle.sub_rules.specs.Trusted.CheckStep.{Ends, Emits}
 use Rattle.sub_rules.specs.declared.event.Event.{Event}
-use Rattle.sub_trusted.proofs.TrustedKeptLemmas.{Closed, IsAbove, IsWhole, Opens, Quiet, may_before}
-use Rattle.sub_trusted.proofs.TrustedKeptLemmas.{opens_said, run_more, run_new, run_low, run_found}
-use Rattle.sub_trusted.proofs.TrustedKeptLemmas.{run_rises, up_of, whole_some}
-use Rattle.sub_trusted.proofs.LateDoubtLemmas.{before_low, header_none, header_own, seen_low}
-use Rattle.sub_trusted.proofs.LateDoubtLemmas.{seen_since}
+use Rattle.sub_trusted.proofs.TrustedKeptLemmas.{Closed, IsAbove, IsCorrectFrom, Opens, FaultFree}
+use Rattle.sub_trusted.proofs.TrustedKeptLemmas.{may_before}
+use Rattle.sub_trusted.proofs.TrustedKeptLemmas.{opens_emitted, run_more, run_new, run_low}
+use Rattle.sub_trusted.proofs.TrustedKeptLemmas.{run_found}
+use Rattle.sub_trusted.proofs.TrustedKeptLemmas.{run_rises, up_of, correct_some}
+use Rattle.sub_trusted.proofs.LateInvalidationLemmas.{before_low, header_none, header_own, seen_low}
+use Rattle.sub_trusted.proofs.LateInvalidationLemmas.{seen_unfinished}
 use Rattle.sub_laws.proofs.PrefixLemmas.{before, rises_to}
 use Rattle.sub_laws.proofs.RisingEndLemmas.{latest_at}
-use Rattle.sub_trusted.proofs.SaidStepLemmas.{Goes-append, Goes-cons, Goes-nil, Goes-says}
+use Rattle.sub_trusted.proofs.EmittedStepLemmas.{Goes-append, Goes-cons, Goes-nil, Goes-emits}
 use Rattle.sub_trusted.proofs.TrustedRunLemmas.{Run}
 use Rattle.sub_trusted.proofs.TrustedLookLemmas.{HasEnd}
-use Rattle.sub_trusted.proofs.TrustedStepLemmas.{Passes, Tells, end_tells}
+use Rattle.sub_trusted.proofs.TrustedStepLemmas.{Passes, Reports, end_reports}
 use Rattle.sub_trusted.proofs.TrustedStepLemmas.{keeps_end}
-use Rattle.sub_trusted.proofs.SaidStepLemmas.{rose}
-use Rattle.sub_rules.specs.Trusted.{CheckStep, back_of, last_begun, late_of, run_of, since_of}
-use Rattle.sub_rules.specs.Trusted.{stands_none, stays_quiet, tells_fall, told_at, whole_at}
-use Rattle.sub_rules.specs.Trusted.{whole_of}
+use Rattle.sub_trusted.proofs.EmittedStepLemmas.{rose}
+use Rattle.sub_rules.specs.Trusted.{CheckStep, back_of, last_begun, late_of, run_of}
+use Rattle.sub_rules.specs.Trusted.{first_unfinished_of}
+use Rattle.sub_rules.specs.Trusted.{has_no_active_faults, stays_fault_free, reports_order_fault}
+use Rattle.sub_rules.specs.Trusted.{reported_at, correct_at}
+use Rattle.sub_rules.specs.Trusted.{first_correct_of}
 
 -- The page was right within the run that is left at the end of a frame.
-whole_ended : (run whole since : Option ℕ) (f w : ℕ)
-    → option_or (if is_none run then None else whole) (whole_at f since) ≡ Some w
-    → ((since ≡ None) × (f ≡ w)) ⊎ ((whole ≡ Some w) × (is_some run ≡ true))
-whole_ended run whole since f w e = grind (arith, nat_tests)
+correct_ended : (run whole first_unfinished : Option ℕ) (f w : ℕ)
+    → option_or (if is_none run then None else whole) (correct_at f first_unfinished) ≡ Some w
+    → ((first_unfinished ≡ None) × (f ≡ w)) ⊎ ((whole ≡ Some w) × (is_some run ≡ true))
+correct_ended run whole first_unfinished f w e = grind (arith, nat_tests)
 
 module _ (g : Criteria) (frames : Transmission) (base : ℕ) where
   -- All packets of frame n were sent, and its end was checked.
   record Ending (n : ℕ) (t : List CheckStep) : Type 0 where
     opens : Opens g frames base n (packets_of_frame frames n) t
-    since_is : since_of t ≡ seen_since g frames (suc n) (frame_at frames n)
-    since : rose t ≡ true → (r : ℕ) → since_of t ≡ Some r → r ≤ frame_at frames n
+    first_unfinished_is : first_unfinished_of t ≡ seen_unfinished g frames (suc n)
+        (frame_at frames n)
+    first_unfinished : rose t ≡ true → (r : ℕ) → first_unfinished_of t ≡ Some r → r ≤ frame_at
+        frames n
 
   -- It has a header, and no fault is active at its end.
   abbrev has : ℕ → Bool
   has n = holds_beginning g.watched.keeps (kind g.watched.page) (packets_of_frame frames n)
 
-  abbrev quiet : ℕ → Bool
-  quiet n = stands_none (standing_at g frames (suc n) (frame_at frames n))
+  abbrev fault_free : ℕ → Bool
+  fault_free n = has_no_active_faults (active_faults_at g frames (suc n) (frame_at frames n))
 
   -- It ends.
   abbrev step : ℕ → CheckStep
-  step n = Ends (frame_at frames n) (has n) (quiet n)
+  step n = Ends (frame_at frames n) (has n) (fault_free n)
 
   ended : (n : ℕ) (t : List CheckStep) → n < length frames → Ending n t
       → Closed g frames base (suc n) (step n ∷ t)
-  unfolding run_of whole_of last_begun since_of late_of back_of stays_quiet tells_fall
+  unfolding run_of first_correct_of last_begun first_unfinished_of late_of back_of stays_fault_free
+      reports_order_fault
   ended n t there ending = record {
     keeps = record {
       run = run_then;
       ends = λ from is m e end few low high. (run_then from is).ends m e end few low high;
-      whole = whole_then;
+      whole = correct_then;
       above = above_then;
-      falls = λ e. falls_then e (stays_quiet t) refl;
+      falls = λ e. falls_then e (stays_fault_free t) refl;
       at_once = λ e.
           let none = ending.opens.keeps.at_once e in
           record {
-            since = none.since;
+            first_unfinished = none.first_unfinished;
             late = none.late;
             whole = λ there.
-                whole_some (if is_none (run_of t) then None else whole_of t) (since_of t)
-                (frame_at frames n) none.since;
+                correct_some (if is_none (run_of t) then None else first_correct_of t)
+                (first_unfinished_of t)
+                (frame_at frames n) none.first_unfinished;
           };
       plain = ending.opens.keeps.plain;
     };
     floor = ending.opens.floor;
     last = λ some. ending.opens.last ∙ ap (frame_at frames) (omega arith);
     rises = ending.opens.rises;
-    since = λ r from is e.
+    first_unfinished = λ r from is e.
         let (clean, none, was) = kept from is in
-        let low = ending.since (ending.opens.clean clean).0 r e in
+        let low = ending.first_unfinished (ending.opens.clean clean).0 r e in
         let back : frame_at frames n ≡ frame_at frames (suc n - 1) =
         ap (frame_at frames) (omega arith) in
         omega arith;
@@ -94,14 +102,15 @@ module _ (g : Criteria) (frames : Transmission) (base : ℕ) where
   }
     where
       kept : (from : ℕ) → run_of (step n ∷ t) ≡ Some from
-          → (stays_quiet t ≡ true) × (quiet n ≡ true)
+          → (stays_fault_free t ≡ true) × (fault_free n ≡ true)
           × ((run_of t ≡ Some from)
           ⊎ ((run_of t ≡ None) × (has n ≡ true) × (frame_at frames n ≡ from)))
       kept from is =
-          run_found (stays_quiet t) (quiet n) (run_of t) (has n) (frame_at frames n) from is
+          run_found (stays_fault_free t) (fault_free n) (run_of t) (has n) (frame_at frames n) from
+          is
 
-      quiet_is : stays_quiet t ≡ true → quiet n ≡ true → Quiet g frames n
-      quiet_is clean none =
+      fault_free_is : stays_fault_free t ≡ true → fault_free n ≡ true → FaultFree g frames n
+      fault_free_is clean none =
           let both = ending.opens.clean clean in
           record { rises = ending.opens.rises both.0; kept = both.1; none = none }
 
@@ -110,28 +119,31 @@ module _ (g : Criteria) (frames : Transmission) (base : ℕ) where
           let (clean, none, was) = kept from is in
           elim was [
             | inl before ↦
-                run_more g frames n from (quiet_is clean none) (ending.opens.keeps.run from before)
+                run_more g frames n from (fault_free_is clean none) (ending.opens.keeps.run from
+                before)
                 (ending.opens.keeps.ends from before)
             | inr (gone, header, here) ↦
-                subst (Run g frames (suc n)) here (run_new g frames n (quiet_is clean none) header)
+                subst (Run g frames (suc n)) here (run_new g frames n (fault_free_is clean none)
+                header)
           ]
 
-      whole_then : (from w : ℕ) → run_of (step n ∷ t) ≡ Some from
-          → whole_of (step n ∷ t) ≡ Some w
-          → IsWhole g frames from w
-      whole_then from w is whole =
+      correct_then : (from w : ℕ) → run_of (step n ∷ t) ≡ Some from
+          → first_correct_of (step n ∷ t) ≡ Some w
+          → IsCorrectFrom g frames from w
+      correct_then from w is whole =
           let (clean, none, was) = kept from is in
           let low = run_low g frames (suc n) from (run_then from is) in
           let back : frame_at frames (suc n - 1) ≡ frame_at frames n =
           ap (frame_at frames) (omega arith) in
-          elim (whole_ended (run_of t) (whole_of t) (since_of t) (frame_at frames n) w whole) [
-            | inl (since, here) ↦
-                subst (IsWhole g frames from) here (record {
+          elim (correct_ended (run_of t) (first_correct_of t) (first_unfinished_of t)
+          (frame_at frames n) w whole) [
+            | inl (first_unfinished, here) ↦
+                subst (IsCorrectFrom g frames from) here (record {
                   low = omega arith;
                   n = suc n;
                   end = (omega arith, omega arith, inl (sym back));
                   rises = ending.opens.rises (ending.opens.clean clean).0;
-                  finished = sym ending.since_is ∙ since;
+                  finished = sym ending.first_unfinished_is ∙ first_unfinished;
                 })
             | inr (earlier, some_run) ↦ elim was [
               | inl before ↦ ending.opens.keeps.whole from w before earlier
@@ -151,24 +163,26 @@ module _ (g : Criteria) (frames : Transmission) (base : ℕ) where
             | inr (gone, header, here) ↦ omega arith
           ]
 
-      falls_then : rose t ≡ false → (clean : Bool) → stays_quiet t ≡ clean
-          → (if clean && quiet n then option_or (run_of t) (if has n then Some (frame_at frames n)
+      falls_then : rose t ≡ false → (clean : Bool) → stays_fault_free t ≡ clean
+          → (if clean && fault_free n then option_or (run_of t)
+          (if has n then Some (frame_at frames n)
           else None) else None) ≡ None
       falls_then falls false is = refl
       falls_then falls true is = absurd (true≢false (sym (ending.opens.clean is).0 ∙ falls))
 
   pub ending : (n : ℕ) (t : List CheckStep) → n < length frames
       → Opens g frames base n (packets_of_frame frames n) t
-      → Tells g frames base (Closed g frames base (suc n)) t (steps_of_ending g frames n)
-  unfolding told_at
+      → Reports g frames base (Closed g frames base (suc n)) t (steps_of_ending g frames n)
+  unfolding reported_at
   ending n t there opens =
       let f : ℕ = frame_at frames n in
       let packets : List (List ℕ) = packets_of_frame frames n in
       let last : CheckStep = step n in
       Goes-append (Passes g frames base) (Ending n) (Closed g frames base (suc n)) t
-      (map Says (first_header_events g frames n) ++ steps_at_end g frames n (suc n) f) (last ∷ [])
+      (map Emits (first_header_events g frames n) ++ steps_at_end g frames n (suc n) f) (last ∷ [])
       (Goes-append (Passes g frames base) (Opens g frames base n packets) (Ending n) t
-      (map Says (first_header_events g frames n)) (steps_at_end g frames n (suc n) f) (header opens)
+      (map Emits (first_header_events g frames n)) (steps_at_end g frames n (suc n) f)
+      (header opens)
       (λ u so. at_its_end u so))
       (λ v so.
       Goes-cons (Passes g frames base) (Closed g frames base (suc n)) v last [] refl
@@ -176,17 +190,18 @@ module _ (g : Criteria) (frames : Transmission) (base : ℕ) where
       (ended n v there so)))
     where
       header : Opens g frames base n (packets_of_frame frames n) t
-          → Tells g frames base (Opens g frames base n (packets_of_frame frames n)) t
-          (map Says (first_header_events g frames n))
+          → Reports g frames base (Opens g frames base n (packets_of_frame frames n)) t
+          (map Emits (first_header_events g frames n))
       header opens =
           let es : List Event = first_header_events g frames n in
           let none = header_none t g frames n in
-          Goes-says (Passes g frames base) (Opens g frames base n (packets_of_frame frames n)) t es
+          Goes-emits (Passes g frames base) (Opens g frames base n (packets_of_frame frames n)) t es
           (header_own (Passes g frames base) g frames n)
-          (λ x from w doubt run whole l. absurd (none-some x (sym none ∙ doubt)))
-          (λ u said.
-          opens_said g frames base n (packets_of_frame frames n) (packets_of_frame frames n) t u es
-          opens said (λ quiet kept. kept))
+          (λ x from w invalidation run whole l. absurd (none-some x (sym none ∙ invalidation)))
+          (λ u emitted.
+          opens_emitted g frames base n (packets_of_frame frames n) (packets_of_frame frames n) t u
+          es
+          opens emitted (λ fault_free kept. kept))
 
       top : (u : List CheckStep) → Opens g frames base n (packets_of_frame frames n) u → rose u
           ≡ true
@@ -208,7 +223,7 @@ module _ (g : Criteria) (frames : Transmission) (base : ℕ) where
           omega arith
 
       at_its_end : (u : List CheckStep) → Opens g frames base n (packets_of_frame frames n) u
-          → Tells g frames base (Ending n) u (steps_at_end g frames n (suc n) (frame_at frames n))
+          → Reports g frames base (Ending n) u (steps_at_end g frames n (suc n) (frame_at frames n))
       at_its_end u so =
           let f : ℕ = frame_at frames n in
           let es : List Event = events_at_end g frames n (suc n) f in
@@ -220,12 +235,12 @@ module _ (g : Criteria) (frames : Transmission) (base : ℕ) where
           let back : frame_at frames n ≡ frame_at frames (suc n - 1) =
           ap (frame_at frames) (omega arith) in
           (omega arith, (omega arith, omega arith, inl back), h.rises)) in
-          end_tells g frames base n (suc n) f u (Ending n)
+          end_reports g frames base n (suc n) f u (Ending n)
           (λ from is. top u so (run_rises (rose u) (run_of u) from so.keeps.falls is)) so.keeps low
           (λ from is. may_before g frames base n (packets_of_frame frames n) u there so from is
           (end_frame frames))
           (λ from is some. below u so (run_rises (rose u) (run_of u) from so.keeps.falls is) some)
-          (λ now v looks backs said.
+          (λ now v looks backs emitted.
           let so_now : Opens g frames base n (packets_of_frame frames n) now =
           record {
             keeps = keeps_end g frames base n f (suc n) f u now looks so.keeps low;
@@ -242,13 +257,15 @@ module _ (g : Criteria) (frames : Transmission) (base : ℕ) where
           } in
           record {
             opens =
-                opens_said g frames base n (packets_of_frame frames n) (packets_of_frame frames n)
-                now v es so_now said (λ quiet kept. kept);
-            since_is = said.since_is ∙ looks.since_is;
-            since = λ rises r is.
-                let rises_is = said.rises_is in
+                opens_emitted g frames base n (packets_of_frame frames n) (packets_of_frame frames
+                n)
+                now v es so_now emitted (λ fault_free kept. kept);
+            first_unfinished_is = emitted.first_unfinished_is ∙ looks.first_unfinished_is;
+            first_unfinished = λ rises r is.
+                let rises_is = emitted.rises_is in
                 let looked = looks.rises_is in
                 let was : rose u ≡ true = grind (arith, nat_tests) in
-                seen_low g frames (suc n) f r (sym looks.since_is ∙ sym said.since_is ∙ is)
+                seen_low g frames (suc n) f r
+                (sym looks.first_unfinished_is ∙ sym emitted.first_unfinished_is ∙ is)
                 (top u so was);
           })

@@ -6,23 +6,25 @@ use Rattle.std.proofs.lemmas.Bool.{cases_lt}
 use Rattle.std.proofs.lemmas.List.{take-append-drop}
 use Rattle.stl_rows.specs.Programme.{ProgrammeValue}
 use Rattle.sub_plan.specs.Options.{OptionsValue}
-use Rattle.sub_rules.specs.Events.{standing_at, undecided_within, unfinished_since}
+use Rattle.sub_rules.specs.Events.{active_faults_at, undecided_within, unfinished_since}
 use Rattle.sub_rules.specs.FrameRules.{Criteria, Unread}
 use Rattle.sub_rules.specs.Repeats.{SomeFinishedBy}
 use Rattle.sub_rules.specs.Transmission.{Transmission}
 use Rattle.sub_rules.proofs.PrefixEventLemmas.{unfinished_since-prefix}
 use Rattle.sub_laws.specs.CleanStretch.{IsEnd, criteria_unsure}
 use Rattle.sub_trusted.specs.TrustedFrames.{rising_part}
-use Rattle.sub_trusted.proofs.TrustedKeptLemmas.{MayStand}
-use Rattle.sub_laws.proofs.FinishedLemmas.{finished_of, since_no}
+use Rattle.sub_trusted.proofs.TrustedKeptLemmas.{MayStayCorrect}
+use Rattle.sub_laws.proofs.FinishedLemmas.{finished_of, first_unfinished_no}
 use Rattle.sub_laws.proofs.PrefixLemmas.{RiseTo, frame_at-take, take_rises}
-use Rattle.sub_laws.proofs.StandingLemmas.{known_at}
+use Rattle.sub_laws.proofs.ActiveFaultsLemmas.{known_at}
 use Rattle.sub_trusted.proofs.TrustedFrameLemmas.{count_most, part_last}
-use Rattle.sub_trusted.proofs.TrustedFrameLemmas.{part_length, part_rises, risen, risen_low, untold}
+use Rattle.sub_trusted.proofs.TrustedFrameLemmas.{part_length, part_rises, risen, risen_low}
+use Rattle.sub_trusted.proofs.TrustedFrameLemmas.{unreported}
 
 module _ (programme : ProgrammeValue) (options : OptionsValue) (unread : Option Unread)
     (any_refused : Bool) (undecided : ℕ → Bool) (frames : Transmission) (from to : ℕ)
-    (may : MayStand (criteria_unsure programme options unread any_refused undecided) frames from to)
+    (may : MayStayCorrect (criteria_unsure programme options unread any_refused undecided) frames
+    from to)
   where
     abbrev g : Criteria
     g = criteria_unsure programme options unread any_refused undecided
@@ -54,7 +56,7 @@ module _ (programme : ProgrammeValue) (options : OptionsValue) (unread : Option 
                 inl
                 (own ∙ sym (frame_at-take frames (risen frames) (may.whole.n - 1) (omega arith)))
             | inr (there, later, earlier) ↦
-                let stretch = (untold g frames from to may.stays).stretch in
+                let stretch = (unreported g frames from to may.stays).stretch in
                 let last = part_last frames (omega arith) in
                 let high = may.high in
                 let top = stretch.to in
@@ -75,8 +77,9 @@ module _ (programme : ProgrammeValue) (options : OptionsValue) (unread : Option 
           ],
         )
 
-    since_none : (g.within == 0) ≡ false → unfinished_since g part may.whole.n may.w ≡ None
-    since_none some =
+    first_unfinished_none : (g.within == 0) ≡ false → unfinished_since g part may.whole.n may.w ≡
+        None
+    first_unfinished_none some =
         let seen = may.whole.finished in
         sym
         (unfinished_since-prefix g g.unread part (drop (risen frames) frames) may.whole.n may.w
@@ -87,9 +90,10 @@ module _ (programme : ProgrammeValue) (options : OptionsValue) (unread : Option 
 
     -- The due page is known there.
     known : undecided_within g part may.w ≡ false
-    unfolding standing_at
+    unfolding active_faults_at
     known =
-        (untold g frames from to may.stays).undecided may.whole.n may.w end_in_part may.whole.low
+        (unreported g frames from to may.stays).undecided may.whole.n may.w end_in_part
+        may.whole.low
         may.high
 
     pub finished_there : (g.within == 0) ≡ false
@@ -101,7 +105,8 @@ module _ (programme : ProgrammeValue) (options : OptionsValue) (unread : Option 
       finished_of programme options unread any_refused undecided part up may.whole.n may.w
           end_in_part
           (known_at g part may.whole.n may.w known)
-          (since_no programme options unread any_refused undecided part up may.whole.n may.w
+          (first_unfinished_no programme options unread any_refused undecided part up may.whole.n
+          may.w
           end_in_part
-          (since_none some)),
+          (first_unfinished_none some)),
     )

@@ -1,5 +1,5 @@
 -- For `law_of_trusted` and `law_of_trusted_repeats`. In the rising part there is no report of
--- trusted frames that a receiver depends on, `untold`; the page is open at none of their ends,
+-- trusted frames that a receiver depends on, `unreported`; the page is open at none of their ends,
 -- `closed`; and the first one has a header that begins the text, `header_there`.
 use Rattle.std.proofs.lemmas.Bool.Decides.{nat_tests}
 use Rattle.std.specs.Bool.{Decides}
@@ -9,21 +9,21 @@ use Rattle.std.proofs.lemmas.Bool.{cases_lt}
 use Rattle.std.proofs.lemmas.List.{length-take-le, take-append-drop, take-take}
 use Rattle.ttx_page.specs.PacketKind.{begins_text, kind}
 use Rattle.ttx_page.specs.Span.{holds_beginning}
-use Rattle.sub_rules.specs.Events.{standing_at}
+use Rattle.sub_rules.specs.Events.{active_faults_at}
 use Rattle.sub_rules.specs.FrameRules.{Criteria, frame_at, packets_of_frame}
 use Rattle.sub_rules.specs.PacketTests.{breaks}
 use Rattle.sub_rules.specs.Transmission.{Transmission, last_frame, packets_of}
 use Rattle.sub_rules.specs.declared.packet_rule.PacketRule.{PacketRule}
-use Rattle.sub_rules.proofs.EndRuleLemmas.{stands_nothing}
-use Rattle.sub_rules.proofs.PrefixEventLemmas.{standing_at-prefix}
-use Rattle.sub_laws.specs.CleanStretch.{AtEnds, IsEnd, IsStretch, IsUntold, is_needed}
+use Rattle.sub_rules.proofs.EndRuleLemmas.{no_active_faults_is}
+use Rattle.sub_rules.proofs.PrefixEventLemmas.{active_faults_at-prefix}
+use Rattle.sub_laws.specs.CleanStretch.{AtEnds, IsEnd, IsStretch, IsUnreported, is_needed}
 use Rattle.sub_trusted.specs.TrustedFrames.{rises_at, rising_count, rising_part}
 use Rattle.sub_laws.proofs.GoodLemmas.{any_passes}
 use Rattle.sub_laws.proofs.PrefixLemmas.{RiseTo, before, first-same, frame_at-take, packet_at}
 use Rattle.sub_laws.proofs.PrefixLemmas.{packets-take, rises_to, take_last, take_rising}
 use Rattle.sub_trusted.proofs.TrustedRunLemmas.{StaysTo}
-use Rattle.sub_rules.specs.Trusted.{stands_none}
-use Rattle.sub_rules.specs.declared.standing.Standing.{Standing}
+use Rattle.sub_rules.specs.Trusted.{has_no_active_faults}
+use Rattle.sub_rules.specs.declared.active_faults.ActiveFaults.{ActiveFaults}
 
 -- ---- the rising part
 
@@ -89,14 +89,16 @@ pub part_last : (frames : Transmission) → 0 < risen frames
 part_last frames some = take_last frames (risen frames) (risen_low frames) some
 
 -- The active faults at an end depend only on the frames so far.
-pub standing-take : (g : Criteria) (frames : Transmission) (m n f : ℕ) → 0 < m → m ≤ length frames
+pub active_faults-take : (g : Criteria) (frames : Transmission) (m n f : ℕ) → 0 < m → m ≤ length
+    frames
     → n ≤ m
-    → standing_at g (take m frames) n f ≡ standing_at g frames n f
-standing-take g frames m n f some fits l =
+    → active_faults_at g (take m frames) n f ≡ active_faults_at g frames n f
+active_faults-take g frames m n f some fits l =
     let size = length-take-le m frames fits in
     sym
-    (standing_at-prefix g g.unread (take m frames) (drop m frames) n f (omega arith) (omega arith))
-    ∙ ap (λ fs. standing_at g fs n f) (take-append-drop m frames)
+    (active_faults_at-prefix g g.unread (take m frames) (drop m frames) n f (omega arith)
+    (omega arith))
+    ∙ ap (λ fs. active_faults_at g fs n f) (take-append-drop m frames)
 
 module _ (g : Criteria) (frames : Transmission) (from to : ℕ)
     (stays : StaysTo g frames from to) where
@@ -128,12 +130,12 @@ module _ (g : Criteria) (frames : Transmission) (from to : ℕ)
   end_few n f (some_n, below, place) high =
       grind (arith, nat_tests, cases_lt, part_length, frame_at-take, later)
 
-  pub stands_quiet : (n f : ℕ) → IsEnd part n f → from ≤ f → f ≤ to
-      → stands_none (standing_at g part n f) ≡ true
-  stands_quiet n f at low high =
+  pub remains_fault_free : (n f : ℕ) → IsEnd part n f → from ≤ f → f ≤ to
+      → has_no_active_faults (active_faults_at g part n f) ≡ true
+  remains_fault_free n f at low high =
       let few = end_few n f at high in
-      ap stands_none
-      (standing-take g frames m n f some (risen_low frames) (let l = n_low in omega arith))
+      ap has_no_active_faults
+      (active_faults-take g frames m n f some (risen_low frames) (let l = n_low in omega arith))
       ∙ stays.ends n f (end_whole n f at) few low (omega arith)
 
   -- It ends in this part.
@@ -159,36 +161,40 @@ module _ (g : Criteria) (frames : Transmission) (from to : ℕ)
         last_low,
       )
 
-  packets_quiet : (r : PacketRule) (i k : ℕ)
+  packets_fault_free : (r : PacketRule) (i k : ℕ)
       → is_needed r ≡ true
       → i < m
       → k < length (packets_of_frame frames i)
       → from ≤ frame_at frames i
       → frame_at frames i ≤ to
       → breaks r g.watched (before frames i k) (packet_at frames i k) ≡ false
-  packets_quiet r i k needed l below low high =
+  packets_fault_free r i k needed l below low high =
       grind (arith, nat_tests, cases_lt, later, order, j_low, part_rises)
 
   -- There is no report of trusted frames that a receiver depends on.
-  pub untold : IsUntold g part from to
-  untold = record {
+  pub unreported : IsUnreported g part from to
+  unreported = record {
     stretch = stretch;
     rising = take_rising frames m (risen_low frames) (part_rises frames);
     packets = λ r needed i k l below low high.
         let all = part_length frames in
-        grind (arith, nat_tests, packets-take, frame_at-take, take-take, packets_quiet);
+        grind (arith, nat_tests, packets-take, frame_at-take, take-take, packets_fault_free);
     content = λ n f at low high.
-        ap (λ (s : Standing). s.content) (stands_nothing _ (stands_quiet n f at low high));
+        ap (λ (s : ActiveFaults). s.content)
+        (no_active_faults_is _ (remains_fault_free n f at low high));
     gap = λ n f at low high.
-        ap (λ (s : Standing). s.gap) (stands_nothing _ (stands_quiet n f at low high));
+        ap (λ (s : ActiveFaults). s.gap)
+        (no_active_faults_is _ (remains_fault_free n f at low high));
     undecided = λ n f at low high.
-        ap (λ (s : Standing). s.undecided) (stands_nothing _ (stands_quiet n f at low high));
+        ap (λ (s : ActiveFaults). s.undecided)
+        (no_active_faults_is _ (remains_fault_free n f at low high));
   }
 
   -- The page is open at none of their ends.
-  pub closed : AtEnds (λ n f. IsFalse (standing_at g part n f).incomplete) part from to
+  pub closed : AtEnds (λ n f. IsFalse (active_faults_at g part n f).incomplete) part from to
   closed n f at low high =
-      ap (λ (s : Standing). s.incomplete) (stands_nothing _ (stands_quiet n f at low high))
+      ap (λ (s : ActiveFaults). s.incomplete)
+      (no_active_faults_is _ (remains_fault_free n f at low high))
 
   pub header_there :
       holds_beginning g.watched.keeps (kind g.watched.page) (packets_of part from) ≡ true

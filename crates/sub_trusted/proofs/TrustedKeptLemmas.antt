@@ -10,7 +10,7 @@ use Rattle.std.proofs.lemmas.Bool.{cases_lt}
 use Rattle.std.specs.Option.{option_or}
 use Rattle.ttx_page.specs.PacketKind.{kind}
 use Rattle.ttx_page.specs.Span.{holds_beginning}
-use Rattle.sub_rules.specs.Events.{gap_length, latest, standing_at, standing_before}
+use Rattle.sub_rules.specs.Events.{gap_length, latest, active_faults_at, active_faults_before}
 use Rattle.sub_rules.specs.FrameRules.{Criteria, end_frame, frame_at, packets_before}
 use Rattle.sub_rules.specs.FrameRules.{packets_of_frame}
 use Rattle.sub_rules.specs.PacketTests.{breaks}
@@ -18,16 +18,19 @@ use Rattle.sub_rules.specs.Transmission.{Transmission}
 use Rattle.sub_rules.specs.Trusted.CheckStep.{AtPes}
 use Rattle.sub_rules.specs.declared.event.Event.{Event}
 use Rattle.sub_rules.specs.declared.packet_rule.PacketRule.{PacketRule}
-use Rattle.sub_rules.proofs.EndLemmas.{gap_length-is, standing_before_is}
+use Rattle.sub_rules.proofs.EndLemmas.{gap_length-is, active_faults_before_is}
 use Rattle.sub_laws.specs.CleanStretch.{IsEnd, is_needed}
-use Rattle.sub_trusted.proofs.LateDoubtLemmas.{KeepsAll, seen_since}
+use Rattle.sub_trusted.proofs.LateInvalidationLemmas.{KeepsAll, seen_unfinished}
 use Rattle.sub_laws.proofs.PrefixLemmas.{RiseTo, before, packet_at, rises_to}
 use Rattle.sub_laws.proofs.RisingEndLemmas.{latest_at}
-use Rattle.sub_trusted.proofs.SaidStepLemmas.{IsSaid, doubt_of, kept_some, orders_doubted, rose}
-use Rattle.sub_trusted.proofs.TrustedRunLemmas.{EndsQuiet, Run, Stays, StaysTo}
-use Rattle.sub_rules.specs.PieceEvents.{goes_back}
-use Rattle.sub_rules.specs.Trusted.{CheckStep, back_of, last_begun, late_of, run_of, since_of}
-use Rattle.sub_rules.specs.Trusted.{stands_none, stays_quiet, tells_fall, whole_at, whole_of}
+use Rattle.sub_trusted.proofs.EmittedStepLemmas.{AreEmitted, invalidation_of, kept_some}
+use Rattle.sub_trusted.proofs.EmittedStepLemmas.{orders_invalidated, rose}
+use Rattle.sub_trusted.proofs.TrustedRunLemmas.{EndsFaultFree, Run, Stays, StaysTo}
+use Rattle.sub_rules.specs.PesPacketEvents.{goes_back}
+use Rattle.sub_rules.specs.Trusted.{CheckStep, back_of, last_begun, late_of, run_of}
+use Rattle.sub_rules.specs.Trusted.{first_unfinished_of}
+use Rattle.sub_rules.specs.Trusted.{has_no_active_faults, stays_fault_free, reports_order_fault}
+use Rattle.sub_rules.specs.Trusted.{correct_at, first_correct_of}
 
 -- ---- tests
 
@@ -44,43 +47,43 @@ pub run_found : (clean none : Bool) (run : Option ℕ) (has : Bool) (f from : �
 run_found clean none run has f from e = grind (arith, nat_tests)
 
 -- The first frame of the run at whose end the page was right is an earlier one, or this one.
-pub whole_found : (whole since : Option ℕ) (f w : ℕ)
-    → option_or whole (whole_at f since) ≡ Some w
-    → (whole ≡ Some w) ⊎ ((since ≡ None) × (f ≡ w))
-whole_found whole since f w e = grind (arith, nat_tests)
+pub correct_found : (whole first_unfinished : Option ℕ) (f w : ℕ)
+    → option_or whole (correct_at f first_unfinished) ≡ Some w
+    → (whole ≡ Some w) ⊎ ((first_unfinished ≡ None) × (f ≡ w))
+correct_found whole first_unfinished f w e = grind (arith, nat_tests)
 
 -- ---- if `within` is 0
 
 -- No end is checked for lateness: the page is never wrong since a frame, and it was right in any
 -- run.
 pub record SeesNone (t : List CheckStep) : Type 0 where
-  pub since : since_of t ≡ None
+  pub first_unfinished : first_unfinished_of t ≡ None
   pub late : late_of t ≡ None
-  pub whole : is_some (run_of t) ≡ true → is_some (whole_of t) ≡ true
+  pub whole : is_some (run_of t) ≡ true → is_some (first_correct_of t) ≡ true
 
 -- It was right in a run that continues or begins.
-pub whole_some : (whole since : Option ℕ) (f : ℕ) → since ≡ None
-    → is_some (option_or whole (whole_at f since)) ≡ true
-whole_some whole since f none = grind (arith, nat_tests)
+pub correct_some : (whole first_unfinished : Option ℕ) (f : ℕ) → first_unfinished ≡ None
+    → is_some (option_or whole (correct_at f first_unfinished)) ≡ true
+correct_some whole first_unfinished f none = grind (arith, nat_tests)
 
 module _ (g : Criteria) (frames : Transmission) where
   -- ---- frames that may stay
 
   -- If `within` is not 0, the page was right at the end of frame w, which is not before the first
   -- one of the run.
-  pub record IsWhole (from w : ℕ) : Type 0 where
+  pub record IsCorrectFrom (from w : ℕ) : Type 0 where
     pub low : from ≤ w
     pub n : ℕ
     pub end : IsEnd frames n w
     pub rises : RiseTo frames n
-    pub finished : seen_since g frames n w ≡ None
+    pub finished : seen_unfinished g frames n w ≡ None
 
   -- The frames from one to another may stay, and at the end of one of them the page was right.
-  pub record MayStand (from to : ℕ) : Type 0 where
+  pub record MayStayCorrect (from to : ℕ) : Type 0 where
     pub stays : StaysTo g frames from to
     pub w : ℕ
     pub high : w ≤ to
-    pub whole : IsWhole from w
+    pub whole : IsCorrectFrom from w
 
   -- A frame is after all of the first `base` frames of the list.
   abbrev pub IsAbove : ℕ → ℕ → Type 0
@@ -88,8 +91,8 @@ module _ (g : Criteria) (frames : Transmission) where
 
   -- The frames from one to another may stay; they are after the first `base` frames of the list,
   -- and if all frames rise they are before frame `late`.
-  pub record MayPass (base late from to : ℕ) : Type 0 where
-    pub stands : MayStand from to
+  pub record MayStayBetween (base late from to : ℕ) : Type 0 where
+    pub stands : MayStayCorrect from to
     pub above : IsAbove base from
     pub early : RiseTo frames (length frames) → to < late
 
@@ -125,10 +128,11 @@ module _ (g : Criteria) (frames : Transmission) where
   -- ---- frames that rise
 
   -- No frame is in doubt if the run is kept.
-  pub calm : (t u : List CheckStep) (es : List Event) → IsSaid t u es → (from : ℕ) → run_of u
+  pub calm : (t u : List CheckStep) (es : List Event) → AreEmitted t u es → (from : ℕ) → run_of u
       ≡ Some from
-      → doubt_of t es ≡ None
-  calm t u es said from is = (kept_some (run_of t) (doubt_of t es) from (sym said.run_is ∙ is)).1
+      → invalidation_of t es ≡ None
+  calm t u es emitted from
+      is = (kept_some (run_of t) (invalidation_of t es) from (sym emitted.run_is ∙ is)).1
 
   -- An end up to which there are at most n frames is before frame n.
   pub end_under : (n : ℕ) → RiseTo frames (suc n) → (m f : ℕ) → IsEnd frames m f → m ≤ n
@@ -177,20 +181,21 @@ module _ (g : Criteria) (frames : Transmission) where
 
   -- Frame n can be one of a run: frames rise up to it, its packets keep the rules, and no fault is
   -- active at its end.
-  pub record Quiet (n : ℕ) : Type 0 where
+  pub record FaultFree (n : ℕ) : Type 0 where
     pub rises : RiseTo frames (suc n)
     pub kept : KeepsAll g.watched (packets_before frames n) (packets_of_frame frames n)
-    pub none : stands_none (standing_at g frames (suc n) (frame_at frames n)) ≡ true
+    pub none : has_no_active_faults (active_faults_at g frames (suc n) (frame_at frames n)) ≡ true
 
-  quiet_packets : (n i : ℕ) → Quiet n → n ≡ i → (r : PacketRule) (k : ℕ) → is_needed r ≡ true
+  fault_free_packets : (n i : ℕ) → FaultFree n → n ≡ i → (r : PacketRule) (k : ℕ) → is_needed r ≡
+      true
       → k < length (packets_of_frame frames i)
       → breaks r g.watched (before frames i k) (packet_at frames i k) ≡ false
-  quiet_packets n i quiet same r k needed l = grind (arith, nat_tests)
+  fault_free_packets n i fault_free same r k needed l = grind (arith, nat_tests)
 
-  quiet_own : (n m e : ℕ) → Quiet n → suc n ≡ m → IsEnd frames m e
+  fault_free_own : (n m e : ℕ) → FaultFree n → suc n ≡ m → IsEnd frames m e
       → e < frame_at frames (suc n - 1) + 1
-      → stands_none (standing_at g frames m e) ≡ true
-  quiet_own n m e quiet same end high = grind (arith, nat_tests)
+      → has_no_active_faults (active_faults_at g frames m e) ≡ true
+  fault_free_own n m e fault_free same end high = grind (arith, nat_tests)
 
   pub run_low : (n from : ℕ) → Run g frames n from → from ≤ frame_at frames (n - 1)
   run_low n from run =
@@ -200,42 +205,43 @@ module _ (g : Criteria) (frames : Transmission) where
       omega arith
 
   -- A run continues with it.
-  pub run_more : (n from : ℕ) → Quiet n → Run g frames n from
-      → EndsQuiet g frames n from (frame_at frames n)
+  pub run_more : (n from : ℕ) → FaultFree n → Run g frames n from
+      → EndsFaultFree g frames n from (frame_at frames n)
       → Run g frames (suc n) from
-  run_more n from quiet run ends = record {
+  run_more n from fault_free run ends = record {
     j = run.j;
     below = let below = run.below in omega arith;
     at = run.at;
     header = run.header;
-    rises = quiet.rises;
+    rises = fault_free.rises;
     packets = λ r i k needed low high l. elim (cases_lt i n) [
       | inl earlier ↦ run.packets r i k needed low earlier l
-      | inr here ↦ quiet_packets n i quiet (omega arith) r k needed l
+      | inr here ↦ fault_free_packets n i fault_free (omega arith) r k needed l
     ];
     ends = λ m e end few low high. elim (cases_lt n m) [
-      | inl all ↦ quiet_own n m e quiet (omega arith) end high
+      | inl all ↦ fault_free_own n m e fault_free (omega arith) end high
       | inr fewer ↦
           ends m e end (omega arith) low
-          (end_under n quiet.rises m e end (omega arith))
+          (end_under n fault_free.rises m e end (omega arith))
     ];
   }
 
   -- Or one begins with it.
-  pub run_new : (n : ℕ) → Quiet n
+  pub run_new : (n : ℕ) → FaultFree n
       → holds_beginning g.watched.keeps (kind g.watched.page) (packets_of_frame frames n) ≡ true
       → Run g frames (suc n) (frame_at frames n)
-  run_new n quiet header = record {
+  run_new n fault_free header = record {
     j = n;
     below = omega arith;
     at = refl;
     header = header;
-    rises = quiet.rises;
-    packets = λ r i k needed low high l. quiet_packets n i quiet (omega arith) r k needed l;
+    rises = fault_free.rises;
+    packets = λ r i k needed low high l. fault_free_packets n i fault_free (omega arith) r k needed
+        l;
     ends = λ m e end few low high. elim (cases_lt n m) [
-      | inl all ↦ quiet_own n m e quiet (omega arith) end high
+      | inl all ↦ fault_free_own n m e fault_free (omega arith) end high
       | inr fewer ↦
-          let early = end_under n quiet.rises m e end (omega arith) in
+          let early = end_under n fault_free.rises m e end (omega arith) in
           absurd (omega arith)
     ];
   }
@@ -247,8 +253,9 @@ module _ (g : Criteria) (frames : Transmission) (base : ℕ) where
   -- of its ends before frame x.
   pub record Keeps (n x : ℕ) (t : List CheckStep) : Type 0 where
     pub run : (from : ℕ) → run_of t ≡ Some from → Run g frames n from
-    pub ends : (from : ℕ) → run_of t ≡ Some from → EndsQuiet g frames n from x
-    pub whole : (from w : ℕ) → run_of t ≡ Some from → whole_of t ≡ Some w → IsWhole g frames from w
+    pub ends : (from : ℕ) → run_of t ≡ Some from → EndsFaultFree g frames n from x
+    pub whole : (from w : ℕ) → run_of t ≡ Some from → first_correct_of t ≡ Some w → IsCorrectFrom g
+        frames from w
     pub above : (from : ℕ) → run_of t ≡ Some from → IsAbove g frames base from
     pub falls : rose t ≡ false → run_of t ≡ None
     pub at_once : (g.within == 0) ≡ true → SeesNone t
@@ -256,7 +263,7 @@ module _ (g : Criteria) (frames : Transmission) (base : ℕ) where
 
   -- The same up to another frame, if no fault is active at the ends before that.
   pub keeps_to : (n x y : ℕ) (t : List CheckStep) → Keeps n x t
-      → ((from : ℕ) → run_of t ≡ Some from → EndsQuiet g frames n from y)
+      → ((from : ℕ) → run_of t ≡ Some from → EndsFaultFree g frames n from y)
       → Keeps n y t
   keeps_to n x y t keeps ends = grind (arith, nat_tests)
 
@@ -266,9 +273,9 @@ module _ (g : Criteria) (frames : Transmission) (base : ℕ) where
       → late ≤ end_frame frames + 1
       → (from w : ℕ)
       → run_of t ≡ Some from
-      → whole_of t ≡ Some w
+      → first_correct_of t ≡ Some w
       → w < y
-      → MayPass g frames base late from (y - 1)
+      → MayStayBetween g frames base late from (y - 1)
   passes_before late n x y t keeps may after until from w run whole l =
       let at = keeps.whole from w run whole in
       let low = at.low in
@@ -297,39 +304,41 @@ module _ (g : Criteria) (frames : Transmission) (base : ℕ) where
       }
 
   -- It also holds after events.
-  pub keeps_said : (n x : ℕ) (t u : List CheckStep) (es : List Event) → Keeps n x t → IsSaid t u es
+  pub keeps_emitted : (n x : ℕ) (t u : List CheckStep) (es : List Event) → Keeps n x t → AreEmitted
+      t u es
       → Keeps n x u
-  keeps_said n x t u es keeps said = record {
+  keeps_emitted n x t u es keeps emitted = record {
     run = λ from is. keeps.run from (was from is);
     ends = λ from is. keeps.ends from (was from is);
-    whole = λ from w is whole. keeps.whole from w (was from is) (sym said.whole_is ∙ whole);
+    whole = λ from w is whole. keeps.whole from w (was from is) (sym emitted.first_correct_is ∙
+        whole);
     above = λ from is. keeps.above from (was from is);
     falls = falls;
     at_once = λ e.
         let none = keeps.at_once e in
         record {
-          since = said.since_is ∙ none.since;
-          late = said.late_is ∙ none.late;
+          first_unfinished = emitted.first_unfinished_is ∙ none.first_unfinished;
+          late = emitted.late_is ∙ none.late;
           whole = λ there. still_some (none.whole (was_some there));
         };
-    plain = λ e. said.back_is ∙ keeps.plain e;
+    plain = λ e. emitted.back_is ∙ keeps.plain e;
   }
     where
       was_some : is_some (run_of u) ≡ true → is_some (run_of t) ≡ true
-      was_some there = let run_is = said.run_is in grind (arith, nat_tests)
+      was_some there = let run_is = emitted.run_is in grind (arith, nat_tests)
 
-      still_some : is_some (whole_of t) ≡ true → is_some (whole_of u) ≡ true
-      still_some whole = let whole_is = said.whole_is in grind (arith, nat_tests)
+      still_some : is_some (first_correct_of t) ≡ true → is_some (first_correct_of u) ≡ true
+      still_some whole = let first_correct_is = emitted.first_correct_is in grind (arith, nat_tests)
 
       was : (from : ℕ) → run_of u ≡ Some from → run_of t ≡ Some from
-      was from is = (kept_some (run_of t) (doubt_of t es) from (sym said.run_is ∙ is)).0
+      was from is = (kept_some (run_of t) (invalidation_of t es) from (sym emitted.run_is ∙ is)).0
 
       falls : rose u ≡ false → run_of u ≡ None
       falls e =
-          let run_is = said.run_is in
-          let rises_is = said.rises_is in
+          let run_is = emitted.run_is in
+          let rises_is = emitted.rises_is in
           let before = keeps.falls in
-          let orders = orders_doubted t es in
+          let orders = orders_invalidated t es in
           grind (arith, nat_tests)
 
   -- ---- before a frame
@@ -359,18 +368,19 @@ module _ (g : Criteria) (frames : Transmission) (base : ℕ) where
       record { some = some; last = last; rises = rises; up = up; long = omega arith }
 
   -- No fault is active at the end before one of these, or before the frame's own.
-  pub stood : (n f from : ℕ) (t : List CheckStep) → n < length frames → Keeps n f t
+  pub no_faults_before : (n f from : ℕ) (t : List CheckStep) → n < length frames → Keeps n f t
       → run_of t ≡ Some from
       → Up g frames n
       → latest frames n < f
       → f ≤ frame_at frames n
-      → stands_none (standing_before g frames n f) ≡ true
-  stood n f from t there keeps is h after high =
+      → has_no_active_faults (active_faults_before g frames n f) ≡ true
+  no_faults_before n f from t there keeps is h after high =
       let some = h.some in
-      rw (standing_before_is g frames n f some) (go (nat_lt (latest frames n + 1) f) refl)
+      rw (active_faults_before_is g frames n f some) (go (nat_lt (latest frames n + 1) f) refl)
     where
       go : (b : Bool) → nat_lt (latest frames n + 1) f ≡ b
-          → stands_none (standing_at g frames n (if b then f - 1 else frame_at frames (n - 1)))
+          → has_no_active_faults
+          (active_faults_at g frames n (if b then f - 1 else frame_at frames (n - 1)))
           ≡ true
       go false e =
           let low = run_low g frames n from (keeps.run from is) in
@@ -396,8 +406,9 @@ module _ (g : Criteria) (frames : Transmission) (base : ℕ) where
     pub floor : base ≤ n
     pub last : 0 < n → last_begun t ≡ frame_at frames (n - 1)
     pub rises : rose t ≡ true → RiseTo frames n
-    pub since :
-        (r from : ℕ) → run_of t ≡ Some from → since_of t ≡ Some r → r ≤ frame_at frames (n - 1)
+    pub first_unfinished :
+        (r from : ℕ) → run_of t ≡ Some from → first_unfinished_of t ≡ Some r → r ≤ frame_at frames
+        (n - 1)
     pub back :
         rose t ≡ true
         → (r : ℕ)
@@ -411,30 +422,33 @@ module _ (g : Criteria) (frames : Transmission) (base : ℕ) where
     pub last : last_begun t ≡ frame_at frames n
     pub rises : rose t ≡ true → RiseTo frames (suc n)
     pub clean :
-        (stays_quiet t) ≡ true
+        (stays_fault_free t) ≡ true
         → (rose t ≡ true) × KeepsAll g.watched (packets_before frames n) packets
-    pub fresh : stays_quiet t ≡ true → base ≤ n
+    pub fresh : stays_fault_free t ≡ true → base ≤ n
     pub back : rose t ≡ true → (r : ℕ) → back_of t ≡ Some r → r ≤ frame_at frames n
 
   -- The number of the PES packet does not matter.
   pub closed_at : (n pes : ℕ) (t : List CheckStep) → Closed n t → Closed n (AtPes pes ∷ t)
-  unfolding run_of whole_of last_begun since_of late_of back_of stays_quiet tells_fall
+  unfolding run_of first_correct_of last_begun first_unfinished_of late_of back_of stays_fault_free
+      reports_order_fault
   closed_at n pes t closed = grind (arith, nat_tests)
 
   -- If the frames have risen so far, they had before these events.
-  pub rose_before : (t u : List CheckStep) (es : List Event) → IsSaid t u es → rose u ≡ true
+  pub rose_before : (t u : List CheckStep) (es : List Event) → AreEmitted t u es → rose u ≡ true
       → rose t ≡ true
-  rose_before t u es said e = let rises_is = said.rises_is in grind (arith, nat_tests)
+  rose_before t u es emitted e = let rises_is = emitted.rises_is in grind (arith, nat_tests)
 
   -- Nor do events before the first frame.
-  pub closed_said : (n : ℕ) (t u : List CheckStep) (es : List Event) → Closed n t → IsSaid t u es
+  pub closed_emitted : (n : ℕ) (t u : List CheckStep) (es : List Event) → Closed n t → AreEmitted t
+      u es
       → Closed n u
-  closed_said n t u es closed said =
-      grind (arith, nat_tests, keeps_said, rose, kept_some, doubt_of, rose_before)
+  closed_emitted n t u es closed emitted =
+      grind (arith, nat_tests, keeps_emitted, rose, kept_some, invalidation_of, rose_before)
 
   pub opens_at : (n pes : ℕ) (packets : List (List ℕ)) (t : List CheckStep) → Opens n packets t
       → Opens n packets (AtPes pes ∷ t)
-  unfolding run_of whole_of last_begun since_of late_of back_of stays_quiet tells_fall
+  unfolding run_of first_correct_of last_begun first_unfinished_of late_of back_of stays_fault_free
+      reports_order_fault
   opens_at n pes packets t opens = grind (arith, nat_tests)
 
   -- ---- while a frame is being sent
@@ -448,12 +462,22 @@ module _ (g : Criteria) (frames : Transmission) (base : ℕ) where
   may_before n packets t there opens from is late y high = grind (arith, nat_tests)
 
   -- The state after events that cast doubt only on this frame.
-  pub opens_said : (n : ℕ) (packets more : List (List ℕ)) (t u : List CheckStep) (es : List Event)
+  pub opens_emitted : (n : ℕ) (packets more : List (List ℕ)) (t u : List CheckStep)
+      (es : List Event)
       → Opens n packets t
-      → IsSaid t u es
-      → (doubt_of t es ≡ None
+      → AreEmitted t u es
+      → (invalidation_of t es ≡ None
       → KeepsAll g.watched (packets_before frames n) packets
       → KeepsAll g.watched (packets_before frames n) more)
       → Opens n more u
-  opens_said n packets more t u es opens said still =
-      grind (arith, nat_tests, keeps_said, rose, doubt_of, before, orders_doubted, rose_before)
+  opens_emitted n packets more t u es opens emitted still =
+      grind (
+        arith,
+        nat_tests,
+        keeps_emitted,
+        rose,
+        invalidation_of,
+        before,
+        orders_invalidated,
+        rose_before,
+      )

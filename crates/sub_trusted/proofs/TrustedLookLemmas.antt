@@ -8,18 +8,20 @@ use Rattle.std.proofs.Common.{is_some}
 use Rattle.std.proofs.lemmas.Option.{none-some}
 use Rattle.std.specs.Option.{option_or}
 use Rattle.sub_rules.specs.Events.{events_at_end, is_late}
-use Rattle.sub_rules.specs.Events.{since_before}
+use Rattle.sub_rules.specs.Events.{first_unfinished_before}
 use Rattle.sub_rules.specs.FrameRules.{Criteria}
-use Rattle.sub_rules.specs.PieceEvents.{goes_back, steps_at_end}
+use Rattle.sub_rules.specs.PesPacketEvents.{goes_back, steps_at_end}
 use Rattle.sub_rules.specs.Transmission.{Transmission}
-use Rattle.sub_rules.specs.Trusted.CheckStep.{Says}
+use Rattle.sub_rules.specs.Trusted.CheckStep.{Emits}
 use Rattle.sub_laws.specs.CleanStretch.{IsEnd}
 use Rattle.sub_trusted.proofs.TrustedKeptLemmas.{SeesNone}
-use Rattle.sub_trusted.proofs.LateDoubtLemmas.{seen_since}
+use Rattle.sub_trusted.proofs.LateInvalidationLemmas.{seen_unfinished}
 use Rattle.sub_laws.proofs.PrefixLemmas.{RiseTo}
-use Rattle.sub_trusted.proofs.SaidStepLemmas.{rose}
-use Rattle.sub_rules.specs.Trusted.{CheckStep, back_of, last_begun, late_of, run_of, since_of}
-use Rattle.sub_rules.specs.Trusted.{stays_quiet, tells_fall, told_at, whole_at, whole_of}
+use Rattle.sub_trusted.proofs.EmittedStepLemmas.{rose}
+use Rattle.sub_rules.specs.Trusted.{CheckStep, back_of, last_begun, late_of, run_of}
+use Rattle.sub_rules.specs.Trusted.{first_unfinished_of}
+use Rattle.sub_rules.specs.Trusted.{stays_fault_free, reports_order_fault, reported_at, correct_at}
+use Rattle.sub_rules.specs.Trusted.{first_correct_of}
 
 -- ---- the step of an end
 
@@ -27,21 +29,23 @@ module _ (g : Criteria) (frames : Transmission) where
   -- The end of frame f was checked, with the packets of n frames.
   pub record Looks (n f : ℕ) (t u : List CheckStep) : Type 0 where
     pub run_is : run_of u ≡ run_of t
-    pub whole_is :
+    pub first_correct_is :
         is_some (run_of t) ≡ true
-        → whole_of u ≡ option_or (whole_of t) (whole_at f (seen_since g frames n f))
+        → first_correct_of u ≡ option_or (first_correct_of t)
+        (correct_at f (seen_unfinished g frames n f))
     pub last_is : last_begun u ≡ last_begun t
     pub rises_is : rose u ≡ rose t
-    pub clean_is : stays_quiet u ≡ stays_quiet t
-    pub since_is : since_of u ≡ seen_since g frames n f
+    pub clean_is : stays_fault_free u ≡ stays_fault_free t
+    pub first_unfinished_is : first_unfinished_of u ≡ seen_unfinished g frames n f
     pub late_is :
         late_of u
-        ≡ (if not (g.within == 0) && is_late g frames n f then seen_since g frames n f else None)
+        ≡ (if not (g.within == 0) && is_late g frames n f then seen_unfinished g frames n f
+        else None)
     pub plain : goes_back g ≡ false → back_of u ≡ back_of t
 
   -- The page has been wrong since this frame up to the end before that of frame f, with i frames.
   abbrev pub Backs : ℕ → ℕ → List CheckStep → Type 0
-  Backs i f u = (r : ℕ) → back_of u ≡ Some r → since_before g frames i f ≡ Some r
+  Backs i f u = (r : ℕ) → back_of u ≡ Some r → first_unfinished_before g frames i f ≡ Some r
 
   -- If `within` is not 0 an end has a step of its own; otherwise one would change nothing. So the
   -- reports may be taken as those after the end was checked.
@@ -49,15 +53,16 @@ module _ (g : Criteria) (frames : Transmission) where
       → ((g.within == 0) ≡ true → SeesNone t)
       → (goes_back g ≡ false → back_of t ≡ None)
       → ((v : List CheckStep) (m : CheckStep) (ms : List CheckStep)
-      → told_at v m ≡ []
+      → reported_at v m ≡ []
       → T (m ∷ v) ms
       → T v (m ∷ ms))
       → ((u : List CheckStep)
       → Looks n f t u
       → Backs i f u
-      → T u (map Says (events_at_end g frames i n f)))
+      → T u (map Emits (events_at_end g frames i n f)))
       → T t (steps_at_end g frames i n f)
-  unfolding told_at run_of whole_of last_begun since_of late_of back_of stays_quiet tells_fall
+  unfolding reported_at run_of first_correct_of last_begun first_unfinished_of late_of back_of
+      stays_fault_free reports_order_fault
   with_end T i n f t none plain cons so = grind (arith, nat_tests, none-some)
 
   -- Frame f, not before this one, has an end with m frames, and these rise.

@@ -10,56 +10,57 @@ use Rattle.ttx_page.specs.PacketKind.{kind}
 use Rattle.ttx_page.specs.Span.{holds_beginning}
 use Rattle.stl_rows.specs.Programme.{IsProgramme, ProgrammeValue}
 use Rattle.sub_plan.specs.Options.{OptionsValue}
-use Rattle.sub_rules.specs.Events.{standing_at}
+use Rattle.sub_rules.specs.Events.{active_faults_at}
 use Rattle.sub_rules.specs.FrameRules.{Criteria, Unread, frame_at}
 use Rattle.sub_rules.specs.Good.{HoldsHeader}
-use Rattle.sub_rules.specs.PieceEvents.{all_of_pieces, sent_by_pieces}
-use Rattle.sub_rules.specs.Pieces.{Piece}
+use Rattle.sub_rules.specs.PesPacketEvents.{all_of_pes_packets, sent_by_pes_packets}
+use Rattle.sub_rules.specs.PesPackets.{PesPacket}
 use Rattle.sub_rules.specs.Repeats.{SomeFinishedBy}
 use Rattle.sub_rules.specs.Transmission.{Transmission, first_frame, packets_of}
 use Rattle.sub_rules.specs.declared.event.Event.TheVariants.{Trusted}
-use Rattle.sub_laws.specs.CleanStretch.{IsUntold, NoneOpen, criteria_unsure}
+use Rattle.sub_laws.specs.CleanStretch.{IsUnreported, NoneOpen, criteria_unsure}
 use Rattle.sub_laws.specs.Repeats.{FinishesInTimeBy}
-use Rattle.sub_laws.specs.ToldRepeats.{IsSufficientRepeats}
+use Rattle.sub_laws.specs.ReportedRepeats.{IsSufficientRepeats}
 use Rattle.sub_trusted.specs.TrustedFrames.{IsAsRead, LawOfTrusted, LawOfTrustedKnown, MayStay}
 use Rattle.sub_trusted.specs.TrustedFrames.{rising_part}
 use Rattle.sub_trusted.specs.TrustedRepeats.{LawOfTrustedRepeats, MayStayBy}
 use Rattle.sub_laws.proofs.DelayLemmas.{law_of_repeated_stretch}
 use Rattle.sub_laws.proofs.GoodLemmas.{rises_each}
-use Rattle.sub_laws.proofs.NoneKeepsLemmas.{complete_untold, sufficient_of}
+use Rattle.sub_laws.proofs.NoneKeepsLemmas.{complete_unreported, sufficient_of}
 use Rattle.sub_laws.proofs.PrefixLemmas.{end_at, first-same, last-same}
-use Rattle.sub_laws.proofs.StandingLemmas.{known_back}
+use Rattle.sub_laws.proofs.ActiveFaultsLemmas.{known_back}
 use Rattle.sub_laws.proofs.StretchLemmas.{law_of_stretch}
-use Rattle.sub_laws.proofs.SufficientDelayLemmas.{enough_repeats, finishes_untold}
-use Rattle.sub_trusted.proofs.DoubtLemmas.{OnTrusted}
+use Rattle.sub_laws.proofs.SufficientDelayLemmas.{enough_repeats, finishes_unreported}
+use Rattle.sub_trusted.proofs.InvalidationLemmas.{OnTrusted}
 use Rattle.sub_trusted.proofs.TrustedAsReadLemmas.{beginning_too, complete_too, finishes_too}
 use Rattle.sub_trusted.proofs.TrustedAsReadLemmas.{opens_too, some_too, sufficient_too}
 use Rattle.sub_trusted.proofs.TrustedFinishedLemmas.{finished_there}
-use Rattle.sub_trusted.proofs.TrustedFrameLemmas.{closed, header_there, untold}
-use Rattle.sub_trusted.proofs.TrustedKeptLemmas.{MayStand}
-use Rattle.sub_trusted.proofs.TrustedPassedLemmas.{passed_outside}
-use Rattle.sub_trusted.proofs.TrustedPieceLemmas.{all_stay_within}
+use Rattle.sub_trusted.proofs.TrustedFrameLemmas.{closed, header_there, unreported}
+use Rattle.sub_trusted.proofs.TrustedKeptLemmas.{MayStayCorrect}
+use Rattle.sub_trusted.proofs.TrustedSkippedLemmas.{skipped_outside}
+use Rattle.sub_trusted.proofs.TrustedPesPacketLemmas.{all_stay_within}
 
 module _ (programme : ProgrammeValue) (options : OptionsValue) (unread : Option Unread)
-    (any_refused : Bool) (undecided : ℕ → Bool) (pieces : List Piece) (from to : ℕ)
-    (told :
-    Contains (all_of_pieces (criteria_unsure programme options unread any_refused undecided) pieces)
+    (any_refused : Bool) (undecided : ℕ → Bool) (pes_packets : List PesPacket) (from to : ℕ)
+    (reported :
+    Contains (all_of_pes_packets (criteria_unsure programme options unread any_refused undecided)
+    pes_packets)
     (Trusted from to))
   where
     abbrev g : Criteria
     g = criteria_unsure programme options unread any_refused undecided
 
     abbrev frames : Transmission
-    frames = sent_by_pieces g pieces
+    frames = sent_by_pes_packets g pes_packets
 
     abbrev part : Transmission
     part = rising_part frames
 
-    may : MayStand g frames from to
+    may : MayStayCorrect g frames from to
     may = grind (arith, nat_tests, all_stay_within)
 
-    quiet : IsUntold g part from to
-    quiet = untold g frames from to may.stays
+    fault_free : IsUnreported g part from to
+    fault_free = unreported g frames from to may.stays
 
     closed_there : NoneOpen g part from to
     closed_there = closed g frames from to may.stays
@@ -73,29 +74,30 @@ module _ (programme : ProgrammeValue) (options : OptionsValue) (unread : Option 
       -- The sufficient conditions hold there.
       enough_there : IsSufficientRepeats options.keeps programme on_air options from to
       enough_there =
-          sufficient_too options.keeps programme options part on_air from to quiet.rising
-          quiet.stretch.from is begins
-          (enough_repeats programme options unread any_refused undecided part from to quiet)
+          sufficient_too options.keeps programme options part on_air from to fault_free.rising
+          fault_free.stretch.from is begins
+          (enough_repeats programme options unread any_refused undecided part from to fault_free)
 
       -- The first frame has a header that begins the text.
       begins_there :
           holds_beginning options.keeps (kind options.page) (packets_of on_air from) ≡ true
       begins_there =
-          beginning_too options.keeps programme options part on_air from to quiet.rising
-          quiet.stretch.from is begins quiet.stretch.in_order
+          beginning_too options.keeps programme options part on_air from to fault_free.rising
+          fault_free.stretch.from is begins fault_free.stretch.in_order
 
       opens_there : HoldsHeader options.page on_air from
       opens_there =
-          opens_too options.keeps programme options part on_air from to quiet.rising
-          quiet.stretch.from is begins quiet.stretch.in_order
+          opens_too options.keeps programme options part on_air from to fault_free.rising
+          fault_free.stretch.from is begins fault_free.stretch.in_order
 
       -- Its frames are finished in time.
       finishes_there : IsProgramme programme.drawing programme.records
           → FinishesInTimeBy options.keeps programme on_air options from to
       finishes_there holds =
-          finishes_too options.keeps programme options part on_air from to quiet.rising
-          quiet.stretch.from is begins
-          (finishes_untold programme options unread any_refused undecided part from to quiet
+          finishes_too options.keeps programme options part on_air from to fault_free.rising
+          fault_free.stretch.from is begins
+          (finishes_unreported programme options unread any_refused undecided part from to
+          fault_free
           closed_there
           holds)
 
@@ -104,8 +106,8 @@ module _ (programme : ProgrammeValue) (options : OptionsValue) (unread : Option 
           → SomeFinishedBy options.keeps programme on_air options from to
       some_there within =
           let some : (options.within == 0) ≡ false = grind (arith, nat_tests) in
-          some_too options.keeps programme options part on_air from to quiet.rising
-          quiet.stretch.from is begins from to (le_refl from) (le_refl to)
+          some_too options.keeps programme options part on_air from to fault_free.rising
+          fault_free.stretch.from is begins from to (le_refl from) (le_refl to)
           (finished_there programme options unread any_refused undecided frames from to may some)
 
       may_stay : IsProgramme programme.drawing programme.records
@@ -128,66 +130,75 @@ module _ (programme : ProgrammeValue) (options : OptionsValue) (unread : Option 
             law_of_stretch programme on_air options from to
             (sufficient_of programme on_air options from to none at_once enough_there);
         complete = λ asks.
-            complete_too options.keeps programme options part on_air from to quiet.rising
-            quiet.stretch.from is begins
-            (complete_untold programme part options unread any_refused undecided from to at_once
-            quiet
+            complete_too options.keeps programme options part on_air from to fault_free.rising
+            fault_free.stretch.from is begins
+            (complete_unreported programme part options unread any_refused undecided from to at_once
+            fault_free
             asks closed_there);
       }
 
 pub law_of_trusted_repeats : LawOfTrustedRepeats
-law_of_trusted_repeats programme options unread any_refused undecided pieces from to holds told =
+law_of_trusted_repeats programme options unread any_refused undecided pes_packets from to holds
+    reported =
     record {
-      passed =
-          passed_outside (criteria_unsure programme options unread any_refused undecided) pieces
+      skipped =
+          skipped_outside (criteria_unsure programme options unread any_refused undecided)
+          pes_packets
           from to
-          told;
+          reported;
       stays = λ on_air is.
-          may_stay programme options unread any_refused undecided pieces from to told on_air is
+          may_stay programme options unread any_refused undecided pes_packets from to reported
+          on_air is
           holds;
     }
 
 pub law_of_trusted : LawOfTrusted
-law_of_trusted programme options unread any_refused undecided pieces from to none at_once told =
+law_of_trusted programme options unread any_refused undecided pes_packets from to none at_once
+    reported =
     record {
-      passed =
-          passed_outside (criteria_unsure programme options unread any_refused undecided) pieces
+      skipped =
+          skipped_outside (criteria_unsure programme options unread any_refused undecided)
+          pes_packets
           from to
-          told;
+          reported;
       stays = λ on_air is.
-          may_stay_at_once programme options unread any_refused undecided pieces from to told on_air
+          may_stay_at_once programme options unread any_refused undecided pes_packets from to
+          reported on_air
           is none at_once;
     }
 
 -- In frames without reports the due page is known at each end, and was at the last frames.
-known : (g : Criteria) (part : Transmission) (from to : ℕ) → IsUntold g part from to
+known : (g : Criteria) (part : Transmission) (from to : ℕ) → IsUnreported g part from to
     → (f x : ℕ) → first_frame part ≤ f → x ≤ f + g.within
     → from ≤ x
     → x ≤ to
     → f ≤ x
     → g.undecided f ≡ false
-unfolding standing_at
-known g part from to quiet f x first near low high order =
+unfolding active_faults_at
+known g part from to fault_free f x first near low high order =
     let begins = first-same part in
     let ends = last-same part in
-    let bottom = quiet.stretch.from in
-    let top = quiet.stretch.to in
-    let up = rises_each part quiet.rising in
+    let bottom = fault_free.stretch.from in
+    let top = fault_free.stretch.to in
+    let up = rises_each part fault_free.rising in
     let (n, end, on, l) =
-    end_at part up x quiet.stretch.not_empty (omega arith) (omega arith) in
-    known_back g part n x (frame_at part 0) g.within (quiet.undecided n x end low high) f order near
+    end_at part up x fault_free.stretch.not_empty (omega arith) (omega arith) in
+    known_back g part n x (frame_at part 0) g.within (fault_free.undecided n x end low high) f order
+    near
     (inl (omega arith))
 
 pub law_of_trusted_known : LawOfTrustedKnown
-law_of_trusted_known g pieces from to told f first last near =
-    let frames : Transmission = sent_by_pieces g pieces in
+law_of_trusted_known g pes_packets from to reported f first last near =
+    let frames : Transmission = sent_by_pes_packets g pes_packets in
     let part : Transmission = rising_part frames in
-    let may : MayStand g frames from to =
-    All-contains (OnTrusted (MayStand g frames)) (all_of_pieces g pieces) (Trusted from to)
-    (all_stay_within g frames pieces refl) told in
-    let quiet : IsUntold g part from to = untold g frames from to may.stays in
-    let order = quiet.stretch.in_order in
+    let may : MayStayCorrect g frames from to =
+    All-contains (OnTrusted (MayStayCorrect g frames)) (all_of_pes_packets g pes_packets)
+    (Trusted from to)
+    (all_stay_within g frames pes_packets refl) reported in
+    let fault_free : IsUnreported g part from to = unreported g frames from to may.stays in
+    let order = fault_free.stretch.in_order in
     elim (cases_lt f from) [
-      | inl before ↦ known g part from to quiet f from first near (le_refl from) order (omega arith)
-      | inr inside ↦ known g part from to quiet f f first (omega arith) inside last (le_refl f)
+      | inl before ↦ known g part from to fault_free f from first near (le_refl from) order
+          (omega arith)
+      | inr inside ↦ known g part from to fault_free f f first (omega arith) inside last (le_refl f)
     ]

@@ -1,31 +1,31 @@
 -- For `law_of_trusted` and `law_of_trusted_repeats`. The properties of a run of clean frames,
 -- `Run`, and its frames that may stay, `Stays`.
 use Rattle.std.proofs.Common.{◌≡◌, ℕ, ◌+◌, ◌-◌, ◌<◌, ◌≤◌, ◌⊎◌, true, false, length}
-use Rattle.sub_rules.specs.Events.{standing_at}
+use Rattle.sub_rules.specs.Events.{active_faults_at}
 use Rattle.sub_rules.specs.FrameRules.{Criteria, end_frame, frame_at, packets_of_frame}
 use Rattle.sub_rules.specs.PacketTests.{breaks}
 use Rattle.sub_rules.specs.Transmission.{Transmission}
 use Rattle.sub_rules.specs.declared.packet_rule.PacketRule.{PacketRule}
 use Rattle.sub_laws.specs.CleanStretch.{IsEnd, is_needed}
 use Rattle.sub_laws.proofs.PrefixLemmas.{RiseTo, before, packet_at}
-use Rattle.sub_rules.specs.Trusted.{stands_none}
+use Rattle.sub_rules.specs.Trusted.{has_no_active_faults}
 use Rattle.sub_trusted.specs.TrustedFrames.{BeginsText}
 
 module _ (g : Criteria) (frames : Transmission) where
   -- No fault is active at any end from one frame up to another, that one excluded, with at most n
   -- frames of the list.
-  abbrev pub EndsQuiet : ℕ → ℕ → ℕ → Type 0
-  EndsQuiet n from x =
+  abbrev pub EndsFaultFree : ℕ → ℕ → ℕ → Type 0
+  EndsFaultFree n from x =
       (m f : ℕ)
       → IsEnd frames m f
       → m ≤ n
       → from ≤ f
       → f < x
-      → stands_none (standing_at g frames m f) ≡ true
+      → has_no_active_faults (active_faults_at g frames m f) ≡ true
 
   -- The frames from j on, of the first n of the list, break no rule that a receiver depends on.
-  abbrev pub PacketsQuiet : ℕ → ℕ → Type 0
-  PacketsQuiet n j =
+  abbrev pub PacketsFaultFree : ℕ → ℕ → Type 0
+  PacketsFaultFree n j =
       (r : PacketRule) (i k : ℕ)
       → is_needed r ≡ true
       → j ≤ i
@@ -41,8 +41,8 @@ module _ (g : Criteria) (frames : Transmission) where
     pub at : frame_at frames j ≡ from
     pub header : BeginsText g frames j
     pub rises : RiseTo frames n
-    pub packets : PacketsQuiet n j
-    pub ends : EndsQuiet n from (frame_at frames (n - 1) + 1)
+    pub packets : PacketsFaultFree n j
+    pub ends : EndsFaultFree n from (frame_at frames (n - 1) + 1)
 
   -- The frames from one up to another, that one excluded, are those of a run.
   pub record Stays (from x : ℕ) : Type 0 where
@@ -50,7 +50,7 @@ module _ (g : Criteria) (frames : Transmission) where
     pub within : n ≤ length frames
     pub run : Run n from
     pub before : from < x
-    pub ends : EndsQuiet n from x
+    pub ends : EndsFaultFree n from x
     pub next :
         n < length frames
         → ((frame_at frames (n - 1) < frame_at frames n) × (x ≤ frame_at frames n))

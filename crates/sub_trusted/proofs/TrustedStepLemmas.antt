@@ -1,6 +1,6 @@
 -- For `law_of_trusted` and `law_of_trusted_repeats`. The steps of a frame, whose trusted frames
 -- have the property: before its packets, `arrival`, for its packets, `more_sent`, for a skipped PES
--- packet, `passed`, and at an end, `end_tells`.
+-- packet, `skipped`, and at an end, `end_reports`.
 use Rattle.std.proofs.lemmas.Bool.Decides.{nat_tests}
 use Rattle.std.proofs.Common.{◌≡◌, ℕ, zero, suc, ◌+◌, ◌-◌, ◌<◌, ◌≤◌, inl, inr, true, false, not}
 use Rattle.std.proofs.Common.{◌==◌, ◌&&◌, Bool, None, if◌then◌else◌, List, [], ◌∷◌, ◌++◌}
@@ -11,36 +11,45 @@ use Rattle.std.proofs.lemmas.List.Elements.{All-cons, All-nil}
 use Rattle.std.proofs.lemmas.Option.{same_Some}
 use Rattle.std.specs.List.{list_any}
 use Rattle.sub_rules.specs.Events.{end_before, events_at_end, gap_length, is_late, latest}
-use Rattle.sub_rules.specs.Events.{order_events, packets_told, standing_at, standing_before}
-use Rattle.sub_rules.specs.Events.{since_before, unread_fault}
+use Rattle.sub_rules.specs.Events.{order_events, packets_reported, active_faults_at}
+use Rattle.sub_rules.specs.Events.{active_faults_before}
+use Rattle.sub_rules.specs.Events.{first_unfinished_before, unread_fault}
 use Rattle.sub_rules.specs.FrameRules.{Criteria, Unread, end_frame, frame_at, packets_before}
-use Rattle.sub_rules.specs.PieceEvents.{goes_back, steps_at_end, steps_before, steps_of_arrival}
-use Rattle.sub_rules.specs.PieceEvents.{steps_of_gap}
+use Rattle.sub_rules.specs.PesPacketEvents.{goes_back, steps_at_end, steps_before, steps_of_arrival}
+use Rattle.sub_rules.specs.PesPacketEvents.{steps_of_gap}
 use Rattle.sub_rules.specs.Transmission.{Transmission}
-use Rattle.sub_rules.specs.Trusted.CheckStep.{Begins, GoesBack, Says}
+use Rattle.sub_rules.specs.Trusted.CheckStep.{Begins, GoesBack, Emits}
 use Rattle.sub_rules.specs.declared.event.Event.{Event}
-use Rattle.sub_rules.specs.declared.event.Event.TheVariants.{Told}
-use Rattle.sub_trusted.proofs.TrustedKeptLemmas.{Arrives, Closed, IsWhole, Keeps, MayEnd, MayPass}
+use Rattle.sub_rules.specs.declared.event.Event.TheVariants.{Reported}
+use Rattle.sub_trusted.proofs.TrustedKeptLemmas.{Arrives, Closed, IsCorrectFrom, Keeps, MayEnd}
+use Rattle.sub_trusted.proofs.TrustedKeptLemmas.{MayStayBetween}
 use Rattle.sub_trusted.proofs.TrustedKeptLemmas.{Opens}
-use Rattle.sub_trusted.proofs.TrustedKeptLemmas.{closed_said, Up, calm, end_few}
-use Rattle.sub_trusted.proofs.TrustedKeptLemmas.{may_before, opens_said, gap_end, keeps_said}
+use Rattle.sub_trusted.proofs.TrustedKeptLemmas.{closed_emitted, Up, calm, end_few}
+use Rattle.sub_trusted.proofs.TrustedKeptLemmas.{may_before, opens_emitted, gap_end, keeps_emitted}
 use Rattle.sub_trusted.proofs.TrustedKeptLemmas.{keeps_to}
-use Rattle.sub_trusted.proofs.TrustedKeptLemmas.{passes_before, run_low, stood, up_of, whole_found}
-use Rattle.sub_trusted.proofs.TrustedKeptLemmas.{rose_before, run_rises, whole_some}
-use Rattle.sub_trusted.proofs.DoubtLemmas.{OnTrusted}
-use Rattle.sub_trusted.proofs.LateDoubtLemmas.{end_doubt, end_own, keeps_joined, late_low, order_at}
-use Rattle.sub_trusted.proofs.LateDoubtLemmas.{order_own, order_rises, packets_doubt, packets_own}
-use Rattle.sub_trusted.proofs.LateDoubtLemmas.{before_low, passed_at, seen_low, seen_since}
+use Rattle.sub_trusted.proofs.TrustedKeptLemmas.{passes_before, run_low, no_faults_before, up_of}
+use Rattle.sub_trusted.proofs.TrustedKeptLemmas.{correct_found}
+use Rattle.sub_trusted.proofs.TrustedKeptLemmas.{rose_before, run_rises, correct_some}
+use Rattle.sub_trusted.proofs.InvalidationLemmas.{OnTrusted}
+use Rattle.sub_trusted.proofs.LateInvalidationLemmas.{end_invalidation, end_own, keeps_joined}
+use Rattle.sub_trusted.proofs.LateInvalidationLemmas.{late_low, order_at}
+use Rattle.sub_trusted.proofs.LateInvalidationLemmas.{order_own, order_rises, packets_invalidation}
+use Rattle.sub_trusted.proofs.LateInvalidationLemmas.{packets_own}
+use Rattle.sub_trusted.proofs.LateInvalidationLemmas.{before_low, skipped_at, seen_low}
+use Rattle.sub_trusted.proofs.LateInvalidationLemmas.{seen_unfinished}
 use Rattle.sub_laws.proofs.PrefixLemmas.{RiseTo, before}
 use Rattle.sub_laws.proofs.RisingEndLemmas.{latest_at}
-use Rattle.sub_trusted.proofs.SaidStepLemmas.{Goes, Goes-append, Goes-cons, Goes-nil, Goes-says}
-use Rattle.sub_trusted.proofs.SaidStepLemmas.{IsSaid, back_low, back_to, doubt_of, is_order}
-use Rattle.sub_trusted.proofs.SaidStepLemmas.{kept_some, rose}
+use Rattle.sub_trusted.proofs.EmittedStepLemmas.{Goes, Goes-append, Goes-cons, Goes-nil, Goes-emits}
+use Rattle.sub_trusted.proofs.EmittedStepLemmas.{AreEmitted, back_low, back_to, invalidation_of}
+use Rattle.sub_trusted.proofs.EmittedStepLemmas.{is_order}
+use Rattle.sub_trusted.proofs.EmittedStepLemmas.{kept_some, rose}
 use Rattle.sub_trusted.proofs.TrustedLookLemmas.{Backs, HasEnd, Looks, with_end}
-use Rattle.sub_trusted.proofs.TrustedRunLemmas.{EndsQuiet}
+use Rattle.sub_trusted.proofs.TrustedRunLemmas.{EndsFaultFree}
 use Rattle.sub_rules.proofs.EndLemmas.{gap_length-is}
-use Rattle.sub_rules.specs.Trusted.{CheckStep, back_of, last_begun, late_of, run_of, since_of}
-use Rattle.sub_rules.specs.Trusted.{stands_none, stays_quiet, tells_fall, told_at, whole_of}
+use Rattle.sub_rules.specs.Trusted.{CheckStep, back_of, last_begun, late_of, run_of}
+use Rattle.sub_rules.specs.Trusted.{first_unfinished_of}
+use Rattle.sub_rules.specs.Trusted.{has_no_active_faults, stays_fault_free, reports_order_fault}
+use Rattle.sub_rules.specs.Trusted.{reported_at, first_correct_of}
 
 -- ---- reports
 
@@ -48,16 +57,16 @@ module _ (g : Criteria) (frames : Transmission) (base : ℕ) where
   -- Trusted frames may stay: from frame `base` of the list on and, if all frames rise, before the
   -- last of them.
   abbrev pub Passes : ℕ → ℕ → Type 0
-  Passes = MayPass g frames base (end_frame frames)
+  Passes = MayStayBetween g frames base (end_frame frames)
 
-  abbrev pub Tells : (List CheckStep → Type 0) → List CheckStep → List CheckStep → Type 0
-  Tells S t ms = Goes Passes S t ms
+  abbrev pub Reports : (List CheckStep → Type 0) → List CheckStep → List CheckStep → Type 0
+  Reports S t ms = Goes Passes S t ms
 
   passes : (n x y : ℕ) (t : List CheckStep) → Keeps g frames base n x t
       → MayEnd g frames (end_frame frames) n x y
       → (from w : ℕ)
       → run_of t ≡ Some from
-      → whole_of t ≡ Some w
+      → first_correct_of t ≡ Some w
       → w < y
       → Passes from (y - 1)
   passes n x y t keeps may =
@@ -76,24 +85,24 @@ module _ (g : Criteria) (frames : Transmission) (base : ℕ) where
     ends = λ from is. keeps.ends from (was from is);
     whole = λ from w is whole.
         let run = was from is in
-        elim (whole_found (whole_of t) (seen_since g frames m f) f w
-        (sym (looks.whole_is (ap is_some run)) ∙ whole)) [
+        elim (correct_found (first_correct_of t) (seen_unfinished g frames m f) f w
+        (sym (looks.first_correct_is (ap is_some run)) ∙ whole)) [
           | inl before ↦ keeps.whole from w run before
           | inr (none, here) ↦
               let (l, end, rises) = low from run in
-              subst (IsWhole g frames from) here
+              subst (IsCorrectFrom g frames from) here
               (record { low = l; n = m; end = end; rises = rises; finished = none })
         ];
     above = λ from is. keeps.above from (was from is);
     falls = λ e. looks.run_is ∙ keeps.falls (sym looks.rises_is ∙ e);
     at_once = λ e.
-        let none : seen_since g frames m f ≡ None = rw e refl in
+        let none : seen_unfinished g frames m f ≡ None = rw e refl in
         record {
-          since = looks.since_is ∙ none;
+          first_unfinished = looks.first_unfinished_is ∙ none;
           late = looks.late_is ∙ rw e refl;
           whole = λ there.
-              ap is_some (looks.whole_is (sym (ap is_some looks.run_is) ∙ there))
-              ∙ whole_some (whole_of t) (seen_since g frames m f) f none;
+              ap is_some (looks.first_correct_is (sym (ap is_some looks.run_is) ∙ there))
+              ∙ correct_some (first_correct_of t) (seen_unfinished g frames m f) f none;
         };
     plain = λ e. looks.plain e ∙ keeps.plain e;
   }
@@ -103,7 +112,7 @@ module _ (g : Criteria) (frames : Transmission) (base : ℕ) where
 
   -- The reports at the end of frame f, with n frames before and now m, cast doubt on no later
   -- frame.
-  pub end_tells : (n m f : ℕ) (t : List CheckStep) (S : List CheckStep → Type 0)
+  pub end_reports : (n m f : ℕ) (t : List CheckStep) (S : List CheckStep → Type 0)
       → ((from : ℕ) → run_of t ≡ Some from → latest frames m ≤ f)
       → Keeps g frames base n f t
       → ((from : ℕ) → run_of t ≡ Some from → HasEnd g frames m f from)
@@ -116,58 +125,59 @@ module _ (g : Criteria) (frames : Transmission) (base : ℕ) where
       → ((u v : List CheckStep)
       → Looks g frames m f t u
       → Backs g frames n f u
-      → IsSaid u v (events_at_end g frames n m f)
+      → AreEmitted u v (events_at_end g frames n m f)
       → S v)
-      → Tells S t (steps_at_end g frames n m f)
-  end_tells n m f t S high keeps low may past after =
-      with_end g frames (Tells S) n m f t keeps.at_once keeps.plain (Goes-cons Passes S)
+      → Reports S t (steps_at_end g frames n m f)
+  end_reports n m f t S high keeps low may past after =
+      with_end g frames (Reports S) n m f t keeps.at_once keeps.plain (Goes-cons Passes S)
       (λ u looks backs.
-      Goes-says Passes S u (events_at_end g frames n m f)
-      (end_own Passes (standing_before g frames n f) (end_before frames n f)
-      (standing_at g frames m f) f)
-      (λ x from w doubt run whole l.
+      Goes-emits Passes S u (events_at_end g frames n m f)
+      (end_own Passes (active_faults_before g frames n f) (end_before frames n f)
+      (active_faults_at g frames m f) f)
+      (λ x from w invalidation run whole l.
       let was : run_of t ≡ Some from = sym looks.run_is ∙ run in
       let at : x ≡ unwrap_or (late_of u) f =
-      (end_doubt u (end_before frames n f) f (standing_before g frames n f)
-      (standing_at g frames m f)).at x doubt in
+      (end_invalidation u (end_before frames n f) f (active_faults_before g frames n f)
+      (active_faults_at g frames m f)).at x invalidation in
       let top : unwrap_or (late_of u) f ≤ f =
       rw looks.late_is
-      (late_low (not (g.within == 0) && is_late g frames m f) (seen_since g frames m f) f
-      (λ r since. seen_low g frames m f r since (high from was))) in
+      (late_low (not (g.within == 0) && is_late g frames m f) (seen_unfinished g frames m f) f
+      (λ r first_unfinished. seen_low g frames m f r first_unfinished (high from was))) in
       let back : back_to u x ≤ f =
       back_low u x f (omega arith)
       (λ r is. (before_low g frames n f r (backs r is) (past from was)).1) in
       passes n f (back_to u x) u (keeps_end n f m f t u looks keeps low)
       (may from was (back_to u x) back) from w run whole l)
-      (λ v said. after u v looks backs said))
+      (λ v emitted. after u v looks backs emitted))
 
   -- ---- the ends of frames of the day before a frame
 
   pub gap_step : (n k : ℕ) (t : List CheckStep) → n < length frames → k < gap_length frames n
       → Arrives g frames base n k t
-      → Tells (Arrives g frames base n (suc k)) t
+      → Reports (Arrives g frames base n (suc k)) t
       (steps_at_end g frames n n (latest frames n + suc k))
   gap_step n k t there l arrives =
       let f : ℕ = latest frames n + suc k in
       let keeps = arrives.keeps in
       let es : List Event = events_at_end g frames n n f in
-      end_tells n n f t (Arrives g frames base n (suc k)) (λ from is. omega arith) keeps low may
+      end_reports n n f t (Arrives g frames base n (suc k)) (λ from is. omega arith) keeps low may
       (λ from is some. omega arith)
-      (λ u v looks backs said. record {
+      (λ u v looks backs emitted. record {
         keeps =
             let kept =
-            keeps_said g frames base n f u v es (keeps_end n f n f t u looks keeps low) said in
+            keeps_emitted g frames base n f u v es (keeps_end n f n f t u looks keeps low) emitted
+            in
             keeps_to g frames base n f (latest frames n + suc (suc k)) v kept
-            (λ from is. quiet u v looks said from is (kept.ends from is));
+            (λ from is. fault_free u v looks emitted from is (kept.ends from is));
         floor = arrives.floor;
         rises = λ e.
             let was : rose t ≡ true =
-            let rises_is = said.rises_is in
+            let rises_is = emitted.rises_is in
             let looked = looks.rises_is in
             grind (arith, nat_tests) in
             arrives.rises was;
         back = λ e r is.
-            before_low g frames n f r (backs r (sym said.back_is ∙ is)) (λ some. omega arith);
+            before_low g frames n f r (backs r (sym emitted.back_is ∙ is)) (λ some. omega arith);
       })
     where
       up : (from : ℕ) → run_of t ≡ Some from → Up g frames n
@@ -194,19 +204,19 @@ module _ (g : Criteria) (frames : Transmission) (base : ℕ) where
             last = λ all. absurd (omega arith);
           }
 
-      quiet : (u v : List CheckStep)
+      fault_free : (u v : List CheckStep)
           → Looks g frames n (latest frames n + suc k) t u
-          → IsSaid u v (events_at_end g frames n n (latest frames n + suc k))
+          → AreEmitted u v (events_at_end g frames n n (latest frames n + suc k))
           → (from : ℕ) → run_of v ≡ Some from
-          → EndsQuiet g frames n from (latest frames n + suc k)
-          → EndsQuiet g frames n from (latest frames n + suc (suc k))
-      quiet u v looks said from is ends m e end few after high =
+          → EndsFaultFree g frames n from (latest frames n + suc k)
+          → EndsFaultFree g frames n from (latest frames n + suc (suc k))
+      fault_free u v looks emitted from is ends m e end few after high =
           let f : ℕ = latest frames n + suc k in
-          let none = calm g frames u v (events_at_end g frames n n f) said from is in
+          let none = calm g frames u v (events_at_end g frames n n f) emitted from is in
           let was : run_of t ≡ Some from =
           sym looks.run_is
-          ∙ (kept_some (run_of u) (doubt_of u (events_at_end g frames n n f)) from
-          (sym said.run_is ∙ is)).0 in
+          ∙ (kept_some (run_of u) (invalidation_of u (events_at_end g frames n n f)) from
+          (sym emitted.run_is ∙ is)).0 in
           let h = up from was in
           elim (cases_lt e f) [
             | inl before ↦ ends m e end few after before
@@ -223,17 +233,17 @@ module _ (g : Criteria) (frames : Transmission) (base : ℕ) where
                 ] in
                 let long = h.long in
                 let before =
-                stood g frames base n f from t there arrives.keeps was h (omega arith)
+                no_faults_before g frames base n f from t there arrives.keeps was h (omega arith)
                 (omega arith) in
-                subst (λ (z : ℕ). stands_none (standing_at g frames z e) ≡ true) own
-                (subst (λ (z : ℕ). stands_none (standing_at g frames n z) ≡ true) here
-                ((end_doubt u (end_before frames n f) f (standing_before g frames n f)
-                (standing_at g frames n f)).quiet none before))
+                subst (λ (z : ℕ). has_no_active_faults (active_faults_at g frames z e) ≡ true) own
+                (subst (λ (z : ℕ). has_no_active_faults (active_faults_at g frames n z) ≡ true) here
+                ((end_invalidation u (end_before frames n f) f (active_faults_before g frames n f)
+                (active_faults_at g frames n f)).fault_free none before))
           ]
 
   gaps : (n k : ℕ) (t : List CheckStep) → n < length frames → k ≤ gap_length frames n
       → Arrives g frames base n 0 t
-      → Tells (Arrives g frames base n k) t (steps_of_gap g frames n k)
+      → Reports (Arrives g frames base n k) t (steps_of_gap g frames n k)
   unfolding steps_of_gap
   gaps n zero t there l arrives = Goes-nil Passes (Arrives g frames base n 0) t arrives
   gaps n (suc k) t there l arrives =
@@ -264,21 +274,21 @@ module _ (g : Criteria) (frames : Transmission) (base : ℕ) where
   opens_back n x from packets t opens run low = grind (arith, nat_tests, back_low, run_rises, rose)
 
   pub order_step : (n : ℕ) (t : List CheckStep) → n < length frames → Closed g frames base n t
-      → Tells (Arrives g frames base n 0) t (map Says (order_events g frames n))
+      → Reports (Arrives g frames base n 0) t (map Emits (order_events g frames n))
   order_step n t there closed =
-      Goes-says Passes (Arrives g frames base n 0) t (order_events g frames n)
+      Goes-emits Passes (Arrives g frames base n 0) t (order_events g frames n)
       (order_own Passes g frames n)
-      (λ x from w doubt run whole l.
-      let at : x ≡ last_begun t = order_at t g frames n x doubt in
+      (λ x from w invalidation run whole l.
+      let at : x ≡ last_begun t = order_at t g frames n x invalidation in
       let below = (closed.keeps.run from run).below in
       let last = closed.last (omega arith) in
       passes n (frame_at frames (n - 1) + 1) (back_to t x) t closed.keeps
       (may_ended n (back_to t x) (omega arith)
       (closed_back n x from t closed run (omega arith))) from w run whole l)
-      (λ u said.
+      (λ u emitted.
       let kept =
-      keeps_said g frames base n (frame_at frames (n - 1) + 1) t u (order_events g frames n)
-      closed.keeps said in
+      keeps_emitted g frames base n (frame_at frames (n - 1) + 1) t u (order_events g frames n)
+      closed.keeps emitted in
       record {
         keeps =
             keeps_to g frames base n (frame_at frames (n - 1) + 1) (latest frames n + suc 0) u kept
@@ -288,23 +298,23 @@ module _ (g : Criteria) (frames : Transmission) (base : ℕ) where
             let last = latest_at frames n run.rises (omega arith) in
             kept.ends from is m e end few after (omega arith));
         floor = closed.floor;
-        rises = λ e. up u said e;
-        back = λ e r is. back u said e r is;
+        rises = λ e. up u emitted e;
+        back = λ e r is. back u emitted e r is;
       })
     where
-      back : (u : List CheckStep) → IsSaid t u (order_events g frames n) → rose u ≡ true
+      back : (u : List CheckStep) → AreEmitted t u (order_events g frames n) → rose u ≡ true
           → (r : ℕ) → back_of u ≡ Some r
           → (0 < n) × (r ≤ latest frames n + 0)
-      back u said e r is =
-          let rose_then = rose_before g frames base t u (order_events g frames n) said e in
-          let (some, low) = closed.back rose_then r (sym said.back_is ∙ is) in
+      back u emitted e r is =
+          let rose_then = rose_before g frames base t u (order_events g frames n) emitted e in
+          let (some, low) = closed.back rose_then r (sym emitted.back_is ∙ is) in
           let last = latest_at frames n (closed.rises rose_then) some in
           (some, omega arith)
 
-      up : (u : List CheckStep) → IsSaid t u (order_events g frames n) → rose u ≡ true
+      up : (u : List CheckStep) → AreEmitted t u (order_events g frames n) → rose u ≡ true
           → RiseTo frames (suc n)
-      up u said e i a b =
-          let rises_is = said.rises_is in
+      up u emitted e i a b =
+          let rises_is = emitted.rises_is in
           let was : rose t ≡ true = grind (arith, nat_tests) in
           let none : list_any is_order (order_events g frames n) ≡ false =
           grind (arith, nat_tests) in
@@ -319,7 +329,8 @@ module _ (g : Criteria) (frames : Transmission) (base : ℕ) where
   pub begins : (n : ℕ) (t : List CheckStep) → n < length frames
       → Arrives g frames base n (gap_length frames n) t
       → Opens g frames base n [] (Begins (frame_at frames n) ∷ t)
-  unfolding run_of whole_of last_begun since_of late_of back_of stays_quiet tells_fall
+  unfolding run_of first_correct_of last_begun first_unfinished_of late_of back_of stays_fault_free
+      reports_order_fault
   begins n t there arrives =
       let keeps = arrives.keeps in
       record {
@@ -335,7 +346,11 @@ module _ (g : Criteria) (frames : Transmission) (base : ℕ) where
           falls = keeps.falls;
           at_once = λ e.
               let none = keeps.at_once e in
-              record { since = none.since; late = none.late; whole = none.whole };
+              record {
+                first_unfinished = none.first_unfinished;
+                late = none.late;
+                whole = none.whole;
+              };
           plain = keeps.plain;
         };
         floor = (let low = arrives.floor in omega arith);
@@ -354,103 +369,107 @@ module _ (g : Criteria) (frames : Transmission) (base : ℕ) where
 
   -- Since which frame the page was wrong before it.
   pub begins_back : (n : ℕ) (t : List CheckStep) → Opens g frames base n [] t → goes_back g ≡ true
-      → Opens g frames base n [] (GoesBack (since_before g frames n (frame_at frames n)) ∷ t)
-  unfolding run_of whole_of last_begun since_of late_of back_of stays_quiet tells_fall
+      → Opens g frames base n [] (GoesBack (first_unfinished_before g frames n (frame_at frames n))
+      ∷ t)
+  unfolding run_of first_correct_of last_begun first_unfinished_of late_of back_of stays_fault_free
+      reports_order_fault
   begins_back n t opens back = grind (arith, nat_tests, before_low, latest_at)
 
-  goes_back_tells : (n : ℕ) (t : List CheckStep) (b : Bool) → goes_back g ≡ b
+  goes_back_reports : (n : ℕ) (t : List CheckStep) (b : Bool) → goes_back g ≡ b
       → Opens g frames base n [] t
-      → Tells (Opens g frames base n []) t
-      (if b then GoesBack (since_before g frames n (frame_at frames n)) ∷ [] else [])
-  unfolding told_at
-  goes_back_tells n t false is opens =
+      → Reports (Opens g frames base n []) t
+      (if b then GoesBack (first_unfinished_before g frames n (frame_at frames n)) ∷ [] else [])
+  unfolding reported_at
+  goes_back_reports n t false is opens =
       Goes-nil Passes (Opens g frames base n []) t opens
-  goes_back_tells n t true is opens =
-      let step : CheckStep = GoesBack (since_before g frames n (frame_at frames n)) in
+  goes_back_reports n t true is opens =
+      let step : CheckStep = GoesBack (first_unfinished_before g frames n (frame_at frames n)) in
       Goes-cons Passes (Opens g frames base n []) t step [] refl
       (Goes-nil Passes (Opens g frames base n []) (step ∷ t) (begins_back n t opens is))
 
   pub arrival : (n : ℕ) (t : List CheckStep) → n < length frames → Closed g frames base n t
-      → Tells (Opens g frames base n []) t (steps_of_arrival g frames n)
-  unfolding told_at
+      → Reports (Opens g frames base n []) t (steps_of_arrival g frames n)
+  unfolding reported_at
   arrival n t there closed =
       Goes-append Passes (Arrives g frames base n (gap_length frames n))
       (Opens g frames base n []) t
-      (map Says (order_events g frames n) ++ steps_of_gap g frames n (gap_length frames n))
+      (map Emits (order_events g frames n) ++ steps_of_gap g frames n (gap_length frames n))
       (Begins (frame_at frames n)
-      ∷ steps_before g (since_before g frames n (frame_at frames n)))
+      ∷ steps_before g (first_unfinished_before g frames n (frame_at frames n)))
       (Goes-append Passes (Arrives g frames base n 0)
-      (Arrives g frames base n (gap_length frames n)) t (map Says (order_events g frames n))
+      (Arrives g frames base n (gap_length frames n)) t (map Emits (order_events g frames n))
       (steps_of_gap g frames n (gap_length frames n)) (order_step n t there closed)
       (λ u so. gaps n (gap_length frames n) u there (le_refl (gap_length frames n)) so))
       (λ v here.
       Goes-cons Passes (Opens g frames base n []) v (Begins (frame_at frames n))
-      (steps_before g (since_before g frames n (frame_at frames n))) refl
-      (goes_back_tells n (Begins (frame_at frames n) ∷ v) (goes_back g) refl
+      (steps_before g (first_unfinished_before g frames n (frame_at frames n))) refl
+      (goes_back_reports n (Begins (frame_at frames n) ∷ v) (goes_back g) refl
       (begins n v there here)))
 
   -- ---- while it is being sent
 
   pub more_sent : (n : ℕ) (packets more : List (List ℕ)) (t : List CheckStep) → n < length frames
       → Opens g frames base n packets t
-      → Tells (Opens g frames base n (packets ++ more)) t
-      (map Says
-      (packets_told g.watched (frame_at frames n) (length packets)
+      → Reports (Opens g frames base n (packets ++ more)) t
+      (map Emits
+      (packets_reported g.watched (frame_at frames n) (length packets)
       (packets_before frames n ++ packets) more (length more)))
   more_sent n packets more t there opens =
       let so_far : List (List ℕ) = packets_before frames n ++ packets in
       let es : List Event =
-      packets_told g.watched (frame_at frames n) (length packets) so_far more (length more) in
+      packets_reported g.watched (frame_at frames n) (length packets) so_far more (length more) in
       let finds =
-      packets_doubt t g.watched (frame_at frames n) (length packets) so_far
+      packets_invalidation t g.watched (frame_at frames n) (length packets) so_far
       more in
-      Goes-says Passes (Opens g frames base n (packets ++ more)) t es
+      Goes-emits Passes (Opens g frames base n (packets ++ more)) t es
       (packets_own Passes g.watched (frame_at frames n) (length packets) so_far more
       (length more))
-      (λ x from w doubt run whole l.
-      let at : x ≡ frame_at frames n = finds.at x doubt in
+      (λ x from w invalidation run whole l.
+      let at : x ≡ frame_at frames n = finds.at x invalidation in
       passes n (frame_at frames n) (back_to t x) t opens.keeps
       (may_before g frames base n packets t there opens from run (end_frame frames) (back_to t x)
       (opens_back n x from packets t opens run (omega arith))) from w run whole l)
-      (λ u said.
-      opens_said g frames base n packets (packets ++ more) t u es opens said
+      (λ u emitted.
+      opens_emitted g frames base n packets (packets ++ more) t u es opens emitted
       (λ none kept.
-      keeps_joined g.watched (packets_before frames n) packets more kept (finds.quiet none)))
+      keeps_joined g.watched (packets_before frames n) packets more kept (finds.fault_free none)))
 
   -- A PES packet is skipped before the next frame comes.
-  pub passed_ended : (n pes : ℕ) (u : Unread) (t : List CheckStep) → n ≤ length frames
+  pub skipped_ended : (n pes : ℕ) (u : Unread) (t : List CheckStep) → n ≤ length frames
       → Closed g frames base n t
-      → Tells (Closed g frames base n) t (map Says (Told (unread_fault pes (Some u)) ∷ []))
-  passed_ended n pes u t within closed =
-      let es : List Event = Told (unread_fault pes (Some u)) ∷ [] in
-      Goes-says Passes (Closed g frames base n) t es
-      (All-cons (OnTrusted Passes) (Told (unread_fault pes (Some u))) [] tt
+      → Reports (Closed g frames base n) t (map Emits (Reported (unread_fault pes (Some u)) ∷ []))
+  skipped_ended n pes u t within closed =
+      let es : List Event = Reported (unread_fault pes (Some u)) ∷ [] in
+      Goes-emits Passes (Closed g frames base n) t es
+      (All-cons (OnTrusted Passes) (Reported (unread_fault pes (Some u))) [] tt
       (All-nil (OnTrusted Passes)))
-      (λ x from w doubt run whole l.
-      let is : Some (last_begun t) ≡ Some x = sym (passed_at t pes u) ∙ doubt in
+      (λ x from w invalidation run whole l.
+      let is : Some (last_begun t) ≡ Some x = sym (skipped_at t pes u) ∙ invalidation in
       let same : last_begun t ≡ x = same_Some (last_begun t) x is in
       let below = (closed.keeps.run from run).below in
       let last = closed.last (omega arith) in
       passes n (frame_at frames (n - 1) + 1) (back_to t x) t closed.keeps
       (may_ended n (back_to t x) within (closed_back n x from t closed run (omega arith))) from w
       run whole l)
-      (λ v said. closed_said g frames base n t v es closed said)
+      (λ v emitted. closed_emitted g frames base n t v es closed emitted)
 
   -- Or while it is being sent.
-  pub passed : (n pes : ℕ) (packets : List (List ℕ)) (u : Unread) (t : List CheckStep)
+  pub skipped : (n pes : ℕ) (packets : List (List ℕ)) (u : Unread) (t : List CheckStep)
       → n < length frames
       → Opens g frames base n packets t
-      → Tells (Opens g frames base n packets) t (map Says (Told (unread_fault pes (Some u)) ∷ []))
-  passed n pes packets u t there opens =
-      let es : List Event = Told (unread_fault pes (Some u)) ∷ [] in
-      Goes-says Passes (Opens g frames base n packets) t es
-      (All-cons (OnTrusted Passes) (Told (unread_fault pes (Some u))) [] tt
+      → Reports (Opens g frames base n packets) t
+      (map Emits (Reported (unread_fault pes (Some u)) ∷ []))
+  skipped n pes packets u t there opens =
+      let es : List Event = Reported (unread_fault pes (Some u)) ∷ [] in
+      Goes-emits Passes (Opens g frames base n packets) t es
+      (All-cons (OnTrusted Passes) (Reported (unread_fault pes (Some u))) [] tt
       (All-nil (OnTrusted Passes)))
-      (λ x from w doubt run whole l.
-      let is : Some (last_begun t) ≡ Some x = sym (passed_at t pes u) ∙ doubt in
+      (λ x from w invalidation run whole l.
+      let is : Some (last_begun t) ≡ Some x = sym (skipped_at t pes u) ∙ invalidation in
       let same : last_begun t ≡ x = same_Some (last_begun t) x is in
       let last = opens.last in
       passes n (frame_at frames n) (back_to t x) t opens.keeps
       (may_before g frames base n packets t there opens from run (end_frame frames) (back_to t x)
       (opens_back n x from packets t opens run (omega arith))) from w run whole l)
-      (λ v said. opens_said g frames base n packets packets t v es opens said (λ none kept. kept))
+      (λ v emitted. opens_emitted g frames base n packets packets t v es opens emitted
+      (λ none kept. kept))

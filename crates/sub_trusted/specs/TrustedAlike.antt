@@ -6,8 +6,8 @@ use Rattle.stl_rows.specs.Programme.{ProgrammeValue}
 use Rattle.sub_plan.specs.Options.{OptionsValue}
 use Rattle.sub_rules.specs.Events.{is_unfinished}
 use Rattle.sub_rules.specs.FrameRules.{Criteria, Unread, criteria_of}
-use Rattle.sub_rules.specs.PieceEvents.{all_of_pieces}
-use Rattle.sub_rules.specs.Pieces.{Piece}
+use Rattle.sub_rules.specs.PesPacketEvents.{all_of_pes_packets}
+use Rattle.sub_rules.specs.PesPackets.{PesPacket}
 use Rattle.sub_rules.specs.declared.event.Event.TheVariants.{Trusted}
 use Rattle.sub_laws.specs.CleanStretch.{AtEnds, criteria_unsure}
 use Rattle.sub_trusted.specs.TrustedFrames.{rising_of}
@@ -25,18 +25,19 @@ HasOthers undecided judged (t ∷ all) =
     ⊎ (IsDueAmong undecided t × HasOthers undecided judged all)
 
 -- The page is right at the end of a frame.
-abbrev pub IsWholeAt : Criteria → List Piece → ℕ → Type 0
-IsWholeAt g pieces b =
-    AtEnds (λ n f. IsFalse (is_unfinished g (rising_of g pieces) n f)) (rising_of g pieces) b b
+abbrev pub IsCorrectAt : Criteria → List PesPacket → ℕ → Type 0
+IsCorrectAt g pes_packets b =
+    AtEnds (λ n f. IsFalse (is_unfinished g (rising_of g pes_packets) n f))
+    (rising_of g pes_packets) b b
 
 -- The frames from one to another are reported as trusted, in one event.
-abbrev pub AreTrusted : Criteria → List Piece → ℕ → ℕ → Type 0
-AreTrusted g pieces from to =
+abbrev pub AreTrusted : Criteria → List PesPacket → ℕ → ℕ → Type 0
+AreTrusted g pes_packets from to =
     (first : ℕ)
     × (last : ℕ)
     × (first ≤ from)
     × (to ≤ last)
-    × Contains (all_of_pieces g pieces) (Trusted first last)
+    × Contains (all_of_pes_packets g pes_packets) (Trusted first last)
 
 -- Frames that are reported as trusted although subtitles were refused are also reported, in one
 -- event, for a file with other subtitles in their place, if these are due only at frames whose due
@@ -46,15 +47,17 @@ abbrev pub LawOfTrustedAlike : Type 0
 LawOfTrustedAlike =
     (programme : ProgrammeValue) (options : OptionsValue) (unread : Option Unread)
     → (any_refused : Bool) (undecided : ℕ → Bool) (records : List SubtitleValue)
-    → (pieces : List Piece) (from to b : ℕ)
+    → (pes_packets : List PesPacket) (from to b : ℕ)
     → HasOthers undecided programme.records records
-    → Contains (all_of_pieces (criteria_unsure programme options unread any_refused undecided)
-    pieces)
+    → Contains (all_of_pes_packets (criteria_unsure programme options unread any_refused undecided)
+    pes_packets)
     (Trusted from to)
     → from ≤ b
     → b ≤ to
     → (0 < options.within
-    → IsWholeAt (criteria_unsure programme options unread any_refused undecided) pieces b)
-    → all_of_pieces (criteria_of (record programme { records = records }) options unread) pieces
+    → IsCorrectAt (criteria_unsure programme options unread any_refused undecided) pes_packets b)
+    → all_of_pes_packets (criteria_of (record programme { records = records }) options unread)
+    pes_packets
     ≢ []
-    → AreTrusted (criteria_of (record programme { records = records }) options unread) pieces from b
+    → AreTrusted (criteria_of (record programme { records = records }) options unread) pes_packets
+    from b

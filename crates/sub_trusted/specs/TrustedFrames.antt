@@ -7,17 +7,17 @@ use Rattle.ttx_page.specs.PacketKind.{kind}
 use Rattle.ttx_page.specs.Span.{holds_beginning}
 use Rattle.stl_rows.specs.Programme.{ProgrammeValue}
 use Rattle.sub_plan.specs.Options.{OptionsValue}
-use Rattle.sub_rules.specs.Events.{is_unfinished, standing_at}
+use Rattle.sub_rules.specs.Events.{is_unfinished, active_faults_at}
 use Rattle.sub_rules.specs.FrameRules.{Criteria, Unread, frame_at, packets_of_frame}
 use Rattle.sub_rules.specs.Good.{HoldsHeader}
-use Rattle.sub_rules.specs.PieceEvents.{all_of_pieces, sent_by_pieces}
-use Rattle.sub_rules.specs.Pieces.{Piece}
-use Rattle.sub_rules.specs.Pieces.Piece.{Passed}
+use Rattle.sub_rules.specs.PesPacketEvents.{all_of_pes_packets, sent_by_pes_packets}
+use Rattle.sub_rules.specs.PesPackets.{PesPacket}
+use Rattle.sub_rules.specs.PesPackets.PesPacket.{Skipped}
 use Rattle.sub_rules.specs.Transmission.{IsRising, Transmission, first_frame, last_frame}
 use Rattle.sub_rules.specs.Transmission.{packets_of}
-use Rattle.sub_rules.specs.Trusted.{stands_none}
+use Rattle.sub_rules.specs.Trusted.{has_no_active_faults}
 use Rattle.sub_rules.specs.declared.event.Event.TheVariants.{Trusted}
-use Rattle.sub_laws.specs.CleanStretch.{AtEnds, IsUntold, criteria_unsure}
+use Rattle.sub_laws.specs.CleanStretch.{AtEnds, IsUnreported, criteria_unsure}
 use Rattle.sub_laws.specs.OnScreen.{CompleteWithin}
 use Rattle.sub_laws.specs.Stretch.{MayBeTrusted}
 
@@ -39,8 +39,8 @@ abbrev pub rising_part : Transmission → Transmission
 rising_part frames = take (rising_count frames (length frames)) frames
 
 -- The rising part of the frames of PES packets.
-abbrev pub rising_of : Criteria → List Piece → Transmission
-rising_of g pieces = rising_part (sent_by_pieces g pieces)
+abbrev pub rising_of : Criteria → List PesPacket → Transmission
+rising_of g pes_packets = rising_part (sent_by_pes_packets g pes_packets)
 
 -- A header with which the text of the page begins is among the packets of frame i of the list: any
 -- header of the page, or, if repeats may keep the page, one that erases it.
@@ -62,22 +62,24 @@ pub record IsAsRead (read on_air : Transmission) (from to : ℕ) : Type 0 where
 -- packet before it, between two PES packets of that frame or after its last one. So that frame, if
 -- it is in the rising part, is none of those from one to another. What comes before the next frame
 -- that is read is the past for a receiver that is tuned in there.
-abbrev pub IsPassedOutside : Criteria → List Piece → ℕ → ℕ → Type 0
-IsPassedOutside g pieces from to =
-    (earlier later : List Piece) (u : Unread)
-    → pieces ≡ earlier ++ Passed u ∷ later
-    → 0 < length (sent_by_pieces g earlier)
-    → length (sent_by_pieces g earlier) ≤ length (rising_of g pieces)
-    → (last_frame (sent_by_pieces g earlier) < from) ⊎ (to < last_frame (sent_by_pieces g earlier))
+abbrev pub IsSkippedOutside : Criteria → List PesPacket → ℕ → ℕ → Type 0
+IsSkippedOutside g pes_packets from to =
+    (earlier later : List PesPacket) (u : Unread)
+    → pes_packets ≡ earlier ++ Skipped u ∷ later
+    → 0 < length (sent_by_pes_packets g earlier)
+    → length (sent_by_pes_packets g earlier) ≤ length (rising_of g pes_packets)
+    → (last_frame (sent_by_pes_packets g earlier) < from) ⊎
+    (to < last_frame (sent_by_pes_packets g earlier))
 
 -- The frames from one to another, as read from these PES packets, may stay whatever is on air
 -- before and after them.
 pub record StaysAsRead
-    (g : Criteria) (pieces : List Piece) (from to : ℕ) (Stays : Transmission → Type 0)
+    (g : Criteria) (pes_packets : List PesPacket) (from to : ℕ) (Stays : Transmission → Type 0)
     : Type 0 where
   -- Whatever the skipped PES packets put on air is not in these frames.
-  pub passed : IsPassedOutside g pieces from to
-  pub stays : (on_air : Transmission) → IsAsRead (rising_of g pieces) on_air from to → Stays on_air
+  pub skipped : IsSkippedOutside g pes_packets from to
+  pub stays : (on_air : Transmission) → IsAsRead (rising_of g pes_packets) on_air from to → Stays
+      on_air
 
 -- ---- promises
 
@@ -100,23 +102,24 @@ pub record MayStay
 abbrev pub LawOfTrusted : Type 0
 LawOfTrusted =
     (programme : ProgrammeValue) (options : OptionsValue) (unread : Option Unread)
-    → (any_refused : Bool) (undecided : ℕ → Bool) (pieces : List Piece) (from to : ℕ)
+    → (any_refused : Bool) (undecided : ℕ → Bool) (pes_packets : List PesPacket) (from to : ℕ)
     → IsFalse options.keeps
     → options.within ≡ 0
-    → Contains (all_of_pieces (criteria_unsure programme options unread any_refused undecided)
-    pieces)
+    → Contains (all_of_pes_packets (criteria_unsure programme options unread any_refused undecided)
+    pes_packets)
     (Trusted from to)
-    → StaysAsRead (criteria_unsure programme options unread any_refused undecided) pieces from to
+    → StaysAsRead (criteria_unsure programme options unread any_refused undecided) pes_packets from
+    to
     (λ on_air. MayStay programme on_air options from to)
 
 -- At each of them the due page is known, and it was known at each of the `within` frames before,
 -- from the first frame that was read.
 abbrev pub LawOfTrustedKnown : Type 0
 LawOfTrustedKnown =
-    (g : Criteria) (pieces : List Piece) (from to : ℕ)
-    → Contains (all_of_pieces g pieces) (Trusted from to)
+    (g : Criteria) (pes_packets : List PesPacket) (from to : ℕ)
+    → Contains (all_of_pes_packets g pes_packets) (Trusted from to)
     → (f : ℕ)
-    → first_frame (rising_of g pieces) ≤ f
+    → first_frame (rising_of g pes_packets) ≤ f
     → f ≤ to
     → from ≤ f + g.within
     → IsFalse (g.undecided f)
@@ -128,38 +131,40 @@ LawOfTrustedKnown =
 -- finished; no skipped PES packet may have been sent in it; and it ends before the last of the
 -- rising frames if that one is in doubt, since a frame that is not after it or unreadable bytes
 -- follow.
-pub record CanStay (g : Criteria) (pieces : List Piece) (a b : ℕ) : Type 0 where
-  pub untold : IsUntold g (rising_of g pieces) a b
-  pub quiet :
-      AtEnds (λ n f. IsTrue (stands_none (standing_at g (rising_of g pieces) n f)))
-      (rising_of g pieces) a b
+pub record CanStay (g : Criteria) (pes_packets : List PesPacket) (a b : ℕ) : Type 0 where
+  pub unreported : IsUnreported g (rising_of g pes_packets) a b
+  pub fault_free :
+      AtEnds (λ n f. IsTrue
+      (has_no_active_faults (active_faults_at g (rising_of g pes_packets) n f)))
+      (rising_of g pes_packets) a b
   pub finished :
       0 < g.within
-      → AtEnds (λ n f. IsFalse (is_unfinished g (rising_of g pieces) n f)) (rising_of g pieces) b b
-  pub passed : IsPassedOutside g pieces a b
+      → AtEnds (λ n f. IsFalse (is_unfinished g (rising_of g pes_packets) n f))
+      (rising_of g pes_packets) b b
+  pub skipped : IsSkippedOutside g pes_packets a b
   pub before_fall :
-      length (rising_of g pieces) < length (sent_by_pieces g pieces)
-      → b < last_frame (rising_of g pieces)
-  pub before_unread : (u : Unread) → g.unread ≡ Some u → b < last_frame (rising_of g pieces)
+      length (rising_of g pes_packets) < length (sent_by_pes_packets g pes_packets)
+      → b < last_frame (rising_of g pes_packets)
+  pub before_unread : (u : Unread) → g.unread ≡ Some u → b < last_frame (rising_of g pes_packets)
 
 -- There is any report: of the PES file, or of refused subtitles.
-abbrev pub IsAnythingTold : Criteria → List Piece → Type 0
-IsAnythingTold g pieces = (all_of_pieces g pieces ≢ []) ⊎ IsTrue g.any_refused
+abbrev pub IsAnythingReported : Criteria → List PesPacket → Type 0
+IsAnythingReported g pes_packets = (all_of_pes_packets g pes_packets ≢ []) ⊎ IsTrue g.any_refused
 
 -- If there is any report, the frames of such a stretch are reported as trusted, in one event, from
 -- one that begins the text of the page on. So no frame that may stay is left out, except, if
 -- `within` is not 0, those after the last finished one.
 abbrev pub LawOfAllTrusted : Type 0
 LawOfAllTrusted =
-    (g : Criteria) (pieces : List Piece) (a b i : ℕ)
-    → CanStay g pieces a b
-    → i < length (rising_of g pieces)
-    → a ≤ frame_at (rising_of g pieces) i
-    → frame_at (rising_of g pieces) i ≤ b
-    → BeginsText g (rising_of g pieces) i
-    → IsAnythingTold g pieces
+    (g : Criteria) (pes_packets : List PesPacket) (a b i : ℕ)
+    → CanStay g pes_packets a b
+    → i < length (rising_of g pes_packets)
+    → a ≤ frame_at (rising_of g pes_packets) i
+    → frame_at (rising_of g pes_packets) i ≤ b
+    → BeginsText g (rising_of g pes_packets) i
+    → IsAnythingReported g pes_packets
     → (from : ℕ)
     × (to : ℕ)
-    × (from ≤ frame_at (rising_of g pieces) i)
+    × (from ≤ frame_at (rising_of g pes_packets) i)
     × (b ≤ to)
-    × Contains (all_of_pieces g pieces) (Trusted from to)
+    × Contains (all_of_pes_packets g pes_packets) (Trusted from to)

@@ -6,8 +6,8 @@ use Rattle.ttx_page.specs.Span.{holds_beginning}
 use Rattle.stl_rows.specs.Programme.{IsProgramme, ProgrammeValue}
 use Rattle.sub_plan.specs.Options.{OptionsValue}
 use Rattle.sub_rules.specs.FrameRules.{Unread}
-use Rattle.sub_rules.specs.PieceEvents.{all_of_pieces}
-use Rattle.sub_rules.specs.Pieces.{Piece}
+use Rattle.sub_rules.specs.PesPacketEvents.{all_of_pes_packets}
+use Rattle.sub_rules.specs.PesPackets.{PesPacket}
 use Rattle.sub_rules.specs.Repeats.{SomeFinishedBy}
 use Rattle.sub_rules.specs.Transmission.{Transmission, packets_of}
 use Rattle.sub_rules.specs.declared.event.Event.TheVariants.{Trusted}
@@ -38,10 +38,11 @@ pub record MayStayBy
 abbrev pub LawOfTrustedRepeats : Type 0
 LawOfTrustedRepeats =
     (programme : ProgrammeValue) (options : OptionsValue) (unread : Option Unread)
-    → (any_refused : Bool) (undecided : ℕ → Bool) (pieces : List Piece) (from to : ℕ)
+    → (any_refused : Bool) (undecided : ℕ → Bool) (pes_packets : List PesPacket) (from to : ℕ)
     → IsProgramme programme.drawing programme.records
-    → Contains (all_of_pieces (criteria_unsure programme options unread any_refused undecided)
-    pieces)
+    → Contains (all_of_pes_packets (criteria_unsure programme options unread any_refused undecided)
+    pes_packets)
     (Trusted from to)
-    → StaysAsRead (criteria_unsure programme options unread any_refused undecided) pieces from to
+    → StaysAsRead (criteria_unsure programme options unread any_refused undecided) pes_packets from
+    to
     (λ on_air. MayStayBy programme on_air options from to)

@@ -4,9 +4,10 @@
 //! contains no program: each function is a law.
 //!
 //! ```text
-//! law_of_trusted_repeats: Contains (all_of_pieces g pieces) (Trusted from to) → MayStayBy ..
+//! law_of_trusted_repeats: Contains (all_of_pes_packets g pieces) (Trusted from to) → MayStayBy ..
 //! law_of_trusted_known: .. → from ≤ f + g.within → .. → IsFalse (g.undecided f)
-//! law_of_all_trusted: CanStay g pieces a b → .. → Contains (all_of_pieces g pieces) (Trusted ..)
+//! law_of_all_trusted: CanStay g pieces a b → .. → Contains (all_of_pes_packets g pieces) (Trusted
+//! ..)
 //! ```
 #![tactic(auto)]
 

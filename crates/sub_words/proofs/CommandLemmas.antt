@@ -27,9 +27,9 @@ use Rattle.clap.proofs.WalkLemmas.{first_value-rows}
 use Rattle.sub_words.specs.Commands.{are_sound, clap_rule, command_in, clap_refusals, subttx_app}
 use Rattle.sub_words.specs.Commands.{texts_of}
 use Rattle.sub_words.specs.declared.command.Argument.{Argument}
-use Rattle.sub_words.specs.Requests.{Asked, IsFaultIn, IsFaultOfCommand, IsReadExactly}
+use Rattle.sub_words.specs.Requests.{Requested, IsFaultIn, IsFaultOfCommand, IsReadExactly}
 use Rattle.sub_words.specs.Requests.{IsReadGivenMemory}
-use Rattle.sub_words.specs.Requests.{asked_for, asked_in, is_own}
+use Rattle.sub_words.specs.Requests.{asked_for, requested_in, is_own}
 use Rattle.sub_request.specs.declared.request.Request.{Request}
 use Rattle.sub_request.specs.declared.request.UsageFault.{UsageFault}
 use Rattle.sub_request.specs.declared.request.UsageFault.TheVariants as fault
@@ -83,73 +83,74 @@ unfolding clap_refusals are_sound subttx_app clap_on_literals
 none-refused = (λ e. cc, λ e. cc)
 
 -- No arguments.
-pub no-words : (words : List (Bor (List ℕ)))
-    → (length words == 0) ≡ true
-    → IsFaultOfCommand (texts_of words) fault.Words
-no-words [] none = none-refused
-no-words (w ∷ ws) none =
+pub no-arguments : (arguments : List (Bor (List ℕ)))
+    → (length arguments == 0) ≡ true
+    → IsFaultOfCommand (texts_of arguments) fault.Words
+no-arguments [] none = none-refused
+no-arguments (w ∷ ws) none =
     let more : 0 < length (w ∷ ws) = omega arith in absurd (grind (arith, nat_tests))
 
 -- There are as many texts as arguments.
-pub some-texts : (words : List (Bor (List ℕ)))
-    → (length words == 0) ≡ false
-    → texts_of words ≢ []
+pub some-texts : (arguments : List (Bor (List ℕ)))
+    → (length arguments == 0) ≡ false
+    → texts_of arguments ≢ []
 some-texts [] some e = cc
 some-texts (w ∷ ws) some e = cc
 
-pub some-words : (words : List (Bor (List ℕ))) → words ≢ [] → texts_of words ≢ []
-some-words [] some e = some refl
-some-words (w ∷ ws) some e = cc
+pub some-arguments : (arguments : List (Bor (List ℕ))) → arguments ≢ [] → texts_of arguments ≢ []
+some-arguments [] some e = some refl
+some-arguments (w ∷ ws) some e = cc
 
 -- A fault of the arguments that needs no memory.
-own-fault : (asked : Result Asked UsageFault) (f : UsageFault)
-    → (asked ≡ Err f) × (is_own f ≡ true)
-    → IsFaultIn asked f
-own-fault asked fault.Memory is = tt
-own-fault asked f is = is
+own-fault : (requested : Result Requested UsageFault) (f : UsageFault)
+    → (requested ≡ Err f) × (is_own f ≡ true)
+    → IsFaultIn requested f
+own-fault requested fault.Memory is = tt
+own-fault requested f is = is
 
 -- What needs no memory is also read correctly if memory may run out.
-pub read_exactly : (asked : Result Asked UsageFault) (result : Result Request UsageFault)
-    → IsReadExactly asked result
-    → IsReadGivenMemory asked result
-read_exactly asked (Ok r) is = is
-read_exactly asked (Err f) is = own-fault asked f is
+pub read_exactly : (requested : Result Requested UsageFault) (result : Result Request UsageFault)
+    → IsReadExactly requested result
+    → IsReadGivenMemory requested result
+read_exactly requested (Ok r) is = is
+read_exactly requested (Err f) is = own-fault requested f is
 
 -- A fault of a command's arguments is one of the whole command line.
-fault-read : (words : List Text) (asked : Result Asked UsageFault) (f : UsageFault)
-    → words ≢ []
-    → clap_refusals words ≡ []
-    → asked_for words ≡ Some asked
-    → IsFaultIn asked f
-    → IsFaultOfCommand words f
-fault-read words asked fault.Memory some taken is read = some
-fault-read words asked fault.Words some taken is read = cc
-fault-read words asked fault.Open some taken is read = cc
-fault-read words asked f some taken is read =
+fault-read : (arguments : List Text) (requested : Result Requested UsageFault) (f : UsageFault)
+    → arguments ≢ []
+    → clap_refusals arguments ≡ []
+    → asked_for arguments ≡ Some requested
+    → IsFaultIn requested f
+    → IsFaultOfCommand arguments f
+fault-read arguments requested fault.Memory some taken is read = some
+fault-read arguments requested fault.Words some taken is read = cc
+fault-read arguments requested fault.Open some taken is read = cc
+fault-read arguments requested f some taken is read =
     record { taken = taken; broken = is ∙ ap Some read.0 }
 
 -- The request that the command's arguments make.
 pub fault-of_read :
-    (words : List Text) (asked : Result Asked UsageFault) (result : Result Request UsageFault)
-    → words ≢ []
-    → clap_refusals words ≡ []
-    → asked_for words ≡ Some asked
-    → IsReadGivenMemory asked result
-    → IfErr result (IsFaultOfCommand words)
-fault-of_read words asked (Ok r) some taken is read = tt
-fault-of_read words asked (Err f) some taken is read =
-    fault-read words asked f some taken is read
+    (arguments : List Text) (requested : Result Requested UsageFault) (result : Result Request
+    UsageFault)
+    → arguments ≢ []
+    → clap_refusals arguments ≡ []
+    → asked_for arguments ≡ Some requested
+    → IsReadGivenMemory requested result
+    → IfErr result (IsFaultOfCommand arguments)
+fault-of_read arguments requested (Ok r) some taken is read = tt
+fault-of_read arguments requested (Err f) some taken is read =
+    fault-read arguments requested f some taken is read
 
 -- ---- the result of parsing the program's command line
 
 -- The matches are exact, since the command is simple.
-pub command_in-parsed : (app : App) (words : List Text) (m : ArgMatches)
+pub command_in-parsed : (app : App) (arguments : List Text) (m : ArgMatches)
     → app ≡ subttx_app
-    → HasMatchesOf app words m
-    → subcommand_rows_of m ≡ command_in words
+    → HasMatchesOf app arguments m
+    → subcommand_rows_of m ≡ command_in arguments
 unfolding command_in
-command_in-parsed app words m is_program has =
-    let P : App → Type 0 = λ a. HasMatchesOf a words m in
+command_in-parsed app arguments m is_program has =
+    let P : App → Type 0 = λ a. HasMatchesOf a arguments m in
     (subst P is_program has is_simple-subttx).1
 
 -- There is a command, since the program requires one.
@@ -167,13 +168,13 @@ has_subcommand-parsed c m is_program from =
     (from.from.needs_subcommand ∙ required)
 
 -- `Ok` is returned only if nothing is refused, since no argument has a rule about another.
-pub refusals-parsed : (app : App) (words : List Text) (m : ArgMatches)
+pub refusals-parsed : (app : App) (arguments : List Text) (m : ArgMatches)
     → app ≡ subttx_app
-    → (is_simple_and_free app ≡ true → FailsBy {T = ArgMatches} (fault_of app words) (Ok m))
-    → clap_refusals words ≡ []
+    → (is_simple_and_free app ≡ true → FailsBy {T = ArgMatches} (fault_of app arguments) (Ok m))
+    → clap_refusals arguments ≡ []
 unfolding clap_refusals
-refusals-parsed app words m is_program fails =
-    let P : App → Type 0 = λ a. is_simple_and_free a ≡ true → fault_of a words ≡ [] in
+refusals-parsed app arguments m is_program fails =
+    let P : App → Type 0 = λ a. is_simple_and_free a ≡ true → fault_of a arguments ≡ [] in
     subst P is_program fails is_free-subttx
 
 -- An error other than want of memory has a kind that refuses.
@@ -187,29 +188,29 @@ kind_among kinds e has other none = elim has [
 ]
 
 -- Arguments that are refused for another reason than memory.
-pub IsFaultOfCommand-refused : (app : App) (words : List Text) (e : Error)
+pub IsFaultOfCommand-refused : (app : App) (arguments : List Text) (e : Error)
     → app ≡ subttx_app
-    → (is_simple_and_free app ≡ true → FailsBy {T = ArgMatches} (fault_of app words) (Err e))
-    → (takes app words ≡ true → kind_of e ≡ OutOfMemory)
+    → (is_simple_and_free app ≡ true → FailsBy {T = ArgMatches} (fault_of app arguments) (Err e))
+    → (takes app arguments ≡ true → kind_of e ≡ OutOfMemory)
     → kind_of e ≢ OutOfMemory
-    → (clap_refusals words ≢ []) × (are_sound words ≢ true)
+    → (clap_refusals arguments ≢ []) × (are_sound arguments ≢ true)
 unfolding clap_refusals are_sound
-IsFaultOfCommand-refused app words e is_program fails passes other =
-    let P : App → Type 0 = λ a. is_simple_and_free a ≡ true → HasKind (fault_of a words) e in
-    let Q : App → Type 0 = λ a. takes a words ≡ true → kind_of e ≡ OutOfMemory in (
-      kind_among (fault_of subttx_app words) e (subst P is_program fails is_free-subttx) other,
+IsFaultOfCommand-refused app arguments e is_program fails passes other =
+    let P : App → Type 0 = λ a. is_simple_and_free a ≡ true → HasKind (fault_of a arguments) e in
+    let Q : App → Type 0 = λ a. takes a arguments ≡ true → kind_of e ≡ OutOfMemory in (
+      kind_among (fault_of subttx_app arguments) e (subst P is_program fails is_free-subttx) other,
       λ sound. other (subst Q is_program passes sound),
     )
 
 -- The request of the matched command, from its name and its rows.
-pub asked_for-met : {Z : Type 0} (words : List Text) (met : Option (Box SubCommand Z))
+pub asked_for-met : {Z : Type 0} (arguments : List Text) (met : Option (Box SubCommand Z))
     → (name : Text) (rows : List Row)
-    → subcommand_rows met ≡ command_in words
+    → subcommand_rows met ≡ command_in arguments
     → Some name ≡ option_map (λ sub. (out-SubCommand (box_value sub)).name.now) met
     → Some rows ≡ option_map (λ p. p.1) (subcommand_rows met)
-    → asked_for words ≡ Some (asked_in name rows)
-asked_for-met words None name rows is e f = cc
-asked_for-met words (Some sub) name rows is e f = rw (← is) cc
+    → asked_for arguments ≡ Some (requested_in name rows)
+asked_for-met arguments None name rows is e f = cc
+asked_for-met arguments (Some sub) name rows is e f = rw (← is) cc
 
 -- The value that `clap` returns for an id is the first of its row: for the arguments.
 pub ruleset values = (first_value-rows)

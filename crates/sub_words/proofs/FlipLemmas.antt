@@ -95,18 +95,18 @@ given_if_not false o x e = (refl, e)
 
 -- A property that one more item keeps, unless one before it is the same, holds for all items of a
 -- list.
-items_after-keeps : {A : Type 0} (said : List ℕ → Option A) (same : A → A → Bool)
+items_after-keeps : {A : Type 0} (parsed : List ℕ → Option A) (same : A → A → Bool)
     → (P : List A → Type 0)
     → ((items : List A) (x : A) → P items → list_any (same x) items ≡ false → P (items ++ x ∷ []))
     → (items : List A) (texts : List (List ℕ)) (all : List A)
     → P items
-    → items_after said same items texts ≡ Some all
+    → items_after parsed same items texts ≡ Some all
     → P all
-items_after-keeps said same P more items [] all holds e = subst P (same_Some items all e) holds
-items_after-keeps said same P more items (text ∷ texts) all holds e =
-    option_and_then_some _ (said text) all e (λ x is found.
+items_after-keeps parsed same P more items [] all holds e = subst P (same_Some items all e) holds
+items_after-keeps parsed same P more items (text ∷ texts) all holds e =
+    option_and_then_some _ (parsed text) all e (λ x is found.
     let parts = given_if_not (list_any (same x) items) _ all found in
-    items_after-keeps said same P more (items ++ x ∷ []) texts all (more items x holds parts.0)
+    items_after-keeps parsed same P more (items ++ x ∷ []) texts all (more items x holds parts.0)
     parts.1)
 
 pub law_of_flips : LawOfFlips

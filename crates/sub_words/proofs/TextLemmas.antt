@@ -31,9 +31,9 @@ pub parse-digits : {E : Type 0} (text : List ℕ) (result : Result ℕ E)
     → (result ≡ Ok (digits_value 10 text)) × (digits_value 10 text < 10 ^ 10)
 parse-digits text result some few digits parses =
     let own = numerals_by_value (λ ds. all_ascii_digits ds ≡ true) tells_all_ascii_digits in
-    let told = sym (all_digits text) ∙ digits in
-    let small = digits_value_short own text 10 told few in
-    (parse_gives own 64 text result parses told some (omega arith), small)
+    let reported = sym (all_digits text) ∙ digits in
+    let small = digits_value_short own text 10 reported few in
+    (parse_gives own 64 text result parses reported some (omega arith), small)
 
 -- ---- hexadecimal digits
 

@@ -7,7 +7,7 @@ use Rattle.std.specs.Str.{bytes_eq}
 use Rattle.clap.specs.Words.{Row, Text, first_of}
 use Rattle.sub_io.specs.Reading.{◌>>=◌}
 use Rattle.ttx_packet.specs.PageId.{page_of_text}
-use Rattle.ttx_pes.specs.PieceRange.{PieceRangeValue}
+use Rattle.ttx_pes.specs.PesPacketRange.{PesPacketRangeValue}
 use Rattle.mpeg_ts.specs.declared.packet_size.PacketSize.{PacketSize}
 use Rattle.stl_file.specs.TimeCode.{day}
 use Rattle.stl_file.specs.declared.scope.Scope.{Scope}
@@ -20,7 +20,7 @@ use Rattle.sub_plan.specs.Options.{OptionsValue}
 use Rattle.sub_words.specs.PesTexts.{packet_size_of_text, pid_of_text, range_of_text}
 use Rattle.sub_words.specs.Texts.{frame_of_text, list_of_text, number_of_text}
 use Rattle.mpeg_ts.specs.declared.survey_options.SurveyOptions.{SurveyOptions}
-use Rattle.sub_request.specs.declared.pes_packets.TransportStream.{TransportStream}
+use Rattle.sub_request.specs.declared.pes_selection.TransportStream.{TransportStream}
 use Rattle.sub_request.specs.declared.request.UsageFault.{UsageFault}
 use Rattle.sub_request.specs.declared.request.UsageFault.TheVariants as fault
 
@@ -46,12 +46,12 @@ options_of every rows = do
   every ← ok_or (between 1 day every) fault.Every
   origin ← ok_or (between 0 (2 ^ 33 - 1) (number_of_text (argument (codes "origin") rows)))
       fault.Origin
-  let asked = is_given (codes "complete") rows in
+  let requested = is_given (codes "complete") rows in
       Ok (record {
         page = page;
         every = every;
         origin = origin;
-        asks_complete = asked;
+        asks_complete = requested;
         within = 0;
         pace = None;
         keeps = false;
@@ -90,8 +90,8 @@ layout_of rows =
 
 -- The value of an optional option, `Some None` if it is left out; `None` if its text has no value.
 abbrev pub given_as : {A : Type 0} → (Text → Option A) → Text → List Row → Option (Option A)
-given_as said id rows =
-    option_map_or (λ text. option_map Some (said text)) (first_of id rows) (Some None)
+given_as parsed id rows =
+    option_map_or (λ text. option_map Some (parsed text)) (first_of id rows) (Some None)
 
 -- `[--from TIME] [--to TIME] [--open]`: the frames at which subtitles may start, the whole day if
 -- left out.
@@ -129,19 +129,19 @@ survey_options_of rows = do
   Ok (record { page = page; pid = pid; packet_size = packet_size })
 
 -- `[--pes I-J]`
-abbrev pub range_given_of : List Row → Result (Option PieceRangeValue) UsageFault
+abbrev pub range_given_of : List Row → Result (Option PesPacketRangeValue) UsageFault
 range_given_of rows = ok_or (given_as range_of_text (codes "pes") rows) fault.Range
 
 -- The selected PES packets: the name of a file, the transport packets that carry them if it is a
 -- transport stream, and the numbers of the first and the last.
-pub record PesAsked : Type 0 where
+pub record PesRequested : Type 0 where
   pub name : Text
   pub stream : Option TransportStream
-  pub range : Option PieceRangeValue
+  pub range : Option PesPacketRangeValue
 
 -- `RECORDING [--pid P] [--packet-size S] [--pes I-J]`
-unfoldable pub pes_packets_of : List Row → Result PesAsked UsageFault
-pes_packets_of rows = do
+unfoldable pub pes_selection_of : List Row → Result PesRequested UsageFault
+pes_selection_of rows = do
   stream ← stream_of rows
   range ← range_given_of rows
   Ok (record { name = argument (codes "recording") rows; stream = stream; range = range })
@@ -150,4 +150,5 @@ pes_packets_of rows = do
 -- empty text is a fault.
 abbrev pub listed_of :
     {A : Type 0} → (Text → Option A) → (A → A → Bool) → Text → List Row → Option (List A)
-listed_of said same id rows = option_map_or (list_of_text said same) (first_of id rows) (Some [])
+listed_of parsed same id rows = option_map_or (list_of_text parsed same) (first_of id rows)
+    (Some [])

@@ -137,15 +137,15 @@ subttx_app = let plain = new_app (codes "subttx") in fold with_command (record p
 -- `clap`'s contract as functions of the arguments. The kinds of its refusal; none if it accepts
 -- them.
 unfoldable pub clap_refusals : List Text → Kinds
-clap_refusals words = fault_of subttx_app words
+clap_refusals arguments = fault_of subttx_app arguments
 
 -- The command that the arguments name, with its arguments as rows.
 unfoldable pub command_in : List Text → Option (Text × List Row)
-command_in words = subcommand_of subttx_app words
+command_in arguments = subcommand_of subttx_app arguments
 
 -- Whether the arguments can be refused only for want of memory.
 unfoldable pub are_sound : List Text → Bool
-are_sound words = takes subttx_app words
+are_sound arguments = takes subttx_app arguments
 
 -- The arguments of the command line as texts.
 abbrev pub texts_of : List (Bor (List ℕ)) → List Text

@@ -20,7 +20,7 @@ is_help_of first second =
 
 -- The arguments request help: after the program's name there is a word for help, alone or together
 -- with the name of a command.
-unfoldable pub asks_help : List Text → Bool
-asks_help (program ∷ word ∷ []) = is_help_word word
-asks_help (program ∷ first ∷ second ∷ []) = is_help_of first second
-asks_help _ = false
+unfoldable pub requests_help : List Text → Bool
+requests_help (program ∷ word ∷ []) = is_help_word word
+requests_help (program ∷ first ∷ second ∷ []) = is_help_of first second
+requests_help _ = false

@@ -8,7 +8,7 @@ use Rattle.std.specs.Option.{option_map_or}
 use Rattle.std.specs.Str.{bytes_eq}
 use Rattle.std.specs.Str.Parse.{digits_value}
 use Rattle.ttx_packet.specs.PacketAddress.{◌>>=◌}
-use Rattle.ttx_pes.specs.PieceRange.{PieceRangeValue, range_of}
+use Rattle.ttx_pes.specs.PesPacketRange.{PesPacketRangeValue, range_of}
 use Rattle.mpeg_ts.specs.Pid.{pid_of}
 use Rattle.mpeg_ts.specs.declared.packet_size.PacketSize.{PacketSize}
 use Rattle.mpeg_ts.specs.declared.packet_size.PacketSize.TheVariants.{Plain, TimeStamped}
@@ -18,8 +18,8 @@ use Rattle.sub_words.specs.Texts.{number_of_text}
 -- ---- the PID
 
 -- The text after a leading `0x`; `None` if there is none.
-abbrev pub behind_0x : List ℕ → Option (List ℕ)
-behind_0x text =
+abbrev pub digits_after_0x : List ℕ → Option (List ℕ)
+digits_after_0x text =
     if starts_with (λ a b. a == b) text (codes "0x") then Some (drop 2 text) else None
 
 -- The value of one to eight hexadecimal digits, in either case, and nothing else.
@@ -32,7 +32,7 @@ number_of_hex_digits text =
 -- A PID: `0x` and hexadecimal digits, or decimal digits; at most 8190.
 unfoldable pub pid_of_text : List ℕ → Option ℕ
 pid_of_text text = do
-  number ← option_map_or number_of_hex_digits (behind_0x text) (number_of_text text)
+  number ← option_map_or number_of_hex_digits (digits_after_0x text) (number_of_text text)
   pid_of number
 
 -- ---- the packet size
@@ -63,7 +63,7 @@ around_dash text =
 
 -- The PES packets from the first to the last number, or to the end of the file if no last one is
 -- written.
-abbrev pub range_of_numbers : List ℕ → List ℕ → Option PieceRangeValue
+abbrev pub range_of_numbers : List ℕ → List ℕ → Option PesPacketRangeValue
 range_of_numbers first last = do
   first ← number_of_text first
   if length last == 0
@@ -71,5 +71,5 @@ range_of_numbers first last = do
       else (number_of_text last >>= (λ last. range_of first (Some last)))
 
 -- The PES packets that a text selects: `I-J`, or `I-`.
-unfoldable pub range_of_text : List ℕ → Option PieceRangeValue
+unfoldable pub range_of_text : List ℕ → Option PesPacketRangeValue
 range_of_text text = around_dash text >>= (λ numbers. range_of_numbers numbers.0 numbers.1)

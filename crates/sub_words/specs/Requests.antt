@@ -12,74 +12,76 @@ use Rattle.stl_rows.specs.declared.layout.Layout.{Layout}
 use Rattle.stl_rows.specs.declared.national.National.{National}
 use Rattle.sub_plan.specs.Options.{OptionsValue}
 use Rattle.mpeg_ts.specs.declared.survey_options.SurveyOptions.{SurveyOptions}
-use Rattle.sub_words.specs.Arguments.{PesAsked, allowing_of, argument, is_given, keeping_of}
+use Rattle.sub_words.specs.Arguments.{PesRequested, allowing_of, argument, is_given, keeping_of}
 use Rattle.sub_words.specs.Arguments.{listed_of}
 use Rattle.sub_words.specs.Arguments.{layout_of, national_of, options_of, pacing_of}
-use Rattle.sub_words.specs.Arguments.{packet_size_of, pes_packets_of, required_pid_of, scope_of}
+use Rattle.sub_words.specs.Arguments.{packet_size_of, pes_selection_of, required_pid_of, scope_of}
 use Rattle.sub_words.specs.Arguments.{survey_options_of}
 use Rattle.sub_words.specs.Commands.{are_sound, command_in, clap_refusals}
-use Rattle.sub_words.specs.Help.{asks_help}
-use Rattle.sub_words.specs.Version.{asks_version}
+use Rattle.sub_words.specs.Help.{requests_help}
+use Rattle.sub_words.specs.Version.{requests_version}
 use Rattle.sub_words.specs.Texts.{flip_of_text, frame_of_text, is_same_byte, number_of_text}
 use Rattle.sub_words.specs.Texts.{receiver_of_text}
 use Rattle.sub_request.specs.declared.listening.Flip.{Flip}
 use Rattle.sub_request.specs.declared.listening.ReceiverKind.{ReceiverKind}
-use Rattle.sub_request.specs.declared.pes_packets.PesPackets.{PesPackets}
-use Rattle.sub_request.specs.declared.pes_packets.TransportStream.{TransportStream}
+use Rattle.sub_request.specs.declared.pes_selection.PesSelection.{PesSelection}
+use Rattle.sub_request.specs.declared.pes_selection.TransportStream.{TransportStream}
 use Rattle.sub_request.specs.declared.request.Request.{Request}
 use Rattle.sub_request.specs.declared.request.Request.TheVariants as ask
 use Rattle.sub_request.specs.declared.request.UsageFault.{UsageFault}
 use Rattle.sub_request.specs.declared.request.UsageFault.TheVariants as fault
 
 -- A request, independent of where its texts and lists are in memory.
-pub data Asked : Type 0 where
-  Help : Asked
-  Version : Asked
-  Packet : (bytes : List ℕ) → Asked
-  Packets : (pes : PesAsked) → Asked
-  Show : (stl : Text) → Asked
-  Normal : (input output : Text) → Asked
-  Schedule : (stl pes : Text) → OptionsValue → (serial : Bool) → National → Layout → Scope → Asked
-  Check : (stl : Text) → (pes : PesAsked) → OptionsValue → National → Layout → Scope → (all : Bool)
-      → Asked
-  Listen : (pes : PesAsked) → OptionsValue → (at skip : ℕ) → List Flip → (lost : List ℕ)
-      → ReceiverKind → Asked
-  Extract : (recording pes : Text) → TransportStream → Asked
-  Survey : (recording : Text) → SurveyOptions → Asked
+pub data Requested : Type 0 where
+  Help : Requested
+  Version : Requested
+  Packet : (bytes : List ℕ) → Requested
+  Packets : (pes : PesRequested) → Requested
+  Show : (stl : Text) → Requested
+  Normal : (input output : Text) → Requested
+  Schedule : (stl pes : Text) → OptionsValue → (serial : Bool) → National → Layout → Scope →
+      Requested
+  Check : (stl : Text) → (pes : PesRequested) → OptionsValue → National → Layout → Scope →
+      (all : Bool)
+      → Requested
+  Listen : (pes : PesRequested) → OptionsValue → (at skip : ℕ) → List Flip → (lost : List ℕ)
+      → ReceiverKind → Requested
+  Extract : (recording pes : Text) → TransportStream → Requested
+  Survey : (recording : Text) → SurveyOptions → Requested
 
 -- The PES packets that a request selects.
-abbrev pub pes_asked : PesPackets → PesAsked
-pes_asked pes = record { name = pes.name.now; stream = pes.stream; range = pes.range }
+abbrev pub pes_requested : PesSelection → PesRequested
+pes_requested pes = record { name = pes.name.now; stream = pes.stream; range = pes.range }
 
 -- The value of a request.
-abbrev pub asked_by : Request → Asked
-asked_by ask.Help = Help
-asked_by ask.Version = Version
-asked_by (ask.Packet bytes) = Packet bytes
-asked_by (ask.Packets pes) = Packets (pes_asked pes)
-asked_by (ask.Show stl) = Show stl.now
-asked_by (ask.Normal input output) = Normal input.now output.now
-asked_by (ask.Schedule stl pes options serial national layout scope) =
+abbrev pub requested_by : Request → Requested
+requested_by ask.Help = Help
+requested_by ask.Version = Version
+requested_by (ask.Packet bytes) = Packet bytes
+requested_by (ask.Packets pes) = Packets (pes_requested pes)
+requested_by (ask.Show stl) = Show stl.now
+requested_by (ask.Normal input output) = Normal input.now output.now
+requested_by (ask.Schedule stl pes options serial national layout scope) =
     Schedule stl.now pes.now options serial national layout scope
-asked_by (ask.Check stl pes options national layout scope all) =
-    Check stl.now (pes_asked pes) options national layout scope all
-asked_by (ask.Listen pes l) =
-    Listen (pes_asked pes) l.options l.at l.skip l.flips.items l.lost.items l.receiver
-asked_by (ask.Extract recording pes stream) = Extract recording.now pes.now stream
-asked_by (ask.Survey recording options) = Survey recording.now options
+requested_by (ask.Check stl pes options national layout scope all) =
+    Check stl.now (pes_requested pes) options national layout scope all
+requested_by (ask.Listen pes l) =
+    Listen (pes_requested pes) l.options l.at l.skip l.flips.items l.lost.items l.receiver
+requested_by (ask.Extract recording pes stream) = Extract recording.now pes.now stream
+requested_by (ask.Survey recording options) = Survey recording.now options
 
 -- ---- the arguments of each command: its request, or the first fault, in this order (own)
 
 -- `packet HEX`: 84 digits, in either case.
-abbrev pub packet_asked : List Row → Result Asked UsageFault
-packet_asked rows = do
+abbrev pub packet_requested : List Row → Result Requested UsageFault
+packet_requested rows = do
   bytes ← ok_or (result_ok (decode_sized (argument (codes "hex") rows) 42)) fault.BadHex
   Ok (Packet bytes)
 
 -- `packets PES [--pid P] [--packet-size S] [--pes I-J]`
-abbrev pub packets_asked : List Row → Result Asked UsageFault
-packets_asked rows = do
-  pes ← pes_packets_of rows
+abbrev pub packets_requested : List Row → Result Requested UsageFault
+packets_requested rows = do
+  pes ← pes_selection_of rows
   Ok (Packets pes)
 
 -- The names of an input and an output, which must differ.
@@ -87,15 +89,15 @@ abbrev pub unlike : Text → Text → Result (Text × Text) UsageFault
 unlike input output = if bytes_eq input output then Err fault.SameFile else Ok (input, output)
 
 -- `normal IN OUT`
-abbrev pub normal_asked : List Row → Result Asked UsageFault
-normal_asked rows = do
+abbrev pub normal_requested : List Row → Result Requested UsageFault
+normal_requested rows = do
   names ← unlike (argument (codes "in") rows) (argument (codes "out") rows)
   Ok (Normal names.0 names.1)
 
 -- `schedule STL PES [--page P] [--every N] [--origin T] [--option O] [--serial] [--layout TEXT]
 -- [--from TIME] [--to TIME] [--open]`
-abbrev pub schedule_asked : List Row → Result Asked UsageFault
-schedule_asked rows = do
+abbrev pub schedule_requested : List Row → Result Requested UsageFault
+schedule_requested rows = do
   names ← unlike (argument (codes "stl") rows) (argument (codes "pes") rows)
   options ← options_of (number_of_text (argument (codes "every") rows)) rows
   national ← national_of rows
@@ -106,12 +108,12 @@ schedule_asked rows = do
 -- `check STL PES [--page P] [--every N] [--origin T] [--option O] [--within N] [--pid P]
 -- [--packet-size S] [--pes I-J] [--layout TEXT] [--pace K] [--from TIME] [--to TIME] [--open]
 -- [--keeping] [--complete] [--all]`
-abbrev pub check_asked : List Row → Result Asked UsageFault
-check_asked rows = do
+abbrev pub check_requested : List Row → Result Requested UsageFault
+check_requested rows = do
   plain ← options_of (number_of_text (argument (codes "every") rows)) rows
   national ← national_of rows
   allowing ← allowing_of plain rows
-  pes ← pes_packets_of rows
+  pes ← pes_selection_of rows
   layout ← layout_of rows
   pacing ← pacing_of allowing rows
   scope ← scope_of rows
@@ -122,11 +124,11 @@ check_asked rows = do
 -- `listen PES [--page P] [--origin T] [--within N] [--complete] [--pid P] [--packet-size S] [--pes
 -- I-J] --at TIME [--skip N] [--flip F] [--lose L] [--receiver R]`: the repeat bound of the options
 -- is not used.
-abbrev pub listen_asked : List Row → Result Asked UsageFault
-listen_asked rows = do
+abbrev pub listen_requested : List Row → Result Requested UsageFault
+listen_requested rows = do
   plain ← options_of (Some 1) rows
   options ← allowing_of plain rows
-  pes ← pes_packets_of rows
+  pes ← pes_selection_of rows
   at ← ok_or (frame_of_text (argument (codes "at") rows)) fault.BadTime
   skip ← ok_or (number_of_text (argument (codes "skip") rows)) fault.BadSkip
   flips ← ok_or (listed_of flip_of_text is_same_byte (codes "flip") rows) fault.BadFlip
@@ -135,31 +137,31 @@ listen_asked rows = do
   Ok (Listen pes options at skip flips lost receiver)
 
 -- `extract TS PES --pid P [--packet-size S]`
-abbrev pub extract_asked : List Row → Result Asked UsageFault
-extract_asked rows = do
+abbrev pub extract_requested : List Row → Result Requested UsageFault
+extract_requested rows = do
   names ← unlike (argument (codes "recording") rows) (argument (codes "pes") rows)
   pid ← required_pid_of rows
   packet_size ← packet_size_of rows
   Ok (Extract names.0 names.1 (record { pid = pid; packet_size = packet_size }))
 
 -- `survey RECORDING [--page P] [--pid P] [--packet-size S]`
-abbrev pub survey_asked : List Row → Result Asked UsageFault
-survey_asked rows = do
+abbrev pub survey_requested : List Row → Result Requested UsageFault
+survey_requested rows = do
   options ← survey_options_of rows
   Ok (Survey (argument (codes "recording") rows) options)
 
 -- The request of a command's arguments, by its name. `clap` gives no names but these and `survey`.
-abbrev pub asked_in : Text → List Row → Result Asked UsageFault
-asked_in name rows =
-    if bytes_eq name (codes "packet") then packet_asked rows
-    else (if bytes_eq name (codes "packets") then packets_asked rows
+abbrev pub requested_in : Text → List Row → Result Requested UsageFault
+requested_in name rows =
+    if bytes_eq name (codes "packet") then packet_requested rows
+    else (if bytes_eq name (codes "packets") then packets_requested rows
     else (if bytes_eq name (codes "show") then Ok (Show (argument (codes "stl") rows))
-    else (if bytes_eq name (codes "normal") then normal_asked rows
-    else (if bytes_eq name (codes "schedule") then schedule_asked rows
-    else (if bytes_eq name (codes "check") then check_asked rows
-    else (if bytes_eq name (codes "listen") then listen_asked rows
-    else (if bytes_eq name (codes "extract") then extract_asked rows
-    else survey_asked rows)))))))
+    else (if bytes_eq name (codes "normal") then normal_requested rows
+    else (if bytes_eq name (codes "schedule") then schedule_requested rows
+    else (if bytes_eq name (codes "check") then check_requested rows
+    else (if bytes_eq name (codes "listen") then listen_requested rows
+    else (if bytes_eq name (codes "extract") then extract_requested rows
+    else survey_requested rows)))))))
 
 -- ---- the result
 
@@ -171,54 +173,58 @@ is_own fault.Open = false
 is_own _ = true
 
 -- The result is the request of the arguments, or their fault: memory never runs out.
-abbrev pub IsReadExactly : Result Asked UsageFault → Result Request UsageFault → Type 0
-IsReadExactly asked result =
-    MatchResult result (λ r. asked ≡ Ok (asked_by r))
-    (λ fault. (asked ≡ Err fault) × (is_own fault ≡ true))
+abbrev pub IsReadExactly : Result Requested UsageFault → Result Request UsageFault → Type 0
+IsReadExactly requested result =
+    MatchResult result (λ r. requested ≡ Ok (requested_by r))
+    (λ fault. (requested ≡ Err fault) × (is_own fault ≡ true))
 
 -- The fault is that of the arguments, or memory ran out before it was known.
-abbrev pub IsFaultIn : Result Asked UsageFault → UsageFault → Type 0
-IsFaultIn asked fault.Memory = ⊤
-IsFaultIn asked fault = (asked ≡ Err fault) × (is_own fault ≡ true)
+abbrev pub IsFaultIn : Result Requested UsageFault → UsageFault → Type 0
+IsFaultIn requested fault.Memory = ⊤
+IsFaultIn requested fault = (requested ≡ Err fault) × (is_own fault ≡ true)
 
 -- The result is the request of the arguments or their fault, or memory ran out before it was known.
-abbrev pub IsReadGivenMemory : Result Asked UsageFault → Result Request UsageFault → Type 0
-IsReadGivenMemory asked result =
-    MatchResult result (λ r. asked ≡ Ok (asked_by r)) (IsFaultIn asked)
+abbrev pub IsReadGivenMemory : Result Requested UsageFault → Result Request UsageFault → Type 0
+IsReadGivenMemory requested result =
+    MatchResult result (λ r. requested ≡ Ok (requested_by r)) (IsFaultIn requested)
 
 -- ---- arguments
 
 -- The request of the command that the arguments name.
-abbrev pub asked_for : List Text → Option (Result Asked UsageFault)
-asked_for words = option_map (λ command. asked_in command.0 command.1) (command_in words)
+abbrev pub asked_for : List Text → Option (Result Requested UsageFault)
+asked_for arguments = option_map (λ command. requested_in command.0 command.1)
+    (command_in arguments)
 
 -- The request is that of the command that the arguments name, and `clap` accepts them.
-pub record AsksOfCommand (words : List Text) (request : Request) : Type 0 where
-  pub taken : clap_refusals words ≡ []
-  pub asked : asked_for words ≡ Some (Ok (asked_by request))
+pub record IsRequestOfCommand (arguments : List Text) (request : Request) : Type 0 where
+  pub taken : clap_refusals arguments ≡ []
+  pub requested : asked_for arguments ≡ Some (Ok (requested_by request))
 
 -- `clap` accepts the arguments, and this is the first fault of their command.
-pub record Breaks (words : List Text) (fault : UsageFault) : Type 0 where
-  pub taken : clap_refusals words ≡ []
-  pub broken : asked_for words ≡ Some (Err fault)
+pub record Breaks (arguments : List Text) (fault : UsageFault) : Type 0 where
+  pub taken : clap_refusals arguments ≡ []
+  pub broken : asked_for arguments ≡ Some (Err fault)
 
 -- The fault is one of the arguments: `clap` refuses them, or they break a rule of the program. If
 -- memory runs out, all that is known is that there are arguments; reading them opens no file.
 abbrev pub IsFaultOfCommand : List Text → UsageFault → Type 0
-IsFaultOfCommand words fault.Words = (clap_refusals words ≢ []) × (are_sound words ≢ true)
-IsFaultOfCommand words fault.Memory = words ≢ []
-IsFaultOfCommand words fault.Open = ⊥
-IsFaultOfCommand words own = Breaks words own
+IsFaultOfCommand arguments fault.Words = (clap_refusals arguments ≢ []) ×
+    (are_sound arguments ≢ true)
+IsFaultOfCommand arguments fault.Memory = arguments ≢ []
+IsFaultOfCommand arguments fault.Open = ⊥
+IsFaultOfCommand arguments own = Breaks arguments own
 
 -- The request is that of the arguments: the version, help, or that of a command.
-abbrev pub AsksFor : List Text → Request → Type 0
-AsksFor words request =
-    ((asks_version words ≡ true) × (request ≡ ask.Version))
-    ⊎ ((asks_version words ≡ false) × (asks_help words ≡ true) × (request ≡ ask.Help))
-    ⊎ ((asks_version words ≡ false) × (asks_help words ≡ false) × AsksOfCommand words request)
+abbrev pub IsRequestOf : List Text → Request → Type 0
+IsRequestOf arguments request =
+    ((requests_version arguments ≡ true) × (request ≡ ask.Version))
+    ⊎ ((requests_version arguments ≡ false) × (requests_help arguments ≡ true) ×
+    (request ≡ ask.Help))
+    ⊎ ((requests_version arguments ≡ false) × (requests_help arguments ≡ false) × IsRequestOfCommand
+    arguments request)
 
 -- The fault is one of the arguments, which request neither the version nor help.
-pub record IsFaultOf (words : List Text) (fault : UsageFault) : Type 0 where
-  pub no_version : asks_version words ≡ false
-  pub no_help : asks_help words ≡ false
-  pub of_command : IsFaultOfCommand words fault
+pub record IsFaultOf (arguments : List Text) (fault : UsageFault) : Type 0 where
+  pub no_version : requests_version arguments ≡ false
+  pub no_help : requests_help arguments ≡ false
+  pub of_command : IsFaultOfCommand arguments fault

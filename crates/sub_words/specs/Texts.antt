@@ -37,17 +37,17 @@ colon = 0x3A
 abbrev pub items_after :
     {A : Type 0} → (List ℕ → Option A) → (A → A → Bool) → List A → List (List ℕ)
     → Option (List A)
-items_after said same items [] = Some items
-items_after said same items (text ∷ texts) = do
-  x ← said text
-  if list_any (same x) items then None else items_after said same (items ++ x ∷ []) texts
+items_after parsed same items [] = Some items
+items_after parsed same items (text ∷ texts) = do
+  x ← parsed text
+  if list_any (same x) items then None else items_after parsed same (items ++ x ∷ []) texts
 
 -- A list of 1 to 64 different items, separated by commas.
 abbrev pub list_of_text :
     {A : Type 0} → (List ℕ → Option A) → (A → A → Bool) → List ℕ → Option (List A)
-list_of_text said same text =
+list_of_text parsed same text =
     let texts = slice_split (λ c. c == comma) text in
-    if nat_le (length texts) 64 then items_after said same [] texts else None
+    if nat_le (length texts) 64 then items_after parsed same [] texts else None
 
 -- ---- flips
 

@@ -8,6 +8,6 @@ abbrev pub is_version_word : Text → Bool
 is_version_word word = bytes_eq word (codes "--version") || bytes_eq word (codes "-V")
 
 -- The arguments request the version: a word for it is alone after the program's name.
-unfoldable pub asks_version : List Text → Bool
-asks_version (program ∷ word ∷ []) = is_version_word word
-asks_version _ = false
+unfoldable pub requests_version : List Text → Bool
+requests_version (program ∷ word ∷ []) = is_version_word word
+requests_version _ = false

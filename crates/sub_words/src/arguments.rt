@@ -5,14 +5,14 @@ ghost use Rattle.clap.specs.Words.{first_of, found_of, rows_of};
 ghost use Rattle.sub_words.specs.Arguments.{allowing_of, argument, is_given, layout_of, listed_of};
 ghost use Rattle.sub_words.specs.Arguments.{given_as, keeping_of, options_of, pacing_of};
 ghost use Rattle.sub_words.specs.Arguments.{packet_size_of};
-ghost use Rattle.sub_words.specs.Arguments.{pes_packets_of, range_given_of, required_pid_of};
+ghost use Rattle.sub_words.specs.Arguments.{pes_selection_of, range_given_of, required_pid_of};
 ghost use Rattle.sub_words.specs.Arguments.{scope_of, stream_of, survey_options_of};
 ghost use Rattle.sub_words.specs.Texts.{frame_of_text};
-ghost use Rattle.sub_words.specs.Requests.{is_own, pes_asked};
+ghost use Rattle.sub_words.specs.Requests.{is_own, pes_requested};
 
 use crate::lists::{Item, parse_list};
 use crate::numbers::parse_number;
-use crate::pes_packets::{parse_packet_size, parse_pid, parse_range};
+use crate::pes_selection::{parse_packet_size, parse_pid, parse_range};
 use crate::times::parse_time;
 use clap::ArgMatches;
 use mpeg_ts::{PacketSize, Pid, SurveyOptions};
@@ -20,9 +20,9 @@ use std::alloc::Global;
 use stl_file::Scope;
 use stl_rows::Layout;
 use sub_plan::{OptionFault, Options};
-use sub_request::{PesPackets, TransportStream, UsageFault};
+use sub_request::{PesSelection, TransportStream, UsageFault};
 use ttx_packet::PageId;
-use ttx_pes::PieceRange;
+use ttx_pes::PesPacketRange;
 
 /// Returns the text of an option; `None` if it is left out and has no default.
 #[tactic(auto, using(crate::proofs::CommandLemmas::values))]
@@ -229,7 +229,7 @@ pub fn survey_options_at<'a>(matches: &ArgMatches<'a>) -> Result<SurveyOptions, 
 
 // Returns the PES packets of `--pes`, by their numbers; `None` if it is left out. The fault is
 // `Range`.
-fn range_at<'a>(matches: &ArgMatches<'a>) -> Result<Option<PieceRange>, UsageFault>
+fn range_at<'a>(matches: &ArgMatches<'a>) -> Result<Option<PesPacketRange>, UsageFault>
     ensures { result ≡ range_given_of (rows_of (found_of matches.now)) }
 {
     match given_at(matches, "pes") {
@@ -244,15 +244,15 @@ fn range_at<'a>(matches: &ArgMatches<'a>) -> Result<Option<PieceRange>, UsageFau
 ///
 /// Returns `Pid`, then `PacketSize`, then `Range`.
 // Its callers match: the prover has no rule for `?` on a struct that contains a reference.
-#[tactic(auto, unfolding(crate::specs::Arguments::pes_packets_of))]
-pub fn pes_at<'a>(matches: &ArgMatches<'a>) -> Result<PesPackets<'a>, UsageFault>
-    ensures value { result_map_both pes_asked (λ fault. fault) result
-        ≡ pes_packets_of (rows_of (found_of matches.now)) }
+#[tactic(auto, unfolding(crate::specs::Arguments::pes_selection_of))]
+pub fn pes_at<'a>(matches: &ArgMatches<'a>) -> Result<PesSelection<'a>, UsageFault>
+    ensures value { result_map_both pes_requested (λ fault. fault) result
+        ≡ pes_selection_of (rows_of (found_of matches.now)) }
     ensures own { IfErr result (λ fault. is_own fault ≡ true) }
 {
     let stream = stream_at(matches)?;
     let range = range_at(matches)?;
-    Ok(PesPackets {
+    Ok(PesSelection {
         name: text_at(matches, "recording"),
         stream,
         range,
@@ -271,7 +271,7 @@ pub fn list_at<'a, T: Item + Drop>(
     id: &str,
 ) -> Result<Option<Vec<T>>, UsageFault>
     ensures value { IfOk result (λ list. option_map (λ v. v.items) list
-        ≡ listed_of T.said T.same id.now (rows_of (found_of matches.now))) }
+        ≡ listed_of T.parsed T.same id.now (rows_of (found_of matches.now))) }
     ensures memory { IfErr result (λ fault. fault ≡ UsageFault.Memory) }
 {
     match given_at(matches, id) {

@@ -1,19 +1,19 @@
 //! Explains why arguments are no command.
 use crate::command::subttx_command;
-use crate::help::asks_help;
-use crate::version::asks_version;
+use crate::help::requests_help;
+use crate::version::requests_version;
 use std::alloc::Global;
 
 /// Prints `clap`'s own message on standard error if it refuses the arguments. The message is not
 /// specified.
-pub fn explain_words<E: Eprint>(alloc: Global, words: &[&str], errors: &E) {
-    if words.is_empty() || asks_help(words) || asks_version(words) {
+pub fn explain_words<E: Eprint>(alloc: Global, arguments: &[&str], errors: &E) {
+    if arguments.is_empty() || requests_help(arguments) || requests_version(arguments) {
         return;
     }
     let Ok(command) = subttx_command(alloc) else {
         return;
     };
-    if let Err(error) = command.try_get_matches_from(words) {
+    if let Err(error) = command.try_get_matches_from(arguments) {
         let _ = errors.eprint(error);
     }
 }

@@ -9,7 +9,7 @@ use crate::numbers::parse_number;
 use sub_request::Flip;
 
 impl Item for Flip {
-    ghost said = { flip_of_text };
+    ghost parsed = { flip_of_text };
 
     ghost same = { is_same_byte };
 

@@ -9,15 +9,15 @@ use crate::command::is_command;
 /// or together with the name of a command.
 ///
 /// No other arguments do, so status 0 of a command is its answer.
-#[tactic(auto, unfolding(crate::specs::Help::asks_help))]
-pub fn asks_help(words: &[&str]) -> bool
-    ensures { result ≡ specs.asks_help (texts_of words.now) }
+#[tactic(auto, unfolding(crate::specs::Help::requests_help))]
+pub fn requests_help(arguments: &[&str]) -> bool
+    ensures { result ≡ specs.requests_help (texts_of arguments.now) }
 {
-    let Some(first) = words.get(1) else {
+    let Some(first) = arguments.get(1) else {
         return false;
     };
-    match words.get(2) {
-        Some(second) => words.len() == 3 && is_help_of(first, second),
+    match arguments.get(2) {
+        Some(second) => arguments.len() == 3 && is_help_of(first, second),
         None => is_help_word(first),
     }
 }

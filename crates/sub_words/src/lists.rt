@@ -13,14 +13,14 @@ const MOST_ITEMS: usize = 64;
 /// An item of a list.
 pub trait Item: Copy {
     /// The item of a text.
-    ghost said: { List ℕ → Option Self };
+    ghost parsed: { List ℕ → Option Self };
 
     /// Whether two items are not allowed in one list.
     ghost same: { Self → Self → Bool };
 
     /// Returns the item of a text.
     fn read(text: &str) -> Option<Self>
-        ensures { result ≡ said text.now };
+        ensures { result ≡ parsed text.now };
 
     /// Returns whether the two are not allowed in one list.
     fn is_same(&self, other: &Self) -> bool
@@ -39,7 +39,7 @@ pub fn parse_list<A: Allocator + Copy + Drop, T: Item + Drop>(
     text: &str,
 ) -> Result<Option<Vec<T, A>>, AllocError>
     ensures { IfOk result (λ list.
-        option_map (λ v. v.items) list ≡ list_of_text T.said T.same text.now) }
+        option_map (λ v. v.items) list ≡ list_of_text T.parsed T.same text.now) }
 {
     let texts = texts_of(alloc, text)?;
     if texts.len() > MOST_ITEMS {
@@ -62,7 +62,7 @@ fn items_of<A: Allocator + Drop, T: Item + Drop>(
     texts: &[&str],
 ) -> Result<Option<Vec<T, A>>, AllocError>
     ensures { IfOk result (λ list. option_map (λ v. v.items) list
-        ≡ items_after T.said T.same [] (map (λ x. x.now) texts.now)) }
+        ≡ items_after T.parsed T.same [] (map (λ x. x.now) texts.now)) }
 {
     let mut list = Vec::new(alloc);
     let all = add_items(&mut list, texts)?;
@@ -76,7 +76,7 @@ fn add_items<A: Allocator, T: Item>(
     texts: &[&str],
 ) -> Result<bool, AllocError>
     ensures { IfOk result (λ all.
-        items_after T.said T.same list.old.items (map (λ x. x.now) texts.now)
+        items_after T.parsed T.same list.old.items (map (λ x. x.now) texts.now)
         ≡ (if all then Some list.new.items else None)) }
 {
     for text in texts {
@@ -90,13 +90,13 @@ fn add_items<A: Allocator, T: Item>(
 // Adds the item of a text to a list. Returns whether it is one, and not the same as one before it.
 fn add_item<A: Allocator, T: Item>(list: &mut Vec<T, A>, text: &str) -> Result<bool, AllocError>
     ensures { IfOk result (λ added. (more : List (List ℕ))
-        → items_after T.said T.same list.old.items (text.now ∷ more)
-        ≡ (if added then items_after T.said T.same list.new.items more else None)) }
+        → items_after T.parsed T.same list.old.items (text.now ∷ more)
+        ≡ (if added then items_after T.parsed T.same list.new.items more else None)) }
 {
     let Some(item) = T::read(text) else {
         return Ok(false);
     };
-    if stands_in(&item, list.as_slice()) {
+    if is_listed(&item, list.as_slice()) {
         return Ok(false);
     }
     list.push(item)?;
@@ -104,7 +104,7 @@ fn add_item<A: Allocator, T: Item>(list: &mut Vec<T, A>, text: &str) -> Result<b
 }
 
 // Returns whether an item is in a list.
-fn stands_in<T: Item>(item: &T, list: &[T]) -> bool
+fn is_listed<T: Item>(item: &T, list: &[T]) -> bool
     ensures { result ≡ list_any (T.same item.now) list.now }
 {
     for other in list {

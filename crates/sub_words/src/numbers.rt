@@ -29,7 +29,7 @@ fn are_digits(bytes: &[u8]) -> bool
 }
 
 impl Item for u64 {
-    ghost said = { number_of_text };
+    ghost parsed = { number_of_text };
 
     ghost same = { λ a b. a == b };
 

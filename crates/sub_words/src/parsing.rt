@@ -2,12 +2,13 @@
 ghost use Rattle.std.specs.Prelude.{◌≡◌, ◌≢◌, [], IfErr, IfOk, OnOk, true};
 ghost use Rattle.clap.specs.Words.{has_subcommand, subcommand_rows_of};
 ghost use Rattle.sub_words.specs.Commands.{command_in, clap_refusals, texts_of};
-ghost use Rattle.sub_words.specs.Requests.{AsksFor, AsksOfCommand, IsFaultOf, IsFaultOfCommand};
+ghost use Rattle.sub_words.specs.Requests.{IsRequestOf, IsRequestOfCommand, IsFaultOf};
+ghost use Rattle.sub_words.specs.Requests.{IsFaultOfCommand};
 
 use crate::command::subttx_command;
-use crate::help::asks_help;
+use crate::help::requests_help;
 use crate::reading::read_command;
-use crate::version::asks_version;
+use crate::version::requests_version;
 use clap::ArgMatches;
 use clap::error::ErrorKind;
 use std::alloc::Global;
@@ -29,51 +30,52 @@ pub trait ParseWords<'a>: Sized {
     /// `PacketSize`, `Range`, `BadLayout`, `BadTime`, `BadSkip`, `BadFlip`, `BadLose`,
     /// `BadReceiver`. Returns `Memory` if memory ran out before that was known; without arguments
     /// none is needed.
-    fn parse(alloc: Global, words: &'a [&'a str]) -> Result<Self, UsageFault>;
+    fn parse(alloc: Global, arguments: &'a [&'a str]) -> Result<Self, UsageFault>;
 }
 
 impl<'a> ParseWords<'a> for Request<'a> {
-    fn parse(alloc: Global, words: &'a [&'a str]) -> Result<Request<'a>, UsageFault>
-        ensures request { IfOk result (AsksFor (texts_of words.now)) }
-        ensures fault { IfErr result (IsFaultOf (texts_of words.now)) }
+    fn parse(alloc: Global, arguments: &'a [&'a str]) -> Result<Request<'a>, UsageFault>
+        ensures request { IfOk result (IsRequestOf (texts_of arguments.now)) }
+        ensures fault { IfErr result (IsFaultOf (texts_of arguments.now)) }
     {
-        if asks_version(words) {
+        if requests_version(arguments) {
             return Ok(Request::Version);
         }
-        if asks_help(words) {
+        if requests_help(arguments) {
             return Ok(Request::Help);
         }
-        parse_command(alloc, words)
+        parse_command(alloc, arguments)
     }
 }
 
 // Returns the request of arguments that name a command.
-fn parse_command<'a>(alloc: Global, words: &'a [&'a str]) -> Result<Request<'a>, UsageFault>
-    ensures request { IfOk result (AsksOfCommand (texts_of words.now)) }
-    ensures fault { IfErr result (IsFaultOfCommand (texts_of words.now)) }
+fn parse_command<'a>(alloc: Global, arguments: &'a [&'a str]) -> Result<Request<'a>, UsageFault>
+    ensures request { IfOk result (IsRequestOfCommand (texts_of arguments.now)) }
+    ensures fault { IfErr result (IsFaultOfCommand (texts_of arguments.now)) }
 {
-    if words.is_empty() {
+    if arguments.is_empty() {
         return Err(UsageFault::Words);
     }
-    let matches = matches_of(alloc, words)?;
+    let matches = matches_of(alloc, arguments)?;
     match matches.subcommand() {
-        Some((name, arguments)) => read_command(alloc, name, arguments),
+        Some((name, sub_matches)) => read_command(alloc, name, sub_matches),
         None => Err(UsageFault::Words),
     }
 }
 
 // Returns `clap`'s matches for the arguments.
-fn matches_of<'a>(alloc: Global, words: &'a [&'a str]) -> Result<ArgMatches<'a>, UsageFault>
-    requires { words.now ≢ [] }
-    ensures command { IfOk result (λ m. subcommand_rows_of m ≡ command_in (texts_of words.now)) }
+fn matches_of<'a>(alloc: Global, arguments: &'a [&'a str]) -> Result<ArgMatches<'a>, UsageFault>
+    requires { arguments.now ≢ [] }
+    ensures command { IfOk result
+        (λ m. subcommand_rows_of m ≡ command_in (texts_of arguments.now)) }
     ensures there { IfOk result (λ m. has_subcommand m ≡ true) }
-    ensures taken { OnOk result (clap_refusals (texts_of words.now) ≡ []) }
-    ensures fault { IfErr result (IsFaultOfCommand (texts_of words.now)) }
+    ensures taken { OnOk result (clap_refusals (texts_of arguments.now) ≡ []) }
+    ensures fault { IfErr result (IsFaultOfCommand (texts_of arguments.now)) }
 {
     let Ok(command) = subttx_command(alloc) else {
         return Err(UsageFault::Memory);
     };
-    match command.try_get_matches_from(words) {
+    match command.try_get_matches_from(arguments) {
         Ok(matches) => Ok(matches),
         Err(error) => match error.kind() {
             ErrorKind::OutOfMemory => Err(UsageFault::Memory),

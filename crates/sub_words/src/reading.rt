@@ -1,8 +1,10 @@
 //! Reads the arguments of each command as a request.
 ghost use Rattle.clap.specs.Words.{found_of, rows_of};
-ghost use Rattle.sub_words.specs.Requests.{IsReadExactly, IsReadGivenMemory, asked_in, check_asked};
-ghost use Rattle.sub_words.specs.Requests.{extract_asked, listen_asked, normal_asked, packet_asked};
-ghost use Rattle.sub_words.specs.Requests.{packets_asked, schedule_asked, survey_asked};
+ghost use Rattle.sub_words.specs.Requests.{IsReadExactly, IsReadGivenMemory, requested_in};
+ghost use Rattle.sub_words.specs.Requests.{check_requested};
+ghost use Rattle.sub_words.specs.Requests.{extract_requested, listen_requested, normal_requested};
+ghost use Rattle.sub_words.specs.Requests.{packet_requested};
+ghost use Rattle.sub_words.specs.Requests.{packets_requested, schedule_requested, survey_requested};
 
 use crate::arguments::{
     allowing_at, flag_at, keeping_at, layout_at, list_at, options_at, pacing_at, packet_size_at,
@@ -27,7 +29,7 @@ pub fn read_command<'a>(
     name: &str,
     matches: &ArgMatches<'a>,
 ) -> Result<Request<'a>, UsageFault>
-    ensures { IsReadGivenMemory (asked_in name.now (rows_of (found_of matches.now))) result }
+    ensures { IsReadGivenMemory (requested_in name.now (rows_of (found_of matches.now))) result }
 {
     match name {
         "packet" => read_packet(matches),
@@ -46,7 +48,7 @@ pub fn read_command<'a>(
 
 // `packet HEX`
 fn read_packet<'a>(matches: &ArgMatches<'a>) -> Result<Request<'a>, UsageFault>
-    ensures { IsReadExactly (packet_asked (rows_of (found_of matches.now))) result }
+    ensures { IsReadExactly (packet_requested (rows_of (found_of matches.now))) result }
 {
     let mut bytes = [0u8; 42];
     match hex::decode_to_slice(text_at(matches, "hex"), &mut bytes) {
@@ -57,7 +59,7 @@ fn read_packet<'a>(matches: &ArgMatches<'a>) -> Result<Request<'a>, UsageFault>
 
 // `packets PES [--pid P] [--packet-size S] [--pes I-J]`
 fn read_packets<'a>(matches: &ArgMatches<'a>) -> Result<Request<'a>, UsageFault>
-    ensures { IsReadExactly (packets_asked (rows_of (found_of matches.now))) result }
+    ensures { IsReadExactly (packets_requested (rows_of (found_of matches.now))) result }
 {
     match pes_at(matches) {
         Ok(pes) => Ok(Request::Packets { pes }),
@@ -67,7 +69,7 @@ fn read_packets<'a>(matches: &ArgMatches<'a>) -> Result<Request<'a>, UsageFault>
 
 // `normal IN OUT`
 fn read_normal<'a>(matches: &ArgMatches<'a>) -> Result<Request<'a>, UsageFault>
-    ensures { IsReadExactly (normal_asked (rows_of (found_of matches.now))) result }
+    ensures { IsReadExactly (normal_requested (rows_of (found_of matches.now))) result }
 {
     let input = text_at(matches, "in");
     let output = text_at(matches, "out");
@@ -80,7 +82,7 @@ fn read_normal<'a>(matches: &ArgMatches<'a>) -> Result<Request<'a>, UsageFault>
 // `schedule STL PES [--page P] [--every N] [--origin T] [--option O] [--serial] [--layout TEXT]
 // [--from TIME] [--to TIME] [--open]`
 fn read_schedule<'a>(matches: &ArgMatches<'a>) -> Result<Request<'a>, UsageFault>
-    ensures { IsReadExactly (schedule_asked (rows_of (found_of matches.now))) result }
+    ensures { IsReadExactly (schedule_requested (rows_of (found_of matches.now))) result }
 {
     let stl = text_at(matches, "stl");
     let pes = text_at(matches, "pes");
@@ -108,7 +110,7 @@ fn read_schedule<'a>(matches: &ArgMatches<'a>) -> Result<Request<'a>, UsageFault
 // [--packet-size S] [--pes I-J] [--layout TEXT] [--pace K] [--from TIME] [--to TIME] [--open]
 // [--keeping] [--complete] [--all]`
 fn read_check<'a>(matches: &ArgMatches<'a>) -> Result<Request<'a>, UsageFault>
-    ensures { IsReadExactly (check_asked (rows_of (found_of matches.now))) result }
+    ensures { IsReadExactly (check_requested (rows_of (found_of matches.now))) result }
 {
     let plain = options_at(matches, parse_number(text_at(matches, "every")))?;
     let Some(national) = National::parse(text_at(matches, "option")) else {
@@ -136,7 +138,7 @@ fn read_check<'a>(matches: &ArgMatches<'a>) -> Result<Request<'a>, UsageFault>
 // `listen PES [--page P] [--origin T] [--within N] [--complete] [--pid P] [--packet-size S]
 // [--pes I-J] --at TIME [--skip N] [--flip F] [--lose L] [--receiver R]`
 fn read_listen<'a>(alloc: Global, matches: &ArgMatches<'a>) -> Result<Request<'a>, UsageFault>
-    ensures { IsReadGivenMemory (listen_asked (rows_of (found_of matches.now))) result }
+    ensures { IsReadGivenMemory (listen_requested (rows_of (found_of matches.now))) result }
 {
     // The repeat bound is not used.
     let plain = options_at(matches, Some(1))?;
@@ -173,7 +175,7 @@ fn read_listen<'a>(alloc: Global, matches: &ArgMatches<'a>) -> Result<Request<'a
 
 // `extract TS PES --pid P [--packet-size S]`
 fn read_extract<'a>(matches: &ArgMatches<'a>) -> Result<Request<'a>, UsageFault>
-    ensures { IsReadExactly (extract_asked (rows_of (found_of matches.now))) result }
+    ensures { IsReadExactly (extract_requested (rows_of (found_of matches.now))) result }
 {
     let recording = text_at(matches, "recording");
     let pes = text_at(matches, "pes");
@@ -191,7 +193,7 @@ fn read_extract<'a>(matches: &ArgMatches<'a>) -> Result<Request<'a>, UsageFault>
 
 // `survey RECORDING [--page P] [--pid P] [--packet-size S]`
 fn read_survey<'a>(matches: &ArgMatches<'a>) -> Result<Request<'a>, UsageFault>
-    ensures { IsReadExactly (survey_asked (rows_of (found_of matches.now))) result }
+    ensures { IsReadExactly (survey_requested (rows_of (found_of matches.now))) result }
 {
     let options = survey_options_at(matches)?;
     Ok(Request::Survey {

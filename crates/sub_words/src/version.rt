@@ -4,12 +4,12 @@ ghost use Rattle.sub_words.specs.Commands.{texts_of};
 ghost use Rattle.sub_words.specs.Version as specs;
 
 /// Returns whether arguments request the version: a word for it is alone after the program's name.
-#[tactic(auto, unfolding(crate::specs::Version::asks_version))]
-pub fn asks_version(words: &[&str]) -> bool
-    ensures { result ≡ specs.asks_version (texts_of words.now) }
+#[tactic(auto, unfolding(crate::specs::Version::requests_version))]
+pub fn requests_version(arguments: &[&str]) -> bool
+    ensures { result ≡ specs.requests_version (texts_of arguments.now) }
 {
-    match words.get(1) {
-        Some(word) => words.len() == 2 && is_version_word(word),
+    match arguments.get(1) {
+        Some(word) => arguments.len() == 2 && is_version_word(word),
         None => false,
     }
 }

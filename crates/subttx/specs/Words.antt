@@ -11,17 +11,17 @@ use Rattle.sub_request.specs.declared.request.UsageFault.{UsageFault}
 use Rattle.sub_request.specs.declared.request.UsageFault.TheVariants as usage
 
 -- Why there are no arguments: memory ran out, or one of them is no text.
-abbrev pub no_words : ErrorKind → UsageFault
-no_words OutOfMemory = usage.Memory
-no_words _ = usage.Words
+abbrev pub no_arguments : ErrorKind → UsageFault
+no_arguments OutOfMemory = usage.Memory
+no_arguments _ = usage.Words
 
 -- The arguments as texts; or why there are none.
-abbrev pub words_given : {Z : Type 0}
+abbrev pub arguments_given : {Z : Type 0}
     → Result (IntoIter (String Z) Z) Error → Result (List Text) UsageFault
-words_given (Ok words) = Ok (map string_bytes (into_iter_items words))
-words_given (Err error) = Err (no_words (error_kind error))
+arguments_given (Ok arguments) = Ok (map string_bytes (into_iter_items arguments))
+arguments_given (Err error) = Err (no_arguments (error_kind error))
 
 -- Why arguments are not passed on: memory ran out, or there are none.
 abbrev pub IsLost : Result (List Text) UsageFault → UsageFault → Type 0
-IsLost (Ok words) fault = fault ≡ usage.Memory
+IsLost (Ok arguments) fault = fault ≡ usage.Memory
 IsLost (Err why) fault = fault ≡ why

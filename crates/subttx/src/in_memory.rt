@@ -3,12 +3,12 @@
 //! The bytes of the system's devices are unknown to contracts, so the clauses about bytes apply to
 //! files whose bytes are known.
 ghost use Rattle.std.specs.Prelude.{◌≡◌};
-ghost use Rattle.sub_headline.specs.Headline.{TellsAcceptance, TellsChosen, TellsComplete};
-ghost use Rattle.sub_headline.specs.Headline.{TellsDrawn, TellsDropping, TellsFiles};
-ghost use Rattle.sub_headline.specs.Headline.{TellsHeadline};
-ghost use Rattle.sub_headline.specs.Headline.{TellsRecording, TellsRecordingFiles};
-ghost use Rattle.sub_headline.specs.Headline.{TellsRecordingToo, TellsScreens};
-ghost use Rattle.subttx.specs.Words.{words_given};
+ghost use Rattle.sub_headline.specs.Headline.{DecidesAcceptance, ImpliesChosen, ImpliesComplete};
+ghost use Rattle.sub_headline.specs.Headline.{ImpliesDrawn, ImpliesDropping, ImpliesFiles};
+ghost use Rattle.sub_headline.specs.Headline.{ImpliesHeadline};
+ghost use Rattle.sub_headline.specs.Headline.{ImpliesRecording, ImpliesRecordingFiles};
+ghost use Rattle.sub_headline.specs.Headline.{ImpliesRecordingToo, ImpliesScreens};
+ghost use Rattle.subttx.specs.Words.{arguments_given};
 
 use crate::run;
 use std::alloc::Global;
@@ -34,17 +34,17 @@ pub fn run_in_memory<K: Sink + Drop>(
     standard_output: K,
 ) -> u8
     requires { K.failure_count standard_output ≡ 0 }
-    ensures headline { TellsHeadline (words_given given) files.old result }
-    ensures chosen { TellsChosen (words_given given) files.old result }
-    ensures dropping { TellsDropping (words_given given) files.old result }
-    ensures screens { TellsScreens (words_given given) files.old result }
-    ensures files { TellsFiles (words_given given) files.old result }
-    ensures complete { TellsComplete (words_given given) files.old result }
-    ensures recording { TellsRecording (words_given given) files.old result }
-    ensures recording_too { TellsRecordingToo (words_given given) files.old result }
-    ensures recording_files { TellsRecordingFiles (words_given given) files.old result }
-    ensures drawn { TellsDrawn (words_given given) files.old result }
-    ensures acceptance { TellsAcceptance (words_given given) files.old result }
+    ensures headline { ImpliesHeadline (arguments_given given) files.old result }
+    ensures chosen { ImpliesChosen (arguments_given given) files.old result }
+    ensures dropping { ImpliesDropping (arguments_given given) files.old result }
+    ensures screens { ImpliesScreens (arguments_given given) files.old result }
+    ensures files { ImpliesFiles (arguments_given given) files.old result }
+    ensures complete { ImpliesComplete (arguments_given given) files.old result }
+    ensures recording { ImpliesRecording (arguments_given given) files.old result }
+    ensures recording_too { ImpliesRecordingToo (arguments_given given) files.old result }
+    ensures recording_files { ImpliesRecordingFiles (arguments_given given) files.old result }
+    ensures drawn { ImpliesDrawn (arguments_given given) files.old result }
+    ensures acceptance { DecidesAcceptance (arguments_given given) files.old result }
 {
     law_of_headline::<K>();
     run(alloc, given, files, standard_output).code

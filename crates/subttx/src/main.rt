@@ -4,22 +4,22 @@
 //! files that it names, and ends in a `Status` (`sub_answer`).
 #![tactic(auto)]
 
+mod arguments;
 mod in_memory;
-mod words;
 
 ghost use Rattle.std.specs.Prelude.{◌≡◌, IfErr, IfOk};
 ghost use Rattle.sub_io.specs.Buffered.{failures_and_refused};
-ghost use Rattle.sub_answer.specs.Ending.{BufferHoldsLineAlone, known_of_files, lines_of};
-ghost use Rattle.sub_files.specs.FileCalls.{CallsInTurn};
+ghost use Rattle.sub_answer.specs.Ending.{BufferHoldsOneLineOnly, known_of_files, lines_of};
+ghost use Rattle.sub_files.specs.FileCalls.{CallsInOrder};
 ghost use Rattle.sub_headline.specs.Run.{Answered, EndsRun, IsCause, RunsProgram};
-ghost use Rattle.subttx.specs.Words.{words_given};
+ghost use Rattle.subttx.specs.Words.{arguments_given};
 
-use crate::words::{texts_of, words_of};
+use crate::arguments::{texts_of, words_of};
 use std::alloc::Global;
 use std::env::Args;
 use std::process::ExitCode;
 use std::{env, io};
-use sub_answer::{Status, open_and_answer, say_and_hand_on};
+use sub_answer::{Status, open_and_answer, say_and_flush};
 use sub_files::{BUFFER, Explained, FileSystem, NAMES, SystemFiles, room};
 use sub_io::{BufferedSink, IntoWrite, Sink};
 use sub_request::{Request, UsageFault};
@@ -46,11 +46,11 @@ fn main(rt: HostRuntime) -> ExitCode {
 // Prints on standard error why the arguments are no command, if they are none.
 fn explain_arguments(rt: &HostRuntime) {
     match env::args(rt) {
-        Ok(words) => {
-            let Ok(words) = words.collect::<Vec<String>>(rt.alloc()) else {
+        Ok(arguments) => {
+            let Ok(arguments) = arguments.collect::<Vec<String>>(rt.alloc()) else {
                 return;
             };
-            if let Some(texts) = texts_of(rt.alloc(), words.as_slice()) {
+            if let Some(texts) = texts_of(rt.alloc(), arguments.as_slice()) {
                 explain_words(rt.alloc(), texts.as_slice(), rt);
             }
         }
@@ -78,10 +78,10 @@ fn run<D: FileSystem, K: Sink>(
     standard_output: K,
 ) -> Ended<K>
     requires { K.failure_count standard_output ≡ 0 }
-    ensures { RunsProgram (CallsInTurn D.is_call files.old files.new)
+    ensures { RunsProgram (CallsInOrder D.is_call files.old files.new)
         (known_of_files D.Input.remaining D.Input.failure_count
         D.Output.contents D.Output.failure_count D.Output.is_stored)
-        D.Output.is_close (words_given given)
+        D.Output.is_close (arguments_given given)
         K.contents K.failure_count K.is_push
         standard_output result.standard_output result.code }
 {
@@ -97,7 +97,7 @@ fn run<D: FileSystem, K: Sink>(
         None => {
             let mut little = [0; LITTLE];
             let mut out = BufferedSink::new(standard_output, &mut little);
-            let status = say_and_hand_on(&UsageFault::Memory, &mut out);
+            let status = say_and_flush(&UsageFault::Memory, &mut out);
             Ended {
                 code: status.code(),
                 standard_output: out.into_inner(),
@@ -114,17 +114,17 @@ fn answer_or_say<D: FileSystem, K: Sink>(
     out: &mut BufferedSink<'_, K>,
 ) -> Status
     requires { failures_and_refused (K.failure_count out.old.device) out.old.refused ≡ 0 }
-    ensures { EndsRun (CallsInTurn D.is_call files.old files.new)
+    ensures { EndsRun (CallsInOrder D.is_call files.old files.new)
         (known_of_files D.Input.remaining D.Input.failure_count
         D.Output.contents D.Output.failure_count D.Output.is_stored)
-        D.Output.is_close (words_given given)
-        (BufferHoldsLineAlone K.contents K.failure_count K.is_push)
+        D.Output.is_close (arguments_given given)
+        (BufferHoldsOneLineOnly K.contents K.failure_count K.is_push)
         (lines_of K.contents K.failure_count out.old)
         (lines_of K.contents K.failure_count out.new) result }
 {
     match answer_given(alloc, given, files, out) {
         Ok(status) => status,
-        Err(fault) => say_and_hand_on(&fault, out),
+        Err(fault) => say_and_flush(&fault, out),
     }
 }
 
@@ -136,19 +136,19 @@ fn answer_given<D: FileSystem, K: Sink>(
     out: &mut BufferedSink<'_, K>,
 ) -> Result<Status, UsageFault>
     requires { failures_and_refused (K.failure_count out.old.device) out.old.refused ≡ 0 }
-    ensures ends { IfOk result (Answered (CallsInTurn D.is_call files.old files.new)
+    ensures ends { IfOk result (Answered (CallsInOrder D.is_call files.old files.new)
         (known_of_files D.Input.remaining D.Input.failure_count
         D.Output.contents D.Output.failure_count D.Output.is_stored)
-        D.Output.is_close (words_given given)
-        (BufferHoldsLineAlone K.contents K.failure_count K.is_push)
+        D.Output.is_close (arguments_given given)
+        (BufferHoldsOneLineOnly K.contents K.failure_count K.is_push)
         (lines_of K.contents K.failure_count out.old)
         (lines_of K.contents K.failure_count out.new)) }
     ensures unanswered { IfErr result (λ _. out.new ≡ out.old) }
-    ensures cause { IfErr result (IsCause (CallsInTurn D.is_call files.old files.new)
-        (words_given given)) }
+    ensures cause { IfErr result (IsCause (CallsInOrder D.is_call files.old files.new)
+        (arguments_given given)) }
 {
-    let words = words_of(alloc, given)?;
-    let Some(texts) = texts_of(alloc, words.as_slice()) else {
+    let arguments = words_of(alloc, given)?;
+    let Some(texts) = texts_of(alloc, arguments.as_slice()) else {
         return Err(UsageFault::Memory);
     };
     let request = Request::parse(alloc, texts.as_slice())?;

@@ -15,11 +15,11 @@ use sub_io::{
 // A source of which each byte says how long the slice was that the source got, and the first of
 // each call how many calls there were.
 #[derive(Drop)]
-struct Lent {
+struct Borrowed {
     calls: u8,
 }
 
-impl Source for Lent {
+impl Source for Borrowed {
     ghost remaining = { λ _. None };
 
     ghost failure_count = { λ _. 0 };
@@ -38,7 +38,7 @@ impl Source for Lent {
         0
     }
 
-    fn pass(&mut self, _count: usize) -> bool {
+    fn skip_bytes(&mut self, _count: usize) -> bool {
         false
     }
 }
@@ -63,9 +63,9 @@ impl Sink for TakesLast {
 }
 
 #[test]
-fn asks_once_and_only_where_it_holds_nothing(rt: HostRuntime) {
-    let mut room = [0; 4];
-    let mut source = BufferedSource::new(Lent { calls: 0 }, &mut room);
+fn reads_once_and_only_where_nothing_is_buffered(rt: HostRuntime) {
+    let mut buffer = [0; 4];
+    let mut source = BufferedSource::new(Borrowed { calls: 0 }, &mut buffer);
     assert_pulls(&rt, &mut source, Ok(2), &[1, 4], 0);
     // The buffer has fewer bytes than there is room for, and the inner source is not asked for
     // more.
@@ -76,8 +76,8 @@ fn asks_once_and_only_where_it_holds_nothing(rt: HostRuntime) {
 }
 
 #[test]
-fn passes_on_the_slice_that_it_is_lent(rt: HostRuntime) {
-    let mut source = FailAt::new(Lent { calls: 0 }, 9);
+fn forwards_the_slice_that_it_borrows(rt: HostRuntime) {
+    let mut source = FailAt::new(Borrowed { calls: 0 }, 9);
     assert_pulls(&rt, &mut source, Ok(5), &[1, 5, 5, 5, 5], 0);
     let mut sink = FailAt::new(TakesLast, 9);
     assert_pushes(&rt, &mut sink, &[9, 9, 9, 9, 3], Ok(3), 0);
@@ -85,18 +85,18 @@ fn passes_on_the_slice_that_it_is_lent(rt: HostRuntime) {
 
 #[test]
 fn a_failed_pull_is_not_made_again(rt: HostRuntime) {
-    let mut room = [0; 4];
-    let mut source = BufferedSource::new(FailAt::new(MemSource::new(b"abcdef"), 1), &mut room);
+    let mut buffer = [0; 4];
+    let mut source = BufferedSource::new(FailAt::new(MemSource::new(b"abcdef"), 1), &mut buffer);
     assert_pulls(&rt, &mut source, Ok(4), b"abcd", 0);
     assert_pulls(&rt, &mut source, Err(Failed), b"\0\0\0", 1);
     assert_pulls(&rt, &mut source, Ok(2), b"ef\0", 1);
 }
 
 #[test]
-fn hands_on_all_at_a_flush(rt: HostRuntime) {
+fn flushes_all_at_a_flush(rt: HostRuntime) {
     let mut taken = [0; 12];
-    let mut room = [0; 4];
-    let mut sink = BufferedSink::new(MemSink::new(&mut taken), &mut room);
+    let mut buffer = [0; 4];
+    let mut sink = BufferedSink::new(MemSink::new(&mut taken), &mut buffer);
     assert_puts(&rt, &mut sink, b"sub", Ok(()), 0);
     assert_puts(&rt, &mut sink, b"ttx 1.0", Ok(()), 0);
     assert_flushes(&rt, &mut sink, Ok(()), 0);
@@ -104,10 +104,10 @@ fn hands_on_all_at_a_flush(rt: HostRuntime) {
 }
 
 #[test]
-fn hands_on_nothing_when_it_ends(rt: HostRuntime) {
+fn flushes_nothing_when_it_ends(rt: HostRuntime) {
     let mut taken = [0; 6];
-    let mut room = [0; 4];
-    let mut sink = BufferedSink::new(MemSink::new(&mut taken), &mut room);
+    let mut buffer = [0; 4];
+    let mut sink = BufferedSink::new(MemSink::new(&mut taken), &mut buffer);
     assert_puts(&rt, &mut sink, b"sub", Ok(()), 0);
     assert_puts(&rt, &mut sink, b"tt", Ok(()), 0);
     // "t" is held back.
@@ -115,11 +115,11 @@ fn hands_on_nothing_when_it_ends(rt: HostRuntime) {
 }
 
 #[test]
-fn hands_on_nothing_after_a_failure(rt: HostRuntime) {
+fn flushes_nothing_after_a_failure(rt: HostRuntime) {
     let mut taken = [0; 12];
-    let mut room = [0; 4];
+    let mut buffer = [0; 4];
     let inside = FailAt::new(MemSink::new(&mut taken), 1);
-    let mut sink = BufferedSink::new(inside, &mut room);
+    let mut sink = BufferedSink::new(inside, &mut buffer);
     assert_puts(&rt, &mut sink, b"sub", Ok(()), 0);
     assert_puts(&rt, &mut sink, b"ttx", Ok(()), 0);
     assert_flushes(&rt, &mut sink, Err(Failed), 1);
@@ -130,8 +130,8 @@ fn hands_on_nothing_after_a_failure(rt: HostRuntime) {
 
 #[test]
 fn a_long_push_goes_straight_through(rt: HostRuntime) {
-    let mut room = [0; 4];
-    let mut sink = BufferedSink::new(TakesLast, &mut room);
+    let mut buffer = [0; 4];
+    let mut sink = BufferedSink::new(TakesLast, &mut buffer);
     assert_pushes(&rt, &mut sink, &[9, 9, 9, 9, 3], Ok(3), 0);
     assert_pushes(&rt, &mut sink, &[9, 9, 2], Ok(3), 0);
     assert_pushes(&rt, &mut sink, &[9, 9, 9, 9, 3], Ok(1), 0);
@@ -143,8 +143,8 @@ fn an_interrupted_read_is_not_made_again(rt: HostRuntime) {
     assert_pulls(&rt, &mut source, Err(Failed), &[0, 0], 1);
     assert_pulls(&rt, &mut source, Ok(2), &[0, 0], 1);
 
-    let mut room = [0; 4];
-    let mut source = BufferedSource::new(FromRead::new(Interrupted { calls: 1 }), &mut room);
+    let mut buffer = [0; 4];
+    let mut source = BufferedSource::new(FromRead::new(Interrupted { calls: 1 }), &mut buffer);
     assert_pulls(&rt, &mut source, Err(Failed), &[0, 0], 1);
     assert_pulls(&rt, &mut source, Ok(2), &[0, 0], 1);
 }
@@ -166,8 +166,8 @@ fn an_interrupted_flush_is_not_made_again(rt: HostRuntime) {
     assert_flushes(&rt, &mut sink, Err(Failed), 1);
     assert_flushes(&rt, &mut sink, Ok(()), 1);
 
-    let mut room = [0; 4];
-    let mut sink = BufferedSink::new(IntoWrite::new(Interrupted { calls: 1 }), &mut room);
+    let mut buffer = [0; 4];
+    let mut sink = BufferedSink::new(IntoWrite::new(Interrupted { calls: 1 }), &mut buffer);
     assert_pushes(&rt, &mut sink, b"x", Ok(1), 0);
     assert_flushes(&rt, &mut sink, Err(Failed), 1);
     assert_flushes(&rt, &mut sink, Err(Failed), 2);

@@ -62,9 +62,9 @@ fn a_closed_file_takes_nothing(rt: HostRuntime) {
 }
 
 #[test]
-fn what_is_held_back_is_not_written_by_closing(rt: HostRuntime) {
-    let mut room = [0; 4];
-    let mut sink = BufferedSink::new(IntoFile::new(Interrupted { calls: 0 }), &mut room);
+fn buffered_bytes_are_not_written_by_closing(rt: HostRuntime) {
+    let mut buffer = [0; 4];
+    let mut sink = BufferedSink::new(IntoFile::new(Interrupted { calls: 0 }), &mut buffer);
     assert_pushes(&rt, &mut sink, b"sub", Ok(3), 0);
     sink.close();
     assert_flushes(&rt, &mut sink, Err(Failed), 1);
@@ -75,8 +75,8 @@ fn assert_stored(rt: &impl Abort, errno: i32, answer: Result<(), Failed>, failur
     let mut sink = IntoFile::new(Answering { errno });
     assert_puts(rt, &mut sink, b"sub", Ok(()), 0);
     assert_stores(rt, &mut sink, answer, failures);
-    let mut room = [0; 4];
-    let mut sink = BufferedSink::new(IntoFile::new(Answering { errno }), &mut room);
+    let mut buffer = [0; 4];
+    let mut sink = BufferedSink::new(IntoFile::new(Answering { errno }), &mut buffer);
     assert_pushes(rt, &mut sink, b"sub", Ok(3), 0);
     assert_stores(rt, &mut sink, answer, failures);
 }
@@ -94,18 +94,18 @@ fn a_file_is_stored_where_nothing_is_lost(rt: HostRuntime) {
 }
 
 #[test]
-fn what_is_held_back_is_written_before_it_is_stored(rt: HostRuntime) {
-    let (mut bytes, mut room) = ([0; 8], [0; 4]);
-    let mut sink = BufferedSink::new(MemSink::new(&mut bytes), &mut room);
+fn buffered_bytes_are_written_before_it_is_stored(rt: HostRuntime) {
+    let (mut bytes, mut buffer) = ([0; 8], [0; 4]);
+    let mut sink = BufferedSink::new(MemSink::new(&mut bytes), &mut buffer);
     assert_pushes(&rt, &mut sink, b"sub", Ok(3), 0);
     assert_stores(&rt, &mut sink, Ok(()), 0);
     assert!(rt; sink.into_inner().written() == b"sub".as_slice());
 
     // Its push fails, and nothing is stored then; or the store itself fails.
     for call in 0..2 {
-        let (mut bytes, mut room) = ([0; 8], [0; 4]);
+        let (mut bytes, mut buffer) = ([0; 8], [0; 4]);
         let inner = FailAt::new(MemSink::new(&mut bytes), call);
-        let mut sink = BufferedSink::new(inner, &mut room);
+        let mut sink = BufferedSink::new(inner, &mut buffer);
         assert_pushes(&rt, &mut sink, b"sub", Ok(3), 0);
         assert_stores(&rt, &mut sink, Err(Failed), 1);
         assert_stores(&rt, &mut sink, Err(Failed), 2);

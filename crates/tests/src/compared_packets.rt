@@ -4,7 +4,7 @@ use fixtures::{Drip, ROW, every_second};
 use std::process::Abort;
 use sub_io::{FailAt, MemSource};
 use ttx_packet::Packet;
-use ttx_pes::{Compared, ComparingReader, FilePieces, PesFault, Unit};
+use ttx_pes::{Compared, ComparingReader, FilePesPackets, PesFault, Unit};
 
 // The PTS of frame 10:00:00:00.
 const TEN: u64 = 3_240_000_000;
@@ -13,25 +13,31 @@ const TEN: u64 = 3_240_000_000;
 fn assert_compares(
     rt: &impl Abort,
     reader: &mut ComparingReader,
-    pieces: &mut FilePieces<'_, MemSource<'_>>,
+    pes_packets: &mut FilePesPackets<'_, MemSource<'_>>,
     want: Compared,
     pts_and_units: (u64, usize),
 ) {
-    assert_same(rt, &reader.next(pieces), &Ok(want));
+    assert_same(rt, &reader.next(pes_packets), &Ok(want));
     assert_same(rt, &(reader.pts(), reader.units().len()), &pts_and_units);
 }
 
 #[test]
-fn tells_a_data_field_that_is_sent_again(rt: HostRuntime) {
+fn reports_a_data_field_that_is_sent_again(rt: HostRuntime) {
     let file = every_second();
     let mut source = MemSource::new(&file);
-    let mut pieces = FilePieces::new(&mut source);
+    let mut pes_packets = FilePesPackets::new(&mut source);
     let mut reader = ComparingReader::new();
-    assert_compares(&rt, &mut reader, &mut pieces, Compared::Other, (TEN, 3));
     assert_compares(
         &rt,
         &mut reader,
-        &mut pieces,
+        &mut pes_packets,
+        Compared::Other,
+        (TEN, 3),
+    );
+    assert_compares(
+        &rt,
+        &mut reader,
+        &mut pes_packets,
         Compared::Same,
         (TEN + 90_000, 3),
     );
@@ -43,36 +49,36 @@ fn tells_a_data_field_that_is_sent_again(rt: HostRuntime) {
     assert_compares(
         &rt,
         &mut reader,
-        &mut pieces,
+        &mut pes_packets,
         Compared::Other,
         (TEN + 180_000, 2),
     );
-    assert_compares(&rt, &mut reader, &mut pieces, Compared::End, (0, 0));
+    assert_compares(&rt, &mut reader, &mut pes_packets, Compared::End, (0, 0));
 }
 
 #[test]
-fn goes_on_behind_a_piece_that_is_refused(rt: HostRuntime) {
+fn goes_on_after_a_pes_packet_that_is_refused(rt: HostRuntime) {
     let mut file = every_second();
     file[45] = 0x20; // data_identifier of the first PES packet
     let mut source = MemSource::new(&file);
-    let mut pieces = FilePieces::new(&mut source);
+    let mut pes_packets = FilePesPackets::new(&mut source);
     let mut reader = ComparingReader::new();
-    let answer = reader.next(&mut pieces);
+    let answer = reader.next(&mut pes_packets);
     assert_same(&rt, &answer, &Err(PesFault::DataId));
-    assert!(rt; PesFault::DataId.is_of_piece() && !PesFault::Truncated.is_of_piece());
-    reader.pass_over();
+    assert!(rt; PesFault::DataId.is_of_pes_packet() && !PesFault::Truncated.is_of_pes_packet());
+    reader.skip_packet();
     assert_compares(
         &rt,
         &mut reader,
-        &mut pieces,
+        &mut pes_packets,
         Compared::Other,
         (TEN + 90_000, 3),
     );
-    reader.pass_over();
+    reader.skip_packet();
     assert_compares(
         &rt,
         &mut reader,
-        &mut pieces,
+        &mut pes_packets,
         Compared::Other,
         (TEN + 180_000, 2),
     );
@@ -81,11 +87,11 @@ fn goes_on_behind_a_piece_that_is_refused(rt: HostRuntime) {
 // Returns the result for the first PES packet of a file if the pull after that many bytes fails.
 fn answer_before(file: &[u8; 552], bytes: u64) -> Result<Compared, PesFault> {
     let mut source = FailAt::new(Drip { rest: file }, bytes);
-    ComparingReader::new().next(&mut FilePieces::new(&mut source))
+    ComparingReader::new().next(&mut FilePesPackets::new(&mut source))
 }
 
 #[test]
-fn a_fault_is_told_before_the_pull_that_fails_after_it(rt: HostRuntime) {
+fn a_fault_is_reported_before_the_pull_that_fails_after_it(rt: HostRuntime) {
     let mut file = every_second();
     file[6] = 0x45; // flags
     assert_same(&rt, &answer_before(&file, 183), &Err(PesFault::Read));

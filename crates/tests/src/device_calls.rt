@@ -17,10 +17,10 @@ pub fn assert_pulls<S: Source>(
     requires { CanFail (S.failure_count source.old) }
     ensures { CanFail (S.failure_count source.new) }
 {
-    let mut room = [0; 12];
+    let mut buffer = [0; 12];
     assert!(rt; slice.len() <= 12);
-    assert_same(rt, &source.pull(&mut room[..slice.len()]), &answer);
-    assert!(rt; room.starts_with(slice));
+    assert_same(rt, &source.pull(&mut buffer[..slice.len()]), &answer);
+    assert!(rt; buffer.starts_with(slice));
     assert!(rt; source.failures() == failures && failures < 9);
 }
 
@@ -35,10 +35,10 @@ pub fn assert_fills<S: Source>(
     requires { CanFail (S.failure_count source.old) }
     ensures { CanFail (S.failure_count source.new) }
 {
-    let mut room = [0; 12];
+    let mut buffer = [0; 12];
     assert!(rt; slice.len() <= 12);
-    assert_same(rt, &fill(source, &mut room[..slice.len()]), &answer);
-    assert!(rt; room.starts_with(slice));
+    assert_same(rt, &fill(source, &mut buffer[..slice.len()]), &answer);
+    assert!(rt; buffer.starts_with(slice));
     assert!(rt; source.failures() == failures && failures < 9);
 }
 

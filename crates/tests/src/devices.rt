@@ -21,17 +21,17 @@ fn gives_its_bytes_and_then_ends(rt: HostRuntime) {
 }
 
 // Asserts how many of five bytes are read into this much room, and with how many pulls.
-fn assert_gets(rt: &impl Abort, room: usize, got: usize, pulls: u64) {
+fn assert_gets(rt: &impl Abort, buffer: usize, got: usize, pulls: u64) {
     let inner = MemSource::new(b"abcde");
     let mut source = Counting { inner, pulls: 0 };
     let mut to = [0; 9];
-    assert!(rt; room <= 9);
-    assert_same(rt, &fill(&mut source, &mut to[..room]), &Ok(got));
+    assert!(rt; buffer <= 9);
+    assert_same(rt, &fill(&mut source, &mut to[..buffer]), &Ok(got));
     assert_same(rt, &source.pulls, &pulls);
 }
 
 #[test]
-fn asks_no_more_once_a_pull_gave_nothing(rt: HostRuntime) {
+fn reads_no_more_once_a_pull_gave_nothing(rt: HostRuntime) {
     assert_gets(&rt, 0, 0, 0);
     assert_gets(&rt, 5, 5, 1);
     // the last pull finds the end
@@ -57,8 +57,8 @@ fn assert_takes(
 
 #[test]
 fn takes_bytes_until_it_is_full(rt: HostRuntime) {
-    let mut room = [0; 5];
-    let mut sink = MemSink::new(&mut room);
+    let mut buffer = [0; 5];
+    let mut sink = MemSink::new(&mut buffer);
     assert_takes(&rt, &mut sink, b"sub", Ok(()), 0, b"sub");
     assert_takes(&rt, &mut sink, b"", Ok(()), 0, b"sub");
     assert_takes(&rt, &mut sink, b"ttx", Err(Failed), 1, b"subtt");
@@ -99,8 +99,8 @@ fn assert_fails_to_read(rt: &impl Abort, number: u64) {
 
 // Asserts that exactly this one of four calls of a sink, the second a flush, fails.
 fn assert_fails_to_write(rt: &impl Abort, number: u64) {
-    let mut room = [0; 6];
-    let mut sink = FailAt::new(MemSink::new(&mut room), number);
+    let mut buffer = [0; 6];
+    let mut sink = FailAt::new(MemSink::new(&mut buffer), number);
     for call in 0..4 {
         assert!(rt; sink.failures() < 9);
         let put = if call == 1 {

@@ -67,7 +67,7 @@ fn drops_the_row_at_each_wrong_bit_of_its_text(rt: HostRuntime) {
 }
 
 #[test]
-fn keeps_what_the_row_held(rt: HostRuntime) {
+fn keeps_what_the_row_had(rt: HostRuntime) {
     let page_id = PageId::parse("888").expect(&rt, "page 888");
     let mut receiver = DropRow::tune(page_id, old_page());
     assert!(rt; receiver.watched() == page_id && !receiver.heard() && !receiver.open());

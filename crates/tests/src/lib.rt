@@ -6,6 +6,8 @@
 #[cfg(test)]
 mod asserting;
 #[cfg(test)]
+mod borrowed_packets;
+#[cfg(test)]
 mod buffers;
 #[cfg(test)]
 mod closing;
@@ -22,11 +24,9 @@ mod dropped_rows;
 #[cfg(test)]
 mod fault_codes;
 #[cfg(test)]
-mod given_pieces;
+mod given_pes_packets;
 #[cfg(test)]
 mod interrupted;
-#[cfg(test)]
-mod lent_packets;
 #[cfg(test)]
 mod libzvbi;
 #[cfg(test)]
@@ -38,9 +38,9 @@ mod packets;
 #[cfg(test)]
 mod pages;
 #[cfg(test)]
-mod pes_packets;
+mod pes_packet_ranges;
 #[cfg(test)]
-mod piece_ranges;
+mod pes_packet_tests;
 #[cfg(test)]
 mod programmes;
 #[cfg(test)]

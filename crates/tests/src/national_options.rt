@@ -113,7 +113,7 @@ const CZECH: [[&[u8]; 2]; 1] = [
 ];
 
 #[test]
-fn draws_the_letters_of_each_option(rt: HostRuntime) {
+fn draws_the_characters_of_each_option(rt: HostRuntime) {
     assert_draws(&rt, National::Swedish, &SWEDISH);
     assert_draws(&rt, National::Italian, &ITALIAN);
     assert_draws(&rt, National::French, &FRENCH);
@@ -133,7 +133,7 @@ fn assert_draws_ete(rt: &impl Abort, national: National, cell: u8) {
 }
 
 #[test]
-fn draws_one_letter_by_the_option(rt: HostRuntime) {
+fn draws_one_character_by_the_option(rt: HostRuntime) {
     assert_draws_ete(&rt, National::French, 0x23);
     assert_draws_ete(&rt, National::Italian, 0x40);
     assert_draws_ete(&rt, National::Spanish, 0x5C);
@@ -174,7 +174,7 @@ const NOT_FRENCH_LATER: [&[u8]; 5] = [
 ];
 
 #[test]
-fn refuses_letters_that_an_option_lacks(rt: HostRuntime) {
+fn refuses_characters_that_an_option_lacks(rt: HostRuntime) {
     assert_refuses(&rt, National::Swedish, 0, &NOT_SWEDISH);
     assert_refuses(&rt, National::Italian, 0, &NOT_ITALIAN);
     assert_refuses(&rt, National::French, 0, &NOT_FRENCH);
@@ -244,7 +244,7 @@ fn reads_a_pair_over_padding_and_a_comment(rt: HostRuntime) -> Result<(), Fail> 
 }
 
 #[test]
-fn refuses_the_mark_of_such_a_pair(rt: HostRuntime) {
+fn refuses_the_diacritic_of_such_a_pair(rt: HostRuntime) {
     let mut text = [0x65; 113];
     text[..112].copy_from_slice(&mark_at_end());
     let refused = Some(RowFault {

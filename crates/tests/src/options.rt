@@ -31,7 +31,7 @@ fn assert_times(rt: &impl Abort, origin: u64, frame: u32, pts: u64) {
 }
 
 #[test]
-fn tells_frames_and_their_times(rt: HostRuntime) {
+fn reports_frames_and_their_times(rt: HostRuntime) {
     assert_times(&rt, 0, 900_000, 3_240_000_000);
     assert_times(&rt, 8_589_930_992, 0, 8_589_930_992);
     assert_times(&rt, 8_589_930_992, 1, 0); // past 33 bits
@@ -44,7 +44,7 @@ fn tells_frames_and_their_times(rt: HostRuntime) {
 }
 
 #[test]
-fn asks_for_complete_pages_where_it_is_asked_to(rt: HostRuntime) {
+fn requires_complete_pages_where_it_is_requested(rt: HostRuntime) {
     let plain = of_origin(&rt, 7);
     let asking = plain.asking_complete();
     assert!(rt; !plain.asks_complete() && asking.asks_complete() && asking.origin() == 7);
@@ -77,7 +77,7 @@ fn allows_two_seconds_at_most(rt: HostRuntime) {
 }
 
 #[test]
-fn asks_for_a_pace_of_a_day_at_most(rt: HostRuntime) {
+fn requires_a_pace_of_a_day_at_most(rt: HostRuntime) {
     let plain = of_origin(&rt, 7);
     assert_same(&rt, &plain.pace(), &None);
     for frames in [1, 2_160_000] {

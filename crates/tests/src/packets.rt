@@ -30,7 +30,7 @@ fn makes_and_reads_a_header(rt: HostRuntime) {
 
 // Asserts the contents of a packet as it is sent, with exact code words: its address, page and
 // header.
-fn assert_says(
+fn assert_header_is(
     rt: &impl Abort,
     sent: &[u8; 42],
     address: Option<(u8, u8)>,
@@ -51,11 +51,11 @@ fn reads_a_header_as_it_is_sent(rt: HostRuntime) {
     let packet = Packet::new(HEADER);
     let mut sent = packet.mirrored();
     assert_same(&rt, &SentPacket::new(&sent).packet(), &packet);
-    assert_says(&rt, &sent, Some((0, 0)), Some(0x88), packet.header());
+    assert_header_is(&rt, &sent, Some((0, 0)), Some(0x88), packet.header());
     // A bit of the first address byte, and of the last coded byte: corrected only by a `Packet`.
     sent[0] ^= 0x01;
     sent[9] ^= 0x80;
-    assert_says(&rt, &sent, None, Some(0x88), None);
+    assert_header_is(&rt, &sent, None, Some(0x88), None);
     assert_same(
         &rt,
         &SentPacket::new(&sent).packet().header(),

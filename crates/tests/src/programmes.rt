@@ -112,36 +112,36 @@ fn refused_block(rt: &(impl Abort + Alloc<A = Global>), file: &[u8], size: usize
 }
 
 #[test]
-fn tells_each_growth_that_is_refused(rt: HostRuntime) {
+fn reports_each_growth_that_is_refused(rt: HostRuntime) {
     let file = file_of_nine();
     // The reported blocks, with more and more memory.
-    let mut told = [false; 10];
+    let mut reported = [false; 10];
     for size in 0..80 {
         if let Some(block) = refused_block(&rt, &file, 16 * size) {
             assert!(rt; block < 10);
-            told[block as usize] = true;
+            reported[block as usize] = true;
         }
     }
     assert_same(&rt, &refused_block(&rt, &file, 16 * 80), &None);
     let growths = [
         false, true, true, true, false, true, false, false, false, true,
     ];
-    assert_same(&rt, &told, &growths);
+    assert_same(&rt, &reported, &growths);
 }
 
 // A device that counts its events.
 #[derive(Drop)]
 struct Counts {
-    told: u32,
+    reported: u32,
 }
 
 impl Audience<LoadFault> for Counts {
-    ghost is_told = { λ _ _ _. ⊤ };
+    ghost is_reported = { λ _ _ _. ⊤ };
 
     ghost has_stopped = { λ _. false };
 
-    fn tell(&mut self, _fault: LoadFault) -> Result<(), Stopped> {
-        self.told = self.told.saturating_add(1);
+    fn report(&mut self, _fault: LoadFault) -> Result<(), Stopped> {
+        self.reported = self.reported.saturating_add(1);
         Ok(())
     }
 }
@@ -154,7 +154,7 @@ fn assert_undecided(rt: &impl Abort, judging: &Judging<'_>, frames: &[u32], unde
 }
 
 #[test]
-fn keeps_what_can_be_judged_beside_a_refused_subtitle(rt: HostRuntime) -> Result<(), Fail> {
+fn keeps_what_can_be_judged_with_a_refused_subtitle(rt: HostRuntime) -> Result<(), Fail> {
     let refused = block(&head(TEN + 50, TEN + 100, 22), &[0xE6]);
     let mut file = [0; 1408];
     put(&mut file, 0, &file_of_two(&block(&HEAD, &HI), &refused));
@@ -163,7 +163,7 @@ fn keeps_what_can_be_judged_beside_a_refused_subtitle(rt: HostRuntime) -> Result
         1280,
         &block(&head(TEN + 120, TEN + 150, 22), &HI),
     );
-    let mut counts = Counts { told: 0 };
+    let mut counts = Counts { reported: 0 };
     let judged = load_all(
         rt.alloc(),
         &mut MemSource::new(&file),
@@ -173,7 +173,7 @@ fn keeps_what_can_be_judged_beside_a_refused_subtitle(rt: HostRuntime) -> Result
         &mut counts,
     )?
     .expect(&rt, "two subtitles to judge by");
-    assert_same(&rt, &counts.told, &1);
+    assert_same(&rt, &counts.reported, &1);
     assert_same(&rt, &judged.programme().len(), &2);
     let judging = judged.judging();
     assert_undecided(&rt, &judging, &[TEN + 50, TEN + 100, TEN + 119], true);

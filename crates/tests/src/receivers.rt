@@ -138,7 +138,7 @@ fn assert_is(rt: &impl Abort, start: [u8; 10], want: PacketKind) {
 }
 
 #[test]
-fn tells_what_a_packet_is(rt: HostRuntime) {
+fn reports_what_a_packet_is(rt: HostRuntime) {
     assert_is(&rt, CLOSING, PacketKind::EndsPage);
     assert_is(&rt, SERIAL_188, PacketKind::EndsPage);
     assert_is(&rt, PAGE_188, PacketKind::Other);

@@ -26,18 +26,18 @@ fn assert_writes(
         Layout::default(),
         Scope::whole(),
     )?;
-    let mut room = [0; 368];
+    let mut buffer = [0; 368];
     let result = schedule(
         &programme,
         &every(250)?,
         serial,
-        &mut MemSink::new(&mut room),
+        &mut MemSink::new(&mut buffer),
     );
     assert_same(rt, &result, &Ok(2));
     let mut want = schedule_of_hi();
     (want[59], want[151]) = (header, closing);
     (want[184 + 59], want[184 + 105]) = (header, closing);
-    assert!(rt; room == want, "{national:?} {serial}");
+    assert!(rt; buffer == want, "{national:?} {serial}");
     Ok(())
 }
 

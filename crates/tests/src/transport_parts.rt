@@ -2,15 +2,15 @@
 //! end, and after other bytes.
 
 use crate::transport_recordings::{
-    BACK_1, BEGINS_0, BEGINS_1, BEGINS_2, BEGINS_9, FILL, FRONT_0, JUMP, JUMP_FILL, MARK_HEAD,
-    MARK_REST, NULL, WRONG_1, ZEROS, assert_gives,
+    BACK_1, BEGINS_0, BEGINS_1, BEGINS_2, BEGINS_9, FILL, JUMP, JUMP_FILL, MARK_HEAD, MARK_REST,
+    NULL, PREFIX_0, WRONG_1, ZEROS, assert_output,
 };
 use fixtures::{FIRST, SECOND};
 
 #[test]
 fn follows_an_announced_jump(rt: HostRuntime) {
     let both: [&[u8]; 2] = [&FIRST, &SECOND];
-    assert_gives(
+    assert_output(
         &rt,
         &[&BEGINS_0, &FIRST, &JUMP, &JUMP_FILL, &BEGINS_9, &SECOND],
         &both,
@@ -25,8 +25,8 @@ fn follows_an_announced_jump(rt: HostRuntime) {
         &SECOND,
     ];
     let gap: [&[u8]; 4] = [&FIRST, &MARK_HEAD, &MARK_REST, &SECOND];
-    assert_gives(&rt, &others, &gap);
-    assert_gives(
+    assert_output(&rt, &others, &gap);
+    assert_output(
         &rt,
         &[
             &BEGINS_0,
@@ -43,7 +43,7 @@ fn follows_an_announced_jump(rt: HostRuntime) {
 #[test]
 fn cuts_parts_at_an_announced_jump(rt: HostRuntime) {
     // Within a PES packet, although the counter continues.
-    assert_gives(
+    assert_output(
         &rt,
         &[
             &BEGINS_0,
@@ -62,7 +62,7 @@ fn cuts_parts_at_an_announced_jump(rt: HostRuntime) {
         &[&FIRST, &MARK_HEAD, &MARK_REST, &SECOND],
     );
     // The first packet of the later PES packet announces it.
-    assert_gives(
+    assert_output(
         &rt,
         &[
             &BEGINS_0,
@@ -77,10 +77,10 @@ fn cuts_parts_at_an_announced_jump(rt: HostRuntime) {
         &[&FIRST, &SECOND],
     );
     // The second one: the PES packet is incomplete.
-    assert_gives(
+    assert_output(
         &rt,
         &[
-            &FRONT_0,
+            &PREFIX_0,
             &FILL[..82],
             &FIRST[..100],
             &[0x47, 0x01, 0x01, 0x31, 99, 0x80],
@@ -97,10 +97,10 @@ fn cuts_parts_at_an_announced_jump(rt: HostRuntime) {
 fn joins_the_payloads_of_a_pes_packet(rt: HostRuntime) {
     let both: [&[u8]; 2] = [&FIRST, &SECOND];
     let jumping_head: [u8; 6] = [0x47, 0x41, 0x01, 0x30, 83, 0x80];
-    assert_gives(
+    assert_output(
         &rt,
         &[
-            &FRONT_0,
+            &PREFIX_0,
             &FILL[..82],
             &FIRST[..100],
             &BACK_1,
@@ -112,7 +112,7 @@ fn joins_the_payloads_of_a_pes_packet(rt: HostRuntime) {
         &both,
     );
     // The first of them announces a jump, and comes twice.
-    assert_gives(
+    assert_output(
         &rt,
         &[
             &jumping_head,
@@ -132,13 +132,13 @@ fn joins_the_payloads_of_a_pes_packet(rt: HostRuntime) {
 }
 
 #[test]
-fn tells_a_gap_behind_a_pes_packet(rt: HostRuntime) {
+fn reports_a_gap_after_a_pes_packet(rt: HostRuntime) {
     let long_head: [u8; 6] = [0x47, 0x01, 0x01, 0x31, 83, 0x00];
     // Bytes after the PES packet are a gap.
-    assert_gives(
+    assert_output(
         &rt,
         &[
-            &FRONT_0,
+            &PREFIX_0,
             &FILL[..82],
             &FIRST[..100],
             &long_head,
@@ -151,7 +151,7 @@ fn tells_a_gap_behind_a_pes_packet(rt: HostRuntime) {
         &[&FIRST, &MARK_HEAD, &MARK_REST, &SECOND],
     );
     // A part that the recording cuts off is no gap.
-    assert_gives(
+    assert_output(
         &rt,
         &[
             &BEGINS_0,
@@ -165,15 +165,15 @@ fn tells_a_gap_behind_a_pes_packet(rt: HostRuntime) {
 }
 
 #[test]
-fn passes_over_a_part_that_is_not_whole(rt: HostRuntime) {
+fn skips_a_part_that_is_not_complete(rt: HostRuntime) {
     // Before one that begins.
-    assert_gives(
+    assert_output(
         &rt,
-        &[&FRONT_0, &FILL[..82], &FIRST[..100], &BEGINS_1, &SECOND],
+        &[&PREFIX_0, &FILL[..82], &FIRST[..100], &BEGINS_1, &SECOND],
         &[&SECOND],
     );
     // It begins none, after a complete one.
-    assert_gives(
+    assert_output(
         &rt,
         &[&BEGINS_0, &FIRST, &[0x47, 0x01, 0x01, 0x11], &SECOND],
         &[&FIRST, &MARK_HEAD, &MARK_REST],
@@ -183,27 +183,27 @@ fn passes_over_a_part_that_is_not_whole(rt: HostRuntime) {
 #[test]
 fn ends_at_another_start_or_length(rt: HostRuntime) {
     let start: [u8; 4] = [0x00, 0x00, 0x01, 0xBE];
-    assert_gives(
+    assert_output(
         &rt,
         &[&BEGINS_0, &start, &FIRST[4..], &BEGINS_1, &SECOND],
         &[&start, &FIRST[4..]],
     );
     let length: [u8; 5] = [0x00, 0x00, 0x01, 0xBD, 0x1F];
-    assert_gives(
+    assert_output(
         &rt,
         &[&BEGINS_0, &length, &FIRST[5..], &BEGINS_1, &SECOND],
         &[&length, &FIRST[5..]],
     );
     // Ten payloads are one too many.
     let long: [u8; 6] = [0x00, 0x00, 0x01, 0xBD, 0x07, 0x2A];
-    assert_gives(&rt, &[&BEGINS_0, &long, &FIRST[6..]], &[&long, &FIRST[6..]]);
+    assert_output(&rt, &[&BEGINS_0, &long, &FIRST[6..]], &[&long, &FIRST[6..]]);
     // A gap marker comes before it only after a PES packet.
-    assert_gives(
+    assert_output(
         &rt,
         &[&BEGINS_0, &FIRST, &BEGINS_2, &start, &FIRST[4..]],
         &[&FIRST, &MARK_HEAD, &MARK_REST, &start, &FIRST[4..]],
     );
-    assert_gives(
+    assert_output(
         &rt,
         &[&WRONG_1, &FIRST, &BEGINS_2, &start, &FIRST[4..]],
         &[&start, &FIRST[4..]],
@@ -211,9 +211,9 @@ fn ends_at_another_start_or_length(rt: HostRuntime) {
 }
 
 #[test]
-fn finds_packets_behind_other_bytes(rt: HostRuntime) {
+fn finds_packets_after_other_bytes(rt: HostRuntime) {
     let both: [&[u8]; 2] = [&FIRST, &SECOND];
-    assert_gives(
+    assert_output(
         &rt,
         &[
             &ZEROS[..5],
@@ -226,7 +226,7 @@ fn finds_packets_behind_other_bytes(rt: HostRuntime) {
         ],
         &both,
     );
-    assert_gives(
+    assert_output(
         &rt,
         &[
             &BEGINS_0,
@@ -240,12 +240,12 @@ fn finds_packets_behind_other_bytes(rt: HostRuntime) {
         &both,
     );
     // As many bytes as 15 packets may hide some; fewer may not, nor may those at the end.
-    assert_gives(
+    assert_output(
         &rt,
         &[&BEGINS_0, &FIRST, &ZEROS, &NULL, &FILL, &BEGINS_1, &SECOND],
         &[&FIRST, &MARK_HEAD, &MARK_REST, &SECOND],
     );
-    assert_gives(
+    assert_output(
         &rt,
         &[
             &BEGINS_0,
@@ -258,13 +258,13 @@ fn finds_packets_behind_other_bytes(rt: HostRuntime) {
         ],
         &both,
     );
-    assert_gives(&rt, &[&BEGINS_0, &FIRST, &ZEROS], &[&FIRST]);
+    assert_output(&rt, &[&BEGINS_0, &FIRST, &ZEROS], &[&FIRST]);
 }
 
 #[test]
 fn finds_packets_where_they_begin_again(rt: HostRuntime) {
     // Fewer bytes than may hide some, twice, with a packet between them.
-    assert_gives(
+    assert_output(
         &rt,
         &[
             &BEGINS_0,
@@ -283,12 +283,12 @@ fn finds_packets_where_they_begin_again(rt: HostRuntime) {
         &[&FIRST, &SECOND],
     );
     // A recording begins and ends anywhere.
-    assert_gives(
+    assert_output(
         &rt,
         &[&FIRST[..88], &NULL, &FILL, &BEGINS_1, &SECOND],
         &[&SECOND],
     );
     // Out of step a packet counts if another follows it.
-    assert_gives(&rt, &[&FIRST[..88], &BEGINS_1, &SECOND], &[]);
-    assert_gives(&rt, &[&BEGINS_0, &FIRST[..183]], &[]);
+    assert_output(&rt, &[&FIRST[..88], &BEGINS_1, &SECOND], &[]);
+    assert_output(&rt, &[&BEGINS_0, &FIRST[..183]], &[]);
 }

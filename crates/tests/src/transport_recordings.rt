@@ -3,10 +3,10 @@
 ghost use Rattle.std.specs.Prelude.{◌≡◌, ⊤, true};
 ghost use Rattle.sub_io.specs.Device.{CanFail};
 
-use mpeg_ts::{PacketSize, Pid, RecordingPieces};
+use mpeg_ts::{PacketSize, Pid, RecordingPesPackets};
 use std::process::Abort;
 use sub_io::{MemSink, MemSource, Sink, put_all};
-use ttx_pes::{Came, Pieces, REST_ROOM, TakePiece};
+use ttx_pes::{PesPackets, REST_BUFFER_SIZE, Received, TakePesPacket};
 
 /// Bytes 0 to 3 of packets of PID 101 (hexadecimal) that begin a PES packet, by their counters.
 pub(crate) const BEGINS_0: [u8; 4] = [0x47, 0x41, 0x01, 0x10];
@@ -32,7 +32,7 @@ pub(crate) const JUMP_FILL: [u8; 182] = [0xFF; 182];
 
 /// Bytes 0 to 5 of packets with an adaptation field: one that begins a PES packet and has 100 bytes
 /// of it, and one that continues it with 84.
-pub(crate) const FRONT_0: [u8; 6] = [0x47, 0x41, 0x01, 0x30, 83, 0x00];
+pub(crate) const PREFIX_0: [u8; 6] = [0x47, 0x41, 0x01, 0x30, 83, 0x00];
 
 pub(crate) const BACK_1: [u8; 6] = [0x47, 0x01, 0x01, 0x31, 99, 0x00];
 
@@ -44,28 +44,28 @@ pub(crate) const MARK_REST: [u8; 178] = [0xFF; 178];
 pub(crate) const ZEROS: [u8; 2820] = [0; 2820];
 
 /// Puts byte strings one after another, as far as there is room.
-pub(crate) fn put_pieces(sink: &mut MemSink<'_>, pieces: &[&[u8]]) {
-    for piece in pieces {
-        put_piece(sink, piece);
+pub(crate) fn put_pes_packets(sink: &mut MemSink<'_>, pes_packets: &[&[u8]]) {
+    for pes_packet in pes_packets {
+        put_pes_packet(sink, pes_packet);
     }
 }
 
 // Puts one of them, as far as there is room.
-fn put_piece(sink: &mut MemSink<'_>, piece: &[u8]) {
+fn put_pes_packet(sink: &mut MemSink<'_>, pes_packet: &[u8]) {
     if sink.failures() == 0 {
-        let _ = put_all(sink, piece);
+        let _ = put_all(sink, pes_packet);
     }
 }
 
 // Puts the bytes that begin no PES packet, as far as there is room.
-fn put_rest<P: Pieces>(sink: &mut MemSink<'_>, pieces: &mut P)
-    requires rest { P.is_rest pieces.old ≡ true }
-    requires failures { CanFail (P.failure_count pieces.old) }
+fn put_rest<P: PesPackets>(sink: &mut MemSink<'_>, pes_packets: &mut P)
+    requires rest { P.is_rest pes_packets.old ≡ true }
+    requires failures { CanFail (P.failure_count pes_packets.old) }
 {
-    let mut room = [0; REST_ROOM];
-    if let Ok(count) = pieces.read_rest(&mut room) {
-        let (rest, _) = room.split_at(count);
-        put_piece(sink, rest);
+    let mut buffer = [0; REST_BUFFER_SIZE];
+    if let Ok(count) = pes_packets.read_rest(&mut buffer) {
+        let (rest, _) = buffer.split_at(count);
+        put_pes_packet(sink, rest);
     }
 }
 
@@ -75,43 +75,47 @@ pub(crate) struct Gathered<'a> {
     pub(crate) sink: MemSink<'a>,
 }
 
-impl TakePiece for Gathered<'_> {
+impl TakePesPacket for Gathered<'_> {
     type Answer = ();
 
-    ghost is_take = { λ old piece answer new. ⊤ };
+    ghost is_take = { λ old pes_packet answer new. ⊤ };
 
-    fn take(&mut self, piece: &[u8]) {
-        put_piece(&mut self.sink, piece);
+    fn take(&mut self, pes_packet: &[u8]) {
+        put_pes_packet(&mut self.sink, pes_packet);
     }
 }
 
 /// Asserts what the packets of a PID give for a recording of these byte strings.
-pub(crate) fn assert_gives_of(
+pub(crate) fn assert_output_of(
     rt: &impl Abort,
     number: u16,
     packet_size: PacketSize,
     recording: &[&[u8]],
     wanted: &[&[u8]],
 ) {
-    let mut recording_room = [0; 8192];
-    let mut recorded = MemSink::new(&mut recording_room);
-    put_pieces(&mut recorded, recording);
-    let mut wanted_room = [0; 2048];
-    let mut wanted_bytes = MemSink::new(&mut wanted_room);
-    put_pieces(&mut wanted_bytes, wanted);
+    let mut recording_buffer = [0; 8192];
+    let mut recorded = MemSink::new(&mut recording_buffer);
+    put_pes_packets(&mut recorded, recording);
+    let mut wanted_buffer = [0; 2048];
+    let mut wanted_bytes = MemSink::new(&mut wanted_buffer);
+    put_pes_packets(&mut wanted_bytes, wanted);
     let Some(pid) = Pid::new(number) else {
         return assert!(rt; false);
     };
-    let mut room = [0; 2048];
+    let mut buffer = [0; 2048];
     let mut gathered = Gathered {
-        sink: MemSink::new(&mut room),
+        sink: MemSink::new(&mut buffer),
     };
-    let mut pieces = RecordingPieces::new(MemSource::new(recorded.written()), pid, packet_size);
+    let mut pes_packets = RecordingPesPackets::new(
+        MemSource::new(recorded.written()),
+        pid,
+        packet_size,
+    );
     for _ in 0..wanted.len() + 1 {
-        match pieces.next(&mut gathered) {
-            Ok(Came::Piece(())) => {}
-            Ok(Came::Rest(_)) => {
-                put_rest(&mut gathered.sink, &mut pieces);
+        match pes_packets.next(&mut gathered) {
+            Ok(Received::PesPacket(())) => {}
+            Ok(Received::Rest(_)) => {
+                put_rest(&mut gathered.sink, &mut pes_packets);
                 break;
             }
             _ => break,
@@ -121,6 +125,6 @@ pub(crate) fn assert_gives_of(
 }
 
 /// The same for PID 101 (hexadecimal) in packets of 188 bytes.
-pub(crate) fn assert_gives(rt: &impl Abort, recording: &[&[u8]], wanted: &[&[u8]]) {
-    assert_gives_of(rt, 0x101, PacketSize::Plain, recording, wanted);
+pub(crate) fn assert_output(rt: &impl Abort, recording: &[&[u8]], wanted: &[&[u8]]) {
+    assert_output_of(rt, 0x101, PacketSize::Plain, recording, wanted);
 }

@@ -2,19 +2,19 @@
 //! is written here packet by packet.
 
 use crate::transport_recordings::{
-    BACK_1, BEGINS_0, BEGINS_1, BEGINS_2, BEGINS_9, FILL, FRONT_0, Gathered, JUMP, JUMP_FILL,
-    MARK_HEAD, MARK_REST, NULL, WRONG_1, ZEROS, assert_gives, assert_gives_of, put_pieces,
+    BACK_1, BEGINS_0, BEGINS_1, BEGINS_2, BEGINS_9, FILL, Gathered, JUMP, JUMP_FILL, MARK_HEAD,
+    MARK_REST, NULL, PREFIX_0, WRONG_1, ZEROS, assert_output, assert_output_of, put_pes_packets,
 };
 use fixtures::{FIRST, SECOND};
-use mpeg_ts::{PacketSize, Pid, RecordingPieces};
+use mpeg_ts::{PacketSize, Pid, RecordingPesPackets};
 use sub_io::{FailAt, MemSink, MemSource, Source};
-use ttx_pes::{Came, PesFault, Pieces, REST_ROOM};
+use ttx_pes::{PesFault, PesPackets, REST_BUFFER_SIZE, Received};
 
 #[test]
 fn gives_the_pes_packets_of_the_pid(rt: HostRuntime) {
     let stream: [&[u8]; 6] = [&BEGINS_0, &FIRST, &NULL, &FILL, &BEGINS_1, &SECOND];
-    assert_gives(&rt, &stream, &[&FIRST, &SECOND]);
-    assert_gives_of(&rt, 0x102, PacketSize::Plain, &stream, &[]);
+    assert_output(&rt, &stream, &[&FIRST, &SECOND]);
+    assert_output_of(&rt, 0x102, PacketSize::Plain, &stream, &[]);
     // A PID has 13 bits.
     let far: [&[u8]; 4] = [
         &[0x47, 0x51, 0x01, 0x10],
@@ -22,30 +22,30 @@ fn gives_the_pes_packets_of_the_pid(rt: HostRuntime) {
         &[0x47, 0x51, 0x01, 0x11],
         &SECOND,
     ];
-    assert_gives(&rt, &far, &[]);
-    assert_gives_of(&rt, 0x1101, PacketSize::Plain, &far, &[&FIRST, &SECOND]);
-    assert_gives(&rt, &[], &[]);
+    assert_output(&rt, &far, &[]);
+    assert_output_of(&rt, 0x1101, PacketSize::Plain, &far, &[&FIRST, &SECOND]);
+    assert_output(&rt, &[], &[]);
 }
 
 #[test]
-fn gives_a_mark_where_a_packet_is_lost(rt: HostRuntime) {
-    assert_gives(
+fn gives_a_gap_marker_where_a_packet_is_lost(rt: HostRuntime) {
+    assert_output(
         &rt,
         &[&BEGINS_0, &FIRST, &BEGINS_2, &SECOND],
         &[&FIRST, &MARK_HEAD, &MARK_REST, &SECOND],
     );
     // Nothing comes before the first PES packet.
-    assert_gives(&rt, &[&WRONG_1, &FIRST, &BEGINS_0, &SECOND], &[&SECOND]);
+    assert_output(&rt, &[&WRONG_1, &FIRST, &BEGINS_0, &SECOND], &[&SECOND]);
     // One gap marker for everything that is missing, and none for a part that the recording cuts
     // off.
-    assert_gives(
+    assert_output(
         &rt,
         &[
             &BEGINS_0, &FIRST, &WRONG_1, &SECOND, &WRONG_1, &SECOND, &BEGINS_1, &SECOND,
         ],
         &[&FIRST, &MARK_HEAD, &MARK_REST, &SECOND],
     );
-    assert_gives(
+    assert_output(
         &rt,
         &[&BEGINS_0, &FIRST, &BEGINS_1, &SECOND[..183]],
         &[&FIRST],
@@ -53,33 +53,33 @@ fn gives_a_mark_where_a_packet_is_lost(rt: HostRuntime) {
 }
 
 #[test]
-fn passes_over_one_repeat(rt: HostRuntime) {
-    assert_gives(
+fn skips_one_repeat(rt: HostRuntime) {
+    assert_output(
         &rt,
         &[
             &BEGINS_0, &FIRST, &BEGINS_0, &FIRST, &NULL, &FILL, &BEGINS_1, &SECOND,
         ],
         &[&FIRST, &SECOND],
     );
-    assert_gives(
+    assert_output(
         &rt,
         &[&BEGINS_0, &FIRST, &BEGINS_0, &FIRST, &BEGINS_0, &FIRST],
         &[&FIRST, &MARK_HEAD, &MARK_REST, &FIRST],
     );
     // The same payload with the next counter is another packet, and so is the same counter with
     // another payload.
-    assert_gives(
+    assert_output(
         &rt,
         &[&BEGINS_0, &FIRST, &BEGINS_1, &FIRST],
         &[&FIRST, &FIRST],
     );
-    assert_gives(
+    assert_output(
         &rt,
         &[&BEGINS_0, &FIRST, &BEGINS_0, &SECOND],
         &[&FIRST, &MARK_HEAD, &MARK_REST, &SECOND],
     );
     // None is a repeat across an announced jump.
-    assert_gives(
+    assert_output(
         &rt,
         &[&BEGINS_0, &FIRST, &JUMP, &JUMP_FILL, &BEGINS_0, &FIRST],
         &[&FIRST, &FIRST],
@@ -87,15 +87,15 @@ fn passes_over_one_repeat(rt: HostRuntime) {
 }
 
 #[test]
-fn tells_a_repeat_by_its_first_four_bytes_and_its_payload(rt: HostRuntime) {
+fn recognizes_a_repeat_by_its_first_four_bytes_and_its_payload(rt: HostRuntime) {
     // Other bytes of its adaptation field do not matter.
-    assert_gives(
+    assert_output(
         &rt,
         &[
-            &FRONT_0,
+            &PREFIX_0,
             &FILL[..82],
             &FIRST[..100],
-            &FRONT_0,
+            &PREFIX_0,
             &ZEROS[..82],
             &FIRST[..100],
             &BACK_1,
@@ -107,7 +107,7 @@ fn tells_a_repeat_by_its_first_four_bytes_and_its_payload(rt: HostRuntime) {
         &[&FIRST, &SECOND],
     );
     // A packet that begins no PES packet does not repeat one that does.
-    assert_gives(
+    assert_output(
         &rt,
         &[
             &BEGINS_0,
@@ -124,21 +124,21 @@ fn tells_a_repeat_by_its_first_four_bytes_and_its_payload(rt: HostRuntime) {
 #[test]
 fn takes_no_wrong_packet(rt: HostRuntime) {
     let gap: [&[u8]; 3] = [&FIRST, &MARK_HEAD, &MARK_REST];
-    assert_gives(&rt, &[&BEGINS_0, &FIRST, &WRONG_1, &SECOND], &gap);
+    assert_output(&rt, &[&BEGINS_0, &FIRST, &WRONG_1, &SECOND], &gap);
     // Scrambled.
-    assert_gives(
+    assert_output(
         &rt,
         &[&BEGINS_0, &FIRST, &[0x47, 0x41, 0x01, 0x91], &SECOND],
         &gap,
     );
     // An adaptation field that leaves no room for a payload, with one and without.
     let full: [u8; 5] = [0x47, 0x01, 0x01, 0x31, 0xB7];
-    assert_gives(
+    assert_output(
         &rt,
         &[&BEGINS_0, &FIRST, &full, &FILL[..183], &BEGINS_1, &SECOND],
         &[&FIRST, &MARK_HEAD, &MARK_REST, &SECOND],
     );
-    assert_gives(
+    assert_output(
         &rt,
         &[
             &BEGINS_0,
@@ -151,7 +151,7 @@ fn takes_no_wrong_packet(rt: HostRuntime) {
         &[&FIRST, &MARK_HEAD, &MARK_REST, &SECOND],
     );
     // Without a payload the same adaptation field is correct, and its counter is not followed.
-    assert_gives(
+    assert_output(
         &rt,
         &[
             &BEGINS_0,
@@ -170,20 +170,20 @@ fn reads_packets_of_other_sizes(rt: HostRuntime) {
     let both: [&[u8]; 2] = [&FIRST, &SECOND];
     let stamp: [u8; 4] = [0x47; 4];
     let stamped: [&[u8]; 6] = [&stamp, &BEGINS_0, &FIRST, &stamp, &BEGINS_1, &SECOND];
-    assert_gives_of(&rt, 0x101, PacketSize::TimeStamped, &stamped, &both);
+    assert_output_of(&rt, 0x101, PacketSize::TimeStamped, &stamped, &both);
     let zeros: [u8; 4] = [0; 4];
     let as_plain: [&[u8]; 6] = [&zeros, &BEGINS_0, &FIRST, &zeros, &BEGINS_1, &SECOND];
-    assert_gives(&rt, &as_plain, &[]);
+    assert_output(&rt, &as_plain, &[]);
     let code: &[u8] = &FILL[..16];
     let coded: [&[u8]; 5] = [&BEGINS_0, &FIRST, code, &BEGINS_1, &SECOND];
-    assert_gives_of(&rt, 0x101, PacketSize::ErrorCorrected, &coded, &both);
+    assert_output_of(&rt, 0x101, PacketSize::ErrorCorrected, &coded, &both);
 }
 
 #[test]
-fn finds_a_hole_of_15_packets_of_their_size(rt: HostRuntime) {
+fn finds_a_loss_of_15_packets_of_their_size(rt: HostRuntime) {
     let zeros: [u8; 4] = [0; 4];
     // 2876 bytes are skipped, and 2880, after a time stamp.
-    assert_gives_of(
+    assert_output_of(
         &rt,
         0x101,
         PacketSize::TimeStamped,
@@ -201,7 +201,7 @@ fn finds_a_hole_of_15_packets_of_their_size(rt: HostRuntime) {
         ],
         &[&FIRST, &SECOND],
     );
-    assert_gives_of(
+    assert_output_of(
         &rt,
         0x101,
         PacketSize::TimeStamped,
@@ -228,11 +228,11 @@ fn knows_the_pids_that_may_carry_pes_packets(rt: HostRuntime) {
 }
 
 #[test]
-fn gives_a_mark_and_then_the_pes_packet_that_is_ready(rt: HostRuntime) {
-    let mut recording_room = [0; 1024];
-    let mut recorded = MemSink::new(&mut recording_room);
+fn gives_a_gap_marker_and_then_the_pes_packet_that_is_ready(rt: HostRuntime) {
+    let mut recording_buffer = [0; 1024];
+    let mut recorded = MemSink::new(&mut recording_buffer);
     let start: [u8; 4] = [0x00, 0x00, 0x01, 0xBE];
-    put_pieces(
+    put_pes_packets(
         &mut recorded,
         &[
             &BEGINS_0,
@@ -248,58 +248,58 @@ fn gives_a_mark_and_then_the_pes_packet_that_is_ready(rt: HostRuntime) {
         return assert!(rt; false);
     };
     let recording = MemSource::new(recorded.written());
-    let mut pieces = RecordingPieces::new(recording, pid, PacketSize::Plain);
-    let mut room = [0; 1024];
+    let mut pes_packets = RecordingPesPackets::new(recording, pid, PacketSize::Plain);
+    let mut buffer = [0; 1024];
     let mut gathered = Gathered {
-        sink: MemSink::new(&mut room),
+        sink: MemSink::new(&mut buffer),
     };
     let mut ready = [false; 6];
-    let mut ends = [Came::End; 6];
+    let mut ends = [Received::End; 6];
     for i in 0..6 {
-        ready[i] = pieces.is_ready();
-        if let Ok(came) = pieces.next(&mut gathered) {
-            ends[i] = came;
+        ready[i] = pes_packets.is_ready();
+        if let Ok(received) = pes_packets.next(&mut gathered) {
+            ends[i] = received;
         }
     }
-    let piece = Came::Piece(());
-    let rest = Came::Rest(PesFault::Start);
+    let pes_packet = Received::PesPacket(());
+    let rest = Received::Rest(PesFault::Start);
     // The gap marker before a PES packet is known with it; bytes that are no PES packet stay.
-    assert!(rt; ends == [piece, piece, piece, piece, rest, rest]);
+    assert!(rt; ends == [pes_packet, pes_packet, pes_packet, pes_packet, rest, rest]);
     assert!(rt; ready == [false, false, true, false, true, true]);
-    let mut rest_room = [0; REST_ROOM];
-    match pieces.next(&mut gathered) {
-        Ok(Came::Rest(_)) => {
-            assert!(rt; pieces.read_rest(&mut rest_room) == Ok(184));
-            assert!(rt; pieces.read_rest(&mut rest_room) == Ok(0));
+    let mut rest_buffer = [0; REST_BUFFER_SIZE];
+    match pes_packets.next(&mut gathered) {
+        Ok(Received::Rest(_)) => {
+            assert!(rt; pes_packets.read_rest(&mut rest_buffer) == Ok(184));
+            assert!(rt; pes_packets.read_rest(&mut rest_buffer) == Ok(0));
         }
         _ => assert!(rt; false),
     }
-    assert!(rt; pieces.next(&mut gathered) == Ok(Came::End));
+    assert!(rt; pes_packets.next(&mut gathered) == Ok(Received::End));
 }
 
 #[test]
-fn gives_a_pes_packet_before_it_asks_for_more(rt: HostRuntime) {
-    let mut recording_room = [0; 1024];
-    let mut recorded = MemSink::new(&mut recording_room);
-    put_pieces(&mut recorded, &[&BEGINS_0, &FIRST, &BEGINS_1, &SECOND]);
+fn gives_a_pes_packet_before_it_reads_more(rt: HostRuntime) {
+    let mut recording_buffer = [0; 1024];
+    let mut recorded = MemSink::new(&mut recording_buffer);
+    put_pes_packets(&mut recorded, &[&BEGINS_0, &FIRST, &BEGINS_1, &SECOND]);
     let Some(pid) = Pid::new(0x101) else {
         return assert!(rt; false);
     };
     // The second call of the device fails: it takes nothing, and the next one continues.
     let device = FailAt::new(MemSource::new(recorded.written()), 1);
-    let mut pieces = RecordingPieces::new(device, pid, PacketSize::Plain);
-    let mut room = [0; 1024];
+    let mut pes_packets = RecordingPesPackets::new(device, pid, PacketSize::Plain);
+    let mut buffer = [0; 1024];
     let mut gathered = Gathered {
-        sink: MemSink::new(&mut room),
+        sink: MemSink::new(&mut buffer),
     };
-    assert!(rt; pieces.next(&mut gathered) == Ok(Came::Piece(())));
+    assert!(rt; pes_packets.next(&mut gathered) == Ok(Received::PesPacket(())));
     assert!(rt; gathered.sink.written() == &FIRST[..]);
-    assert!(rt; pieces.next(&mut gathered).is_err());
-    let mut more_room = [0; 1024];
+    assert!(rt; pes_packets.next(&mut gathered).is_err());
+    let mut more_buffer = [0; 1024];
     let mut more = Gathered {
-        sink: MemSink::new(&mut more_room),
+        sink: MemSink::new(&mut more_buffer),
     };
-    assert!(rt; pieces.next(&mut more) == Ok(Came::Piece(())));
+    assert!(rt; pes_packets.next(&mut more) == Ok(Received::PesPacket(())));
     assert!(rt; more.sink.written() == &SECOND[..]);
-    assert!(rt; pieces.into_inner().failures() == 1);
+    assert!(rt; pes_packets.into_inner().failures() == 1);
 }

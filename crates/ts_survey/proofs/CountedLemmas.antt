@@ -1,5 +1,5 @@
--- The packets of a stream were found in all bytes that came: stands-start, stands-next,
--- stands-kept; at the end they are counted: counted-all.
+-- The packets of a stream were found in all bytes that came: is_at_place-start, is_at_place-next,
+-- is_at_place-kept; at the end they are counted: counted-all.
 use Rattle.std.proofs.Common.{◌≡◌, ◌≤◌, ◌+◌, ◌-◌, ◌*◌, ◌∙◌, Bool, List, [], ◌∷◌, ◌++◌, ℕ, ap}
 use Rattle.std.proofs.Common.{append-nil, arith, drop, drop-drop, false, length, length-append}
 use Rattle.std.proofs.Common.{length-drop, refl, subst, sym, true}
@@ -7,10 +7,10 @@ use Rattle.std.proofs.lemmas.List.{drop-append-le}
 use Rattle.mpeg_ts.specs.PacketSize.{bytes_of}
 use Rattle.mpeg_ts.specs.PacketsInStep.{lead_size}
 use Rattle.ttx_page.specs.Receiver.{RunsBy}
-use Rattle.ts_survey.specs.Asked.{keeps_asked}
+use Rattle.ts_survey.specs.Requested.{keeps_requested}
 use Rattle.ts_survey.specs.Counted.{BeginsAt, BeginsStream, CountsRecording, CountsStream}
-use Rattle.ts_survey.specs.Counted.{ReadsStream, StandsAt, StaysRead, TakesAny, TakesBegun}
-use Rattle.ts_survey.specs.Following.{any_piece}
+use Rattle.ts_survey.specs.Counted.{ReadsStream, IsAtPlace, StaysRead, TakesAny, TakesBegun}
+use Rattle.ts_survey.specs.Following.{any_pes_packet}
 use Rattle.ts_survey.specs.InStep.{TakesAll, counted_on, items_from, packet_count, skipped_in}
 use Rattle.ts_survey.specs.Listed.{GoesOn}
 use Rattle.ts_survey.specs.Stream.{TakesOn, is_unknown}
@@ -22,14 +22,15 @@ use Rattle.ts_survey.proofs.InStepLemmas.{law_of_two_calls}
 
 -- ---- whatever receives the packets
 
-runs-any : (packets : List (List ℕ)) → RunsBy {S = Unit {0}} any_piece (tt {0}) packets (tt {0})
+runs-any : (packets : List (List ℕ)) → RunsBy {S = Unit {0}} any_pes_packet (tt {0}) packets
+    (tt {0})
 runs-any [] = refl
 runs-any (p ∷ ps) = (tt, tt, runs-any ps)
 
 -- They are found in any case.
 taken-any :
     (old new : PacketsInStep) (before after : Multiplex) (bytes : List ℕ) (is_end : Bool) (used : ℕ)
-    → TakesAll keeps_asked old before bytes is_end used new after
+    → TakesAll keeps_requested old before bytes is_end used new after
     → TakesAny old bytes is_end used new
 taken-any old new before after bytes is_end used takes = record {
   within = takes.within;
@@ -52,14 +53,15 @@ taken-any old new before after bytes is_end used takes = record {
 -- A stream that has begun processes them.
 begun-read :
     (passed : ℕ) (first new : PacketsInStep) (start after : Multiplex)
-    (came bytes held : List ℕ) (is_end : Bool) (used : ℕ)
-    → passed ≤ length came
-    → bytes ≡ drop passed came
-    → held ≡ drop used bytes
+    (received bytes buffered : List ℕ) (is_end : Bool) (used : ℕ)
+    → passed ≤ length received
+    → bytes ≡ drop passed received
+    → buffered ≡ drop used bytes
     → BeginsAt passed first
-    → TakesAll keeps_asked first start bytes is_end used new after
-    → ReadsStream came held is_end new
-begun-read passed first new start after came bytes held is_end used within is left begins takes =
+    → TakesAll keeps_requested first start bytes is_end used new after
+    → ReadsStream received buffered is_end new
+begun-read passed first new start after received bytes buffered is_end used within is left begins
+    takes =
     record {
       passed = passed;
       within = within;
@@ -74,35 +76,37 @@ begun-read passed first new start after came bytes held is_end used within is le
 
 -- So does one of which packets were processed before.
 read-on :
-    (mid new : PacketsInStep) (told after : Multiplex) (came more held bytes next : List ℕ)
+    (mid new : PacketsInStep) (reported after : Multiplex) (received more buffered bytes next : List
+    ℕ)
     (is_end : Bool) (used : ℕ)
-    → ReadsStream came held false mid
-    → bytes ≡ held ++ more
+    → ReadsStream received buffered false mid
+    → bytes ≡ buffered ++ more
     → next ≡ drop used bytes
-    → TakesAll keeps_asked mid told bytes is_end used new after
-    → ReadsStream (came ++ more) next is_end new
-read-on mid new told after came more held bytes next is_end used read is left takes =
-    let one = drop read.passed came in
-    let all = drop read.passed (came ++ more) in
-    let ahead : one ++ more ≡ all = sym (drop-append-le read.passed came more read.within) in
+    → TakesAll keeps_requested mid reported bytes is_end used new after
+    → ReadsStream (received ++ more) next is_end new
+read-on mid new reported after received more buffered bytes next is_end used read is left takes =
+    let one = drop read.passed received in
+    let all = drop read.passed (received ++ more) in
+    let ahead : one ++ more ≡ all = sym (drop-append-le read.passed received more read.within) in
     let whole : bytes ≡ drop read.used one ++ more = is ∙ ap (λ l. l ++ more) read.left in
-    let behind : drop read.used one ++ more ≡ drop read.used all =
+    let following : drop read.used one ++ more ≡ drop read.used all =
     sym (drop-append-le read.used one more read.taken.within) ∙ ap (drop read.used) ahead in
     record {
       passed = read.passed;
-      within = omega (arith, read.within, length-append came more);
+      within = omega (arith, read.within, length-append received more);
       first = read.first;
       begins = read.begins;
       used = read.used + used;
       taken =
           subst (λ l. TakesAny read.first l is_end (read.used + used) new) ahead
-          (law_of_two_calls {T = Unit {0}} any_piece read.first mid new tt tt tt one more is_end
+          (law_of_two_calls {T = Unit {0}} any_pes_packet read.first mid new tt tt tt one more
+          is_end
           read.used used read.taken
           (subst (λ l. TakesAny mid l is_end used new) whole
-          (taken-any mid new told after bytes is_end used takes)));
+          (taken-any mid new reported after bytes is_end used takes)));
       left =
           left
-          ∙ ap (drop used) (whole ∙ behind)
+          ∙ ap (drop used) (whole ∙ following)
           ∙ drop-drop used read.used all;
     }
 
@@ -133,117 +137,135 @@ takes-begun passed Nothing (Stream q n) bytes is_end used begins takes on = absu
 takes-begun passed Nothing Nothing bytes is_end used begins takes on = tt
 
 -- More of a recording of unknown kind came.
-stands-begun :
-    (new : Kind) (skipped skipped_now used : ℕ) (came more held bytes next : List ℕ)
+is_at_place-begun :
+    (new : Kind) (skipped skipped_now used : ℕ) (received more buffered bytes next : List ℕ)
     (is_end : Bool)
-    → skipped ≤ length came
-    → held ≡ drop skipped came
-    → bytes ≡ held ++ more
+    → skipped ≤ length received
+    → buffered ≡ drop skipped received
+    → bytes ≡ buffered ++ more
     → next ≡ drop used bytes
     → used ≤ length bytes
     → (is_unknown new ≡ true → skipped_now ≡ skipped + used)
     → TakesBegun skipped bytes is_end used new
-    → StandsAt new skipped_now (came ++ more) next is_end
-stands-begun
-    Unknown skipped skipped_now used came more held bytes next is_end within is whole left fits
+    → IsAtPlace new skipped_now (received ++ more) next is_end
+is_at_place-begun
+    Unknown skipped skipped_now used received more buffered bytes next is_end within is whole left
+    fits
     known takes =
     let count = known refl in
-    let all : bytes ≡ drop skipped (came ++ more) =
-    whole ∙ ap (λ l. l ++ more) is ∙ sym (drop-append-le skipped came more within) in (
+    let all : bytes ≡ drop skipped (received ++ more) =
+    whole ∙ ap (λ l. l ++ more) is ∙ sym (drop-append-le skipped received more within) in (
       omega (
         arith,
         within,
         fits,
         count,
         ap length all,
-        length-drop skipped (came ++ more),
-        length-append came more,
+        length-drop skipped (received ++ more),
+        length-append received more,
       ),
       left
           ∙ ap (drop used) all
-          ∙ drop-drop used skipped (came ++ more)
-          ∙ ap (λ n. drop n (came ++ more)) (sym count),
+          ∙ drop-drop used skipped (received ++ more)
+          ∙ ap (λ n. drop n (received ++ more)) (sym count),
     )
-stands-begun
-    (Pes f) skipped skipped_now used came more held bytes next is_end within is whole left fits
+is_at_place-begun
+    (Pes f) skipped skipped_now used received more buffered bytes next is_end within is whole left
+    fits
     known takes = tt
-stands-begun
-    (Stream p m) skipped skipped_now used came more held bytes next is_end within is whole left
+is_at_place-begun
+    (Stream p m) skipped skipped_now used received more buffered bytes next is_end within is whole
+    left
     fits known takes =
-    begun-read skipped takes.first p takes.start m (came ++ more) bytes next is_end used
-    (omega (arith, within, length-append came more))
-    (whole ∙ ap (λ l. l ++ more) is ∙ sym (drop-append-le skipped came more within))
+    begun-read skipped takes.first p takes.start m (received ++ more) bytes next is_end used
+    (omega (arith, within, length-append received more))
+    (whole ∙ ap (λ l. l ++ more) is ∙ sym (drop-append-le skipped received more within))
     left takes.begins takes.taken
-stands-begun
-    Nothing skipped skipped_now used came more held bytes next is_end within is whole left fits
+is_at_place-begun
+    Nothing skipped skipped_now used received more buffered bytes next is_end within is whole left
+    fits
     known takes = tt
 
 -- More of a recording came.
-stands-on :
-    (old new : Kind) (skipped skipped_now used : ℕ) (came more held bytes next : List ℕ)
+is_at_place-on :
+    (old new : Kind) (skipped skipped_now used : ℕ) (received more buffered bytes next : List ℕ)
     (is_end : Bool)
-    → StandsAt old skipped came held false
-    → bytes ≡ held ++ more
+    → IsAtPlace old skipped received buffered false
+    → bytes ≡ buffered ++ more
     → next ≡ drop used bytes
     → used ≤ length bytes
     → (is_unknown old ≡ true → is_unknown new ≡ true → skipped_now ≡ skipped + used)
     → (is_unknown old ≡ true → TakesBegun skipped bytes is_end used new)
     → (is_unknown old ≡ false → GoesOn old new × TakesOn old bytes is_end used new)
-    → StandsAt new skipped_now (came ++ more) next is_end
-stands-on
-    Unknown new skipped skipped_now used came more held bytes next is_end stands whole left fits
+    → IsAtPlace new skipped_now (received ++ more) next is_end
+is_at_place-on
+    Unknown new skipped skipped_now used received more buffered bytes next is_end is_at_place whole
+    left fits
     known begun on =
-    stands-begun new skipped skipped_now used came more held bytes next is_end stands.0 stands.1
+    is_at_place-begun new skipped skipped_now used received more buffered bytes next is_end
+    is_at_place.0 is_at_place.1
     whole left fits (known refl) (begun refl)
-stands-on
-    (Pes f) Unknown skipped skipped_now used came more held bytes next is_end stands whole left
+is_at_place-on
+    (Pes f) Unknown skipped skipped_now used received more buffered bytes next is_end is_at_place
+    whole left
     fits known begun on =
     absurd (on refl).0
-stands-on
-    (Pes f) (Pes g) skipped skipped_now used came more held bytes next is_end stands whole left
+is_at_place-on
+    (Pes f) (Pes g) skipped skipped_now used received more buffered bytes next is_end is_at_place
+    whole left
     fits known begun on = tt
-stands-on
-    (Pes f) (Stream q n) skipped skipped_now used came more held bytes next is_end stands whole
+is_at_place-on
+    (Pes f) (Stream q n) skipped skipped_now used received more buffered bytes next is_end
+    is_at_place whole
     left fits known begun on =
     absurd (on refl).0
-stands-on
-    (Pes f) Nothing skipped skipped_now used came more held bytes next is_end stands whole left
+is_at_place-on
+    (Pes f) Nothing skipped skipped_now used received more buffered bytes next is_end is_at_place
+    whole left
     fits known begun on = tt
-stands-on
-    (Stream p m) Unknown skipped skipped_now used came more held bytes next is_end stands whole
+is_at_place-on
+    (Stream p m) Unknown skipped skipped_now used received more buffered bytes next is_end
+    is_at_place whole
     left fits known begun on =
     absurd (on refl).0
-stands-on
-    (Stream p m) (Pes g) skipped skipped_now used came more held bytes next is_end stands whole
+is_at_place-on
+    (Stream p m) (Pes g) skipped skipped_now used received more buffered bytes next is_end
+    is_at_place whole
     left fits known begun on = tt
-stands-on
-    (Stream p m) (Stream q n) skipped skipped_now used came more held bytes next is_end stands
+is_at_place-on
+    (Stream p m) (Stream q n) skipped skipped_now used received more buffered bytes next is_end
+    is_at_place
     whole left fits known begun on =
-    read-on p q m n came more held bytes next is_end used stands whole left (on refl).1
-stands-on
-    (Stream p m) Nothing skipped skipped_now used came more held bytes next is_end stands whole
+    read-on p q m n received more buffered bytes next is_end used is_at_place whole left (on refl).1
+is_at_place-on
+    (Stream p m) Nothing skipped skipped_now used received more buffered bytes next is_end
+    is_at_place whole
     left fits known begun on = tt
-stands-on
-    Nothing Unknown skipped skipped_now used came more held bytes next is_end stands whole left
+is_at_place-on
+    Nothing Unknown skipped skipped_now used received more buffered bytes next is_end is_at_place
+    whole left
     fits known begun on =
     absurd (on refl).0
-stands-on
-    Nothing (Pes g) skipped skipped_now used came more held bytes next is_end stands whole left
+is_at_place-on
+    Nothing (Pes g) skipped skipped_now used received more buffered bytes next is_end is_at_place
+    whole left
     fits known begun on = tt
-stands-on
-    Nothing (Stream q n) skipped skipped_now used came more held bytes next is_end stands whole
+is_at_place-on
+    Nothing (Stream q n) skipped skipped_now used received more buffered bytes next is_end
+    is_at_place whole
     left fits known begun on =
     absurd (on refl).0
-stands-on
-    Nothing Nothing skipped skipped_now used came more held bytes next is_end stands whole left
+is_at_place-on
+    Nothing Nothing skipped skipped_now used received more buffered bytes next is_end is_at_place
+    whole left
     fits known begun on = tt
 
 -- More came after the bytes that were kept, and so much of it is processed.
-pub stands-next :
-    (old new : Kind) (skipped skipped_now used : ℕ) (came more held now bytes next : List ℕ)
+pub is_at_place-next :
+    (old new : Kind) (skipped skipped_now used : ℕ) (received more buffered now bytes next : List ℕ)
     (is_end : Bool)
-    → StandsAt old skipped came held false
-    → now ≡ held ++ more
+    → IsAtPlace old skipped received buffered false
+    → now ≡ buffered ++ more
     → bytes ≡ now
     → next ≡ drop used now
     → used ≤ length bytes
@@ -251,63 +273,81 @@ pub stands-next :
     → (is_unknown old ≡ true → TakesBegun skipped bytes is_end used new)
     → (is_unknown old ≡ false → GoesOn old new)
     → (is_unknown old ≡ false → TakesOn old bytes is_end used new)
-    → StandsAt new skipped_now (came ++ more) next is_end
-stands-next
-    old new skipped skipped_now used came more held now bytes next is_end stands more_is same passed
+    → IsAtPlace new skipped_now (received ++ more) next is_end
+is_at_place-next
+    old new skipped skipped_now used received more buffered now bytes next is_end is_at_place
+    more_is same passed
     fits known begun on taken =
-    stands-on old new skipped skipped_now used came more held bytes next is_end stands
+    is_at_place-on old new skipped skipped_now used received more buffered bytes next is_end
+    is_at_place
     (same ∙ more_is) (passed ∙ ap (drop used) (sym same)) fits known begun
     (λ is. (on is, taken is))
 
 -- Nothing came.
-pub stands-start : (kind : Kind) (skipped : ℕ) (held : List ℕ)
+pub is_at_place-start : (kind : Kind) (skipped : ℕ) (buffered : List ℕ)
     → kind ≡ Unknown
     → skipped ≡ 0
-    → held ≡ []
-    → StandsAt kind skipped [] held false
-stands-start kind skipped held unknown none empty =
-    subst (λ k. StandsAt k skipped [] held false) (sym unknown)
-    (subst (λ n. (n ≤ 0) × (held ≡ drop n [])) (sym none) (omega arith, empty))
+    → buffered ≡ []
+    → IsAtPlace kind skipped [] buffered false
+is_at_place-start kind skipped buffered unknown none empty =
+    subst (λ k. IsAtPlace k skipped [] buffered false) (sym unknown)
+    (subst (λ n. (n ≤ 0) × (buffered ≡ drop n [])) (sym none) (omega arith, empty))
 
 -- Nothing more came.
-pub stands-kept :
-    (old new : Kind) (skipped skipped_now : ℕ) (came held : List ℕ) (is_end : Bool)
+pub is_at_place-kept :
+    (old new : Kind) (skipped skipped_now : ℕ) (received buffered : List ℕ) (is_end : Bool)
     → GoesOn old new
     → StaysRead old new
     → skipped_now ≡ skipped
-    → StandsAt old skipped came held is_end
-    → StandsAt new skipped_now came held is_end
-stands-kept Unknown Unknown skipped skipped_now came held is_end on stays same stands =
-    subst (λ n. (n ≤ length came) × (held ≡ drop n came)) (sym same) stands
-stands-kept Unknown (Pes g) skipped skipped_now came held is_end on stays same stands = tt
-stands-kept Unknown (Stream q n) skipped skipped_now came held is_end on stays same stands =
+    → IsAtPlace old skipped received buffered is_end
+    → IsAtPlace new skipped_now received buffered is_end
+is_at_place-kept Unknown Unknown skipped skipped_now received buffered is_end on stays same
+    is_at_place =
+    subst (λ n. (n ≤ length received) × (buffered ≡ drop n received)) (sym same) is_at_place
+is_at_place-kept Unknown (Pes g) skipped skipped_now received buffered is_end on stays same
+    is_at_place = tt
+is_at_place-kept Unknown (Stream q n) skipped skipped_now received buffered is_end on stays same
+    is_at_place =
     absurd on
-stands-kept Unknown Nothing skipped skipped_now came held is_end on stays same stands = tt
-stands-kept (Pes f) Unknown skipped skipped_now came held is_end on stays same stands = absurd on
-stands-kept (Pes f) (Pes g) skipped skipped_now came held is_end on stays same stands = tt
-stands-kept (Pes f) (Stream q n) skipped skipped_now came held is_end on stays same stands =
+is_at_place-kept Unknown Nothing skipped skipped_now received buffered is_end on stays same
+    is_at_place = tt
+is_at_place-kept (Pes f) Unknown skipped skipped_now received buffered is_end on stays same
+    is_at_place = absurd on
+is_at_place-kept (Pes f) (Pes g) skipped skipped_now received buffered is_end on stays same
+    is_at_place = tt
+is_at_place-kept (Pes f) (Stream q n) skipped skipped_now received buffered is_end on stays same
+    is_at_place =
     absurd on
-stands-kept (Pes f) Nothing skipped skipped_now came held is_end on stays same stands = tt
-stands-kept (Stream p m) Unknown skipped skipped_now came held is_end on stays same stands =
+is_at_place-kept (Pes f) Nothing skipped skipped_now received buffered is_end on stays same
+    is_at_place = tt
+is_at_place-kept (Stream p m) Unknown skipped skipped_now received buffered is_end on stays same
+    is_at_place =
     absurd on
-stands-kept (Stream p m) (Pes g) skipped skipped_now came held is_end on stays same stands = tt
-stands-kept (Stream p m) (Stream q n) skipped skipped_now came held is_end on stays same stands =
-    subst (λ one. ReadsStream came held is_end one) (sym stays) stands
-stands-kept (Stream p m) Nothing skipped skipped_now came held is_end on stays same stands = tt
-stands-kept Nothing Unknown skipped skipped_now came held is_end on stays same stands = absurd on
-stands-kept Nothing (Pes g) skipped skipped_now came held is_end on stays same stands = tt
-stands-kept Nothing (Stream q n) skipped skipped_now came held is_end on stays same stands =
+is_at_place-kept (Stream p m) (Pes g) skipped skipped_now received buffered is_end on stays same
+    is_at_place = tt
+is_at_place-kept (Stream p m) (Stream q n) skipped skipped_now received buffered is_end on stays
+    same is_at_place =
+    subst (λ one. ReadsStream received buffered is_end one) (sym stays) is_at_place
+is_at_place-kept (Stream p m) Nothing skipped skipped_now received buffered is_end on stays same
+    is_at_place = tt
+is_at_place-kept Nothing Unknown skipped skipped_now received buffered is_end on stays same
+    is_at_place = absurd on
+is_at_place-kept Nothing (Pes g) skipped skipped_now received buffered is_end on stays same
+    is_at_place = tt
+is_at_place-kept Nothing (Stream q n) skipped skipped_now received buffered is_end on stays same
+    is_at_place =
     absurd on
-stands-kept Nothing Nothing skipped skipped_now came held is_end on stays same stands = tt
+is_at_place-kept Nothing Nothing skipped skipped_now received buffered is_end on stays same
+    is_at_place = tt
 
 -- ---- the end
 
-counted-stream : (came held : List ℕ) (packets : PacketsInStep)
-    → ReadsStream came held true packets
-    → CountsStream came packets
-counted-stream came held packets read =
+counted-stream : (received buffered : List ℕ) (packets : PacketsInStep)
+    → ReadsStream received buffered true packets
+    → CountsStream received packets
+counted-stream received buffered packets read =
     let first = read.first in
-    let bytes = drop read.passed came in
+    let bytes = drop read.passed received in
     let found = read.taken.found in
     let place = read.used + packets.lead in
     let same = found.size in
@@ -341,10 +381,11 @@ counted-stream came held packets read =
     }
 
 -- All of a recording was read.
-pub counted-all : (kind : Kind) (skipped : ℕ) (came held : List ℕ)
-    → StandsAt kind skipped came held true
-    → CountsRecording came kind
-counted-all Unknown skipped came held stands = tt
-counted-all (Pes f) skipped came held stands = tt
-counted-all (Stream p m) skipped came held stands = counted-stream came held p stands
-counted-all Nothing skipped came held stands = tt
+pub counted-all : (kind : Kind) (skipped : ℕ) (received buffered : List ℕ)
+    → IsAtPlace kind skipped received buffered true
+    → CountsRecording received kind
+counted-all Unknown skipped received buffered is_at_place = tt
+counted-all (Pes f) skipped received buffered is_at_place = tt
+counted-all (Stream p m) skipped received buffered is_at_place = counted-stream received buffered p
+    is_at_place
+counted-all Nothing skipped received buffered is_at_place = tt

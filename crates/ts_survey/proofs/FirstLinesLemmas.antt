@@ -1,5 +1,5 @@
--- The output for a recording before its contents: found-behind-head, found-with-head; after more
--- was read: told-on, told-kept; the bytes that came: came-all, still-held.
+-- The output for a recording before its contents: found-following-head, found-with-head; after more
+-- was read: reported-on, reported-kept; the bytes that came: received-all, still-buffered.
 use Rattle.std.proofs.Common.{◌≡◌, Bool, false, List, [], ◌++◌, ℕ, ◌∷◌, ◌∙◌, ap, append-nil}
 use Rattle.std.proofs.Common.{append_assoc, arith, refl, subst, sym, ◌≤◌, drop, length-append, take}
 use Rattle.std.proofs.Common.{true}
@@ -8,10 +8,11 @@ use Rattle.std.proofs.lemmas.List.Folds.{concat-append}
 use Rattle.std.specs.List.{concat}
 use Rattle.std.specs.Prelude.{length}
 use Rattle.mpeg_ts.specs.PacketSize.{bytes_of}
-use Rattle.ts_survey.specs.FirstLines.{FindsKind, asked_words, begins_pes, head_size, head_so_far}
-use Rattle.ts_survey.specs.FirstLines.{head_told, head_words, is_pes, kind_words, size_line}
+use Rattle.ts_survey.specs.FirstLines.{FindsKind, requested_words, begins_pes, head_size}
+use Rattle.ts_survey.specs.FirstLines.{head_so_far}
+use Rattle.ts_survey.specs.FirstLines.{head_reported, head_words, is_pes, kind_words, size_line}
 use Rattle.ts_survey.specs.Lines.{AddsWords}
-use Rattle.ts_survey.specs.Listed.{GoesOn, IsTold}
+use Rattle.ts_survey.specs.Listed.{GoesOn, IsReported}
 use Rattle.ts_survey.specs.Stream.{is_unknown}
 use Rattle.ts_survey.specs.declared.recording.Kind.{Kind}
 use Rattle.ts_survey.specs.declared.recording.Kind.TheVariants.{Nothing, Pes, Stream, Unknown}
@@ -43,8 +44,8 @@ kinds-on (Pes f) Nothing on = absurd on
 kinds-on (Stream p m) Unknown on = absurd on
 kinds-on (Stream p m) (Pes g) on = absurd on
 kinds-on (Stream p m) (Stream q n) on = (
-  ap (λ size. size_line (bytes_of size) ++ asked_words n.asked) on.size
-      ∙ ap (λ asked. size_line (bytes_of p.size) ++ asked_words asked) on.keeps.0,
+  ap (λ size. size_line (bytes_of size) ++ requested_words n.requested) on.size
+      ∙ ap (λ requested. size_line (bytes_of p.size) ++ requested_words requested) on.keeps.0,
   refl,
   refl,
 )
@@ -68,13 +69,13 @@ adds-nothing kind text is =
     subst (λ words. AddsWords text words text) (sym (unknown-words kind is)) (adds-none text)
 
 -- Before any bytes nothing is printed.
-pub told-start : (recording : Recording)
+pub reported-start : (recording : Recording)
     → recording.kind ≡ Unknown
     → recording.has_head ≡ false
-    → IsTold recording [] []
-told-start recording unknown none = record {
+    → IsReported recording [] []
+reported-start recording unknown none = record {
   more = [];
-  told =
+  reported =
       sym (ap (λ kind. concat (head_so_far recording.has_head [] ++ kind_words kind) ++ []) unknown
       ∙ ap (λ has. concat (head_so_far has [] ++ []) ++ []) none);
   unknown = λ is. refl;
@@ -89,61 +90,62 @@ same-head true head other same = ap head_words (same refl)
 same-head false head other same = refl
 
 -- More was printed for a known kind.
-told-more : (old new : Recording) (came all listing more : List ℕ)
-    → IsTold old came listing
+reported-more : (old new : Recording) (received all listing more : List ℕ)
+    → IsReported old received listing
     → GoesOn old.kind new.kind
     → new.has_head ≡ old.has_head
-    → (old.has_head ≡ true → take head_size all ≡ take head_size came)
+    → (old.has_head ≡ true → take head_size all ≡ take head_size received)
     → (is_unknown old.kind ≡ true → more ≡ [])
-    → IsTold new all (listing ++ more)
-told-more old new came all listing more told on same begins none =
+    → IsReported new all (listing ++ more)
+reported-more old new received all listing more reported on same begins none =
     let head = take head_size all in record {
-      more = told.more ++ more;
-      told =
-          ap (λ l. l ++ more) told.told
-          ∙ append_assoc _ told.more more
-          ∙ ap (λ l. concat (l ++ kind_words old.kind) ++ (told.more ++ more))
-          (sym (same-head old.has_head (take head_size came) head begins))
-          ∙ ap (λ words. concat (head_so_far old.has_head head ++ words) ++ (told.more ++ more))
+      more = reported.more ++ more;
+      reported =
+          ap (λ l. l ++ more) reported.reported
+          ∙ append_assoc _ reported.more more
+          ∙ ap (λ l. concat (l ++ kind_words old.kind) ++ (reported.more ++ more))
+          (sym (same-head old.has_head (take head_size received) head begins))
+          ∙ ap (λ words. concat (head_so_far old.has_head head ++ words) ++ (reported.more ++ more))
           (sym (kinds-on old.kind new.kind on).0)
-          ∙ ap (λ has. concat (head_so_far has head ++ kind_words new.kind) ++ (told.more ++ more))
+          ∙ ap (λ has. concat (head_so_far has head ++ kind_words new.kind) ++
+          (reported.more ++ more))
           (sym same);
       unknown = λ is.
           let was = sym ((kinds-on old.kind new.kind on).1) ∙ is in
-          ap (λ l. l ++ more) (told.unknown was) ∙ none was;
-      none = λ not. (kinds-on old.kind new.kind on).1 ∙ told.none (sym same ∙ not);
+          ap (λ l. l ++ more) (reported.unknown was) ∙ none was;
+      none = λ not. (kinds-on old.kind new.kind on).1 ∙ reported.none (sym same ∙ not);
       pes = λ has.
           let had = sym same ∙ has in
           (kinds-on old.kind new.kind on).2
-          ∙ told.pes had
+          ∙ reported.pes had
           ∙ ap begins_pes (sym (begins had));
     }
 
 -- Nothing more was printed.
-pub told-kept : (old new : Recording) (came listing : List ℕ)
-    → IsTold old came listing
+pub reported-kept : (old new : Recording) (received listing : List ℕ)
+    → IsReported old received listing
     → GoesOn old.kind new.kind
     → new.has_head ≡ old.has_head
-    → IsTold new came listing
-told-kept old new came listing told on same =
-    subst (λ l. IsTold new came l) (append-nil listing)
-    (told-more old new came came listing [] told on same (λ has. refl) (λ is. refl))
+    → IsReported new received listing
+reported-kept old new received listing reported on same =
+    subst (λ l. IsReported new received l) (append-nil listing)
+    (reported-more old new received received listing [] reported on same (λ has. refl) (λ is. refl))
 
 -- The head that is printed: the earlier one, or else the first bytes.
-heads : (before after : Bool) (came all bytes : List ℕ)
+heads : (before after : Bool) (received all bytes : List ℕ)
     → (before ≡ true → after ≡ true)
-    → (before ≡ true → take head_size all ≡ take head_size came)
+    → (before ≡ true → take head_size all ≡ take head_size received)
     → (before ≡ false → all ≡ bytes)
     → head_so_far after (take head_size all)
-    ≡ head_so_far before (take head_size came) ++ head_told before bytes after
-heads true true came all bytes stays begins first =
-    ap head_words (begins refl) ∙ sym (append-nil (head_words (take head_size came)))
-heads true false came all bytes stays begins first = let e = stays refl in cc
-heads false after came all bytes stays begins first =
+    ≡ head_so_far before (take head_size received) ++ head_reported before bytes after
+heads true true received all bytes stays begins first =
+    ap head_words (begins refl) ∙ sym (append-nil (head_words (take head_size received)))
+heads true false received all bytes stays begins first = let e = stays refl in cc
+heads false after received all bytes stays begins first =
     ap (λ l. head_so_far after (take head_size l)) (first refl)
 
 -- The head was printed, and then the kind: for `find_kind`.
-pub found-behind-head :
+pub found-following-head :
     (old mid new : Recording) (bytes : List ℕ) (before between after : Text)
     → old.has_head ≡ false
     → mid.has_head ≡ true
@@ -156,12 +158,12 @@ pub found-behind-head :
     → (new.out_of_memory ≡ false → AddsWords between (kind_words new.kind) after)
     → is_pes new.kind ≡ false
     → FindsKind old bytes before after new
-found-behind-head
+found-following-head
     old mid new bytes before between after was has same unknown head pes short kind not = record {
-      told = λ enough.
+      reported = λ enough.
           let words = head_words (take head_size bytes) in
-          let e : head_told old.has_head bytes new.has_head ≡ words ++ kind_words mid.kind =
-          ap (λ had. head_told had bytes new.has_head) was
+          let e : head_reported old.has_head bytes new.has_head ≡ words ++ kind_words mid.kind =
+          ap (λ had. head_reported had bytes new.has_head) was
           ∙ ap (λ is. head_so_far is (take head_size bytes)) (same ∙ has)
           ∙ sym (append-nil words)
           ∙ ap (λ k. words ++ kind_words k) (sym unknown) in
@@ -182,9 +184,10 @@ pub found-with-head : (old new : Recording) (bytes : List ℕ) (before after : T
     → is_pes new.kind ≡ false
     → FindsKind old bytes before after new
 found-with-head old new bytes before after has same kind not = record {
-  told = λ enough.
+  reported = λ enough.
       let words = kind_words new.kind in
-      subst (λ was. AddsWords before (head_told was bytes new.has_head ++ words) after) (sym has)
+      subst (λ was. AddsWords before (head_reported was bytes new.has_head ++ words) after)
+      (sym has)
       (kind enough);
   stays = λ is. same ∙ is;
   none = λ is. let e = sym (same ∙ has) ∙ is in cc;
@@ -199,148 +202,158 @@ unknown-is-no-pes (Stream p m) is = absurd cc
 unknown-is-no-pes Nothing is = absurd cc
 
 found-pes :
-    (had : Bool) (old new : Recording) (came all bytes listing : List ℕ) (first last : Text)
+    (had : Bool) (old new : Recording) (received all bytes listing : List ℕ) (first last : Text)
     → old.has_head ≡ had
-    → IsTold old came listing
+    → IsReported old received listing
     → is_unknown old.kind ≡ true
     → FindsKind old bytes first last new
     → new.out_of_memory ≡ false
-    → (old.has_head ≡ true → take head_size all ≡ take head_size came)
+    → (old.has_head ≡ true → take head_size all ≡ take head_size received)
     → (old.has_head ≡ false → all ≡ bytes)
     → new.has_head ≡ true
     → is_pes new.kind ≡ begins_pes (take head_size all)
 found-pes
-    true old new came all bytes listing first last had told is finds enough begins same has =
+    true old new received all bytes listing first last had reported is finds enough begins same
+    has =
     finds.not_pes had
     ∙ sym (unknown-is-no-pes old.kind is)
-    ∙ told.pes had
+    ∙ reported.pes had
     ∙ ap begins_pes (sym (begins had))
 found-pes
-    false old new came all bytes listing first last had told is finds enough begins same has =
+    false old new received all bytes listing first last had reported is finds enough begins same
+    has =
     finds.pes enough had has ∙ ap (λ l. begins_pes (take head_size l)) (sym (same had))
 
 -- The kind of a recording was determined, or some of it was read.
-told-found : (old new : Recording) (came all bytes listing text : List ℕ) (first last : Text)
-    → IsTold old came listing
+reported-found : (old new : Recording) (received all bytes listing text : List ℕ)
+    (first last : Text)
+    → IsReported old received listing
     → is_unknown old.kind ≡ true
     → FindsKind old bytes first last new
     → new.out_of_memory ≡ false
     → first.bytes.items ≡ []
     → last.is_lost ≡ false
-    → (old.has_head ≡ true → take head_size all ≡ take head_size came)
+    → (old.has_head ≡ true → take head_size all ≡ take head_size received)
     → (old.has_head ≡ false → all ≡ bytes)
     → (is_unknown new.kind ≡ true → text ≡ [])
-    → IsTold new all (listing ++ (last.bytes.items ++ text))
-told-found
-    old new came all bytes listing text first last told is finds enough empty whole begins same
+    → IsReported new all (listing ++ (last.bytes.items ++ text))
+reported-found
+    old new received all bytes listing text first last reported is finds enough empty whole begins
+    same
     none =
-    let had = head_so_far old.has_head (take head_size came) in
-    let more = head_told old.has_head bytes new.has_head in
+    let had = head_so_far old.has_head (take head_size received) in
+    let more = head_reported old.has_head bytes new.has_head in
     let known = kind_words new.kind in
     let was : listing ≡ concat had =
-    told.told
-    ∙ ap (λ l. concat (had ++ kind_words old.kind) ++ l) (told.unknown is)
+    reported.reported
+    ∙ ap (λ l. concat (had ++ kind_words old.kind) ++ l) (reported.unknown is)
     ∙ append-nil (concat (had ++ kind_words old.kind))
     ∙ ap (λ l. concat (had ++ l)) (unknown-words old.kind is)
     ∙ ap concat (append-nil had) in
     let now : last.bytes.items ≡ concat (more ++ known) =
-    (finds.told enough).added whole ∙ ap (λ l. l ++ concat (more ++ known)) empty in
+    (finds.reported enough).added whole ∙ ap (λ l. l ++ concat (more ++ known)) empty in
     record {
       more = text;
-      told =
+      reported =
           ap (λ l. l ++ (last.bytes.items ++ text)) was
           ∙ ap (λ l. concat had ++ (l ++ text)) now
           ∙ sym (append_assoc (concat had) (concat (more ++ known)) text)
           ∙ ap (λ l. l ++ text) (sym (concat-append had (more ++ known)))
           ∙ ap (λ l. concat l ++ text) (sym (append_assoc had more known))
           ∙ ap (λ l. concat (l ++ known) ++ text)
-          (sym (heads old.has_head new.has_head came all bytes finds.stays begins same));
+          (sym (heads old.has_head new.has_head received all bytes finds.stays begins same));
       unknown = none;
       none = finds.none;
       pes = λ has.
-          found-pes old.has_head old new came all bytes listing first last refl told is finds enough
+          found-pes old.has_head old new received all bytes listing first last refl reported is
+          finds enough
           begins same has;
     }
 
-told-by : (is : Bool) (old new : Recording) (came all bytes listing text : List ℕ)
+reported-by : (is : Bool) (old new : Recording) (received all bytes listing text : List ℕ)
     (first last : Text)
     → is_unknown old.kind ≡ is
-    → IsTold old came listing
+    → IsReported old received listing
     → (is_unknown old.kind ≡ true → FindsKind old bytes first last new)
     → (is_unknown old.kind ≡ false
     → (last ≡ first) × (new.has_head ≡ old.has_head) × GoesOn old.kind new.kind)
     → new.out_of_memory ≡ false
     → first.bytes.items ≡ []
     → last.is_lost ≡ false
-    → (old.has_head ≡ true → take head_size all ≡ take head_size came)
+    → (old.has_head ≡ true → take head_size all ≡ take head_size received)
     → (old.has_head ≡ false → all ≡ bytes)
     → (is_unknown new.kind ≡ true → text ≡ [])
-    → IsTold new all (listing ++ (last.bytes.items ++ text))
-told-by
-    true old new came all bytes listing text first last is told finds goes enough empty whole begins
+    → IsReported new all (listing ++ (last.bytes.items ++ text))
+reported-by
+    true old new received all bytes listing text first last is reported finds goes enough empty
+    whole begins
     same none =
-    told-found old new came all bytes listing text first last told is (finds is) enough empty whole
+    reported-found old new received all bytes listing text first last reported is (finds is) enough
+    empty whole
     begins same none
-told-by
-    false old new came all _ listing text first last is told finds goes _ empty _ begins _ none =
+reported-by
+    false old new received all _ listing text first last is reported finds goes _ empty _ begins
+    _ none =
     let on = goes is in
     let no_more : last.bytes.items ≡ [] = ap (λ t. t.bytes.items) on.0 ∙ empty in
-    subst (λ l. IsTold new all (listing ++ (l ++ text))) (sym no_more)
-    (told-more old new came all listing text told on.2 on.1 begins
+    subst (λ l. IsReported new all (listing ++ (l ++ text))) (sym no_more)
+    (reported-more old new received all listing text reported on.2 on.1 begins
     (λ unknown. none ((kinds-on old.kind new.kind on.2).1 ∙ unknown)))
 
 -- More of a recording was read.
-pub told-on : (old new : Recording) (came all bytes listing text : List ℕ) (first last : Text)
-    → IsTold old came listing
+pub reported-on : (old new : Recording) (received all bytes listing text : List ℕ)
+    (first last : Text)
+    → IsReported old received listing
     → (is_unknown old.kind ≡ true → FindsKind old bytes first last new)
     → (is_unknown old.kind ≡ false
     → (last ≡ first) × (new.has_head ≡ old.has_head) × GoesOn old.kind new.kind)
     → new.out_of_memory ≡ false
     → length first.bytes.items ≡ 0
     → last.is_lost ≡ false
-    → (old.has_head ≡ true → take head_size all ≡ take head_size came)
+    → (old.has_head ≡ true → take head_size all ≡ take head_size received)
     → (old.has_head ≡ false → all ≡ bytes)
     → (is_unknown new.kind ≡ true → text ≡ [])
-    → IsTold new all (listing ++ (last.bytes.items ++ text))
-told-on old new came all bytes listing text first last told finds goes enough empty =
-    told-by (is_unknown old.kind) old new came all bytes listing text first last refl told finds
+    → IsReported new all (listing ++ (last.bytes.items ++ text))
+reported-on old new received all bytes listing text first last reported finds goes enough empty =
+    reported-by (is_unknown old.kind) old new received all bytes listing text first last refl
+    reported finds
     goes enough (no-items first.bytes.items empty)
 
 -- ---- the bytes that came
 
 -- The bytes of the head have come, so more of them change nothing.
-pub begins-as : (has : Bool) (came more : List ℕ)
-    → (has ≡ true → head_size ≤ length came)
+pub begins-as : (has : Bool) (received more : List ℕ)
+    → (has ≡ true → head_size ≤ length received)
     → has ≡ true
-    → take head_size (came ++ more) ≡ take head_size came
-begins-as has came more long is = take-append-le head_size came more (long is)
+    → take head_size (received ++ more) ≡ take head_size received
+begins-as has received more long is = take-append-le head_size received more (long is)
 
-pub long-on : (had has : Bool) (came more : List ℕ)
-    → (had ≡ true → head_size ≤ length came)
-    → (had ≡ false → has ≡ true → head_size ≤ length (came ++ more))
+pub long-on : (had has : Bool) (received more : List ℕ)
+    → (had ≡ true → head_size ≤ length received)
+    → (had ≡ false → has ≡ true → head_size ≤ length (received ++ more))
     → has ≡ true
-    → head_size ≤ length (came ++ more)
-long-on true has came more long enough is =
-    let e = length-append came more in omega (arith, e, long refl)
-long-on false has came more long enough is = enough refl is
+    → head_size ≤ length (received ++ more)
+long-on true has received more long enough is =
+    let e = length-append received more in omega (arith, e, long refl)
+long-on false has received more long enough is = enough refl is
 
 -- While nothing is printed, what came is kept.
-pub came-all : (came held now bytes more : List ℕ)
-    → held ≡ came
-    → now ≡ held ++ more
+pub received-all : (received buffered now bytes more : List ℕ)
+    → buffered ≡ received
+    → now ≡ buffered ++ more
     → bytes ≡ now
-    → came ++ more ≡ bytes
-came-all came held now bytes more is more_is same =
+    → received ++ more ≡ bytes
+received-all received buffered now bytes more is more_is same =
     ap (λ l. l ++ more) (sym is) ∙ sym more_is ∙ sym same
 
 -- None of it is dropped.
-pub still-held : (came held now after more : List ℕ) (used : ℕ)
-    → held ≡ came
-    → now ≡ held ++ more
+pub still-buffered : (received buffered now after more : List ℕ) (used : ℕ)
+    → buffered ≡ received
+    → now ≡ buffered ++ more
     → used ≡ 0
     → after ≡ drop used now
-    → after ≡ came ++ more
-still-held came held now after more used is more_is none passed =
+    → after ≡ received ++ more
+still-buffered received buffered now after more used is more_is none passed =
     passed ∙ ap (λ n. drop n now) none ∙ more_is ∙ ap (λ l. l ++ more) is
 
 pub was-none : (had has : Bool) → (had ≡ true → has ≡ true) → has ≡ false → had ≡ false

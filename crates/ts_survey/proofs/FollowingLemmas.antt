@@ -5,10 +5,10 @@ use Rattle.std.proofs.Common.{refl, sym, ap, ◌∙◌, subst, arith, length-app
 use Rattle.std.proofs.lemmas.List.Folds.{concat-append}
 use Rattle.std.specs.List.{concat}
 use Rattle.mpeg_ts.specs.GoodPackets.{Note, notes}
-use Rattle.mpeg_ts.specs.Joining.{JoiningValue, after_note, given_later, handed_over, has_ended}
+use Rattle.mpeg_ts.specs.Joining.{JoiningValue, after_note, later_output, delivered, has_ended}
 use Rattle.mpeg_ts.specs.Joining.{nothing_joined}
 use Rattle.mpeg_ts.specs.PacketsInStep.{items_of}
-use Rattle.mpeg_ts.specs.Stream.{stream_gives}
+use Rattle.mpeg_ts.specs.Stream.{stream_output}
 use Rattle.mpeg_ts.proofs.CarriedLemmas.{carried_given}
 use Rattle.ttx_page.proofs.RunLemmas.{RunsBy-append}
 use Rattle.ts_survey.specs.Following.{FollowsNotes, GivesNext, LawOfFollowing, TakesBytes}
@@ -27,8 +27,8 @@ pub first-taken :
     → TakesBytes IsTaken mid after.pending new
     → TakesBytes IsTaken old before.pending new
 first-taken IsTaken before after old mid new first more = record {
-  pieces = first.piece ∷ more.pieces;
-  joined = ap (λ l. first.piece ++ l) more.joined ∙ sym first.joined;
+  pes_packets = first.pes_packet ∷ more.pes_packets;
+  joined = ap (λ l. first.pes_packet ++ l) more.joined ∙ sym first.joined;
   run = (mid, first.taken, more.run);
 }
 
@@ -39,14 +39,15 @@ pub fewer_ready :
     → (before.pending ≡ [] → ⊥)
     → length after.pending < length before.pending
 fewer_ready IsTaken before after old new first some =
-    shorter before.pending first.piece after.pending first.joined (λ none. some (first.some none))
+    shorter before.pending first.pes_packet after.pending first.joined
+    (λ none. some (first.some none))
   where
-    shorter : (all piece rest : List ℕ) → all ≡ piece ++ rest → (piece ≡ [] → ⊥)
+    shorter : (all pes_packet rest : List ℕ) → all ≡ pes_packet ++ rest → (pes_packet ≡ [] → ⊥)
         → length rest < length all
     shorter all [] rest joined more = absurd (more refl)
-    shorter all (x ∷ piece) rest joined more =
-        let sum : length all ≡ length (x ∷ (piece ++ rest)) = ap length joined in
-        omega (arith, sum, length-append piece rest)
+    shorter all (x ∷ pes_packet) rest joined more =
+        let sum : length all ≡ length (x ∷ (pes_packet ++ rest)) = ap length joined in
+        omega (arith, sum, length-append pes_packet rest)
 
 -- Some bytes followed by others.
 taken-after :
@@ -55,20 +56,20 @@ taken-after :
     → TakesBytes IsTaken mid more new
     → TakesBytes IsTaken old (first ++ more) new
 taken-after IsTaken old mid new first more one other = record {
-  pieces = one.pieces ++ other.pieces;
-  joined = concat-append one.pieces other.pieces
-      ∙ ap (λ l. l ++ concat other.pieces) one.joined
+  pes_packets = one.pes_packets ++ other.pes_packets;
+  joined = concat-append one.pes_packets other.pes_packets
+      ∙ ap (λ l. l ++ concat other.pes_packets) one.joined
       ∙ ap (λ l. first ++ l) other.joined;
-  run = RunsBy-append IsTaken one.pieces other.pieces old mid new one.run other.run;
+  run = RunsBy-append IsTaken one.pes_packets other.pes_packets old mid new one.run other.run;
 }
 
 -- Nothing more is given after the end.
-given_later-ended : (j : JoiningValue) (all : List Note)
+later_output-ended : (j : JoiningValue) (all : List Note)
     → has_ended j.part ≡ true
-    → given_later j all ≡ []
-unfolding given_later
-given_later-ended j [] ended = refl
-given_later-ended j (note ∷ more) ended = rw ended refl
+    → later_output j all ≡ []
+unfolding later_output
+later_output-ended j [] ended = refl
+later_output-ended j (note ∷ more) ended = rw ended refl
 
 -- The rest of the state stays the same.
 pub same-rest : (first before after : JoiningValue) (left : List ℕ)
@@ -87,15 +88,15 @@ follows-note :
     (more : List Note) (old new : T) (b : Bool)
     → has_ended j.part ≡ b
     → FollowsNotes IsTaken j old (note ∷ more) new
-    → (FollowsNotes IsTaken j old more new → TakesBytes IsTaken old (given_later j more) new)
-    → ((mid : T) → FollowsNotes IsTaken (handed_over (after_note j note)) mid more new
-    → TakesBytes IsTaken mid (given_later (handed_over (after_note j note)) more) new)
-    → TakesBytes IsTaken old (given_later j (note ∷ more)) new
-unfolding given_later
+    → (FollowsNotes IsTaken j old more new → TakesBytes IsTaken old (later_output j more) new)
+    → ((mid : T) → FollowsNotes IsTaken (delivered (after_note j note)) mid more new
+    → TakesBytes IsTaken mid (later_output (delivered (after_note j note)) more) new)
+    → TakesBytes IsTaken old (later_output j (note ∷ more)) new
+unfolding later_output
 follows-note IsTaken j note more old new true ended is over going =
     let rest = over (rw ended at is) in
-    let none = given_later-ended j (note ∷ more) ended in
-    let same = given_later-ended j more ended ∙ sym none in
+    let none = later_output-ended j (note ∷ more) ended in
+    let same = later_output-ended j more ended ∙ sym none in
     subst (λ l. TakesBytes IsTaken old l new) same rest
 follows-note IsTaken j note more old new false begun is over going =
     let here = rw begun at is in
@@ -106,16 +107,16 @@ follows :
     {T : Type 0} (IsTaken : T → List ℕ → T → Type 0) (j : JoiningValue) (all : List Note)
     (old new : T)
     → FollowsNotes IsTaken j old all new
-    → TakesBytes IsTaken old (given_later j all) new
-unfolding given_later
-follows IsTaken j [] old new is = record { pieces = []; joined = refl; run = is }
+    → TakesBytes IsTaken old (later_output j all) new
+unfolding later_output
+follows IsTaken j [] old new is = record { pes_packets = []; joined = refl; run = is }
 follows IsTaken j (note ∷ more) old new is =
     follows-note IsTaken j note more old new (has_ended j.part) refl is
     (follows IsTaken j more old new)
-    (λ mid. follows IsTaken (handed_over (after_note j note)) more mid new)
+    (λ mid. follows IsTaken (delivered (after_note j note)) more mid new)
 
 pub law_of_following : {T : Type 0} (IsTaken : T → List ℕ → T → Type 0) → LawOfFollowing IsTaken
-unfolding stream_gives
+unfolding stream_output
 law_of_following IsTaken number distance recording old new is =
     subst (λ l. TakesBytes IsTaken old l new) (carried_given number distance recording)
     (follows IsTaken nothing_joined (notes distance number 0 (items_of distance recording)) old new

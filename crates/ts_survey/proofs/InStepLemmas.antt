@@ -7,19 +7,20 @@ use Rattle.std.proofs.Common.{drop-drop, length-append, length-drop}
 use Rattle.std.proofs.lemmas.Bool.Decides.{nat_tests}
 use Rattle.std.proofs.lemmas.List.{get_or-drop, take-append-le, drop-append-le}
 use Rattle.std.specs.Prelude.{slice_index, ◌==◌, ◌&&◌, ◌||◌, nat_le, nat_lt, if◌then◌else◌}
-use Rattle.mpeg_ts.specs.GoodPackets.{hole_size}
+use Rattle.mpeg_ts.specs.GoodPackets.{loss_size}
 use Rattle.mpeg_ts.specs.PacketSize.{bytes_of}
 use Rattle.mpeg_ts.specs.declared.packet_size.PacketSize.{PacketSize}
 use Rattle.mpeg_ts.specs.declared.packet_size.PacketSize.TheVariants.{Plain, TimeStamped}
 use Rattle.mpeg_ts.specs.declared.packet_size.PacketSize.TheVariants.{ErrorCorrected}
 use Rattle.mpeg_ts.specs.PacketsInStep.{Item, Packet, Skipped, begins_packet}
-use Rattle.mpeg_ts.proofs.StreamLemmas.{index-append, index-behind, items_end, items_packet}
+use Rattle.mpeg_ts.proofs.StreamLemmas.{index-append, index-following, items_end, items_packet}
 use Rattle.mpeg_ts.proofs.StreamLemmas.{items_room, items_skipped}
 use Rattle.ttx_page.specs.Receiver.{RunsBy}
 use Rattle.ttx_page.proofs.RunLemmas.{RunsBy-append}
-use Rattle.ts_survey.specs.InStep.{AreFound, LawOfTwoCalls, behind, counted_on}
-use Rattle.ts_survey.specs.InStep.{hole_told, items_from, packet_count, skipped_after, skipped_in}
-use Rattle.ts_survey.specs.InStep.{told_of}
+use Rattle.ts_survey.specs.InStep.{AreFound, LawOfTwoCalls, following, counted_on}
+use Rattle.ts_survey.specs.InStep.{loss_reported, items_from, packet_count, skipped_after}
+use Rattle.ts_survey.specs.InStep.{skipped_in}
+use Rattle.ts_survey.specs.InStep.{reported_of}
 use Rattle.ts_survey.specs.declared.packets_in_step.PacketsInStep.{PacketsInStep}
 
 -- The distance of packets.
@@ -48,35 +49,35 @@ begins_by distance place in_step bytes more below =
 pub nothing_more : (bytes more : List ℕ) → more ≡ [] → bytes ++ more ≡ bytes
 nothing_more bytes more none = ap (λ l. bytes ++ l) none ∙ append-nil bytes
 
-pub ruleset starts = (index-append, index-behind, begins_by, nothing_more)
+pub ruleset starts = (index-append, index-following, begins_by, nothing_more)
 
 -- Bytes that begin with a packet.
-front_packet : (distance : ℕ) (in_step : Bool) (bytes : List ℕ)
+prefix_packet : (distance : ℕ) (in_step : Bool) (bytes : List ℕ)
     → 188 ≤ distance
     → 188 ≤ length bytes
     → begins_packet distance in_step bytes ≡ true
     → items_from distance in_step bytes
     ≡ Packet (take 188 bytes) ∷ items_from distance true (drop distance bytes)
 unfolding items_from
-front_packet distance in_step bytes h1 h2 h3 =
+prefix_packet distance in_step bytes h1 h2 h3 =
     grind (arith, nat_tests, items_packet, items_room, length-drop)
 
 -- Bytes of which the first is skipped.
-front_skipped : (distance : ℕ) (in_step : Bool) (bytes : List ℕ)
+prefix_skipped : (distance : ℕ) (in_step : Bool) (bytes : List ℕ)
     → 188 ≤ distance
     → 188 ≤ length bytes
     → begins_packet distance in_step bytes ≡ false
     → items_from distance in_step bytes ≡ Skipped ∷ items_from distance false (drop 1 bytes)
 unfolding items_from
-front_skipped distance in_step bytes h1 h2 h3 =
+prefix_skipped distance in_step bytes h1 h2 h3 =
     grind (arith, nat_tests, items_skipped, items_room, length-drop)
 
 -- Fewer bytes than a packet has.
-pub front_end : (distance : ℕ) (in_step : Bool) (bytes : List ℕ)
+pub prefix_end : (distance : ℕ) (in_step : Bool) (bytes : List ℕ)
     → length bytes < 188
     → items_from distance in_step bytes ≡ []
 unfolding items_from
-front_end distance in_step bytes few = items_end distance in_step (length bytes) bytes few
+prefix_end distance in_step bytes few = items_end distance in_step (length bytes) bytes few
 
 -- One more of the same, before what follows.
 replicate_shift : {A : Type 0} (k : ℕ) (x : A) (rest : List A)
@@ -98,7 +99,7 @@ pub skipped_on : (distance place start : ℕ) (bytes more : List ℕ)
 skipped_on distance place start bytes more near from there skips so_far =
     let long : 188 ≤ length (drop start (bytes ++ more)) =
     omega (arith, length-drop start (bytes ++ more), length-append bytes more) in
-    let one = front_skipped distance false (drop start (bytes ++ more)) near long skips in
+    let one = prefix_skipped distance false (drop start (bytes ++ more)) near long skips in
     let count : suc (start - place) ≡ (start + 1) - place = omega arith in
     so_far
     ∙ ap (λ l. replicate (start - place) Skipped ++ l)
@@ -132,16 +133,17 @@ skipped_after-small run (Packet p ∷ xs) small = skipped_after-small 0 xs (omeg
 skipped_after-small run (Skipped ∷ xs) small =
     skipped_after-small (counted_on run 1) xs (grind (arith, nat_tests))
 
-told_of-append : (distance run : ℕ) (xs ys : List Item)
-    → told_of distance run (xs ++ ys)
-    ≡ told_of distance run xs ++ told_of distance (skipped_after run xs) ys
-unfolding skipped_after told_of
-told_of-append distance run [] ys = refl
-told_of-append distance run (Packet p ∷ xs) ys = ap (λ l. p ∷ l) (told_of-append distance 0 xs ys)
-told_of-append distance run (Skipped ∷ xs) ys =
-    ap (λ l. hole_told distance (counted_on run 1) ++ l)
-    (told_of-append distance (counted_on run 1) xs ys)
-    ∙ sym (append_assoc (hole_told distance (counted_on run 1)) _ _)
+reported_of-append : (distance run : ℕ) (xs ys : List Item)
+    → reported_of distance run (xs ++ ys)
+    ≡ reported_of distance run xs ++ reported_of distance (skipped_after run xs) ys
+unfolding skipped_after reported_of
+reported_of-append distance run [] ys = refl
+reported_of-append distance run (Packet p ∷ xs) ys = ap (λ l. p ∷ l) (reported_of-append distance 0
+    xs ys)
+reported_of-append distance run (Skipped ∷ xs) ys =
+    ap (λ l. loss_reported distance (counted_on run 1) ++ l)
+    (reported_of-append distance (counted_on run 1) xs ys)
+    ∙ sym (append_assoc (loss_reported distance (counted_on run 1)) _ _)
 
 packet_count-append : (xs ys : List Item)
     → packet_count (xs ++ ys) ≡ packet_count xs + packet_count ys
@@ -168,16 +170,16 @@ skipped_after-skipped (suc k) run small =
     grind (arith, nat_tests, skipped_after-skipped k (counted_on run 1))
 
 -- A gap is reported once among them, if it ends there.
-told_of-skipped : (distance k run : ℕ)
+reported_of-skipped : (distance k run : ℕ)
     → distance ≤ 204
     → run ≤ 0xFFFF_FFFF_FFFF_FFFF
-    → told_of distance run (replicate k Skipped)
-    ≡ (if nat_lt run (hole_size distance) && nat_le (hole_size distance) (counted_on run k)
+    → reported_of distance run (replicate k Skipped)
+    ≡ (if nat_lt run (loss_size distance) && nat_le (loss_size distance) (counted_on run k)
     then [] ∷ [] else [])
-unfolding told_of
-told_of-skipped distance zero run far small = grind (arith, nat_tests)
-told_of-skipped distance (suc k) run far small =
-    grind (arith, nat_tests, told_of-skipped distance k (counted_on run 1))
+unfolding reported_of
+reported_of-skipped distance zero run far small = grind (arith, nat_tests)
+reported_of-skipped distance (suc k) run far small =
+    grind (arith, nat_tests, reported_of-skipped distance k (counted_on run 1))
 
 packet_count-skipped : (k : ℕ) → packet_count (replicate k Skipped) ≡ 0
 unfolding packet_count
@@ -190,19 +192,19 @@ skipped_in-skipped zero = refl
 skipped_in-skipped (suc k) = ap suc (skipped_in-skipped k)
 
 -- They end a gap or not: they are before its end, or after it.
-pub hole_taken :
+pub loss_taken :
     {T : Type 0} (IsTaken : T → List ℕ → T → Type 0) (distance k run : ℕ) (old new : T)
     → distance ≤ 204
     → run ≤ 0xFFFF_FFFF_FFFF_FFFF
     → run < 15 * distance
     → 15 * distance ≤ counted_on run k
     → IsTaken old [] new
-    → RunsBy IsTaken old (told_of distance run (replicate k Skipped)) new
-hole_taken IsTaken distance k run old new far small before behind_it taken =
+    → RunsBy IsTaken old (reported_of distance run (replicate k Skipped)) new
+loss_taken IsTaken distance k run old new far small before after_it taken =
     let ends : (nat_lt run (15 * distance) && nat_le (15 * distance) (counted_on run k)) ≡ true =
-    grind (arith, nat_tests, before, behind_it) in
+    grind (arith, nat_tests, before, after_it) in
     subst (λ l. RunsBy IsTaken old l new)
-    (sym (told_of-skipped distance k run far small ∙ ap (λ b. if b then [] ∷ [] else []) ends))
+    (sym (reported_of-skipped distance k run far small ∙ ap (λ b. if b then [] ∷ [] else []) ends))
     (new, taken, refl)
 
 pub none_taken_before :
@@ -210,28 +212,28 @@ pub none_taken_before :
     → distance ≤ 204
     → run ≤ 0xFFFF_FFFF_FFFF_FFFF
     → counted_on run k < 15 * distance
-    → RunsBy IsTaken old (told_of distance run (replicate k Skipped)) old
+    → RunsBy IsTaken old (reported_of distance run (replicate k Skipped)) old
 none_taken_before IsTaken distance k run old far small before =
     let none : (nat_lt run (15 * distance) && nat_le (15 * distance) (counted_on run k)) ≡ false =
     grind (arith, nat_tests, before) in
     subst (λ l. RunsBy IsTaken old l old)
-    (sym (told_of-skipped distance k run far small ∙ ap (λ b. if b then [] ∷ [] else []) none))
+    (sym (reported_of-skipped distance k run far small ∙ ap (λ b. if b then [] ∷ [] else []) none))
     refl
 
-pub none_taken_behind :
+pub none_taken_after :
     {T : Type 0} (IsTaken : T → List ℕ → T → Type 0) (distance k run : ℕ) (old : T)
     → distance ≤ 204
     → run ≤ 0xFFFF_FFFF_FFFF_FFFF
     → 15 * distance ≤ run
-    → RunsBy IsTaken old (told_of distance run (replicate k Skipped)) old
-none_taken_behind IsTaken distance k run old far small behind_it =
+    → RunsBy IsTaken old (reported_of distance run (replicate k Skipped)) old
+none_taken_after IsTaken distance k run old far small after_it =
     let none : (nat_lt run (15 * distance) && nat_le (15 * distance) (counted_on run k)) ≡ false =
-    grind (arith, nat_tests, behind_it) in
+    grind (arith, nat_tests, after_it) in
     subst (λ l. RunsBy IsTaken old l old)
-    (sym (told_of-skipped distance k run far small ∙ ap (λ b. if b then [] ∷ [] else []) none))
+    (sym (reported_of-skipped distance k run far small ∙ ap (λ b. if b then [] ∷ [] else []) none))
     refl
 
-pub ruleset holes = (hole_taken, none_taken_before, none_taken_behind)
+pub ruleset losses = (loss_taken, none_taken_before, none_taken_after)
 
 -- Nothing yet.
 pub found_none :
@@ -240,7 +242,7 @@ pub found_none :
     → old.number ≤ 0xFFFF_FFFF_FFFF_FFFF
     → old.skipped ≤ 0xFFFF_FFFF_FFFF_FFFF
     → AreFound IsTaken old before bytes is_end old.lead 0 old before
-unfolding packet_count skipped_after skipped_in told_of
+unfolding packet_count skipped_after skipped_in reported_of
 found_none IsTaken old before bytes is_end number skipped = record {
   found = [];
   stand = λ more none. refl;
@@ -258,16 +260,16 @@ sums lead d a b s t = grind arith
 -- Items were found up to a place, and others from there on.
 module _
     {T : Type 0} (IsTaken : T → List ℕ → T → Type 0) (old mid new : PacketsInStep)
-    (before told after : T) (bytes : List ℕ) (is_end : Bool) (at place rest : ℕ)
+    (before reported after : T) (bytes : List ℕ) (is_end : Bool) (at place rest : ℕ)
   where
     found_more : (those : List Item)
-        → AreFound IsTaken old before bytes is_end at 0 mid told
+        → AreFound IsTaken old before bytes is_end at 0 mid reported
         → ((more : List ℕ)
         → (is_end ≡ true → more ≡ [])
         → items_from (bytes_of mid.size) mid.in_step (drop at (bytes ++ more))
         ≡ those ++ items_from (bytes_of mid.size) new.in_step (drop place (bytes ++ more)))
         → place ≡ at + bytes_of mid.size * packet_count those + skipped_in those
-        → RunsBy IsTaken told (told_of (bytes_of mid.size) mid.run those) after
+        → RunsBy IsTaken reported (reported_of (bytes_of mid.size) mid.run those) after
         → new.run ≡ skipped_after mid.run those
         → new.number ≡ counted_on mid.number (packet_count those)
         → new.skipped ≡ counted_on mid.skipped (skipped_in those + rest)
@@ -289,14 +291,15 @@ module _
               (up_to ∙ rw (same, by) (sums old.lead (bytes_of old.size) _ _ _ _));
           taken =
               subst (λ l. RunsBy IsTaken before l after)
-              (sym (told_of-append (bytes_of old.size) old.run first.found those))
-              (RunsBy-append IsTaken (told_of (bytes_of old.size) old.run first.found)
-              (told_of (bytes_of old.size) (skipped_after old.run first.found) those)
-              before told after
+              (sym (reported_of-append (bytes_of old.size) old.run first.found those))
+              (RunsBy-append IsTaken (reported_of (bytes_of old.size) old.run first.found)
+              (reported_of (bytes_of old.size) (skipped_after old.run first.found) those)
+              before reported after
               first.taken
-              (subst (λ n. RunsBy IsTaken told (told_of (bytes_of old.size) n those) after)
+              (subst (λ n. RunsBy IsTaken reported (reported_of (bytes_of old.size) n those) after)
               first.run
-              (subst (λ n. RunsBy IsTaken told (told_of n mid.run those) after) same taken)));
+              (subst (λ n. RunsBy IsTaken reported (reported_of n mid.run those) after) same
+              taken)));
           run =
               run ∙ ap (λ n. skipped_after n those) first.run
               ∙ sym (skipped_after-append old.run first.found those);
@@ -308,8 +311,8 @@ module _
 -- A packet.
 pub found_packet :
     {T : Type 0} (IsTaken : T → List ℕ → T → Type 0) (old mid new : PacketsInStep)
-    (before told after : T) (bytes packet : List ℕ) (is_end : Bool) (at : ℕ)
-    → AreFound IsTaken old before bytes is_end at 0 mid told
+    (before reported after : T) (bytes packet : List ℕ) (is_end : Bool) (at : ℕ)
+    → AreFound IsTaken old before bytes is_end at 0 mid reported
     → at + 188 ≤ length bytes
     → 188 ≤ bytes_of mid.size
     → mid.skipped ≤ 0xFFFF_FFFF_FFFF_FFFF
@@ -317,18 +320,19 @@ pub found_packet :
     → ((more : List ℕ)
     → begins_packet (bytes_of mid.size) mid.in_step (drop at (bytes ++ more)) ≡ true)
     → new ≡ record mid { in_step = true; number = counted_on mid.number 1; run = 0 }
-    → IsTaken told packet after
+    → IsTaken reported packet after
     → AreFound IsTaken old before bytes is_end (at + bytes_of mid.size) 0 new after
-unfolding packet_count skipped_after skipped_in told_of
-found_packet IsTaken old mid new before told after bytes packet is_end at first there near small is
+unfolding packet_count skipped_after skipped_in reported_of
+found_packet IsTaken old mid new before reported after bytes packet is_end at first there near small
+    is
     begins next taken =
     subst (λ (s : PacketsInStep).
     AreFound IsTaken old before bytes is_end (at + bytes_of mid.size) 0 s after) (sym next)
     (found_more IsTaken old mid
     (record mid { in_step = true; number = counted_on mid.number 1; run = 0 })
-    before told after bytes is_end at (at + bytes_of mid.size) 0 (Packet packet ∷ []) first
+    before reported after bytes is_end at (at + bytes_of mid.size) 0 (Packet packet ∷ []) first
     (λ more none.
-    front_packet (bytes_of mid.size) mid.in_step (drop at (bytes ++ more)) near
+    prefix_packet (bytes_of mid.size) mid.in_step (drop at (bytes ++ more)) near
     (omega (arith, length-drop at (bytes ++ more), length-append bytes more)) (begins more)
     ∙ ap (λ p. Packet p ∷ items_from (bytes_of mid.size) true
     (drop (bytes_of mid.size) (drop at (bytes ++ more))))
@@ -342,8 +346,8 @@ found_packet IsTaken old mid new before told after bytes packet is_end at first 
 -- Bytes that belong to no packet: one, and those after it.
 pub found_skips :
     {T : Type 0} (IsTaken : T → List ℕ → T → Type 0) (old mid new : PacketsInStep)
-    (before told after : T) (bytes : List ℕ) (is_end : Bool) (at next : ℕ)
-    → AreFound IsTaken old before bytes is_end at 0 mid told
+    (before reported after : T) (bytes : List ℕ) (is_end : Bool) (at next : ℕ)
+    → AreFound IsTaken old before bytes is_end at 0 mid reported
     → at + 188 ≤ length bytes
     → 188 ≤ bytes_of mid.size
     → mid.number ≤ 0xFFFF_FFFF_FFFF_FFFF
@@ -361,10 +365,10 @@ pub found_skips :
       run = counted_on mid.run (next - at);
       skipped = counted_on mid.skipped (next - at);
     }
-    → RunsBy IsTaken told
-    (told_of (bytes_of mid.size) mid.run (replicate (next - at) Skipped)) after
+    → RunsBy IsTaken reported
+    (reported_of (bytes_of mid.size) mid.run (replicate (next - at) Skipped)) after
     → AreFound IsTaken old before bytes is_end next 0 new after
-found_skips IsTaken old mid new before told after bytes is_end at next first there near small
+found_skips IsTaken old mid new before reported after bytes is_end at next first there near small
     small_run skips behind_at stand is taken =
     let run : mid.run ≤ 0xFFFF_FFFF_FFFF_FFFF =
     subst (λ n. n ≤ 0xFFFF_FFFF_FFFF_FFFF) (sym first.run)
@@ -379,9 +383,9 @@ found_skips IsTaken old mid new before told after bytes is_end at next first the
       run = counted_on mid.run (next - at);
       skipped = counted_on mid.skipped (next - at);
     })
-    before told after bytes is_end at next 0 (replicate (next - at) Skipped) first
+    before reported after bytes is_end at next 0 (replicate (next - at) Skipped) first
     (λ more none.
-    front_skipped (bytes_of mid.size) mid.in_step (drop at (bytes ++ more)) near
+    prefix_skipped (bytes_of mid.size) mid.in_step (drop at (bytes ++ more)) near
     (omega (arith, length-drop at (bytes ++ more), length-append bytes more)) (skips more none)
     ∙ ap (λ l. Skipped ∷ items_from (bytes_of mid.size) false l) (drop-drop 1 at (bytes ++ more))
     ∙ ap (λ l. Skipped ∷ l) (stand more)
@@ -414,7 +418,8 @@ found_ahead IsTaken old new before after bytes more is_end place first = record 
 }
 
 pub law_of_two_calls : {T : Type 0} (IsTaken : T → List ℕ → T → Type 0) → LawOfTwoCalls IsTaken
-law_of_two_calls IsTaken old mid new before told after bytes more is_end used more_used one other =
+law_of_two_calls IsTaken old mid new before reported after bytes more is_end used more_used one
+    other =
     let within = one.within in
     let all = bytes ++ more in
     let place = used + more_used + new.lead in
@@ -430,8 +435,8 @@ law_of_two_calls IsTaken old mid new before told after bytes more is_end used mo
     ap (λ l. drop at (l ++ rest)) (sym (drop-append-le used bytes more within))
     ∙ ap (drop at) (sym (drop-append-le used all rest (omega (arith, within, size))))
     ∙ drop-drop at used (all ++ rest) in
-    let same : behind is_end (drop used bytes ++ more) (more_used + new.lead)
-    ≡ behind is_end all place =
+    let same : following is_end (drop used bytes ++ more) (more_used + new.lead)
+    ≡ following is_end all place =
     ap (λ n. if is_end then n else 0) (omega (arith, within, size, left, dropped)) in
     let up_to = other.found.up_to in
     let others = other.found.found in
@@ -439,9 +444,10 @@ law_of_two_calls IsTaken old mid new before told after bytes more is_end used mo
     record {
       within = omega (arith, within, size, left, dropped, other.within);
       found =
-          found_more IsTaken old mid new before told after all is_end (used + mid.lead) place
-          (behind is_end all place) others
-          (found_ahead IsTaken old mid before told bytes more is_end (used + mid.lead) one.found)
+          found_more IsTaken old mid new before reported after all is_end (used + mid.lead) place
+          (following is_end all place) others
+          (found_ahead IsTaken old mid before reported bytes more is_end (used + mid.lead)
+          one.found)
           (λ rest none.
           ap (items_from distance mid.in_step) (sym (whole mid.lead rest))
           ∙ other.found.stand rest none

@@ -1,9 +1,9 @@
-pub mod AskedLemmas
+pub mod RequestedLemmas
 pub mod CountedLemmas
 pub mod FirstLinesLemmas
 pub mod FollowingLemmas
 pub mod InStepLemmas
 pub mod ListedLemmas
-pub mod RoomLemmas
+pub mod ReadBufferLemmas
 pub mod SurveyLemmas
 pub mod TextLemmas

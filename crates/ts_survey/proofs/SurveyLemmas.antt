@@ -1,4 +1,4 @@
--- The output is written to the sink after its earlier contents: for `hand_on` and `survey`.
+-- The output is written to the sink after its earlier contents: for `flush_pending` and `survey`.
 use Rattle.std.proofs.Common.{ℕ, List, [], ◌++◌, Option, Some, None, sym}
 use Rattle.std.proofs.Common.{append-nil}
 use Rattle.std.proofs.KnownBytes.{Appends-trans}

@@ -9,9 +9,9 @@ use Rattle.ts_survey.specs.Text.{Adds}
 use Rattle.ts_survey.specs.declared.text.Text.{Text}
 
 -- A text that is complete at the end was complete before.
-was_whole : (a b : Bool) → (a ≡ true → b ≡ true) → b ≡ false → a ≡ false
-was_whole false b stays whole = refl
-was_whole true b stays whole = let e = sym (stays refl) ∙ whole in cc
+was_complete : (a b : Bool) → (a ≡ true → b ≡ true) → b ≡ false → a ≡ false
+was_complete false b stays whole = refl
+was_complete true b stays whole = let e = sym (stays refl) ∙ whole in cc
 
 -- No words.
 pub adds-none : (text : Text) → AddsWords text [] text
@@ -28,7 +28,8 @@ pub adds-word : {old mid new : Text} {word more : List ℕ}
 adds-word {old = old} {mid = mid} {new = new} {word = word} {more = more} first then = record {
   added = λ whole.
       then.added whole
-      ∙ ap (λ l. l ++ more) (first.added (was_whole mid.is_lost new.is_lost then.stays_lost whole))
+      ∙ ap (λ l. l ++ more)
+      (first.added (was_complete mid.is_lost new.is_lost then.stays_lost whole))
       ∙ append_assoc old.bytes.items word more;
   stays_lost = λ lost. then.stays_lost (first.stays_lost lost);
 }

@@ -46,21 +46,21 @@ time_at pes n =
     + slice_index pes (n + 4) / 2
 
 -- The PTS of a PES packet. Byte 6 of a gap marker is FF.
-abbrev pub pts_said : List ℕ → Option ℕ
-pts_said pes =
+abbrev pub pts_stated : List ℕ → Option ℕ
+pts_stated pes =
     if nat_lt (length pes) 14 || nat_lt (slice_index pes 7) 0x80 || (slice_index pes 6 == 0xFF)
     then None
     else Some (time_at pes 9)
 
 -- When the first picture of a PES packet with that PTS is decoded: its DTS, or its PTS if
 -- PTS_DTS_flags announce no DTS (ISO/IEC 13818-1). `None` if its bytes end within the DTS.
-abbrev pub time_beside : List ℕ → Option ℕ → Option ℕ
-time_beside pes None = None
-time_beside pes (Some pts) =
+abbrev pub first_decoding_time : List ℕ → Option ℕ → Option ℕ
+first_decoding_time pes None = None
+first_decoding_time pes (Some pts) =
     if nat_lt (slice_index pes 7) 0xC0 then Some pts
     else if nat_lt (length pes) 19 then None
     else Some (time_at pes 14)
 
 -- The same for a PES packet; `None` if it has no PTS.
 abbrev pub decoding_time : List ℕ → Option ℕ
-decoding_time pes = time_beside pes (pts_said pes)
+decoding_time pes = first_decoding_time pes (pts_stated pes)

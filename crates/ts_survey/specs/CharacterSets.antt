@@ -31,8 +31,8 @@ wrong_place word =
     + digit_if_failed word 0x7F_8000 16
 
 -- The word with the bit at a place flipped; 0 for none.
-abbrev pub turned : ℕ → ℕ → ℕ
-turned word place = if place == 0 then word else bit_xor word (2 ^ (place - 1))
+abbrev pub with_bit_flipped : ℕ → ℕ → ℕ
+with_bit_flipped word place = if place == 0 then word else bit_xor word (2 ^ (place - 1))
 
 -- The 18 data bits, at the places 3, 5 to 7, 9 to 15 and 17 to 23.
 abbrev pub data_bits : ℕ → ℕ
@@ -46,7 +46,7 @@ carried_bits word =
     if count_ones word % 2 == 1
     then (if wrong_place word == 0 then Some (data_bits word) else None)
     else (if nat_lt 23 (wrong_place word) then None
-    else Some (data_bits (turned word (wrong_place word))))
+    else Some (data_bits (with_bit_flipped word (wrong_place word))))
 
 -- The data bits of three bytes.
 abbrev pub triplet : ℕ → ℕ → ℕ → Option ℕ
@@ -76,7 +76,7 @@ set_by (Some designation) number p =
     else None
 
 -- The same for a packet of the page's magazine: an X/28 counts only after a header of the page.
-abbrev pub set_said : ℕ → Bool → List ℕ → Option (ℕ × Option ℕ)
-set_said number is_own p =
+abbrev pub set_stated : ℕ → Bool → List ℕ → Option (ℕ × Option ℕ)
+set_stated number is_own p =
     if (number == 29) || ((number == 28) && is_own) then set_by (decoded (slice_index p 2)) number p
     else None

@@ -3,8 +3,8 @@
 use Rattle.std.specs.Prelude.{◌≡◌, ◌≤◌, ⊤, ℕ, ◌+◌, ◌-◌, ◌*◌, Bool, true, List, drop, length}
 use Rattle.mpeg_ts.specs.PacketSize.{bytes_of}
 use Rattle.mpeg_ts.specs.PacketsInStep.{Item, lead_size}
-use Rattle.ts_survey.specs.Asked.{keeps_asked}
-use Rattle.ts_survey.specs.Following.{any_piece}
+use Rattle.ts_survey.specs.Requested.{keeps_requested}
+use Rattle.ts_survey.specs.Following.{any_pes_packet}
 use Rattle.ts_survey.specs.InStep.{TakesAll, counted_on, items_from, packet_count, skipped_in}
 use Rattle.ts_survey.specs.declared.multiplex.Multiplex.{Multiplex}
 use Rattle.ts_survey.specs.declared.packets_in_step.PacketsInStep.{PacketsInStep}
@@ -29,7 +29,7 @@ BeginsStream passed _ = ⊤
 -- The packets of these bytes were processed, by whatever receives them.
 abbrev pub TakesAny : PacketsInStep → List ℕ → Bool → ℕ → PacketsInStep → Type 0
 TakesAny old bytes is_end used new =
-    TakesAll {T = Unit {0}} any_piece old (tt {0}) bytes is_end used new (tt {0})
+    TakesAll {T = Unit {0}} any_pes_packet old (tt {0}) bytes is_end used new (tt {0})
 
 -- A stream begins there, and the packets of these bytes of it were processed.
 pub record TakesStream
@@ -39,7 +39,7 @@ pub record TakesStream
   pub first : PacketsInStep
   pub begins : BeginsAt passed first
   pub start : Multiplex
-  pub taken : TakesAll keeps_asked first start bytes is_end used packets multiplex
+  pub taken : TakesAll keeps_requested first start bytes is_end used packets multiplex
 
 -- The same for a recording that was recognised as a stream.
 abbrev pub TakesBegun : ℕ → List ℕ → Bool → ℕ → Kind → Type 0
@@ -49,44 +49,47 @@ TakesBegun passed bytes is_end used _ = ⊤
 
 -- The packets of a stream were found in the bytes that came, except for those still kept; in all of
 -- them at the end.
-pub record ReadsStream (came held : List ℕ) (is_end : Bool) (packets : PacketsInStep) : Type 0 where
+pub record ReadsStream (received buffered : List ℕ) (is_end : Bool) (packets : PacketsInStep) : Type
+    0 where
   pub passed : ℕ
-  pub within : passed ≤ length came
+  pub within : passed ≤ length received
   pub first : PacketsInStep
   pub begins : BeginsAt passed first
   pub used : ℕ
-  pub taken : TakesAny first (drop passed came) is_end used packets
-  pub left : held ≡ drop used (drop passed came)
+  pub taken : TakesAny first (drop passed received) is_end used packets
+  pub left : buffered ≡ drop used (drop passed received)
 
 -- The same for a recording; while its kind is unknown, all bytes after the skipped ones are kept.
-abbrev pub StandsAt : Kind → ℕ → List ℕ → List ℕ → Bool → Type 0
-StandsAt Unknown skipped came held is_end = (skipped ≤ length came) × (held ≡ drop skipped came)
-StandsAt (Stream packets multiplex) skipped came held is_end = ReadsStream came held is_end packets
-StandsAt _ skipped came held is_end = ⊤
+abbrev pub IsAtPlace : Kind → ℕ → List ℕ → List ℕ → Bool → Type 0
+IsAtPlace Unknown skipped received buffered is_end = (skipped ≤ length received) ×
+    (buffered ≡ drop skipped received)
+IsAtPlace (Stream packets multiplex) skipped received buffered is_end = ReadsStream received
+    buffered is_end packets
+IsAtPlace _ skipped received buffered is_end = ⊤
 
 -- Nothing more of it was read.
 abbrev pub StaysRead : Kind → Kind → Type 0
-StaysRead (Stream packets multiplex) (Stream after told) = after ≡ packets
+StaysRead (Stream packets multiplex) (Stream after reported) = after ≡ packets
 StaysRead _ _ = ⊤
 
 -- ---- at its end
 
 -- All packets from that place on were counted, each once, and the bytes that belong to none: those
 -- before it, between packets, and after the last one.
-pub record CountsStream (came : List ℕ) (packets : PacketsInStep) : Type 0 where
+pub record CountsStream (received : List ℕ) (packets : PacketsInStep) : Type 0 where
   pub passed : ℕ
-  pub within : passed ≤ length came
+  pub within : passed ≤ length received
   pub found : List Item
   pub items :
       items_from (bytes_of packets.size) true
-      (drop (lead_size (bytes_of packets.size)) (drop passed came)) ≡ found
+      (drop (lead_size (bytes_of packets.size)) (drop passed received)) ≡ found
   pub number : packets.number ≡ counted_on 0 (packet_count found)
   pub skipped :
       packets.skipped ≡ counted_on passed (skipped_in found
-      + (length (drop passed came) - (lead_size (bytes_of packets.size)
+      + (length (drop passed received) - (lead_size (bytes_of packets.size)
       + bytes_of packets.size * packet_count found + skipped_in found)))
 
 -- The same for a recording that is a stream.
 abbrev pub CountsRecording : List ℕ → Kind → Type 0
-CountsRecording came (Stream packets multiplex) = CountsStream came packets
-CountsRecording came _ = ⊤
+CountsRecording received (Stream packets multiplex) = CountsStream received packets
+CountsRecording received _ = ⊤

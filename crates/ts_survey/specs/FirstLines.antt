@@ -36,16 +36,16 @@ abbrev pub teletext_line : ℕ → List (List ℕ)
 teletext_line pid = codes "teletext" ∷ number_word pid ∷ line_end ∷ []
 
 -- The requested PID is followed from the first packet on.
-abbrev pub asked_words : Option ℕ → List (List ℕ)
-asked_words None = []
-asked_words (Some pid) = teletext_line pid
+abbrev pub requested_words : Option ℕ → List (List ℕ)
+requested_words None = []
+requested_words (Some pid) = teletext_line pid
 
 -- The kind of a recording: a file of PES packets, a transport stream, or neither.
 abbrev pub kind_words : Kind → List (List ℕ)
 kind_words Unknown = []
 kind_words (Pes file) = codes "size 0\n" ∷ []
 kind_words (Stream packets multiplex) =
-    size_line (bytes_of packets.size) ++ asked_words multiplex.asked
+    size_line (bytes_of packets.size) ++ requested_words multiplex.requested
 kind_words Nothing = codes "nothing\n" ∷ []
 
 -- ---- when they are printed
@@ -69,16 +69,16 @@ abbrev pub head_so_far : Bool → List ℕ → List (List ℕ)
 head_so_far has_head head = if has_head then head_words head else []
 
 -- They are printed only once.
-abbrev pub head_told : Bool → List ℕ → Bool → List (List ℕ)
-head_told before bytes after = if before then [] else head_so_far after (take head_size bytes)
+abbrev pub head_reported : Bool → List ℕ → Bool → List (List ℕ)
+head_reported before bytes after = if before then [] else head_so_far after (take head_size bytes)
 
 -- After the kind of a recording was determined, exactly its lines were printed.
 pub record FindsKind (old : Recording) (bytes : List ℕ) (before after : Text) (new : Recording)
     : Type 0 where
-  pub told :
+  pub reported :
       new.out_of_memory ≡ false
       → AddsWords before
-      (head_told old.has_head bytes new.has_head ++ kind_words new.kind) after
+      (head_reported old.has_head bytes new.has_head ++ kind_words new.kind) after
   pub stays : old.has_head ≡ true → new.has_head ≡ true
   pub none : new.has_head ≡ false → is_unknown new.kind ≡ true
   pub pes :

@@ -3,32 +3,32 @@ use Rattle.std.specs.Prelude.{◌≡◌, ℕ, List, [], ◌∷◌, ◌++◌, Mat
 use Rattle.std.specs.List.{concat}
 use Rattle.mpeg_ts.specs.Carried.{carried}
 use Rattle.mpeg_ts.specs.GoodPackets.{Note, notes}
-use Rattle.mpeg_ts.specs.Joining.{JoiningValue, after_note, handed_over, has_ended, nothing_joined}
+use Rattle.mpeg_ts.specs.Joining.{JoiningValue, after_note, delivered, has_ended, nothing_joined}
 use Rattle.mpeg_ts.specs.PacketsInStep.{items_of}
 use Rattle.ttx_page.specs.Receiver.{RunsBy}
 
 -- Any state before, any part, any state afterwards.
-abbrev pub any_piece : {T : Type 0} → T → List ℕ → T → Type 0
-any_piece old piece new = Unit {0}
+abbrev pub any_pes_packet : {T : Type 0} → T → List ℕ → T → Type 0
+any_pes_packet old pes_packet new = Unit {0}
 
 -- Bytes were received in parts.
 pub record TakesBytes
     {T : Type 0} (IsTaken : T → List ℕ → T → Type 0) (old : T) (bytes : List ℕ) (new : T)
     : Type 0 where
-  pub pieces : List (List ℕ)
-  pub joined : concat pieces ≡ bytes
-  pub run : RunsBy IsTaken old pieces new
+  pub pes_packets : List (List ℕ)
+  pub joined : concat pes_packets ≡ bytes
+  pub run : RunsBy IsTaken old pes_packets new
 
 -- The next part of the bytes that are ready was received; nothing, if none were.
 pub record GivesNext
     {T : Type 0} (IsTaken : T → List ℕ → T → Type 0) (before : JoiningValue) (old : T)
     (after : JoiningValue) (new : T)
     : Type 0 where
-  pub piece : List ℕ
-  pub joined : before.pending ≡ piece ++ after.pending
+  pub pes_packet : List ℕ
+  pub joined : before.pending ≡ pes_packet ++ after.pending
   pub same : after ≡ record before { pending = after.pending }
-  pub some : piece ≡ [] → before.pending ≡ []
-  pub taken : IsTaken old piece new
+  pub some : pes_packet ≡ [] → before.pending ≡ []
+  pub taken : IsTaken old pes_packet new
 
 -- The notes of a PID are processed one after another: after each, everything that it completes is
 -- received, until nothing more is ready.
@@ -39,7 +39,7 @@ FollowsNotes {T} IsTaken j old (note ∷ more) new =
     MatchBool (has_ended j.part)
     (FollowsNotes IsTaken j old more new)
     ((mid : T) × TakesBytes IsTaken old (after_note j note).pending mid
-    × FollowsNotes IsTaken (handed_over (after_note j note)) mid more new)
+    × FollowsNotes IsTaken (delivered (after_note j note)) mid more new)
 
 -- What is received of the packets of a PID is what they carry in the recording.
 abbrev pub LawOfFollowing : {T : Type 0} → (T → List ℕ → T → Type 0) → Type 0

@@ -20,6 +20,6 @@ unfoldable pub unit_packets : List ℕ → List (List ℕ)
 unit_packets unit = if is_teletext_unit unit then map mirror (drop 4 unit) ∷ [] else []
 
 -- A borrowed packet in the bit order of the data unit, if there is one.
-unfoldable pub lent_packets : Option (Bor (List ℕ)) → List (List ℕ)
-lent_packets None = []
-lent_packets (Some packet) = map mirror packet.now ∷ []
+unfoldable pub borrowed_packets : Option (Bor (List ℕ)) → List (List ℕ)
+borrowed_packets None = []
+borrowed_packets (Some packet) = map mirror packet.now ∷ []

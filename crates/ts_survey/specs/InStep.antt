@@ -2,7 +2,7 @@
 -- that belong to none, as in mpeg_ts.specs.PacketsInStep; and what is passed on of them.
 use Rattle.std.specs.Prelude.{◌≡◌, ℕ, suc, ◌+◌, ◌-◌, ◌*◌, ◌<◌, ◌≤◌, ◌==◌, min, Bool, true, false}
 use Rattle.std.specs.Prelude.{if◌then◌else◌, List, [], ◌∷◌, ◌++◌, length, drop}
-use Rattle.mpeg_ts.specs.GoodPackets.{hole_size}
+use Rattle.mpeg_ts.specs.GoodPackets.{loss_size}
 use Rattle.mpeg_ts.specs.PacketSize.{bytes_of}
 use Rattle.mpeg_ts.specs.PacketsInStep.{Item, Packet, Skipped, bytes_needed, items}
 use Rattle.ttx_page.specs.Receiver.{RunsBy}
@@ -37,19 +37,19 @@ skipped_after run (Skipped ∷ more) = skipped_after (counted_on run 1) more
 -- Missing packets are reported at the last byte of a gap, as []. 15 packets of a PID may have been
 -- there unseen. Fewer show in the next continuity_counter (4 bits; ISO/IEC 13818-1, 2.4.3.3): it is
 -- neither the last one, as for a repeat, nor the one after it.
-abbrev pub hole_told : ℕ → ℕ → List (List ℕ)
-hole_told distance run = if run == hole_size distance then [] ∷ [] else []
+abbrev pub loss_reported : ℕ → ℕ → List (List ℕ)
+loss_reported distance run = if run == loss_size distance then [] ∷ [] else []
 
 -- What is passed on for items, after `run` skipped bytes: each packet, and each gap.
-unfoldable pub told_of : ℕ → ℕ → List Item → List (List ℕ)
-told_of distance run [] = []
-told_of distance run (Packet p ∷ more) = p ∷ told_of distance 0 more
-told_of distance run (Skipped ∷ more) =
-    hole_told distance (counted_on run 1) ++ told_of distance (counted_on run 1) more
+unfoldable pub reported_of : ℕ → ℕ → List Item → List (List ℕ)
+reported_of distance run [] = []
+reported_of distance run (Packet p ∷ more) = p ∷ reported_of distance 0 more
+reported_of distance run (Skipped ∷ more) =
+    loss_reported distance (counted_on run 1) ++ reported_of distance (counted_on run 1) more
 
 -- At the end, the bytes after the place up to which the search came belong to no packet.
-abbrev pub behind : Bool → List ℕ → ℕ → ℕ
-behind is_end bytes place = if is_end then length bytes - place else 0
+abbrev pub following : Bool → List ℕ → ℕ → ℕ
+following is_end bytes place = if is_end then length bytes - place else 0
 
 -- Items were found in the bytes, from the start of the search up to `place`: whatever bytes follow
 -- (at the end none do), the bytes begin with these items, followed by those from `place` on. The
@@ -66,7 +66,7 @@ pub record AreFound
       → items_from (bytes_of old.size) old.in_step (drop old.lead (bytes ++ more))
       ≡ found ++ items_from (bytes_of old.size) new.in_step (drop place (bytes ++ more))
   pub up_to : place ≡ old.lead + bytes_of old.size * packet_count found + skipped_in found
-  pub taken : RunsBy IsTaken before (told_of (bytes_of old.size) old.run found) after
+  pub taken : RunsBy IsTaken before (reported_of (bytes_of old.size) old.run found) after
   pub run : new.run ≡ skipped_after old.run found
   pub number : new.number ≡ counted_on old.number (packet_count found)
   pub skipped : new.skipped ≡ counted_on old.skipped (skipped_in found + rest)
@@ -81,7 +81,7 @@ pub record TakesAll
   pub within : used ≤ length bytes
   pub found :
       AreFound IsTaken old before bytes is_end (used + new.lead)
-      (behind is_end bytes (used + new.lead)) new after
+      (following is_end bytes (used + new.lead)) new after
   pub left : length bytes < used + new.lead + bytes_needed (bytes_of new.size) new.in_step
   pub all :
       is_end ≡ true
@@ -91,8 +91,8 @@ pub record TakesAll
 -- in one. So the output depends on all packets, whatever parts a recording comes in.
 abbrev pub LawOfTwoCalls : {T : Type 0} → (T → List ℕ → T → Type 0) → Type 0
 LawOfTwoCalls {T} IsTaken =
-    (old mid new : PacketsInStep) (before told after : T) (bytes more : List ℕ) (is_end : Bool)
+    (old mid new : PacketsInStep) (before reported after : T) (bytes more : List ℕ) (is_end : Bool)
     (used more_used : ℕ)
-    → TakesAll IsTaken old before bytes false used mid told
-    → TakesAll IsTaken mid told (drop used bytes ++ more) is_end more_used new after
+    → TakesAll IsTaken old before bytes false used mid reported
+    → TakesAll IsTaken mid reported (drop used bytes ++ more) is_end more_used new after
     → TakesAll IsTaken old before (bytes ++ more) is_end (used + more_used) new after

@@ -1,8 +1,8 @@
 pub mod Adaptation
-pub mod Asked
+pub mod Requested
 pub mod CharacterSets
 pub mod Counted
-pub mod FilePieces
+pub mod FilePesPackets
 pub mod FirstLines
 pub mod Following
 pub mod Heard
@@ -10,7 +10,7 @@ pub mod InStep
 pub mod Lines
 pub mod Listed
 pub mod Payload
-pub mod Room
+pub mod ReadBuffer
 pub mod Section
 pub mod Stream
 pub mod Survey

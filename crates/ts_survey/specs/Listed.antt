@@ -6,7 +6,7 @@ use Rattle.std.specs.Prelude.{codes, take}
 use Rattle.std.specs.Io.KnownBytes.{Appends}
 use Rattle.std.specs.List.{concat}
 use Rattle.mpeg_ts.specs.declared.survey_options.SurveyOptions.{SurveyOptions}
-use Rattle.ts_survey.specs.Asked.{KeepsAsked, others_followed}
+use Rattle.ts_survey.specs.Requested.{KeepsRequested, others_followed}
 use Rattle.ts_survey.specs.Counted.{CountsRecording}
 use Rattle.ts_survey.specs.FirstLines.{begins_pes, head_size, head_so_far, head_words, is_pes}
 use Rattle.ts_survey.specs.FirstLines.{kind_words}
@@ -23,26 +23,26 @@ use Rattle.ts_survey.specs.declared.text.Text.{Text}
 
 -- The packets of a stream have the requested distance, the requested PID and page are followed and
 -- searched for, and no other PID is followed.
-abbrev pub IsAsAsked : SurveyOptions → Kind → Type 0
-IsAsAsked options (Stream packets multiplex) =
+abbrev pub IsAsRequested : SurveyOptions → Kind → Type 0
+IsAsRequested options (Stream packets multiplex) =
     (IfSome options.packet_size (λ size. packets.size ≡ size))
-    × (multiplex.asked ≡ options.pid)
+    × (multiplex.requested ≡ options.pid)
     × (multiplex.page ≡ options.page)
     × (others_followed multiplex ≡ [])
-IsAsAsked options _ = ⊤
+IsAsRequested options _ = ⊤
 
 -- Packets of a stream were processed.
 pub record TakesMore (packets : PacketsInStep) (multiplex : Multiplex) (after : PacketsInStep)
-    (told : Multiplex) : Type 0 where
+    (reported : Multiplex) : Type 0 where
   pub size : after.size ≡ packets.size
-  pub keeps : KeepsAsked multiplex told
+  pub keeps : KeepsRequested multiplex reported
 
 -- More of a recording was read, whose kind stays the same.
 abbrev pub GoesOn : Kind → Kind → Type 0
 GoesOn Unknown Unknown = ⊤
 GoesOn (Pes file) (Pes after) = ⊤
-GoesOn (Stream packets multiplex) (Stream after told) =
-    TakesMore packets multiplex after told
+GoesOn (Stream packets multiplex) (Stream after reported) =
+    TakesMore packets multiplex after reported
 GoesOn Nothing Nothing = ⊤
 GoesOn _ _ = ⊥
 
@@ -70,42 +70,42 @@ abbrev pub skipped_of : Recording → ℕ
 skipped_of r = skipped_by r.kind r.skipped
 
 -- Whatever was printed before, the last line says that the recording is over.
-pub record TellsEnd (r : Recording) (new : Text) : Type 0 where
+pub record ReportsEnd (r : Recording) (new : Text) : Type 0 where
   pub before : Text
   pub over : AddsWords before (over_line (skipped_of r) (packets_in r.kind)) new
 
 -- ---- the lines of a recording
 
 -- What was printed for a recording after these bytes: its kind, and then its contents.
-pub record IsTold (recording : Recording) (came listing : List ℕ) : Type 0 where
+pub record IsReported (recording : Recording) (received listing : List ℕ) : Type 0 where
   pub more : List ℕ
-  pub told :
-      listing ≡ concat (head_so_far recording.has_head (take head_size came)
+  pub reported :
+      listing ≡ concat (head_so_far recording.has_head (take head_size received)
       ++ kind_words recording.kind) ++ more
   pub unknown : is_unknown recording.kind ≡ true → more ≡ []
   pub none : recording.has_head ≡ false → is_unknown recording.kind ≡ true
   pub pes :
-      recording.has_head ≡ true → is_pes recording.kind ≡ begins_pes (take head_size came)
+      recording.has_head ≡ true → is_pes recording.kind ≡ begins_pes (take head_size received)
 
 -- The lines of a recording after all its bytes: the first ones; its kind, with the requested
 -- options; others; and at the end how many bytes belong to no packet, and how many packets there
 -- are.
 pub record IsSurveyed
     (options : SurveyOptions) (recording : Option (List ℕ)) (listing : List ℕ) : Type 0 where
-  pub came : List ℕ
-  pub all : IfSome recording (λ bytes. came ≡ bytes)
+  pub received : List ℕ
+  pub all : IfSome recording (λ bytes. received ≡ bytes)
   pub last : Recording
-  pub asked : IsAsAsked options last.kind
+  pub requested : IsAsRequested options last.kind
   pub known : is_unknown last.kind ≡ false
-  pub pes : is_pes last.kind ≡ begins_pes (take head_size came)
-  pub counted : CountsRecording came last.kind
+  pub pes : is_pes last.kind ≡ begins_pes (take head_size received)
+  pub counted : CountsRecording received last.kind
   pub between : List ℕ
   pub listed :
-      listing ≡ concat (head_words (take head_size came) ++ kind_words last.kind) ++ between
+      listing ≡ concat (head_words (take head_size received) ++ kind_words last.kind) ++ between
       ++ concat (over_line (skipped_of last) (packets_in last.kind))
 
 -- They were printed after what was there.
-abbrev pub TellsSurvey :
+abbrev pub ReportsSurvey :
     SurveyOptions → Option (List ℕ) → Option (List ℕ) → Option (List ℕ) → Type 0
-TellsSurvey options recording old new =
+ReportsSurvey options recording old new =
     (listing : List ℕ) × Appends old new listing × IsSurveyed options recording listing

@@ -1,6 +1,6 @@
 -- Reading a recording that is a transport stream.
 use Rattle.std.specs.Prelude.{ℕ, Bool, true, false, List}
-use Rattle.ts_survey.specs.Asked.{keeps_asked}
+use Rattle.ts_survey.specs.Requested.{keeps_requested}
 use Rattle.ts_survey.specs.InStep.{TakesAll}
 use Rattle.ts_survey.specs.declared.recording.Kind.{Kind}
 use Rattle.ts_survey.specs.declared.recording.Kind.TheVariants.{Stream, Unknown}
@@ -13,7 +13,7 @@ is_unknown _ = false
 -- The packets of these bytes of a stream were processed, in order, each once, and `used` bytes are
 -- no longer needed.
 abbrev pub TakesOn : Kind → List ℕ → Bool → ℕ → Kind → Type 0
-TakesOn (Stream packets multiplex) bytes is_end used (Stream after told) =
-    TakesAll keeps_asked packets multiplex bytes is_end used after told
+TakesOn (Stream packets multiplex) bytes is_end used (Stream after reported) =
+    TakesAll keeps_requested packets multiplex bytes is_end used after reported
 TakesOn (Stream packets multiplex) bytes is_end used _ = ⊥
 TakesOn _ bytes is_end used new = Unit {0}

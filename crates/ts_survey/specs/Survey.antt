@@ -1,8 +1,8 @@
 -- The output for a recording is written to a sink, after its earlier contents.
 use Rattle.std.specs.Prelude.{ℕ, Bool, true, false, List, Option}
 use Rattle.std.specs.Io.KnownBytes.{Appends}
-use Rattle.ts_survey.specs.declared.telling.SurveyFault.{SurveyFault}
-use Rattle.ts_survey.specs.declared.telling.SurveyFault.TheVariants.{Read, Write}
+use Rattle.ts_survey.specs.declared.reporting.SurveyFault.{SurveyFault}
+use Rattle.ts_survey.specs.declared.reporting.SurveyFault.TheVariants.{Read, Write}
 
 -- A text was added.
 abbrev pub Grows : Option (List ℕ) → Option (List ℕ) → Type 0

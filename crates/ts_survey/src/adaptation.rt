@@ -2,7 +2,8 @@
 //! PES packet.
 ghost use Rattle.std.specs.Prelude.{◌≡◌, ◌≤◌, ◌<◌, ◌+◌, ◌^◌, length, IfSome};
 ghost use Rattle.ts_survey.specs.Adaptation.{begins_access, decoding_time};
-ghost use Rattle.ts_survey.specs.Adaptation.{is_scrambled, payload_in, pcr_base, pts_said, time_at};
+ghost use Rattle.ts_survey.specs.Adaptation.{is_scrambled, payload_in, pcr_base, pts_stated};
+ghost use Rattle.ts_survey.specs.Adaptation.{time_at};
 
 use mpeg_ts::{PACKET, has_adaptation, has_payload, is_wrong, payload_of};
 
@@ -50,8 +51,8 @@ pub fn payload_in(packet: &[u8; PACKET]) -> &[u8]
 
 /// Returns the PTS in the first bytes of a PES packet (ISO/IEC 13818-1, PES_packet); `None` if the
 /// header has none, or for a gap marker. Marker bits are not checked.
-pub fn pts_said(pes: &[u8]) -> Option<u64>
-    ensures value { result ≡ pts_said pes.now }
+pub fn pts_stated(pes: &[u8]) -> Option<u64>
+    ensures value { result ≡ pts_stated pes.now }
     ensures range { IfSome result (λ pts. pts < 2 ^ 33) }
 {
     if pes.len() < 14 || pes[7] < 0x80 || pes[6] == 0xFF {
@@ -79,7 +80,7 @@ pub fn decoding_time(pes: &[u8]) -> Option<u64>
     ensures value { result ≡ decoding_time pes.now }
     ensures range { IfSome result (λ time. time < 2 ^ 33) }
 {
-    let pts = pts_said(pes)?;
+    let pts = pts_stated(pes)?;
     if pes[7] < 0xC0 {
         return Some(pts);
     }

@@ -7,7 +7,7 @@ use crate::section::{
 use crate::text::Text;
 
 /// Prints the line of a programme.
-pub fn tell_programme(programme: &Programme, text: &mut Text) {
+pub fn report_programme(programme: &Programme, text: &mut Text) {
     text.put(b"programme");
     text.number(programme.number as u64);
     text.number(programme.clock_pid as u64);
@@ -15,7 +15,7 @@ pub fn tell_programme(programme: &Programme, text: &mut Text) {
 }
 
 /// Prints the line of a stream of a programme.
-pub fn tell_stream(stream: &Stream, text: &mut Text) {
+pub fn report_stream(stream: &Stream, text: &mut Text) {
     text.put(b"stream");
     text.number(stream.pid as u64);
     text.number(stream.kind as u64);
@@ -24,7 +24,7 @@ pub fn tell_stream(stream: &Stream, text: &mut Text) {
 
 /// Prints the pages that a stream announces, and returns whether there are any. A section has at
 /// most 4,098 bytes.
-pub fn tell_pages(section: &[u8], stream: &Stream, text: &mut Text) -> bool {
+pub fn report_pages(section: &[u8], stream: &Stream, text: &mut Text) -> bool {
     let end = stream.end.min(section.len());
     let mut has_pages = false;
     let mut place = stream.first;
@@ -32,7 +32,7 @@ pub fn tell_pages(section: &[u8], stream: &Stream, text: &mut Text) -> bool {
         let Some(descriptor) = descriptor_at(section, place.min(0xFFFF), end) else {
             return has_pages;
         };
-        let names_any = tell_named(section, &descriptor, stream.pid, text);
+        let names_any = report_named(section, &descriptor, stream.pid, text);
         has_pages = has_pages || names_any;
         place = descriptor.end;
     }
@@ -40,17 +40,17 @@ pub fn tell_pages(section: &[u8], stream: &Stream, text: &mut Text) -> bool {
 }
 
 // Prints the pages of a descriptor, and returns whether there are any.
-fn tell_named(section: &[u8], descriptor: &Descriptor, pid: u16, text: &mut Text) -> bool
+fn report_named(section: &[u8], descriptor: &Descriptor, pid: u16, text: &mut Text) -> bool
     requires { descriptor.now.end ≤ length section.now }
 {
     if !names_pages(descriptor) {
         return false;
     }
-    tell_from(section, descriptor.first, descriptor.end, pid, text)
+    report_from(section, descriptor.first, descriptor.end, pid, text)
 }
 
 // Prints the pages between two places, and returns whether there are any.
-fn tell_from(section: &[u8], first: usize, end: usize, pid: u16, text: &mut Text) -> bool
+fn report_from(section: &[u8], first: usize, end: usize, pid: u16, text: &mut Text) -> bool
     requires { end ≤ length section.now }
 {
     let mut has_pages = false;
@@ -60,14 +60,14 @@ fn tell_from(section: &[u8], first: usize, end: usize, pid: u16, text: &mut Text
             return has_pages;
         };
         has_pages = true;
-        tell_page(pid, &page, text);
+        report_page(pid, &page, text);
         at = at.saturating_add(5);
     }
     has_pages
 }
 
 // Prints the line of an announced page.
-fn tell_page(pid: u16, page: &Announced, text: &mut Text) {
+fn report_page(pid: u16, page: &Announced, text: &mut Text) {
     text.put(b"announce");
     text.number(pid as u64);
     text.page(page.magazine % 8, page.page);

@@ -8,7 +8,7 @@ use crate::text::Text;
 
 /// Compares a PTS that began in the packet with this number of a PID with the last picture of its
 /// programme, and with the PCR of its clock.
-pub fn begin_beside(
+pub fn begin_pts(
     carrier: &mut Carrier,
     picture: Option<Picture>,
     clocks: &[Clock],

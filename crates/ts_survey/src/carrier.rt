@@ -19,7 +19,7 @@ use ttx_packet::PageId;
 const PENDING: usize = 4;
 
 /// The number of packets after an irregular PCR up to which counters show what happened.
-pub const LOOKED_AT: u64 = 5000;
+pub const INSPECTED: u64 = 5000;
 
 /// An irregular PCR, and the PTS around it.
 #[derive(Clone, Copy, Default)]
@@ -113,7 +113,7 @@ impl Carrier {
         if self.packets_of.is_repeat(packet) {
             return None;
         }
-        let is_seam = self.packets_of.is_behind_seam(packet);
+        let is_seam = self.packets_of.is_after_seam(packet);
         self.packets_of.to.note_seam(is_seam);
         let follows = self.count_lost(packet);
         if self
@@ -152,10 +152,10 @@ impl Carrier {
     }
 
     /// Notes that packets may be missing, since so many bytes were skipped.
-    pub fn note_hole(&mut self)
+    pub fn note_loss(&mut self)
         ensures { self.new.pid ≡ self.old.pid }
     {
-        self.packets_of.note_hole();
+        self.packets_of.note_loss();
     }
 
     /// Notes a PCR of its programme: the next one is compared with what has begun.
@@ -173,7 +173,7 @@ impl Carrier {
         ensures { self.new.pid ≡ self.old.pid }
     {
         if self.pending.len() == PENDING {
-            self.tell_first(pids, text);
+            self.report_first(pids, text);
         }
         let _ = self.pending.try_push(Pending {
             strange,
@@ -195,7 +195,7 @@ impl Carrier {
         }
         if let Some(pcr) = pcr {
             self.sampled = Some(pts);
-            tell_ahead(self.pid, pts, pcr, text);
+            report_ahead(self.pid, pts, pcr, text);
         }
     }
 
@@ -239,29 +239,29 @@ impl Carrier {
         };
         let second = one.strange.second;
         let is_known = match number {
-            Some(number) => number > second.saturating_add(LOOKED_AT),
+            Some(number) => number > second.saturating_add(INSPECTED),
             None => true,
         };
         if is_known {
-            self.tell_first(pids, text);
+            self.report_first(pids, text);
         }
         is_known
     }
 
     // Prints the first irregular PCR, if there is one.
-    fn tell_first(&mut self, pids: &Pids, text: &mut Text)
+    fn report_first(&mut self, pids: &Pids, text: &mut Text)
         ensures { self.new.pid ≡ self.old.pid }
     {
         let Some(one) = self.pending.as_slice().first() else {
             return;
         };
-        let told = pids.told_between(self.pid, one.strange.first, one.strange.second);
-        tell_clock(self.pid, one, told, text);
+        let reported = pids.reported_between(self.pid, one.strange.first, one.strange.second);
+        report_clock(self.pid, one, reported, text);
         let _ = self.pending.remove(0);
     }
 
     /// Returns whether an irregular PCR waits.
-    pub fn waits(&self) -> bool {
+    pub fn is_waiting(&self) -> bool {
         !self.pending.is_empty()
     }
 
@@ -275,16 +275,16 @@ impl Carrier {
     /// Ends the recording: the line of the PID is the last one.
     pub fn end(&self, text: &mut Text) {
         self.packets_of.to.end(text);
-        self.tell_end(text);
+        self.report_end(text);
     }
 
     // Prints how many packets came, and what they gave.
-    fn tell_end(&self, text: &mut Text) {
+    fn report_end(&self, text: &mut Text) {
         let given = &self.packets_of.to;
         text.put(b"end");
         text.number(self.pid as u64);
         text.number(given.count());
-        text.number(given.marks());
+        text.number(given.gap_markers());
         text.number(self.packets);
         text.number(self.scrambled);
         text.number(given.refusal() as u64);
@@ -305,7 +305,7 @@ fn lost_before(counter: Option<u8>, is_jump: bool, packet: &[u8; PACKET]) -> u8 
 }
 
 // Prints how far a PTS is ahead of a PCR.
-fn tell_ahead(pid: u16, pts: u64, pcr: u64, text: &mut Text) {
+fn report_ahead(pid: u16, pts: u64, pcr: u64, text: &mut Text) {
     text.put(b"ahead");
     text.number(pid as u64);
     text.number(pts);
@@ -314,7 +314,7 @@ fn tell_ahead(pid: u16, pts: u64, pcr: u64, text: &mut Text) {
 }
 
 // Prints an irregular PCR, with what the counters of other PIDs show.
-fn tell_clock(pid: u16, one: &Pending, told: &[u8], text: &mut Text) {
+fn report_clock(pid: u16, one: &Pending, reported: &[u8], text: &mut Text) {
     text.put(b"clock");
     text.number(pid as u64);
     text.time(one.before);
@@ -323,7 +323,7 @@ fn tell_clock(pid: u16, one: &Pending, told: &[u8], text: &mut Text) {
     text.number(one.strange.second.saturating_sub(one.strange.first));
     text.number(one.strange.usual);
     text.number(one.strange.usual_packets);
-    text.put(told);
+    text.put(reported);
     text.put(b"\n");
 }
 

@@ -13,7 +13,7 @@ const LINES: usize = 1024;
 /// The lines that were printed.
 #[derive(Drop)]
 pub struct CharacterSets {
-    told: [bool; LINES],
+    reported: [bool; LINES],
 }
 
 // Returns the 18 data bits of three Hamming 24/18 bytes (EN 300 706, 8.3), with one wrong bit
@@ -39,7 +39,7 @@ fn carried_bits(word: u32) -> Option<u32>
     if wrong > 23 {
         return None;
     }
-    Some(data_bits(turned(word, wrong)))
+    Some(data_bits(with_bit_flipped(word, wrong)))
 }
 
 // Returns the place of a single wrong bit, 0 for the last.
@@ -66,9 +66,9 @@ fn failed(word: u32, bits: u32, digit: u32) -> u32
 }
 
 // Returns a word with the bit at a place flipped.
-fn turned(word: u32, place: u32) -> u32
+fn with_bit_flipped(word: u32, place: u32) -> u32
     requires { place ≤ 23 }
-    ensures { result ≡ specs.turned word place }
+    ensures { result ≡ specs.with_bit_flipped word place }
 {
     if place == 0 {
         word
@@ -101,8 +101,8 @@ fn set_in(number: u8, bits: Option<u32>) -> Option<Option<u32>>
 }
 
 // Returns the designation of a packet, and its set.
-fn set_said(packet: &Packet, number: u8, is_own: bool) -> Option<(u8, Option<u32>)>
-    ensures { result ≡ specs.set_said number is_own packet.now }
+fn set_stated(packet: &Packet, number: u8, is_own: bool) -> Option<(u8, Option<u32>)>
+    ensures { result ≡ specs.set_stated number is_own packet.now }
 {
     if number != 29 && (number != 28 || !is_own) {
         return None;
@@ -116,7 +116,7 @@ fn set_said(packet: &Packet, number: u8, is_own: bool) -> Option<(u8, Option<u32
     Some((designation, set))
 }
 
-fn none_told() -> [bool; LINES] {
+fn none_reported() -> [bool; LINES] {
     [false; LINES]
 }
 
@@ -126,15 +126,15 @@ fn line_place(number: u8, designation: u8, set: Option<u32>) -> usize
     ensures range { result < 1024 }
 {
     let packet = if number == 28 { 0 } else { 512 };
-    let behind = if designation == 0 { 0 } else { 256 };
+    let following = if designation == 0 { 0 } else { 256 };
     match set {
-        Some(set) => packet + behind + (set % 0x80) as usize,
-        None => packet + behind + 0x80,
+        Some(set) => packet + following + (set % 0x80) as usize,
+        None => packet + following + 0x80,
     }
 }
 
 // Prints the line of a set.
-fn tell_set(number: u8, designation: u8, set: Option<u32>, pid: u16, text: &mut Text) {
+fn report_set(number: u8, designation: u8, set: Option<u32>, pid: u16, text: &mut Text) {
     text.put(b"set");
     text.number(pid as u64);
     text.number(number as u64);
@@ -157,24 +157,26 @@ fn end_set(set: Option<u32>, text: &mut Text) {
 impl CharacterSets {
     /// Returns the state before the first line.
     pub fn new() -> CharacterSets {
-        CharacterSets { told: none_told() }
+        CharacterSets {
+            reported: none_reported(),
+        }
     }
 
     /// Processes a packet of the page's magazine that is no header. `is_own`: the last header of
     /// the magazine is one of the page.
     pub fn hear(&mut self, packet: &Packet, number: u8, is_own: bool, pid: u16, text: &mut Text) {
-        if let Some((designation, set)) = set_said(packet, number, is_own) {
-            self.tell(number, designation, set, pid, text);
+        if let Some((designation, set)) = set_stated(packet, number, is_own) {
+            self.report(number, designation, set, pid, text);
         }
     }
 
     // Prints a set, unless it was printed before.
-    fn tell(&mut self, number: u8, designation: u8, set: Option<u32>, pid: u16, text: &mut Text) {
+    fn report(&mut self, number: u8, designation: u8, set: Option<u32>, pid: u16, text: &mut Text) {
         let place = line_place(number, designation, set);
-        let was_told = self.told[place];
-        self.told[place] = true;
-        if !was_told {
-            tell_set(number, designation, set, pid, text);
+        let was_reported = self.reported[place];
+        self.reported[place] = true;
+        if !was_reported {
+            report_set(number, designation, set, pid, text);
         }
     }
 }

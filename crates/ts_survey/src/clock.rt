@@ -92,7 +92,7 @@ pub struct Clock {
     is_announced: bool,
     ticks: Numbers,
     packets: Numbers,
-    told: Option<u64>,
+    reported: Option<u64>,
 }
 
 impl Clock {
@@ -104,7 +104,7 @@ impl Clock {
             is_announced: false,
             ticks: Numbers::new(),
             packets: Numbers::new(),
-            told: None,
+            reported: None,
         }
     }
 
@@ -121,13 +121,13 @@ impl Clock {
     /// Processes a PCR in the packet with this number, and prints it once a second. Returns in
     /// which way it is irregular, if it is.
     pub fn take(&mut self, pcr: u64, number: u64, text: &mut Text) -> Option<Strange> {
-        let is_due = match self.told {
+        let is_due = match self.reported {
             None => true,
-            Some(told) => forward(told, pcr) >= SECOND,
+            Some(reported) => forward(reported, pcr) >= SECOND,
         };
         if is_due {
-            self.told = Some(pcr);
-            self.tell(pcr, text);
+            self.reported = Some(pcr);
+            self.report(pcr, text);
         }
         let strange = match self.last {
             Some((last, at)) if !self.is_announced => self.compare(last, at, pcr, number),
@@ -167,15 +167,15 @@ impl Clock {
         let Some((pcr, at)) = self.last else {
             return None;
         };
-        let room = self.packets.middle().max(64).saturating_mul(4);
-        if number.saturating_sub(at) < room {
+        let buffer = self.packets.middle().max(64).saturating_mul(4);
+        if number.saturating_sub(at) < buffer {
             Some(pcr)
         } else {
             None
         }
     }
 
-    fn tell(&self, pcr: u64, text: &mut Text) {
+    fn report(&self, pcr: u64, text: &mut Text) {
         text.put(b"pcr");
         text.number(self.pid as u64);
         text.number(pcr);
@@ -185,7 +185,7 @@ impl Clock {
     /// Ends the recording: prints the last PCR.
     pub fn end(&self, text: &mut Text) {
         if let Some((pcr, _)) = self.last {
-            self.tell(pcr, text);
+            self.report(pcr, text);
         }
     }
 }

@@ -2,9 +2,9 @@
 //! neither.
 
 use crate::pes_lines::PesLines;
-use crate::pid_packets::TakesPieces;
+use crate::pid_packets::TakesPesPackets;
 use crate::text::Text;
-use ttx_pes::{is_mark, size_of};
+use ttx_pes::{is_gap_marker, size_of};
 
 /// What came from a PID.
 #[derive(Drop)]
@@ -14,7 +14,7 @@ pub struct Given {
     is_broken: bool,
     // Since the last PES packet: whether a gap marker is pending, and the packets that were lost or
     // scrambled.
-    has_mark: bool,
+    has_gap_marker: bool,
     lost: u64,
     scrambled: u64,
     // Whether there is a seam after the last PES packet.
@@ -29,7 +29,7 @@ impl Given {
         Given {
             lines,
             is_broken: false,
-            has_mark: false,
+            has_gap_marker: false,
             lost: 0,
             scrambled: 0,
             has_seam: false,
@@ -59,7 +59,7 @@ impl Given {
 
     /// Notes another packet.
     pub fn go_on(&mut self) {
-        self.is_broken = self.has_mark;
+        self.is_broken = self.has_gap_marker;
     }
 
     /// Returns whether something is missing before what the last packet carries.
@@ -73,37 +73,37 @@ impl Given {
     }
 
     // Prints a pending gap marker.
-    fn tell_mark(&mut self, text: &mut Text) {
-        if !self.has_mark {
+    fn report_gap_marker(&mut self, text: &mut Text) {
+        if !self.has_gap_marker {
             return;
         }
-        self.has_mark = false;
-        self.lines.mark(self.lost, self.scrambled, text);
+        self.has_gap_marker = false;
+        self.lines.gap_marker(self.lost, self.scrambled, text);
     }
 
     // Prints the seams before a PES packet, if there are any.
-    fn tell_seam(&mut self, text: &mut Text) {
+    fn report_seam(&mut self, text: &mut Text) {
         if !self.has_seam {
             return;
         }
         self.has_seam = false;
-        self.lines.tell_seam(text);
+        self.lines.report_seam(text);
     }
 
     // Processes a gap marker, or a PES packet, before which a pending gap marker is printed.
-    fn take_known(&mut self, piece: &[u8], text: &mut Text) {
-        if is_mark(piece) {
-            self.has_mark = true;
+    fn take_known(&mut self, pes_packet: &[u8], text: &mut Text) {
+        if is_gap_marker(pes_packet) {
+            self.has_gap_marker = true;
             self.is_broken = true;
             return;
         }
-        self.tell_mark(text);
-        self.take_packet(piece, text);
+        self.report_gap_marker(text);
+        self.take_packet(pes_packet, text);
     }
 
     // Processes a PES packet.
     fn take_packet(&mut self, pes: &[u8], text: &mut Text) {
-        self.tell_seam(text);
+        self.report_seam(text);
         self.lines.take(pes, text);
         self.lost = 0;
         self.scrambled = 0;
@@ -116,8 +116,9 @@ impl Given {
 
     /// Ends the recording: prints what was kept back.
     pub fn end(&self, text: &mut Text) {
-        if self.has_mark {
-            self.lines.end_at_mark(self.lost, self.scrambled, text);
+        if self.has_gap_marker {
+            self.lines
+                .end_at_gap_marker(self.lost, self.scrambled, text);
         } else {
             self.lines.end(text);
         }
@@ -125,24 +126,28 @@ impl Given {
 
     /// Returns the number of PES packets and gap markers, with a pending one.
     pub fn count(&self) -> u64 {
-        self.lines.count().saturating_add(self.has_mark as u64)
+        self.lines
+            .count()
+            .saturating_add(self.has_gap_marker as u64)
     }
 
     /// Returns how many of them are gap markers.
-    pub fn marks(&self) -> u64 {
-        self.lines.marks().saturating_add(self.has_mark as u64)
+    pub fn gap_markers(&self) -> u64 {
+        self.lines
+            .gap_markers()
+            .saturating_add(self.has_gap_marker as u64)
     }
 }
 
-impl TakesPieces for Given {
+impl TakesPesPackets for Given {
     /// Processes a PES packet, a gap marker, or other bytes, after which nothing comes.
-    fn take(&mut self, piece: &[u8], text: &mut Text) {
-        match refusal_of(piece) {
+    fn take(&mut self, pes_packet: &[u8], text: &mut Text) {
+        match refusal_of(pes_packet) {
             Some(number) => {
                 self.refusal = number;
-                self.tell_mark(text);
+                self.report_gap_marker(text);
             }
-            None => self.take_known(piece, text),
+            None => self.take_known(pes_packet, text),
         }
     }
 }

@@ -9,7 +9,7 @@ use ttx_packet::unham;
 #[derive(Drop)]
 pub struct Heard {
     /// Letters: `c`, `h`, `e` in order, then `o`, `b`, `s`.
-    letters: ArrayVec<u8, 160>,
+    characters: ArrayVec<u8, 160>,
     /// The eight numbers of each header of the page.
     control: ArrayVec<u8, 640>,
     /// The number of Teletext packets.
@@ -22,7 +22,7 @@ impl Heard {
     /// Returns an empty value.
     pub fn new() -> Heard {
         Heard {
-            letters: ArrayVec::new(),
+            characters: ArrayVec::new(),
             control: ArrayVec::new(),
             units: 0,
             fault: 0,
@@ -31,16 +31,16 @@ impl Heard {
 
     /// Begins the next PES packet; `fault` is its refusal, or 0.
     pub fn begin(&mut self, fault: u16) {
-        self.letters.clear();
+        self.characters.clear();
         self.control.clear();
         self.units = 0;
         self.fault = fault;
     }
 
     /// Prints the fields.
-    pub fn tell(&self, text: &mut Text) {
+    pub fn report(&self, text: &mut Text) {
         text.put(b" ");
-        text.put(self.told_letters());
+        text.put(self.reported_characters());
         text.put(b"/");
         text.put(self.control.as_slice());
         text.number(self.units);
@@ -49,23 +49,23 @@ impl Heard {
     }
 
     // Returns the letters as they are printed.
-    fn told_letters(&self) -> &[u8] {
-        if self.letters.is_empty() {
+    fn reported_characters(&self) -> &[u8] {
+        if self.characters.is_empty() {
             b"-"
         } else {
-            self.letters.as_slice()
+            self.characters.as_slice()
         }
     }
 
     /// Adds a letter.
-    pub fn add(&mut self, letter: u8) {
-        let _ = self.letters.try_push(letter);
+    pub fn add(&mut self, character: u8) {
+        let _ = self.characters.try_push(character);
     }
 
     /// Adds a letter if the condition holds.
-    pub fn add_if(&mut self, is_so: bool, letter: u8) {
+    pub fn add_if(&mut self, is_so: bool, character: u8) {
         if is_so {
-            self.add(letter);
+            self.add(character);
         }
     }
 
@@ -106,14 +106,16 @@ impl Heard {
     pub fn is_same(&self, other: &Heard) -> bool {
         self.units == other.units
             && self.fault == other.fault
-            && self.letters.as_slice() == other.letters.as_slice()
+            && self.characters.as_slice() == other.characters.as_slice()
             && self.control.as_slice() == other.control.as_slice()
     }
 
     /// Copies another value.
     pub fn copy(&mut self, other: &Heard) {
         self.begin(other.fault);
-        let _ = self.letters.try_extend_from_slice(other.letters.as_slice());
+        let _ = self
+            .characters
+            .try_extend_from_slice(other.characters.as_slice());
         let _ = self.control.try_extend_from_slice(other.control.as_slice());
         self.units = other.units;
     }

@@ -6,12 +6,12 @@ ghost use Rattle.ts_survey.specs.Following.{LawOfFollowing};
 ghost use Rattle.ts_survey.specs.InStep.{LawOfTwoCalls};
 
 use crate::packets_in_step::TakesPackets;
-use crate::pid_packets::TakesPieces;
+use crate::pid_packets::TakesPesPackets;
 
 /// What is received of the packets of a PID in parts is what they carry in the recording: PES
 /// packets, and gap markers for what is missing.
 #[tactic(auto, using(crate::proofs::FollowingLemmas::law_of_following))]
-pub fn law_of_following<T: TakesPieces>()
+pub fn law_of_following<T: TakesPesPackets>()
     ensures { LawOfFollowing T.is_taken }
 {}
 

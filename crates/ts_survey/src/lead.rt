@@ -15,7 +15,7 @@ pub struct Picture {
 #[derive(Drop)]
 pub struct Lead {
     // The video PID, and its PES packet after which one with Teletext began last.
-    behind: Option<(u16, u64)>,
+    following: Option<(u16, u64)>,
     // The PTS of the last line.
     last: Option<u64>,
 }
@@ -24,7 +24,7 @@ impl Lead {
     /// Returns the state before the first line.
     pub fn new() -> Lead {
         Lead {
-            behind: None,
+            following: None,
             last: None,
         }
     }
@@ -42,8 +42,8 @@ impl Lead {
     // Moves to a picture, and returns whether it is another one than before. After a change of the
     // video PID the next line is printed at once.
     fn go_to(&mut self, picture: &Picture) -> bool {
-        let before = self.behind;
-        self.behind = Some((picture.video, picture.number));
+        let before = self.following;
+        self.following = Some((picture.video, picture.number));
         match before {
             Some((video, number)) if video == picture.video => number != picture.number,
             _ => {

@@ -13,6 +13,7 @@
 mod adaptation;
 mod announcements;
 mod begun;
+mod buffer;
 mod carrier;
 mod character_set;
 mod clock;
@@ -33,14 +34,13 @@ mod pictures;
 mod pid_packets;
 mod pid_state;
 mod recording;
-mod room;
+mod reporting;
 mod rows;
 mod section;
 mod tables;
-mod telling;
 mod text;
 mod units;
 
 pub use laws::{law_of_following, law_of_two_calls};
-pub use pid_packets::{PidPackets, TakesPieces};
-pub use telling::{SurveyFault, survey};
+pub use pid_packets::{PidPackets, TakesPesPackets};
+pub use reporting::{SurveyFault, survey};

@@ -1,15 +1,16 @@
 //! Follows everything in a transport stream, one packet after another.
 ghost use Rattle.std.specs.Prelude.{◌≡◌, ◌<◌, [], IfSome};
 ghost use Rattle.std.specs.Prelude.{length, true};
-ghost use Rattle.ts_survey.specs.Asked.{KeepsAsked, is_asked, keeps_asked, others_followed};
-ghost use Rattle.ts_survey.specs.FirstLines.{asked_words, teletext_line};
+ghost use Rattle.ts_survey.specs.Requested.{KeepsRequested, is_requested, keeps_requested};
+ghost use Rattle.ts_survey.specs.Requested.{others_followed};
+ghost use Rattle.ts_survey.specs.FirstLines.{requested_words, teletext_line};
 ghost use Rattle.ts_survey.specs.Lines.{AddsWords};
 ghost use Rattle.ts_survey.specs.Payload as specs;
 
 use crate::adaptation::{payload_in, pcr_base};
-use crate::announcements::{tell_pages, tell_programme, tell_stream};
-use crate::begun::begin_beside;
-use crate::carrier::{Carrier, LOOKED_AT};
+use crate::announcements::{report_pages, report_programme, report_stream};
+use crate::begun::begin_pts;
+use crate::carrier::{Carrier, INSPECTED};
 use crate::clock::{Clock, Strange};
 use crate::lead::Picture;
 use crate::packets_in_step::TakesPackets;
@@ -32,7 +33,7 @@ pub struct Multiplex {
     alloc: Global,
     page: PageId,
     // The requested PID, which alone is followed.
-    asked: Option<u16>,
+    requested: Option<u16>,
     // The number of the last packet.
     number: u64,
     // The packet at which irregular PCRs are examined again.
@@ -50,20 +51,20 @@ impl Multiplex {
     pub fn new(
         alloc: Global,
         page: PageId,
-        asked: Option<u16>,
+        requested: Option<u16>,
         text: &mut Text,
     ) -> Option<Multiplex>
-        ensures asked { IfSome result (λ multiplex. (multiplex.asked ≡ asked)
+        ensures requested { IfSome result (λ multiplex. (multiplex.requested ≡ requested)
             × (multiplex.page ≡ page) × (others_followed multiplex ≡ [])) }
         // The requested PID is followed from here on.
-        ensures told { IfSome result (λ multiplex. AddsWords text.old
-            (asked_words multiplex.asked) text.new) }
+        ensures reported { IfSome result (λ multiplex. AddsWords text.old
+            (requested_words multiplex.requested) text.new) }
     {
         let pids = Pids::new(alloc)?;
         let mut all = Multiplex {
             alloc,
             page,
-            asked,
+            requested,
             number: 0,
             settle_at: u64::MAX,
             out_of_memory: false,
@@ -73,7 +74,7 @@ impl Multiplex {
             clocks: Vec::new(alloc),
             videos: Vec::new(alloc),
         };
-        if let Some(pid) = asked {
+        if let Some(pid) = requested {
             all.add_carrier(pid, text)?;
         }
         all.add_table(0);
@@ -89,7 +90,7 @@ impl Multiplex {
 
     // Starts to read the sections of a PID.
     fn add_table(&mut self, pid: u16)
-        ensures asked { KeepsAsked self.old self.new }
+        ensures requested { KeepsRequested self.old self.new }
     {
         let mut state = self.pids.get(pid);
         if state.table != NONE {
@@ -103,14 +104,14 @@ impl Multiplex {
 
     // Follows a PID with Teletext, unless it is followed already or another one is requested.
     fn follow(&mut self, pid: u16, text: &mut Text)
-        ensures asked { KeepsAsked self.old self.new }
+        ensures requested { KeepsRequested self.old self.new }
     {
         let state = self.pids.get(pid);
-        let is_asked = match self.asked {
-            Some(asked) => asked == pid,
+        let is_requested = match self.requested {
+            Some(requested) => requested == pid,
             None => true,
         };
-        if state.carrier != NONE || !is_asked || self.carriers.len() >= MOST {
+        if state.carrier != NONE || !is_requested || self.carriers.len() >= MOST {
             return;
         }
         if self.add_carrier(pid, text).is_none() {
@@ -121,8 +122,9 @@ impl Multiplex {
     // Follows a PID with Teletext from here on; `None` if memory runs out.
     fn add_carrier(&mut self, pid: u16, text: &mut Text) -> Option<()>
         requires { length self.old.carriers.items < 64 }
-        ensures asked { is_asked self.old.asked pid ≡ true → KeepsAsked self.old self.new }
-        ensures told { IfSome result (λ _. AddsWords text.old (teletext_line pid) text.new) }
+        ensures requested { is_requested self.old.requested pid ≡ true → KeepsRequested self.old
+            self.new }
+        ensures reported { IfSome result (λ _. AddsWords text.old (teletext_line pid) text.new) }
     {
         let place = self.carriers.len();
         let carrier = Carrier::new(self.alloc, pid, self.page)?;
@@ -140,7 +142,7 @@ impl Multiplex {
 
     // Follows the clock of a PID.
     fn add_clock(&mut self, pid: u16)
-        ensures asked { KeepsAsked self.old self.new }
+        ensures requested { KeepsRequested self.old self.new }
     {
         let mut state = self.pids.get(pid);
         let place = self.clocks.len();
@@ -157,7 +159,7 @@ impl Multiplex {
 
     // Follows the pictures of a PID.
     fn add_video(&mut self, pid: u16)
-        ensures asked { KeepsAsked self.old self.new }
+        ensures requested { KeepsRequested self.old self.new }
     {
         let mut state = self.pids.get(pid);
         let place = self.videos.len();
@@ -173,9 +175,9 @@ impl Multiplex {
     }
 
     // Processes a packet of a PID with Teletext.
-    #[tactic(auto, using(crate::proofs::AskedLemmas::one_changed))]
+    #[tactic(auto, using(crate::proofs::RequestedLemmas::one_changed))]
     fn carry(&mut self, state: &PidState, packet: &[u8; PACKET], text: &mut Text)
-        ensures asked { KeepsAsked self.old self.new }
+        ensures requested { KeepsRequested self.old self.new }
     {
         let Some(carrier) = self.carriers.get_mut(state.carrier as usize) else {
             return;
@@ -187,9 +189,9 @@ impl Multiplex {
     }
 
     // Processes a PTS that began in a packet of a PID with Teletext.
-    #[tactic(auto, using(crate::proofs::AskedLemmas::one_changed))]
+    #[tactic(auto, using(crate::proofs::RequestedLemmas::one_changed))]
     fn begin(&mut self, state: &PidState, pts: u64, text: &mut Text)
-        ensures asked { KeepsAsked self.old self.new }
+        ensures requested { KeepsRequested self.old self.new }
     {
         let number = self.number;
         let picture = self.last_picture(state.clock_pid);
@@ -197,7 +199,7 @@ impl Multiplex {
         let Some(carrier) = self.carriers.get_mut(state.carrier as usize) else {
             return;
         };
-        begin_beside(
+        begin_pts(
             carrier,
             picture,
             self.clocks.as_slice(),
@@ -211,7 +213,7 @@ impl Multiplex {
     // Processes a packet of a PID with pictures.
     #[inline(always)]
     fn show(&mut self, state: &PidState, packet: &[u8; PACKET], text: &mut Text)
-        ensures asked { KeepsAsked self.old self.new }
+        ensures requested { KeepsRequested self.old self.new }
     {
         let Some(pictures) = self.videos.get(state.video as usize) else {
             return;
@@ -231,7 +233,7 @@ impl Multiplex {
     // loop over all packets.
     #[inline(never)]
     fn show_on(&mut self, place: u8, kind: u8, link: Link, packet: &[u8; PACKET], text: &mut Text)
-        ensures asked { KeepsAsked self.old self.new }
+        ensures requested { KeepsRequested self.old self.new }
     {
         let Some(pictures) = self.videos.get_mut(place as usize) else {
             return;
@@ -255,7 +257,7 @@ impl Multiplex {
 
     // Processes a packet of a PID with a clock.
     fn read_clock(&mut self, place: u8, packet: &[u8; PACKET], text: &mut Text)
-        ensures asked { KeepsAsked self.old self.new }
+        ensures requested { KeepsRequested self.old self.new }
     {
         let Some(clock) = self.clocks.get_mut(place as usize) else {
             return;
@@ -267,7 +269,7 @@ impl Multiplex {
         let strange = clock.take(pcr, self.number, text);
         let pid = clock.pid();
         if strange.is_some() {
-            let at = self.number.saturating_add(LOOKED_AT + 1);
+            let at = self.number.saturating_add(INSPECTED + 1);
             self.settle_at = self.settle_at.min(at);
         }
         self.note_pcr(pid, strange, text);
@@ -275,7 +277,7 @@ impl Multiplex {
 
     // Passes a PCR of this PCR_PID to each PID of its programme.
     fn note_pcr(&mut self, clock_pid: u16, strange: Option<Strange>, text: &mut Text)
-        ensures asked { KeepsAsked self.old self.new }
+        ensures requested { KeepsRequested self.old self.new }
     {
         for carrier in self.carriers.iter_mut() {
             note_pcr_of(carrier, &self.pids, clock_pid, strange, text);
@@ -284,14 +286,14 @@ impl Multiplex {
 
     // Prints the irregular PCRs for which no more data is needed at the packet with this number.
     fn settle(&mut self, number: u64, text: &mut Text)
-        ensures asked { KeepsAsked self.old self.new }
+        ensures requested { KeepsRequested self.old self.new }
     {
-        let mut waits = false;
+        let mut is_waiting = false;
         for carrier in self.carriers.iter_mut() {
             carrier.settle(Some(number), &self.pids, text);
-            waits = waits || carrier.waits();
+            is_waiting = is_waiting || carrier.is_waiting();
         }
-        self.settle_at = if waits {
+        self.settle_at = if is_waiting {
             number.saturating_add(1)
         } else {
             u64::MAX
@@ -300,7 +302,7 @@ impl Multiplex {
 
     // Prints all irregular PCRs, so that none waits.
     fn settle_all(&mut self, text: &mut Text)
-        ensures asked { KeepsAsked self.old self.new }
+        ensures requested { KeepsRequested self.old self.new }
     {
         for carrier in self.carriers.iter_mut() {
             carrier.settle(None, &self.pids, text);
@@ -311,7 +313,7 @@ impl Multiplex {
     // Processes a packet of a PID: reads its sections and its clock, and examines what begins.
     #[inline(always)]
     fn read(&mut self, pid: u16, state: &PidState, packet: &[u8; PACKET], text: &mut Text)
-        ensures asked { KeepsAsked self.old self.new }
+        ensures requested { KeepsRequested self.old self.new }
     {
         if state.table != NONE {
             self.read_sections(state.table, packet, text);
@@ -320,7 +322,7 @@ impl Multiplex {
             self.read_clock(state.clock, packet, text);
         }
         if begins(packet) && is_unknown(state) {
-            self.look(pid, packet, text);
+            self.inspect(pid, packet, text);
         }
     }
 
@@ -328,7 +330,7 @@ impl Multiplex {
     // has pictures or Teletext.
     #[inline(always)]
     fn read_on(&mut self, pid: u16, state: &PidState, packet: &[u8; PACKET], text: &mut Text)
-        ensures asked { KeepsAsked self.old self.new }
+        ensures requested { KeepsRequested self.old self.new }
     {
         self.read(pid, state, packet, text);
         let state = self.pids.get(pid);
@@ -338,7 +340,7 @@ impl Multiplex {
     // Processes a packet of a PID with pictures or Teletext.
     #[inline(always)]
     fn follow_on(&mut self, state: &PidState, packet: &[u8; PACKET], text: &mut Text)
-        ensures asked { KeepsAsked self.old self.new }
+        ensures requested { KeepsRequested self.old self.new }
     {
         if state.video != NONE {
             self.show(state, packet, text);
@@ -350,8 +352,8 @@ impl Multiplex {
 
     // Examines what begins in an unknown PID. If a PES packet does not show its data_identifier, a
     // later one may.
-    fn look(&mut self, pid: u16, packet: &[u8; PACKET], text: &mut Text)
-        ensures asked { KeepsAsked self.old self.new }
+    fn inspect(&mut self, pid: u16, packet: &[u8; PACKET], text: &mut Text)
+        ensures requested { KeepsRequested self.old self.new }
     {
         let payload = payload_in(packet);
         let Some(stream_id) = stream_id_in(payload) else {
@@ -371,20 +373,20 @@ impl Multiplex {
 
     // Reads the sections that a packet carries.
     fn read_sections(&mut self, table: u8, packet: &[u8; PACKET], text: &mut Text)
-        ensures asked { KeepsAsked self.old self.new }
+        ensures requested { KeepsRequested self.old self.new }
     {
-        let (before, behind) = parts_of(packet, payload_in(packet));
+        let (before, following) = parts_of(packet, payload_in(packet));
         self.tables.take(table, before, false);
         self.read_tables(table, text);
-        if let Some(behind) = behind {
-            self.tables.take(table, behind, true);
+        if let Some(following) = following {
+            self.tables.take(table, following, true);
             self.read_tables(table, text);
         }
     }
 
     // Reads the complete sections.
     fn read_tables(&mut self, table: u8, text: &mut Text)
-        ensures asked { KeepsAsked self.old self.new }
+        ensures requested { KeepsRequested self.old self.new }
     {
         for _ in 0..SECTION_ROOM {
             if !self.read_table(table, text) {
@@ -395,7 +397,7 @@ impl Multiplex {
 
     // Reads the next complete section, and returns whether there is one.
     fn read_table(&mut self, table: u8, text: &mut Text) -> bool
-        ensures asked { KeepsAsked self.old self.new }
+        ensures requested { KeepsRequested self.old self.new }
     {
         let mut section = Section::new();
         if !self.tables.next(table, &mut section) {
@@ -409,7 +411,7 @@ impl Multiplex {
 
     // Reads a new section: of the PAT, which has the first index, or of a PMT.
     fn read_section(&mut self, table: u8, section: &[u8], text: &mut Text)
-        ensures asked { KeepsAsked self.old self.new }
+        ensures requested { KeepsRequested self.old self.new }
     {
         if section.is_empty() {
             return;
@@ -423,7 +425,7 @@ impl Multiplex {
 
     // Starts to read the PMT of each programme in a PAT.
     fn read_pat(&mut self, section: &[u8])
-        ensures asked { KeepsAsked self.old self.new }
+        ensures requested { KeepsRequested self.old self.new }
     {
         let mut place = FIRST_PMT;
         for _ in 0..1024u32 {
@@ -439,12 +441,12 @@ impl Multiplex {
 
     // Prints the programme of a PMT, and its streams.
     fn read_pmt(&mut self, section: &[u8], text: &mut Text)
-        ensures asked { KeepsAsked self.old self.new }
+        ensures requested { KeepsRequested self.old self.new }
     {
         let Some(programme) = programme_of(section) else {
             return;
         };
-        tell_programme(&programme, text);
+        report_programme(&programme, text);
         self.add_clock(programme.clock_pid);
         let mut place = programme.first;
         for _ in 0..1024u32 {
@@ -458,18 +460,18 @@ impl Multiplex {
 
     // Prints a stream, and the pages that it announces.
     fn read_stream(&mut self, section: &[u8], stream: &Stream, clock_pid: u16, text: &mut Text)
-        ensures asked { KeepsAsked self.old self.new }
+        ensures requested { KeepsRequested self.old self.new }
     {
-        tell_stream(stream, text);
+        report_stream(stream, text);
         self.pids.note_stream(stream.pid, clock_pid, stream.kind);
-        if tell_pages(section, stream, text) {
+        if report_pages(section, stream, text) {
             self.follow(stream.pid, text);
         }
     }
 
     /// Prints what was not printed yet, since no more data is there for now.
     pub fn flush(&mut self, text: &mut Text)
-        ensures asked { KeepsAsked self.old self.new }
+        ensures requested { KeepsRequested self.old self.new }
     {
         for carrier in self.carriers.iter_mut() {
             carrier.flush(text);
@@ -479,7 +481,7 @@ impl Multiplex {
     /// Prints what is known at the end of the recording: of pictures, of each PID with Teletext,
     /// and of clocks. No irregular PCR waits any more.
     pub fn end(&mut self, text: &mut Text)
-        ensures asked { KeepsAsked self.old self.new }
+        ensures requested { KeepsRequested self.old self.new }
     {
         self.settle_all(text);
         self.end_pictures(text);
@@ -517,11 +519,11 @@ impl Multiplex {
 impl TakesPackets for Multiplex {
     // The requested PID and page stay the same, and no further PID is followed that is not
     // requested.
-    ghost is_taken = { keeps_asked };
+    ghost is_taken = { keeps_requested };
 
     /// Processes the packet with this number.
     fn take(&mut self, number: u64, packet: &[u8; PACKET], text: &mut Text)
-        ensures { keeps_asked self.old packet.now self.new }
+        ensures { keeps_requested self.old packet.now self.new }
     {
         self.number = number;
         let pid = pid_of(packet);
@@ -540,11 +542,11 @@ impl TakesPackets for Multiplex {
     }
 
     /// Notes that packets of any PID may be missing, since so many bytes were skipped.
-    fn note_hole(&mut self)
-        ensures taken { keeps_asked self.old [] self.new }
+    fn note_loss(&mut self)
+        ensures taken { keeps_requested self.old [] self.new }
     {
         for carrier in self.carriers.iter_mut() {
-            carrier.note_hole();
+            carrier.note_loss();
         }
     }
 }

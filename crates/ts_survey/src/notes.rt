@@ -19,11 +19,11 @@ const PAGES: usize = 2048;
 pub struct Notes {
     // The rows that the receiver got, with their hits; and those that were printed last.
     rows: Rows,
-    told: Option<Rows>,
+    reported: Option<Rows>,
     // Rows that came in this PES packet after the end of the page; and those that were printed
     // last.
     strays: Rows,
-    told_strays: Rows,
+    reported_strays: Rows,
     has_stray: bool,
     // Whether a header of the page came in this PES packet.
     is_opened: bool,
@@ -41,9 +41,9 @@ impl Notes {
         };
         Some(Notes {
             rows: Rows::none(),
-            told: None,
+            reported: None,
             strays: Rows::none(),
-            told_strays: Rows::none(),
+            reported_strays: Rows::none(),
             has_stray: false,
             is_opened: false,
             is_own: false,
@@ -156,39 +156,39 @@ impl Notes {
         }
         let place = magazine as usize * 256 + header.page as usize;
         let before = count_at(&mut self.subtitles, place);
-        tell_first(before, pid, magazine, header.page, text);
+        report_first(before, pid, magazine, header.page, text);
     }
 
     /// Returns whether the rows differ from those printed last, or none were printed.
     pub fn is_changed(&self) -> bool {
-        match &self.told {
+        match &self.reported {
             None => true,
-            Some(told) => *told != self.rows,
+            Some(reported) => *reported != self.rows,
         }
     }
 
     /// Returns whether stray rows have to be printed.
     pub fn has_new_strays(&self) -> bool {
-        self.has_stray && self.strays != self.told_strays
+        self.has_stray && self.strays != self.reported_strays
     }
 
     /// Prints the decoded page of the receiver.
-    pub fn tell_rows(&mut self, receiver: &Blank, text: &mut Text) {
-        self.told = Some(self.rows);
-        self.rows.tell_held(receiver.page(), text);
+    pub fn report_rows(&mut self, receiver: &Blank, text: &mut Text) {
+        self.reported = Some(self.rows);
+        self.rows.report_buffered(receiver.page(), text);
     }
 
     /// Prints the stray rows.
-    pub fn tell_strays(&mut self, text: &mut Text) {
-        self.told_strays = self.strays;
-        self.strays.tell(text);
+    pub fn report_strays(&mut self, text: &mut Text) {
+        self.reported_strays = self.strays;
+        self.strays.report(text);
     }
 
     /// Prints how many headers with the subtitle bit came for each page.
-    pub fn tell_pages(&self, pid: u16, text: &mut Text) {
+    pub fn report_pages(&self, pid: u16, text: &mut Text) {
         let counts = self.subtitles.as_slice();
         for place in 0..counts.len() {
-            tell_count(pid, place, counts[place], text);
+            report_count(pid, place, counts[place], text);
         }
     }
 }
@@ -207,15 +207,15 @@ fn count_at(counts: &mut Vec<u64>, place: usize) -> Option<u64> {
 }
 
 // Prints a page at its first header with the subtitle bit.
-fn tell_first(before: Option<u64>, pid: u16, magazine: u8, page: u8, text: &mut Text)
+fn report_first(before: Option<u64>, pid: u16, magazine: u8, page: u8, text: &mut Text)
     requires { magazine < 8 }
 {
     if before == Some(0) {
-        tell_sub(pid, magazine, page, text);
+        report_sub(pid, magazine, page, text);
     }
 }
 
-fn tell_sub(pid: u16, magazine: u8, page: u8, text: &mut Text)
+fn report_sub(pid: u16, magazine: u8, page: u8, text: &mut Text)
     requires { magazine < 8 }
 {
     text.put(b"sub");
@@ -225,14 +225,14 @@ fn tell_sub(pid: u16, magazine: u8, page: u8, text: &mut Text)
 }
 
 // Prints how many headers with the subtitle bit came for a page, if any did.
-fn tell_count(pid: u16, place: usize, count: u64, text: &mut Text) {
+fn report_count(pid: u16, place: usize, count: u64, text: &mut Text) {
     if count == 0 {
         return;
     }
-    tell_subs(pid, place, count, text);
+    report_subs(pid, place, count, text);
 }
 
-fn tell_subs(pid: u16, place: usize, count: u64, text: &mut Text) {
+fn report_subs(pid: u16, place: usize, count: u64, text: &mut Text) {
     text.put(b"subs");
     text.number(pid as u64);
     text.page((place / 256 % 8) as u8, (place % 256) as u8);

@@ -6,7 +6,7 @@ use mpeg_ts::{PACKET, PacketSize, SYNC_BYTE};
 const IN_A_ROW: usize = 5;
 
 // Returns whether a packet may be at a place, or the recording ended before it.
-fn may_stand(bytes: &[u8], place: usize, is_end: bool) -> bool {
+fn may_be_packet_at(bytes: &[u8], place: usize, is_end: bool) -> bool {
     if place >= bytes.len() {
         return is_end;
     }
@@ -18,7 +18,7 @@ fn may_stand(bytes: &[u8], place: usize, is_end: bool) -> bool {
 fn is_at(bytes: &[u8], place: usize, distance: usize, is_end: bool) -> bool {
     let mut at = place;
     for _ in 0..IN_A_ROW {
-        if !may_stand(bytes, at, is_end) {
+        if !may_be_packet_at(bytes, at, is_end) {
             return false;
         }
         at = at.saturating_add(distance);
@@ -28,7 +28,7 @@ fn is_at(bytes: &[u8], place: usize, distance: usize, is_end: bool) -> bool {
 
 // Returns the distance of the packets from a place on; `None` if there are none.
 fn size_at(bytes: &[u8], place: usize, is_end: bool) -> Option<PacketSize> {
-    if !may_stand(bytes, place, is_end) {
+    if !may_be_packet_at(bytes, place, is_end) {
         return None;
     }
     if is_at(bytes, place, PacketSize::Plain.bytes(), is_end) {

@@ -10,29 +10,29 @@ ghost use Rattle.mpeg_ts.specs.PacketSize.{bytes_of};
 ghost use Rattle.mpeg_ts.specs.PacketsInStep.{Skipped, begins_packet, bytes_needed, lead_size};
 ghost use Rattle.ttx_page.specs.Receiver.{RunsBy};
 ghost use Rattle.ts_survey.specs.Counted.{BeginsAt};
-ghost use Rattle.ts_survey.specs.Following.{any_piece};
-ghost use Rattle.ts_survey.specs.InStep.{AreFound, TakesAll, counted_on, items_from, told_of};
-ghost use Rattle.ts_survey.specs.Room.{most_kept};
+ghost use Rattle.ts_survey.specs.Following.{any_pes_packet};
+ghost use Rattle.ts_survey.specs.InStep.{AreFound, TakesAll, counted_on, items_from, reported_of};
+ghost use Rattle.ts_survey.specs.ReadBuffer.{most_kept};
 
 use crate::text::Text;
 use mpeg_ts::{PACKET, PacketSize, SYNC_BYTE};
 
 /// If as many bytes in a row are skipped as so many packets have, packets of any PID may be
 /// missing.
-const HOLE: u64 = 15;
+const LOSS: u64 = 15;
 
 /// Processes the packets of a transport stream, one after another.
 pub trait TakesPackets {
     // The relation of its state before a call, the packet or [] for missing ones, and its state
     // afterwards.
-    ghost is_taken: { Self → List ℕ → Self → Type 0 } = { any_piece };
+    ghost is_taken: { Self → List ℕ → Self → Type 0 } = { any_pes_packet };
 
     /// Processes the packet with this number, and prints what there is to report.
     fn take(&mut self, number: u64, packet: &[u8; PACKET], text: &mut Text)
         ensures { is_taken self.old packet.now self.new };
 
     /// Notes that packets of any PID may be missing, since so many bytes were skipped.
-    fn note_hole(&mut self)
+    fn note_loss(&mut self)
         ensures { is_taken self.old [] self.new };
 }
 
@@ -240,8 +240,8 @@ impl PacketsInStep {
           run = counted_on self.old.run (result - place);
           skipped = counted_on self.old.skipped (result - place);
         } }
-        ensures told { RunsBy M.is_taken to.old
-            (told_of (bytes_of self.old.size) self.old.run (replicate (result - place) Skipped))
+        ensures reported { RunsBy M.is_taken to.old
+            (reported_of (bytes_of self.old.size) self.old.run (replicate (result - place) Skipped))
             to.new }
     {
         let next = next_start(bytes, place + 1, self.distance());
@@ -255,20 +255,20 @@ impl PacketsInStep {
 
     // Notes missing packets if so many skipped bytes complete a gap.
     #[inline(always)]
-    #[tactic(auto, using(crate::proofs::InStepLemmas::holes))]
+    #[tactic(auto, using(crate::proofs::InStepLemmas::losses))]
     fn note_skipped<M: TakesPackets>(&self, count: u64, to: &mut M)
         ensures { RunsBy M.is_taken to.old
-            (told_of (bytes_of self.now.size) self.now.run (replicate count Skipped)) to.new }
+            (reported_of (bytes_of self.now.size) self.now.run (replicate count Skipped)) to.new }
     {
-        let hole = HOLE * self.distance() as u64;
+        let loss = LOSS * self.distance() as u64;
         let run = self.run.saturating_add(count);
-        if self.run >= hole {
+        if self.run >= loss {
             return;
         }
-        if run < hole {
+        if run < loss {
             return;
         }
-        to.note_hole();
+        to.note_loss();
     }
 }
 

@@ -3,7 +3,7 @@
 use crate::heard::Heard;
 use crate::notes::Notes;
 use crate::text::Text;
-use crate::units::{behind, unit_of, units_of};
+use crate::units::{following, unit_of, units_of};
 use std::alloc::Global;
 use ttx_packet::{PageId, SentPacket};
 use ttx_page::{Blank, Page, Receiver};
@@ -34,7 +34,7 @@ impl Following {
                 break;
             };
             self.hear_unit(unit.packet, pid, heard, text);
-            rest = behind(rest, unit.size);
+            rest = following(rest, unit.size);
         }
         self.notes.end(&self.receiver, heard);
     }
@@ -63,12 +63,12 @@ impl Following {
     }
 
     /// Prints the decoded page of the receiver.
-    pub fn tell_rows(&mut self, text: &mut Text) {
-        self.notes.tell_rows(&self.receiver, text);
+    pub fn report_rows(&mut self, text: &mut Text) {
+        self.notes.report_rows(&self.receiver, text);
     }
 
     /// Prints rows that came after the end of the page.
-    pub fn tell_strays(&mut self, text: &mut Text) {
-        self.notes.tell_strays(text);
+    pub fn report_strays(&mut self, text: &mut Text) {
+        self.notes.report_strays(text);
     }
 }

@@ -2,14 +2,14 @@
 ghost use Rattle.std.specs.Prelude.{◌≡◌, ◌≤◌, ◌<◌, ◌+◌, IfNone, IfSome, false};
 ghost use Rattle.std.specs.Prelude.{length};
 ghost use Rattle.ttx_pes.specs.Reading as reading;
-ghost use Rattle.ts_survey.specs.FilePieces as pieces;
-ghost use Rattle.ts_survey.specs.Room.{most_kept};
+ghost use Rattle.ts_survey.specs.FilePesPackets as pes_packets;
+ghost use Rattle.ts_survey.specs.ReadBuffer.{most_kept};
 
 use crate::pes_lines::PesLines;
 use crate::text::Text;
 use std::alloc::Global;
 use ttx_packet::PageId;
-use ttx_pes::is_mark;
+use ttx_pes::is_gap_marker;
 
 /// How far a file of PES packets was read.
 #[derive(Drop)]
@@ -28,15 +28,15 @@ fn is_start(bytes: &[u8]) -> bool
 
 // Returns whether the bytes begin with another start code.
 fn has_other_start(bytes: &[u8]) -> bool
-    ensures { result ≡ pieces.has_other_start bytes.now }
+    ensures { result ≡ pes_packets.has_other_start bytes.now }
 {
     bytes.len() >= 6 && !is_start(bytes)
 }
 
 // Returns the size of the complete PES packet at the beginning of the bytes, from its length field.
-fn whole_size(bytes: &[u8]) -> Option<usize>
+fn complete_size(bytes: &[u8]) -> Option<usize>
     ensures some { IfSome result (λ size. (6 ≤ size) × (size ≤ length bytes.now)) }
-    ensures unfinished { IfNone result (pieces.has_other_start bytes.now ≡ false
+    ensures unfinished { IfNone result (pes_packets.has_other_start bytes.now ≡ false
         → length bytes.now < most_kept) }
 {
     if bytes.len() < 6 {
@@ -70,9 +70,9 @@ impl PesFile {
         if self.is_damaged {
             return bytes.len();
         }
-        let rest = self.take_whole(bytes, text);
+        let rest = self.take_complete(bytes, text);
         if has_other_start(rest) {
-            self.tell_damage(b" start\n", text);
+            self.report_damage(b" start\n", text);
             return bytes.len();
         }
         self.end_at(rest, is_end, text);
@@ -82,39 +82,39 @@ impl PesFile {
     // Prints that the file can't be read on if bytes are left at its end.
     fn end_at(&mut self, rest: &[u8], is_end: bool, text: &mut Text) {
         if is_end && !rest.is_empty() {
-            self.tell_damage(b" cut\n", text);
+            self.report_damage(b" cut\n", text);
         }
     }
 
     // Processes the complete PES packets at the beginning of the bytes, and returns the rest.
-    fn take_whole<'a>(&mut self, bytes: &'a [u8], text: &mut Text) -> &'a [u8]
-        ensures unfinished { pieces.has_other_start result.now ≡ false
+    fn take_complete<'a>(&mut self, bytes: &'a [u8], text: &mut Text) -> &'a [u8]
+        ensures unfinished { pes_packets.has_other_start result.now ≡ false
             → length result.now < most_kept }
         ensures within { length result.now ≤ length bytes.now }
     {
         let mut rest = bytes;
         for _ in 0..bytes.len() {
-            let Some(size) = whole_size(rest) else {
+            let Some(size) = complete_size(rest) else {
                 break;
             };
-            let (piece, more) = rest.split_at(size);
-            self.take_piece(piece, text);
+            let (pes_packet, more) = rest.split_at(size);
+            self.take_pes_packet(pes_packet, text);
             rest = more;
         }
         rest
     }
 
     // Processes a PES packet, or a gap marker.
-    fn take_piece(&mut self, piece: &[u8], text: &mut Text) {
-        if is_mark(piece) {
-            self.lines.mark(0, 0, text);
+    fn take_pes_packet(&mut self, pes_packet: &[u8], text: &mut Text) {
+        if is_gap_marker(pes_packet) {
+            self.lines.gap_marker(0, 0, text);
             return;
         }
-        self.lines.take(piece, text);
+        self.lines.take(pes_packet, text);
     }
 
     // Prints that the file can't be read on.
-    fn tell_damage(&mut self, why: &[u8], text: &mut Text) {
+    fn report_damage(&mut self, why: &[u8], text: &mut Text) {
         self.is_damaged = true;
         self.lines.flush(text);
         text.put(b"damaged 0");
@@ -130,14 +130,14 @@ impl PesFile {
     /// Ends the file.
     pub fn end(&self, text: &mut Text) {
         self.lines.end(text);
-        self.tell_end(text);
+        self.report_end(text);
     }
 
     // Prints how many PES packets came.
-    fn tell_end(&self, text: &mut Text) {
+    fn report_end(&self, text: &mut Text) {
         text.put(b"end 0");
         text.number(self.lines.count());
-        text.number(self.lines.marks());
+        text.number(self.lines.gap_markers());
         text.put(b" 0 0 0 0");
         text.time(self.lines.last());
         text.put(b"\n");

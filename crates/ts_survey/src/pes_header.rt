@@ -1,7 +1,7 @@
 //! The header of a PES packet up to its times, which may be spread over several TS packets (ISO/IEC
 //! 13818-1, PES_packet).
 
-use crate::adaptation::{decoding_time, pts_said};
+use crate::adaptation::{decoding_time, pts_stated};
 use arrayvec::ArrayVec;
 
 /// The number of bytes of a header up to the end of its DTS.
@@ -49,7 +49,7 @@ impl PesHeader {
         if !begins && !self.is_open {
             return false;
         }
-        add_front(&mut self.bytes, payload);
+        add_prefix(&mut self.bytes, payload);
         self.is_open = self.bytes.len() < needed(self.bytes.as_slice());
         !self.is_open
     }
@@ -61,7 +61,7 @@ impl PesHeader {
 
     /// Returns its PTS.
     pub fn pts(&self) -> Option<u64> {
-        pts_said(self.bytes.as_slice())
+        pts_stated(self.bytes.as_slice())
     }
 
     /// Returns its DTS, or its PTS if it has no DTS.
@@ -79,10 +79,10 @@ impl PesHeader {
 }
 
 // Adds the first bytes of a payload, as many as there is room for.
-fn add_front(bytes: &mut ArrayVec<u8, MOST>, payload: &[u8]) {
-    let room = MOST - bytes.len();
-    let (front, _) = payload.split_at(payload.len().min(room));
-    let _ = bytes.try_extend_from_slice(front);
+fn add_prefix(bytes: &mut ArrayVec<u8, MOST>, payload: &[u8]) {
+    let buffer = MOST - bytes.len();
+    let (prefix, _) = payload.split_at(payload.len().min(buffer));
+    let _ = bytes.try_extend_from_slice(prefix);
 }
 
 // Returns how many bytes a header needs up to its times, by PTS_DTS_flags if they are there.

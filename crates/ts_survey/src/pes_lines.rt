@@ -1,6 +1,6 @@
 //! The lines of the PES packets of a PID: runs of them, gap markers, and the decoded page.
 
-use crate::adaptation::pts_said;
+use crate::adaptation::pts_stated;
 use crate::heard::Heard;
 use crate::page::Following;
 use crate::text::{Text, forward};
@@ -29,7 +29,7 @@ pub struct PesLines {
     run: Run,
     frame: PesFrame,
     count: u64,
-    marks: u64,
+    gap_markers: u64,
     // The PTS of the last PES packet.
     last: Option<u64>,
 }
@@ -62,7 +62,7 @@ impl PesLines {
             },
             frame: PesFrame::new(0),
             count: 0,
-            marks: 0,
+            gap_markers: 0,
             last: None,
         })
     }
@@ -73,8 +73,8 @@ impl PesLines {
     }
 
     /// Returns how many of them are gap markers.
-    pub fn marks(&self) -> u64 {
-        self.marks
+    pub fn gap_markers(&self) -> u64 {
+        self.gap_markers
     }
 
     /// Returns the PTS of the last PES packet.
@@ -84,21 +84,21 @@ impl PesLines {
 
     /// Processes a PES packet.
     pub fn take(&mut self, pes: &[u8], text: &mut Text) {
-        let pts = pts_said(pes);
+        let pts = pts_stated(pes);
         self.hear(pes, pts, text);
-        let is_changed = self.tells_rows(pts);
-        let has_strays = self.tells_strays(pts);
+        let is_changed = self.reports_rows(pts);
+        let has_strays = self.reports_strays(pts);
         self.put(pts, is_changed, has_strays, text);
         self.last = pts.or(self.last);
     }
 
     // Returns whether rows have to be printed after a PES packet with this PTS.
-    fn tells_rows(&self, pts: Option<u64>) -> bool {
+    fn reports_rows(&self, pts: Option<u64>) -> bool {
         pts.is_some() && self.page.is_changed()
     }
 
     // Returns whether stray rows have to be printed.
-    fn tells_strays(&self, pts: Option<u64>) -> bool {
+    fn reports_strays(&self, pts: Option<u64>) -> bool {
         pts.is_some() && self.page.notes().has_new_strays()
     }
 
@@ -114,9 +114,9 @@ impl PesLines {
     fn put(&mut self, pts: Option<u64>, is_changed: bool, has_strays: bool, text: &mut Text) {
         let number = self.count;
         self.count = self.count.saturating_add(1);
-        let is_told = is_changed || has_strays;
-        if is_told {
-            self.tell_alone(number, pts, is_changed, has_strays, text);
+        let is_reported = is_changed || has_strays;
+        if is_reported {
+            self.report_alone(number, pts, is_changed, has_strays, text);
         } else if !self.join(pts) {
             self.flush(text);
             self.begin(number, pts);
@@ -124,7 +124,7 @@ impl PesLines {
     }
 
     // Prints the run, then a PES packet on its own, then the decoded page and stray rows after it.
-    fn tell_alone(
+    fn report_alone(
         &mut self,
         number: u64,
         pts: Option<u64>,
@@ -135,7 +135,7 @@ impl PesLines {
         self.flush(text);
         self.begin(number, pts);
         self.flush(text);
-        self.tell_page(number, is_changed, has_strays, text);
+        self.report_page(number, is_changed, has_strays, text);
     }
 
     // Adds a PES packet to the run if it continues it, and returns whether it does.
@@ -168,40 +168,40 @@ impl PesLines {
 
     /// Prints the run, if there is one.
     pub fn flush(&mut self, text: &mut Text) {
-        self.tell_kept(text);
+        self.report_kept(text);
         self.run.count = 0;
     }
 
     // Prints the decoded page and stray rows after the PES packet.
-    fn tell_page(&mut self, number: u64, is_changed: bool, has_strays: bool, text: &mut Text) {
-        self.tell_rows(number, is_changed, text);
-        self.tell_strays(number, has_strays, text);
+    fn report_page(&mut self, number: u64, is_changed: bool, has_strays: bool, text: &mut Text) {
+        self.report_rows(number, is_changed, text);
+        self.report_strays(number, has_strays, text);
     }
 
     // Prints the decoded page, if it has to be printed.
-    fn tell_rows(&mut self, number: u64, is_told: bool, text: &mut Text) {
-        if !is_told {
+    fn report_rows(&mut self, number: u64, is_reported: bool, text: &mut Text) {
+        if !is_reported {
             return;
         }
         text.put(b"rows");
         text.number(self.pid as u64);
         text.number(number);
-        self.page.tell_rows(text);
+        self.page.report_rows(text);
     }
 
     // Prints stray rows, if they have to be printed.
-    fn tell_strays(&mut self, number: u64, is_told: bool, text: &mut Text) {
-        if !is_told {
+    fn report_strays(&mut self, number: u64, is_reported: bool, text: &mut Text) {
+        if !is_reported {
             return;
         }
         text.put(b"strays");
         text.number(self.pid as u64);
         text.number(number);
-        self.page.tell_strays(text);
+        self.page.report_strays(text);
     }
 
     /// Prints that a jump of the counter was announced before the next PES packet.
-    pub fn tell_seam(&self, text: &mut Text) {
+    pub fn report_seam(&self, text: &mut Text) {
         text.put(b"seam");
         text.number(self.pid as u64);
         text.number(self.count);
@@ -209,48 +209,48 @@ impl PesLines {
     }
 
     /// Prints a gap marker: so many packets were lost and scrambled.
-    pub fn mark(&mut self, lost: u64, scrambled: u64, text: &mut Text) {
+    pub fn gap_marker(&mut self, lost: u64, scrambled: u64, text: &mut Text) {
         self.flush(text);
-        tell_gap(self.pid, self.count, lost, scrambled, text);
+        report_gap(self.pid, self.count, lost, scrambled, text);
         self.count = self.count.saturating_add(1);
-        self.marks = self.marks.saturating_add(1);
+        self.gap_markers = self.gap_markers.saturating_add(1);
     }
 
     /// Ends the PES packets: prints the run, if there is one, and the pages with subtitles.
     pub fn end(&self, text: &mut Text) {
-        self.tell_kept(text);
-        self.page.notes().tell_pages(self.pid, text);
+        self.report_kept(text);
+        self.page.notes().report_pages(self.pid, text);
     }
 
     /// Ends the PES packets with a pending gap marker: so many packets were lost and scrambled.
-    pub fn end_at_mark(&self, lost: u64, scrambled: u64, text: &mut Text) {
-        self.tell_kept(text);
-        tell_gap(self.pid, self.count, lost, scrambled, text);
-        self.page.notes().tell_pages(self.pid, text);
+    pub fn end_at_gap_marker(&self, lost: u64, scrambled: u64, text: &mut Text) {
+        self.report_kept(text);
+        report_gap(self.pid, self.count, lost, scrambled, text);
+        self.page.notes().report_pages(self.pid, text);
     }
 
     // Prints the run, if there is one.
-    fn tell_kept(&self, text: &mut Text) {
+    fn report_kept(&self, text: &mut Text) {
         if self.run.count == 0 {
             return;
         }
-        tell_run(self.pid, &self.run, text);
+        report_run(self.pid, &self.run, text);
     }
 }
 
 // Prints a run of PES packets.
-fn tell_run(pid: u16, run: &Run, text: &mut Text) {
+fn report_run(pid: u16, run: &Run, text: &mut Text) {
     text.put(b"pes");
     text.number(pid as u64);
     text.number(run.first);
     text.number(run.count);
     text.time(run.pts);
     text.ticks(run.step);
-    run.heard.tell(text);
+    run.heard.report(text);
 }
 
 // Prints a gap marker.
-fn tell_gap(pid: u16, number: u64, lost: u64, scrambled: u64, text: &mut Text) {
+fn report_gap(pid: u16, number: u64, lost: u64, scrambled: u64, text: &mut Text) {
     text.put(b"gap");
     text.number(pid as u64);
     text.number(number);

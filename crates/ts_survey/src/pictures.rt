@@ -129,14 +129,14 @@ impl Pictures {
         !self.has_repeat
             && (!announces_jump(packet) || announces_jump(&self.packet))
             && header == old_header
-            && behind_adaptation(packet) == behind_adaptation(&self.packet)
+            && after_adaptation(packet) == after_adaptation(&self.packet)
     }
 
     // Counts breaks of the counter and scrambled packets among the pictures.
     fn count_lost(&mut self, packet: &[u8; PACKET], link: Link) {
         match self.reach {
             Reach::Within => {
-                self.lost = counted_if(is_behind_loss(packet, link), self.lost);
+                self.lost = counted_if(is_after_loss(packet, link), self.lost);
                 self.scrambled = counted_if(is_scrambled(packet), self.scrambled);
             }
             _ => {}
@@ -222,14 +222,14 @@ impl Pictures {
 
     // Begins the flagged picture, and prints it.
     fn begin(&mut self, kind: u8, text: &mut Text) {
-        self.tell_video(text);
+        self.report_video(text);
         self.show(text);
         self.flagged = self.header.pts();
         self.reader = FormReader::new(kind);
         self.is_first = true;
     }
 
-    fn tell_video(&self, text: &mut Text) {
+    fn report_video(&self, text: &mut Text) {
         text.put(b"video");
         text.number(self.pid as u64);
         text.number(self.passed);
@@ -240,13 +240,13 @@ impl Pictures {
     fn show(&mut self, text: &mut Text) {
         self.reach = Reach::Within;
         let pts = self.header.pts();
-        self.tell_picture(pts, text);
+        self.report_picture(pts, text);
         if let Some(now) = pts {
             self.move_to(now, text);
         }
     }
 
-    fn tell_picture(&self, pts: Option<u64>, text: &mut Text) {
+    fn report_picture(&self, pts: Option<u64>, text: &mut Text) {
         text.put(b"picture");
         text.number(self.pid as u64);
         text.time(pts);
@@ -265,13 +265,13 @@ impl Pictures {
     // Ends the first pictures.
     fn close(&mut self, text: &mut Text) {
         self.reach = Reach::Over;
-        self.tell_group(text);
-        self.tell_counts(text);
+        self.report_group(text);
+        self.report_counts(text);
         text.put(b"\n");
     }
 
     // Prints the beginning of both lines of pictures.
-    fn tell_counts(&self, text: &mut Text) {
+    fn report_counts(&self, text: &mut Text) {
         text.put(b"pictures");
         text.number(self.pid as u64);
         text.number(self.lost);
@@ -279,7 +279,7 @@ impl Pictures {
     }
 
     // Prints the group of the flagged picture.
-    fn tell_group(&self, text: &mut Text) {
+    fn report_group(&self, text: &mut Text) {
         text.put(b"group");
         text.number(self.pid as u64);
         text.time(self.flagged);
@@ -291,16 +291,16 @@ impl Pictures {
     pub fn end(&self, text: &mut Text) {
         match self.reach {
             Reach::Over => {}
-            Reach::Before => self.tell_end(b" 0\n", text),
+            Reach::Before => self.report_end(b" 0\n", text),
             Reach::Within => {
-                self.tell_group(text);
-                self.tell_end(b" 1\n", text);
+                self.report_group(text);
+                self.report_end(b" 1\n", text);
             }
         }
     }
 
-    fn tell_end(&self, begun: &[u8], text: &mut Text) {
-        self.tell_counts(text);
+    fn report_end(&self, begun: &[u8], text: &mut Text) {
+        self.report_counts(text);
         text.number(self.passed);
         text.put(begun);
     }
@@ -322,7 +322,7 @@ fn follows(link: Link) -> bool {
 }
 
 // Returns whether something is lost before a packet that is no repeat.
-fn is_behind_loss(packet: &[u8; PACKET], link: Link) -> bool {
+fn is_after_loss(packet: &[u8; PACKET], link: Link) -> bool {
     match link {
         Link::Broken => true,
         Link::Same => !announces_jump(packet),
@@ -339,14 +339,14 @@ fn is_video(stream_id: Option<u8>) -> bool {
 }
 
 // Returns the bytes of a packet after its adaptation field, scrambled or not.
-fn behind_adaptation(packet: &[u8; PACKET]) -> &[u8] {
+fn after_adaptation(packet: &[u8; PACKET]) -> &[u8] {
     let place = if has_adaptation(packet) {
         5 + packet[4] as usize
     } else {
         4
     };
-    let (_, behind) = packet.split_at(place.min(PACKET));
-    behind
+    let (_, following) = packet.split_at(place.min(PACKET));
+    following
 }
 
 // Adds one if the condition holds.

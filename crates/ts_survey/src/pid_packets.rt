@@ -1,24 +1,24 @@
 //! The packets of a PID, and the receiver of what they carry.
 ghost use Rattle.std.specs.Prelude.{◌≡◌, List, ℕ, [], false, true};
-ghost use Rattle.mpeg_ts.specs.GoodPackets.{Hole, note_of};
-ghost use Rattle.mpeg_ts.specs.Joining.{after_note, handed_over, has_ended, nothing_joined};
+ghost use Rattle.mpeg_ts.specs.GoodPackets.{Loss, note_of};
+ghost use Rattle.mpeg_ts.specs.Joining.{after_note, delivered, has_ended, nothing_joined};
 ghost use Rattle.mpeg_ts.specs.Joining.{link_after, repeats};
 ghost use Rattle.mpeg_ts.specs.Parts.{is_seam};
 ghost use Rattle.mpeg_ts.specs.TransportPacket.{has_payload, is_wrong};
-ghost use Rattle.ts_survey.specs.Following.{GivesNext, TakesBytes, any_piece};
+ghost use Rattle.ts_survey.specs.Following.{GivesNext, TakesBytes, any_pes_packet};
 
 use crate::text::Text;
 use mpeg_ts::{Joining, PACKET};
 
 /// Receives what the packets of a PID carry: PES packets and gap markers; and at the end perhaps
 /// bytes that are neither.
-pub trait TakesPieces {
+pub trait TakesPesPackets {
     // The relation of its state before a call, the bytes, and its state afterwards.
-    ghost is_taken: { Self → List ℕ → Self → Type 0 } = { any_piece };
+    ghost is_taken: { Self → List ℕ → Self → Type 0 } = { any_pes_packet };
 
     /// Processes a PES packet, a gap marker or other bytes, and prints what there is to report.
-    fn take(&mut self, piece: &[u8], text: &mut Text)
-        ensures { is_taken self.old piece.now self.new };
+    fn take(&mut self, pes_packet: &[u8], text: &mut Text)
+        ensures { is_taken self.old pes_packet.now self.new };
 }
 
 /// The packets of a PID, which come one after another.
@@ -30,7 +30,7 @@ pub struct PidPackets<T> {
     ghost idle: { joining.pending ≡ [] },
 }
 
-impl<T: TakesPieces> PidPackets<T> {
+impl<T: TakesPesPackets> PidPackets<T> {
     /// Returns the state before the first packet.
     pub fn new(to: T) -> Self
         ensures joining { result.joining ≡ nothing_joined }
@@ -53,18 +53,18 @@ impl<T: TakesPieces> PidPackets<T> {
 
     /// Returns whether a jump of the counter was announced between the last good packet and this
     /// one, and nothing is known to be lost.
-    pub fn is_behind_seam(&self, packet: &[u8; PACKET]) -> bool
+    pub fn is_after_seam(&self, packet: &[u8; PACKET]) -> bool
         ensures { result ≡ is_seam (link_after self.now.joining self.now.joining.last packet.now) }
     {
-        self.joining.is_behind_seam(packet)
+        self.joining.is_after_seam(packet)
     }
 
     /// Notes that packets may be missing, since so many bytes were skipped.
-    pub fn note_hole(&mut self)
-        ensures joining { self.new.joining ≡ after_note self.old.joining Hole }
+    pub fn note_loss(&mut self)
+        ensures joining { self.new.joining ≡ after_note self.old.joining Loss }
         ensures to { self.new.to ≡ self.old.to }
     {
-        self.joining.note_hole();
+        self.joining.note_loss();
     }
 
     /// Processes a packet. Everything that it completes is passed on at once; after bytes that are
@@ -72,7 +72,7 @@ impl<T: TakesPieces> PidPackets<T> {
     pub fn take(&mut self, packet: &[u8; PACKET], text: &mut Text)
         ensures ended { has_ended self.old.joining.part ≡ true → self.new ≡ self.old }
         ensures joining { has_ended self.old.joining.part ≡ false → self.new.joining
-            ≡ handed_over (after_note self.old.joining (note_of packet.now)) }
+            ≡ delivered (after_note self.old.joining (note_of packet.now)) }
         ensures taken { has_ended self.old.joining.part ≡ false
             → TakesBytes T.is_taken self.old.to
             (after_note self.old.joining (note_of packet.now)).pending self.new.to }
@@ -87,17 +87,17 @@ impl<T: TakesPieces> PidPackets<T> {
 
 // Passes on everything that is ready.
 #[tactic(auto, using(crate::proofs::FollowingLemmas::fewer_ready))]
-fn give_ready<T: TakesPieces>(joining: &mut Joining, to: &mut T, text: &mut Text)
-    ensures joining { joining.new ≡ handed_over joining.old }
+fn give_ready<T: TakesPesPackets>(joining: &mut Joining, to: &mut T, text: &mut Text)
+    ensures joining { joining.new ≡ delivered joining.old }
     ensures taken { TakesBytes T.is_taken to.old joining.old.pending to.new }
 {
-    'pieces: while !joining.is_idle() {
+    'pes_packets: while !joining.is_idle() {
         give_next(joining, to, text);
     }
 }
 
 // Passes on the next part of what is ready.
-fn give_next<T: TakesPieces>(joining: &mut Joining, to: &mut T, text: &mut Text)
+fn give_next<T: TakesPesPackets>(joining: &mut Joining, to: &mut T, text: &mut Text)
     ensures { GivesNext T.is_taken joining.old to.old joining.new to.new }
 {
     let next = joining.take_first();

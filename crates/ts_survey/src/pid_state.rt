@@ -243,7 +243,7 @@ impl Pids {
 
     /// Returns what the counters of other PIDs show of the packets between two: `broken`, `whole`,
     /// or nothing.
-    pub fn told_between(&self, pid: u16, first: u64, second: u64) -> &'static [u8] {
+    pub fn reported_between(&self, pid: u16, first: u64, second: u64) -> &'static [u8] {
         if is_broken_between(&self.breaks, pid, first, second) {
             return b" broken";
         }
@@ -268,8 +268,8 @@ fn others_go_over(states: &[PidState], pid: usize, first: u64) -> bool {
         return goes_over(states, first);
     }
     let (before, here) = states.split_at(pid);
-    let (_, behind) = here.split_at(1);
-    goes_over(before, first) || goes_over(behind, first)
+    let (_, following) = here.split_at(1);
+    goes_over(before, first) || goes_over(following, first)
 }
 
 // Returns whether packets of one of these PIDs came up to a packet, and after it.

@@ -5,9 +5,9 @@ ghost use Rattle.ts_survey.specs.Counted.{BeginsStream, StaysRead, TakesBegun};
 ghost use Rattle.ts_survey.specs.FirstLines.{FindsKind, begins_pes, head_size, head_words};
 ghost use Rattle.ts_survey.specs.FirstLines.{is_pes, kind_words, size_line, space_of};
 ghost use Rattle.ts_survey.specs.Lines.{AddsWords};
-ghost use Rattle.ts_survey.specs.Listed.{GoesOn, IsAsAsked, TellsEnd, over_line};
+ghost use Rattle.ts_survey.specs.Listed.{GoesOn, IsAsRequested, ReportsEnd, over_line};
 ghost use Rattle.ts_survey.specs.Listed.{packets_in, skipped_of};
-ghost use Rattle.ts_survey.specs.Room.{most_kept};
+ghost use Rattle.ts_survey.specs.ReadBuffer.{most_kept};
 ghost use Rattle.ts_survey.specs.Stream.{TakesOn, is_unknown};
 
 use crate::multiplex::Multiplex;
@@ -23,9 +23,9 @@ const HEAD: usize = 11;
 
 /// The number of bytes that are examined together for the distance of packets; and how many at
 /// most.
-const LOOKED_AT: usize = 65_536;
+const INSPECTED: usize = 65_536;
 
-const MOST_LOOKED_AT: u64 = 0x100_0000;
+const MOST_INSPECTED: u64 = 0x100_0000;
 
 // Bytes in which no distance was found are not needed again, except for the last ones, which may
 // begin one.
@@ -48,7 +48,7 @@ enum Kind {
 #[derive(Drop)]
 pub struct Recording {
     alloc: Global,
-    asked: SurveyOptions,
+    requested: SurveyOptions,
     has_head: bool,
     skipped: u64,
     out_of_memory: bool,
@@ -57,15 +57,15 @@ pub struct Recording {
 
 impl Recording {
     /// Returns the state before the first byte.
-    pub fn new(alloc: Global, asked: SurveyOptions) -> Recording
-        ensures asked { result.asked ≡ asked }
+    pub fn new(alloc: Global, requested: SurveyOptions) -> Recording
+        ensures requested { result.requested ≡ requested }
         ensures kind { result.kind ≡ Kind.Unknown }
         ensures none { (result.has_head ≡ false) × (result.out_of_memory ≡ false) }
         ensures skipped { result.skipped ≡ 0 }
     {
         Recording {
             alloc,
-            asked,
+            requested,
             has_head: false,
             skipped: 0,
             out_of_memory: false,
@@ -87,14 +87,14 @@ impl Recording {
     /// Processes bytes: those that are still needed, and those that have come. Returns how many are
     /// no longer needed. The first lines of a survey go to a text of their own, since they come
     /// first.
-    #[tactic(auto, using(crate::proofs::ListedLemmas::takes_as_asked))]
+    #[tactic(auto, using(crate::proofs::ListedLemmas::takes_as_requested))]
     pub fn take(&mut self, bytes: &[u8], is_end: bool, first: &mut Text, text: &mut Text) -> usize
         ensures within { result ≤ length bytes.now }
         // Few bytes are kept, so there is room for more.
         ensures kept { self.new.out_of_memory ≡ false → length bytes.now ≤ result + most_kept }
-        ensures asked { self.new.asked ≡ self.old.asked }
-        ensures as_asked { IsAsAsked self.old.asked self.old.kind
-            → IsAsAsked self.new.asked self.new.kind }
+        ensures requested { self.new.requested ≡ self.old.requested }
+        ensures as_requested { IsAsRequested self.old.requested self.old.kind
+            → IsAsRequested self.new.requested self.new.kind }
         ensures finds { is_unknown self.old.kind ≡ true
             → FindsKind self.old bytes.now first.old first.new self.new }
         // Until the kind is known, nothing else is printed; at the end it is known.
@@ -103,7 +103,7 @@ impl Recording {
             → is_unknown self.new.kind ≡ false }
         // The first bytes are printed once, when all of them have come.
         ensures stays { self.old.has_head ≡ true → self.new.has_head ≡ true }
-        ensures waits { is_unknown self.new.kind ≡ true → self.new.has_head ≡ false
+        ensures is_waiting { is_unknown self.new.kind ≡ true → self.new.has_head ≡ false
             → result ≡ 0 }
         ensures enough { is_end ≡ false → self.old.has_head ≡ false → self.new.has_head ≡ true
             → head_size ≤ length bytes.now }
@@ -124,7 +124,7 @@ impl Recording {
                 return used;
             }
         }
-        self.hand_on(bytes, is_end, text)
+        self.flush_pending(bytes, is_end, text)
     }
 
     // Determines the kind of the recording, and returns how many bytes need not be examined again.
@@ -132,15 +132,15 @@ impl Recording {
         ensures within { result ≤ length bytes.now }
         ensures kept { is_unknown self.new.kind ≡ true → self.new.out_of_memory ≡ false
             → length bytes.now ≤ result + most_kept }
-        ensures same { self.new.asked ≡ self.old.asked }
-        ensures as_asked { IsAsAsked self.old.asked self.old.kind
-            → IsAsAsked self.new.asked self.new.kind }
+        ensures same { self.new.requested ≡ self.old.requested }
+        ensures as_requested { IsAsRequested self.old.requested self.old.kind
+            → IsAsRequested self.new.requested self.new.kind }
         ensures finds { is_unknown self.old.kind ≡ true
             → FindsKind self.old bytes.now first.old first.new self.new }
         ensures known { is_end ≡ true → self.new.out_of_memory ≡ false
             → is_unknown self.new.kind ≡ false }
         ensures stays { self.old.has_head ≡ true → self.new.has_head ≡ true }
-        ensures waits { self.new.has_head ≡ false → result ≡ 0 }
+        ensures is_waiting { self.new.has_head ≡ false → result ≡ 0 }
         ensures enough { is_end ≡ false → self.old.has_head ≡ false → self.new.has_head ≡ true
             → head_size ≤ length bytes.now }
         ensures begins { is_unknown self.old.kind ≡ true
@@ -152,10 +152,10 @@ impl Recording {
             if bytes.len() < HEAD && !is_end {
                 return 0;
             }
-            self.tell_head(bytes, first);
+            self.report_head(bytes, first);
         }
         if let Kind::Unknown = &self.kind {
-            return self.look(bytes, is_end, first);
+            return self.inspect(bytes, is_end, first);
         }
         0
     }
@@ -163,13 +163,13 @@ impl Recording {
     // Passes the contents of the bytes on, and returns how many of them are no longer needed.
     #[inline(always)]
     #[tactic(auto, using(crate::proofs::ListedLemmas::what_goes_on))]
-    fn hand_on(&mut self, bytes: &[u8], is_end: bool, text: &mut Text) -> usize
+    fn flush_pending(&mut self, bytes: &[u8], is_end: bool, text: &mut Text) -> usize
         ensures within { result ≤ length bytes.now }
         ensures kept { length bytes.now ≤ result + most_kept }
         // For a stream these are all its packets, in order, each once; at the end none is left.
         ensures taken { TakesOn self.old.kind bytes.now is_end result self.new.kind }
         ensures kind { GoesOn self.old.kind self.new.kind }
-        ensures asked { self.new.asked ≡ self.old.asked }
+        ensures requested { self.new.requested ≡ self.old.requested }
         ensures same { (self.new.has_head ≡ self.old.has_head)
             × (self.new.out_of_memory ≡ self.old.out_of_memory) }
     {
@@ -184,12 +184,12 @@ impl Recording {
     }
 
     // Prints the first bytes, and what they show.
-    fn tell_head(&mut self, bytes: &[u8], first: &mut Text)
-        ensures asked { self.new.asked ≡ self.old.asked }
-        ensures as_asked { IsAsAsked self.old.asked self.old.kind
-            → IsAsAsked self.new.asked self.new.kind }
+    fn report_head(&mut self, bytes: &[u8], first: &mut Text)
+        ensures requested { self.new.requested ≡ self.old.requested }
+        ensures as_requested { IsAsRequested self.old.requested self.old.kind
+            → IsAsRequested self.new.requested self.new.kind }
         ensures has_head { self.new.has_head ≡ true }
-        ensures told { is_unknown self.old.kind ≡ true → self.new.out_of_memory ≡ false
+        ensures reported { is_unknown self.old.kind ≡ true → self.new.out_of_memory ≡ false
             → AddsWords first.old
             (head_words (take head_size bytes.now) ++ kind_words self.new.kind) first.new }
         ensures pes { is_unknown self.old.kind ≡ true → self.new.out_of_memory ≡ false
@@ -206,23 +206,23 @@ impl Recording {
             return;
         }
         first.put(b"size 0\n");
-        match PesFile::new(self.alloc, self.asked.page) {
+        match PesFile::new(self.alloc, self.requested.page) {
             Some(file) => self.kind = Kind::Pes(file),
             None => self.out_of_memory = true,
         }
     }
 
     // Searches for the distance of packets. Returns how many bytes need not be examined again.
-    fn look(&mut self, bytes: &[u8], is_end: bool, first: &mut Text) -> usize
+    fn inspect(&mut self, bytes: &[u8], is_end: bool, first: &mut Text) -> usize
         ensures within { result ≤ length bytes.now }
         ensures kept { is_unknown self.new.kind ≡ true → self.new.out_of_memory ≡ false
             → length bytes.now ≤ result + most_kept }
-        ensures same { self.new.asked ≡ self.old.asked }
-        ensures as_asked { IsAsAsked self.old.asked self.old.kind
-            → IsAsAsked self.new.asked self.new.kind }
+        ensures same { self.new.requested ≡ self.old.requested }
+        ensures as_requested { IsAsRequested self.old.requested self.old.kind
+            → IsAsRequested self.new.requested self.new.kind }
         ensures has_head { self.new.has_head ≡ self.old.has_head }
         ensures short { self.new.out_of_memory ≡ false → self.old.out_of_memory ≡ false }
-        ensures told { is_unknown self.old.kind ≡ true → self.new.out_of_memory ≡ false
+        ensures reported { is_unknown self.old.kind ≡ true → self.new.out_of_memory ≡ false
             → AddsWords first.old (kind_words self.new.kind) first.new }
         ensures not_pes { is_unknown self.old.kind ≡ true → is_pes self.new.kind ≡ false }
         ensures begins { is_unknown self.old.kind ≡ true
@@ -232,17 +232,17 @@ impl Recording {
         ensures known { is_end ≡ true → self.new.out_of_memory ≡ false
             → is_unknown self.new.kind ≡ false }
     {
-        if let Some(size) = size_in(self.asked.packet_size, bytes, is_end) {
+        if let Some(size) = size_in(self.requested.packet_size, bytes, is_end) {
             self.begin(size, first);
             return 0;
         }
-        let used = if bytes.len() > LOOKED_AT {
+        let used = if bytes.len() > INSPECTED {
             bytes.len() - KEPT
         } else {
             0
         };
         let seen = self.skipped.saturating_add(bytes.len() as u64);
-        if is_end || seen > MOST_LOOKED_AT {
+        if is_end || seen > MOST_INSPECTED {
             first.put(b"nothing\n");
             self.kind = Kind::Nothing;
             return 0;
@@ -254,13 +254,13 @@ impl Recording {
     // Begins a transport stream.
     fn begin(&mut self, size: PacketSize, first: &mut Text)
         ensures known { self.new.out_of_memory ≡ false → is_unknown self.new.kind ≡ false }
-        ensures same { self.new.asked ≡ self.old.asked }
-        ensures as_asked { IfSome self.old.asked.packet_size (λ asked. size ≡ asked)
-            → IsAsAsked self.old.asked self.old.kind
-            → IsAsAsked self.new.asked self.new.kind }
+        ensures same { self.new.requested ≡ self.old.requested }
+        ensures as_requested { IfSome self.old.requested.packet_size (λ requested. size ≡ requested)
+            → IsAsRequested self.old.requested self.old.kind
+            → IsAsRequested self.new.requested self.new.kind }
         ensures has_head { self.new.has_head ≡ self.old.has_head }
         ensures short { self.new.out_of_memory ≡ false → self.old.out_of_memory ≡ false }
-        ensures told { self.new.out_of_memory ≡ false
+        ensures reported { self.new.out_of_memory ≡ false
             → AddsWords first.old (kind_words self.new.kind) first.new }
         ensures not_pes { is_unknown self.old.kind ≡ true → is_pes self.new.kind ≡ false }
         ensures begins { is_unknown self.old.kind ≡ true
@@ -268,8 +268,8 @@ impl Recording {
         ensures skipped { self.new.skipped ≡ self.old.skipped }
     {
         put_size(size, first);
-        let pid = number_of(self.asked.pid);
-        match Multiplex::new(self.alloc, self.asked.page, pid, first) {
+        let pid = number_of(self.requested.pid);
+        match Multiplex::new(self.alloc, self.requested.page, pid, first) {
             Some(multiplex) => {
                 let packets = PacketsInStep::new(size, self.skipped);
                 self.kind = Kind::Stream(packets, multiplex);
@@ -279,12 +279,12 @@ impl Recording {
     }
 
     /// Prints what was not printed yet, if no more data is there for now, or none will come.
-    #[tactic(auto, using(crate::proofs::ListedLemmas::stays_as_asked))]
+    #[tactic(auto, using(crate::proofs::ListedLemmas::stays_as_requested))]
     pub fn pause(&mut self, is_end: bool, has_no_more: bool, text: &mut Text)
-        ensures end { is_end ≡ true → TellsEnd self.old text.new }
-        ensures asked { self.new.asked ≡ self.old.asked }
-        ensures as_asked { is_end ≡ false → IsAsAsked self.old.asked self.old.kind
-            → IsAsAsked self.new.asked self.new.kind }
+        ensures end { is_end ≡ true → ReportsEnd self.old text.new }
+        ensures requested { self.new.requested ≡ self.old.requested }
+        ensures as_requested { is_end ≡ false → IsAsRequested self.old.requested self.old.kind
+            → IsAsRequested self.new.requested self.new.kind }
         ensures short { self.new.out_of_memory ≡ self.old.out_of_memory }
         ensures kind { is_end ≡ false → GoesOn self.old.kind self.new.kind }
         ensures head { is_end ≡ false → self.new.has_head ≡ self.old.has_head }
@@ -303,7 +303,7 @@ impl Recording {
     #[tactic(auto, using(crate::proofs::ListedLemmas::what_goes_on))]
     fn flush(&mut self, text: &mut Text)
         ensures kind { GoesOn self.old.kind self.new.kind }
-        ensures asked { self.new.asked ≡ self.old.asked }
+        ensures requested { self.new.requested ≡ self.old.requested }
         ensures short { self.new.out_of_memory ≡ self.old.out_of_memory }
         ensures head { self.new.has_head ≡ self.old.has_head }
         ensures text { is_unknown self.old.kind ≡ true → text.new ≡ text.old }
@@ -319,20 +319,20 @@ impl Recording {
 
     // Ends the recording.
     fn end(&mut self, text: &mut Text)
-        ensures told { TellsEnd self.old text.new }
-        ensures asked { self.new.asked ≡ self.old.asked }
+        ensures reported { ReportsEnd self.old text.new }
+        ensures requested { self.new.requested ≡ self.old.requested }
         ensures short { self.new.out_of_memory ≡ self.old.out_of_memory }
     {
-        let (skipped, number) = self.tell_last(text);
+        let (skipped, number) = self.report_last(text);
         put_over(skipped, number, text);
     }
 
     // Prints everything that was kept until then. Returns how many bytes belong to no packet, and
     // how many packets came.
-    fn tell_last(&mut self, text: &mut Text) -> (u64, u64)
+    fn report_last(&mut self, text: &mut Text) -> (u64, u64)
         ensures skipped { result.0 ≡ skipped_of self.old }
         ensures packets { result.1 ≡ packets_in self.old.kind }
-        ensures asked { self.new.asked ≡ self.old.asked }
+        ensures requested { self.new.requested ≡ self.old.requested }
         ensures short { self.new.out_of_memory ≡ self.old.out_of_memory }
     {
         match &mut self.kind {
@@ -399,10 +399,10 @@ fn put_over(skipped: u64, number: u64, text: &mut Text)
 }
 
 // Returns the distance of packets: the requested one, or else the one that is found.
-fn size_in(asked: Option<PacketSize>, bytes: &[u8], is_end: bool) -> Option<PacketSize>
-    ensures found { IfSome result (λ size. IfSome asked (λ other. size ≡ other)) }
+fn size_in(requested: Option<PacketSize>, bytes: &[u8], is_end: bool) -> Option<PacketSize>
+    ensures found { IfSome result (λ size. IfSome requested (λ other. size ≡ other)) }
 {
-    match asked {
+    match requested {
         Some(size) => Some(size),
         None => find_size(bytes, is_end),
     }

@@ -53,20 +53,20 @@ impl Rows {
     }
 
     /// Prints the rows.
-    pub fn tell(&self, text: &mut Text) {
+    pub fn report(&self, text: &mut Text) {
         let mut sign = b' ';
         for row in 0..24usize {
-            sign = tell_row(sign, row, &self.cells[row], text);
+            sign = report_row(sign, row, &self.cells[row], text);
         }
         text.put(end_word(sign));
     }
 
     /// Prints the page of a receiver that got these rows.
-    pub fn tell_held(&self, page: &Page, text: &mut Text) {
+    pub fn report_buffered(&self, page: &Page, text: &mut Text) {
         let mut sign = b' ';
         for row in 0..24usize {
-            let cells = told_cells(page.row(row as u8 + 1), &self.cells[row]);
-            sign = tell_row(sign, row, &cells, text);
+            let cells = reported_cells(page.row(row as u8 + 1), &self.cells[row]);
+            sign = report_row(sign, row, &cells, text);
         }
         text.put(end_word(sign));
     }
@@ -74,31 +74,31 @@ impl Rows {
 
 // Returns what is printed of a row: its codes in the receiver, with `HIT` for spaces whose bytes
 // were hit.
-fn told_cells(held: &[u8; 40], heard: &[u8; 40]) -> [u8; 40] {
-    let mut cells = *held;
+fn reported_cells(stored: &[u8; 40], heard: &[u8; 40]) -> [u8; 40] {
+    let mut cells = *stored;
     for column in 0..40usize {
-        cells[column] = told_cell(held[column], heard[column]);
+        cells[column] = reported_cell(stored[column], heard[column]);
     }
     cells
 }
 
 // Returns what is printed of a cell: the receiver's code, or `HIT` for a space whose byte was hit.
-fn told_cell(held: u8, heard: u8) -> u8 {
-    if held == 0x20 && heard == HIT {
+fn reported_cell(stored: u8, heard: u8) -> u8 {
+    if stored == 0x20 && heard == HIT {
         HIT
     } else {
-        held
+        stored
     }
 }
 
 // Prints a row after a sign, unless it is blank; returns the sign for the next one.
-fn tell_row(sign: u8, row: usize, cells: &[u8; 40], text: &mut Text) -> u8
+fn report_row(sign: u8, row: usize, cells: &[u8; 40], text: &mut Text) -> u8
     requires { row < 24 }
 {
     if is_blank(cells) {
         return sign;
     }
-    tell_cells(sign, row, cells, text);
+    report_cells(sign, row, cells, text);
     b','
 }
 
@@ -108,10 +108,10 @@ fn is_blank(cells: &[u8; 40]) -> bool {
 }
 
 // Prints the cells of a row after a sign.
-fn tell_cells(sign: u8, row: usize, cells: &[u8; 40], text: &mut Text)
+fn report_cells(sign: u8, row: usize, cells: &[u8; 40], text: &mut Text)
     requires { row < 24 }
 {
-    text.number_behind(sign, row as u64 + 1);
+    text.signed_number(sign, row as u64 + 1);
     text.put(b":");
     text.hex(cells);
 }

@@ -54,10 +54,10 @@ impl Partial {
     }
 
     // Puts the next complete section into the room, and returns whether there is one.
-    fn next(&mut self, room: &mut Section) -> bool {
+    fn next(&mut self, buffer: &mut Section) -> bool {
         match next_size(self.bytes.as_slice()) {
             Some(size) => {
-                move_out(&mut self.bytes, size, room);
+                move_out(&mut self.bytes, size, buffer);
                 true
             }
             None => {
@@ -77,42 +77,42 @@ impl Partial {
 }
 
 // Adds bytes, if there is room for them.
-fn add_to(came: &mut Section, bytes: &[u8]) {
-    if bytes.len() > SECTION_ROOM - came.len() {
+fn add_to(received: &mut Section, bytes: &[u8]) {
+    if bytes.len() > SECTION_ROOM - received.len() {
         return;
     }
-    let _ = came.try_extend_from_slice(bytes);
+    let _ = received.try_extend_from_slice(bytes);
 }
 
 // Returns whether there is stuffing instead of a section: FF as table_id.
-fn has_stuffing(came: &[u8]) -> bool {
-    came.len() >= 3 && came[0] == 0xFF
+fn has_stuffing(received: &[u8]) -> bool {
+    received.len() >= 3 && received[0] == 0xFF
 }
 
 // Returns the size of the next section, if it is complete.
-fn next_size(came: &[u8]) -> Option<usize>
-    ensures { IfSome result (λ size. size ≤ length came.now) }
+fn next_size(received: &[u8]) -> Option<usize>
+    ensures { IfSome result (λ size. size ≤ length received.now) }
 {
-    if has_stuffing(came) {
+    if has_stuffing(received) {
         return None;
     }
-    let size = section_size(came)?;
-    if came.len() < size {
+    let size = section_size(received)?;
+    if received.len() < size {
         return None;
     }
     Some(size)
 }
 
 // Moves so many of the first bytes into the room.
-fn move_out(came: &mut Section, size: usize, room: &mut Section)
-    requires { size ≤ length came.old.items }
+fn move_out(received: &mut Section, size: usize, buffer: &mut Section)
+    requires { size ≤ length received.old.items }
 {
-    let (section, _) = came.as_slice().split_at(size);
-    room.clear();
-    let _ = room.try_extend_from_slice(section);
-    let len = came.len();
-    came.as_mut_slice().copy_within(size..len, 0);
-    came.truncate(len - size);
+    let (section, _) = received.as_slice().split_at(size);
+    buffer.clear();
+    let _ = buffer.try_extend_from_slice(section);
+    let len = received.len();
+    received.as_mut_slice().copy_within(size..len, 0);
+    received.truncate(len - size);
 }
 
 impl Tables {
@@ -153,9 +153,9 @@ impl Tables {
     }
 
     /// Puts the next complete section into the room, and returns whether there is one.
-    pub fn next(&mut self, place: u8, room: &mut Section) -> bool {
+    pub fn next(&mut self, place: u8, buffer: &mut Section) -> bool {
         match self.partials.get_mut(place as usize) {
-            Some(partial) => partial.next(room),
+            Some(partial) => partial.next(buffer),
             None => false,
         }
     }
@@ -226,8 +226,8 @@ pub fn parts_of<'a>(packet: &[u8; PACKET], payload: &'a [u8]) -> (&'a [u8], Opti
         return (payload, None);
     }
     let (pointer, rest) = payload.split_at(1);
-    let (before, behind) = split_there(rest, pointer[0]);
-    (before, Some(behind))
+    let (before, following) = split_there(rest, pointer[0]);
+    (before, Some(following))
 }
 
 // Splits the bytes at a place.

@@ -76,11 +76,11 @@ impl Text {
     pub fn number(&mut self, number: u64)
         ensures { Adds self.old (0x20 ∷ decimal number) self.new }
     {
-        self.number_behind(b' ', number);
+        self.signed_number(b' ', number);
     }
 
     /// Adds a sign and a number in decimal.
-    pub fn number_behind(&mut self, sign: u8, number: u64)
+    pub fn signed_number(&mut self, sign: u8, number: u64)
         ensures { Adds self.old (sign ∷ decimal number) self.new }
     {
         let mut digits = itoa::Buffer::new();
@@ -116,8 +116,8 @@ impl Text {
         requires { length bytes.now ≤ 40 }
         ensures { Adds self.old (hex_word bytes.now) self.new }
     {
-        let mut room = [0; 80];
-        let (digits, _) = room.split_at_mut(2 * bytes.len());
+        let mut buffer = [0; 80];
+        let (digits, _) = buffer.split_at_mut(2 * bytes.len());
         let _ = hex::encode_to_slice(bytes, digits);
         self.put(digits);
     }

@@ -1,7 +1,7 @@
 //! The Teletext packets of a PES packet, whatever else it contains (EN 300 472, data units).
 ghost use Rattle.std.specs.Prelude.{◌≡◌, ◌+◌, ◌≤◌, ◌<◌, length, slice_index, IfNone, IfSome, drop};
 ghost use Rattle.std.specs.Prelude.{take};
-ghost use Rattle.ts_survey.specs.Heard.{first_place, lent_packets, unit_packets};
+ghost use Rattle.ts_survey.specs.Heard.{first_place, borrowed_packets, unit_packets};
 
 /// The size of a data unit with a Teletext packet.
 const UNIT: usize = 46;
@@ -10,7 +10,7 @@ const UNIT: usize = 46;
 pub fn units_of(pes: &[u8]) -> &[u8]
     ensures { result.now ≡ drop (first_place pes.now) pes.now }
 {
-    behind(pes, first_place(pes))
+    following(pes, first_place(pes))
 }
 
 // Returns the place of the first data unit.
@@ -25,7 +25,7 @@ fn first_place(pes: &[u8]) -> usize
 }
 
 /// Returns what follows the first `count` bytes.
-pub fn behind(bytes: &[u8], count: usize) -> &[u8]
+pub fn following(bytes: &[u8], count: usize) -> &[u8]
     ensures { result.now ≡ drop count bytes.now }
 {
     let (_, rest) = bytes.split_at(count.min(bytes.len()));
@@ -45,7 +45,7 @@ pub fn unit_of(bytes: &[u8]) -> Option<DataUnit<'_>>
     ensures some { IfSome result (λ _. 46 ≤ length bytes.now) }
     ensures size { IfSome result (λ u. u.size ≡ 2 + slice_index bytes.now 1) }
     ensures packet { IfSome result (λ u.
-        lent_packets u.packet ≡ unit_packets (take 46 bytes.now)) }
+        borrowed_packets u.packet ≡ unit_packets (take 46 bytes.now)) }
 {
     if bytes.len() < UNIT {
         return None;
@@ -58,10 +58,10 @@ pub fn unit_of(bytes: &[u8]) -> Option<DataUnit<'_>>
 }
 
 // Returns the packet of a data unit, if it has one.
-#[tactic(auto, unfolding(crate::specs::Heard::lent_packets, crate::specs::Heard::unit_packets))]
+#[tactic(auto, unfolding(crate::specs::Heard::borrowed_packets, crate::specs::Heard::unit_packets))]
 fn packet_of(unit: &[u8]) -> Option<&[u8; 42]>
     requires { length unit.now ≡ 46 }
-    ensures { lent_packets result ≡ unit_packets unit.now }
+    ensures { borrowed_packets result ≡ unit_packets unit.now }
 {
     if unit[1] == 0x2C && (unit[0] == 2 || unit[0] == 3) {
         unit.last_chunk()

@@ -78,11 +78,11 @@ block_more f xs out ys n a w k m e width size room block to =
     }
 
 -- When all bytes are done, the list is f mapped over the other.
-pub made_whole : (f : ℕ → ℕ) (xs out : List ℕ) (n : ℕ)
+pub made_complete : (f : ℕ → ℕ) (xs out : List ℕ) (n : ℕ)
     → length xs ≡ n
     → IsMadeTo f xs n n out
     → out ≡ map f xs
-made_whole f xs out n size to = grind (arith, nat_tests, take_all)
+made_complete f xs out n size to = grind (arith, nat_tests, take_all)
 
 -- ---- the first item that passes a test, by the masks of blocks of 16
 

@@ -205,7 +205,7 @@ law_of_noise w sent got old new sound near unheard shut hears =
       ];
     }
 
--- ---- without wrong bits: for `QuietLaws`
+-- ---- without wrong bits: for `FaultFreeLaws`
 
 -- A packet is near itself.
 AreNear-itself : (packet : List ℕ) → AreNear packet packet

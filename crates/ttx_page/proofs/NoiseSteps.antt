@@ -373,7 +373,7 @@ module _ (keeps anew : Bool) (class : ReceiverClass) (w : PageIdValue) (row colu
     rows_stay : (is_open_after K items && is_row row (kind w sent)) ≡ false
         → list_any row_test old_span ≡ false
         → list_any row_test (span K (items ++ item ∷ [])) ≡ false
-    rows_stay passed none =
+    rows_stay skipped none =
         subst (λ (xs : List Item). list_any row_test xs ≡ false) (sym (span-push K items item))
         (go (is_this_page (K item)) (is_open_after K items) (ends_page (K item)) refl)
       where
@@ -386,7 +386,7 @@ module _ (keeps anew : Bool) (class : ReceiverClass) (w : PageIdValue) (row colu
         go false true true q = none
         go false false e q = none
         go false true false q =
-            let other : row_test item ≡ false = rw q at passed in
+            let other : row_test item ≡ false = rw q at skipped in
             list_any-append row_test old_span (item ∷ []) ∙ rw (none, other) refl
 
     fine_at_packet : is_this_page (kind w sent) ≡ false
@@ -411,13 +411,13 @@ module _ (keeps anew : Bool) (class : ReceiverClass) (w : PageIdValue) (row colu
                 | inl taken ↦ inl (taken ∙ target.1)
                 | inr lost ↦ inr (inl (gives item within.1 is lost.0))
               ]
-          | inr passed ↦
-              let same = at.stays packet (ap (λ b. b && is_row row (kind w sent)) up ∙ passed) in
+          | inr skipped ↦
+              let same = at.stays packet (ap (λ b. b && is_row row (kind w sent)) up ∙ skipped) in
               elim (was.cell_is holds (fresh_before no_begin fresh)
               (targets_before no_begin targets) (excuses_before packet gives)) [
                 | inl coded ↦ inl (same ∙ coded)
                 | inr (inl excuse) ↦ inr (inl excuse)
-                | inr (inr none) ↦ inr (inr (rows_stay passed none))
+                | inr (inr none) ↦ inr (inr (rows_stay skipped none))
               ]
         ]
 

@@ -79,8 +79,8 @@ LawOfNoise =
 
 -- Without wrong bits each cell has the code that is shown, whatever the old page and the receiver's
 -- choices.
-abbrev pub LawOfQuiet : Type 0
-LawOfQuiet =
+abbrev pub LawOfFaultFree : Type 0
+LawOfFaultFree =
     (w : PageIdValue) (sent : List (List ℕ)) (old new : State)
     → IsSound w sent
     → IsFalse old.heard

@@ -4,7 +4,7 @@
 //! The functions do nothing: the contract of each is a law about the definitions in `specs/`.
 ghost use Rattle.ttx_page.specs.DroppedRows.{LawOfDropping};
 ghost use Rattle.ttx_page.specs.LostRows.{LawOfLostRows, LawOfNothingLost};
-ghost use Rattle.ttx_page.specs.Noise.{LawOfNoise, LawOfQuiet};
+ghost use Rattle.ttx_page.specs.Noise.{LawOfNoise, LawOfFaultFree};
 ghost use Rattle.ttx_page.specs.Recovery.{LawOfRecovery};
 ghost use Rattle.ttx_page.specs.Repeats.{LawOfForgetting, LawOfForgettingScreen, LawOfKept};
 ghost use Rattle.ttx_page.specs.Repeats.{LawOfRepeats};
@@ -28,9 +28,9 @@ pub fn law_of_noise()
 {}
 
 /// Without wrong bits it has exactly the codes that were sent, whatever was on the page before.
-#[tactic(auto, using(crate::proofs::QuietLaws::law_of_quiet))]
-pub fn law_of_quiet()
-    ensures { LawOfQuiet }
+#[tactic(auto, using(crate::proofs::FaultFreeLaws::law_of_fault_free))]
+pub fn law_of_fault_free()
+    ensures { LawOfFaultFree }
 {}
 
 /// The law of noise with loss of any packets but page headers (a flag for each packet says whether
@@ -81,7 +81,7 @@ pub fn law_of_forgetting()
 
 /// Without wrong bits such a receiver has all the codes that were sent, once the earlier contents
 /// of the page no longer matter.
-#[tactic(auto, using(crate::proofs::QuietLaws::law_of_kept))]
+#[tactic(auto, using(crate::proofs::FaultFreeLaws::law_of_kept))]
 pub fn law_of_kept()
     ensures { LawOfKept }
 {}

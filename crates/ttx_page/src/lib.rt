@@ -26,8 +26,8 @@ pub use differing::differing_columns;
 pub use drop_row::{DropRow, is_dropped};
 pub use keep::Keep;
 pub use laws::{
-    law_of_dropping, law_of_forgetting, law_of_forgetting_screen, law_of_kept, law_of_lost_rows,
-    law_of_noise, law_of_nothing_lost, law_of_quiet, law_of_recovery, law_of_repeats,
+    law_of_dropping, law_of_fault_free, law_of_forgetting, law_of_forgetting_screen, law_of_kept,
+    law_of_lost_rows, law_of_noise, law_of_nothing_lost, law_of_recovery, law_of_repeats,
     law_of_screen, law_of_span,
 };
 pub use packet_kind::PacketKind;

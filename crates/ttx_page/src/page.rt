@@ -125,11 +125,11 @@ fn are_equal(a: &[u8; 40], b: &[u8; 40]) -> bool
 {
     let (a_blocks, _) = a.as_chunks::<16>();
     let (b_blocks, _) = b.as_chunks::<16>();
-    let front = differing(&a_blocks[0], &b_blocks[0]);
+    let prefix = differing(&a_blocks[0], &b_blocks[0]);
     let middle = differing(&a_blocks[1], &b_blocks[1]);
     // The last block overlaps the one before it, so that no column is left over.
     let last = differing(a.last_chunk().unwrap(), b.last_chunk().unwrap());
-    (front == 0) & (middle == 0) & (last == 0)
+    (prefix == 0) & (middle == 0) & (last == 0)
 }
 
 // Returns the least column in which two rows differ.

@@ -82,8 +82,8 @@ pub unit_sound : (b : List ℕ) (u : Option UnitValue)
     → IsDataUnit u b
 unfolding teletext_at
 unit_sound b u len fit e = elim (cases_Bool (is_teletext (get_or b 0 0))) [
-  | inr passed ↦ grind (arith, nat_tests, list_of_bytes, length-drop)
-  | inl held ↦
+  | inr skipped ↦ grind (arith, nat_tests, list_of_bytes, length-drop)
+  | inl buffered ↦
       let read : (get_or b 1 0 ≡ 44) × (get_or b 3 0 ≡ 228) × (Some (unit_of b) ≡ u) =
       grind (arith, nat_tests) in
       let third = field_bit (get_or b 2 0) (fit 2) in
@@ -119,80 +119,80 @@ unit_complete u b h =
 -- ---- data units one after another
 
 -- The effect of a data unit.
-pub record Adds (front us : List UnitValue) (u : Option UnitValue) : Type 0 where
-  pub is : us ≡ front ++ option_to_list u
+pub record Adds (prefix us : List UnitValue) (u : Option UnitValue) : Type 0 where
+  pub is : us ≡ prefix ++ option_to_list u
   pub rises : (more : List UnitValue) → AreInLineOrder (last_place 0 us) more
-      → AreInLineOrder (last_place 0 front) (option_to_list u ++ more)
+      → AreInLineOrder (last_place 0 prefix) (option_to_list u ++ more)
 
 -- A unit is added only if it keeps the order.
-with_unit_adds : (front us : List UnitValue) (u : Option UnitValue)
-    → with_unit front u ≡ Ok us
-    → Adds front us u
-with_unit_adds front us u e = grind (arith, nat_tests, Ok-injective, append-nil, last_place-push)
+with_unit_adds : (prefix us : List UnitValue) (u : Option UnitValue)
+    → with_unit prefix u ≡ Ok us
+    → Adds prefix us u
+with_unit_adds prefix us u e = grind (arith, nat_tests, Ok-injective, append-nil, last_place-push)
 
 -- Data units that are read match the grammar, in order: for a value that is read.
-pub units_sound : (n : ℕ) (front us : List UnitValue) (b : List ℕ)
+pub units_sound : (n : ℕ) (prefix us : List UnitValue) (b : List ℕ)
     → length b ≡ 46 * n
     → AreBytes b
-    → units_at n front b ≡ Ok us
-    → (more : List UnitValue) × (us ≡ front ++ more) × AreDataUnits n more b
-    × AreInLineOrder (last_place 0 front) more
+    → units_at n prefix b ≡ Ok us
+    → (more : List UnitValue) × (us ≡ prefix ++ more) × AreDataUnits n more b
+    × AreInLineOrder (last_place 0 prefix) more
 unfolding units_at unit_at
-units_sound zero front us b len fit e = search (rules, Ok-injective, append-nil, nil_from_length)
-units_sound (suc n) front us b len fit e =
-    let p = step_gave (unit_at front (take 46 b)) (λ x. units_at n x (drop 46 b)) us e in
-    let q = step_gave (teletext_at (take 46 b)) (with_unit front) p.0 p.1 in
+units_sound zero prefix us b len fit e = search (rules, Ok-injective, append-nil, nil_from_length)
+units_sound (suc n) prefix us b len fit e =
+    let p = step_gave (unit_at prefix (take 46 b)) (λ x. units_at n x (drop 46 b)) us e in
+    let q = step_gave (teletext_at (take 46 b)) (with_unit prefix) p.0 p.1 in
     let long : length (take 46 b) ≡ 46 = length-take 46 b ∙ omega arith in
-    let held = unit_sound (take 46 b) q.0 long (AreBytes-take 46 b fit) q.1 in
-    let adds = with_unit_adds front p.0 q.0 q.2 in
+    let buffered = unit_sound (take 46 b) q.0 long (AreBytes-take 46 b fit) q.1 in
+    let adds = with_unit_adds prefix p.0 q.0 q.2 in
     let rest : length (drop 46 b) ≡ 46 * n = length-drop 46 b ∙ omega arith in
     let r = units_sound n p.0 us (drop 46 b) rest (AreBytes-drop 46 b fit) p.2 in (
       option_to_list q.0 ++ r.0,
       r.1 ∙ ap (λ (x : List UnitValue). x ++ r.0) adds.is
-          ∙ append_assoc front (option_to_list q.0) r.0,
-      (q.0, r.0, take 46 b, drop 46 b, held, r.2, refl, sym (take-append-drop 46 b)),
+          ∙ append_assoc prefix (option_to_list q.0) r.0,
+      (q.0, r.0, take 46 b, drop 46 b, buffered, r.2, refl, sym (take-append-drop 46 b)),
       adds.rises r.0 r.3,
     )
 
 -- A unit that keeps the order is added.
-with_unit_takes : (front others : List UnitValue) (u : Option UnitValue)
-    → AreInLineOrder (last_place 0 front) (option_to_list u ++ others)
-    → (with_unit front u ≡ Ok (front ++ option_to_list u))
-    × AreInLineOrder (last_place 0 (front ++ option_to_list u)) others
-with_unit_takes front others u r = grind (arith, nat_tests, append-nil, last_place-push)
+with_unit_takes : (prefix others : List UnitValue) (u : Option UnitValue)
+    → AreInLineOrder (last_place 0 prefix) (option_to_list u ++ others)
+    → (with_unit prefix u ≡ Ok (prefix ++ option_to_list u))
+    × AreInLineOrder (last_place 0 (prefix ++ option_to_list u)) others
+with_unit_takes prefix others u r = grind (arith, nat_tests, append-nil, last_place-push)
 
 -- Data units of the grammar in order are read: for a packet that is read.
-pub units_complete : (n : ℕ) (front more : List UnitValue) (b : List ℕ)
+pub units_complete : (n : ℕ) (prefix more : List UnitValue) (b : List ℕ)
     → AreDataUnits n more b
-    → AreInLineOrder (last_place 0 front) more
-    → (units_at n front b ≡ Ok (front ++ more)) × (length b ≡ 46 * n)
+    → AreInLineOrder (last_place 0 prefix) more
+    → (units_at n prefix b ≡ Ok (prefix ++ more)) × (length b ≡ 46 * n)
 unfolding units_at unit_at
-units_complete zero front more b h r = rw (h.0, h.1, append-nil front) (refl, refl)
-units_complete (suc n) front more b (u, others, first, rest, held, after, us-is, b-is) r =
-    let c = unit_complete u first held in
-    let front-is : take 46 b ≡ first = ap (take 46) b-is ∙ take_at first rest 46 c.1 in
+units_complete zero prefix more b h r = rw (h.0, h.1, append-nil prefix) (refl, refl)
+units_complete (suc n) prefix more b (u, others, first, rest, buffered, after, us-is, b-is) r =
+    let c = unit_complete u first buffered in
+    let prefix-is : take 46 b ≡ first = ap (take 46) b-is ∙ take_at first rest 46 c.1 in
     let back-is : drop 46 b ≡ rest = ap (drop 46) b-is ∙ drop_at first rest 46 c.1 in
-    let rises : AreInLineOrder (last_place 0 front) (option_to_list u ++ others) = search rules in
-    let t = with_unit_takes front others u rises in
-    let i = units_complete n (front ++ option_to_list u) others rest after t.1 in
+    let rises : AreInLineOrder (last_place 0 prefix) (option_to_list u ++ others) = search rules in
+    let t = with_unit_takes prefix others u rises in
+    let i = units_complete n (prefix ++ option_to_list u) others rest after t.1 in
     grind (arith, nat_tests, given_as, append_assoc, length-append)
 
 -- ---- the loop over data units
 
 -- The next of the remaining data units.
-pub units_next : (count i : ℕ) (front : List UnitValue) (b : List ℕ)
+pub units_next : (count i : ℕ) (prefix : List UnitValue) (b : List ℕ)
     → i < count
-    → units_at (count - i) front b
-    ≡ (unit_at front (take 46 b) >>= λ units. units_at (count - (i + 1)) units (drop 46 b))
+    → units_at (count - i) prefix b
+    ≡ (unit_at prefix (take 46 b) >>= λ units. units_at (count - (i + 1)) units (drop 46 b))
 unfolding units_at
-units_next count i front b lt = grind (arith, nat_tests)
+units_next count i prefix b lt = grind (arith, nat_tests)
 
 -- No data unit is left.
-pub units_none : (count i : ℕ) (front : List UnitValue) (b : List ℕ)
+pub units_none : (count i : ℕ) (prefix : List UnitValue) (b : List ℕ)
     → count ≤ i
-    → units_at (count - i) front b ≡ Ok front
+    → units_at (count - i) prefix b ≡ Ok prefix
 unfolding units_at
-units_none count i front b le = grind (arith, nat_tests)
+units_none count i prefix b le = grind (arith, nat_tests)
 
 -- For the loop of `take_units`.
 pub ruleset units_left = (units_next, units_none)

@@ -1,5 +1,5 @@
 -- Data units with the same heads as others: one head, same_word, all of them, heads_more; and the
--- units are at the same offsets, places_alike.
+-- units are at the same offsets, places_equal.
 use Rattle.std.proofs.Common.{◌≡◌, ℕ, zero, suc, ◌+◌, ◌-◌, ◌*◌, ◌/◌, ◌%◌, ◌<◌, ◌≤◌, List, []}
 use Rattle.std.proofs.Common.{◌∷◌, ◌++◌}
 use Rattle.std.proofs.Common.{length, take, drop, get_or, cond, Ok, refl, sym, ap, subst, ◌∙◌}
@@ -102,20 +102,20 @@ abbrev units_in : List ℕ → List UnitValue
 units_in b = cond (is_teletext (get_or b 0 0)) (unit_of b ∷ []) []
 
 -- A data unit with the same head as one that is read is read.
-record IsAlike (us more : List UnitValue) (b : List ℕ) : Type 0 where
+record ReadsSameHead (us more : List UnitValue) (b : List ℕ) : Type 0 where
   pub read : unit_at us b ≡ Ok (us ++ units_in b)
   pub last : last_place 0 more ≡ last_place 0 (us ++ units_in b)
 
-unit_alike : (b c : List ℕ) (us vs more : List UnitValue)
+unit_equal : (b c : List ℕ) (us vs more : List UnitValue)
     → get_or b 0 0 ≡ get_or c 0 0
     → get_or b 1 0 ≡ get_or c 1 0
     → get_or b 2 0 ≡ get_or c 2 0
     → get_or b 3 0 ≡ get_or c 3 0
     → last_place 0 us ≡ last_place 0 vs
     → unit_at us b ≡ Ok more
-    → IsAlike vs more c
+    → ReadsSameHead vs more c
 unfolding unit_at teletext_at
-unit_alike b c us vs more e0 e1 e2 e3 last e =
+unit_equal b c us vs more e0 e1 e2 e3 last e =
     grind (arith, nat_tests, append-nil, last_place-push)
 
 -- The units of a data unit, by its offset.
@@ -124,21 +124,21 @@ sent_one : (field : List ℕ) (at : ℕ)
 sent_one field at = grind (arith, nat_tests, block_byte field at 0)
 
 -- Data units with the same heads as others that are read are read.
-units_alike : (n at : ℕ) (a b : List ℕ) (us vs all : List UnitValue)
+units_equal : (n at : ℕ) (a b : List ℕ) (us vs all : List UnitValue)
     → ((k : ℕ) → k < n → IsSameHead a b (46 * k + at))
     → last_place 0 us ≡ last_place 0 vs
     → units_at n us (drop at a) ≡ Ok all
     → units_at n vs (drop at b) ≡ Ok (vs ++ sent_units b (teletext_places n at b))
 unfolding units_at teletext_places
-units_alike zero at a b us vs all same last e = ap (λ us. Ok us) (sym (append-nil vs))
-units_alike (suc n) at a b us vs all same last e =
+units_equal zero at a b us vs all same last e = ap (λ us. Ok us) (sym (append-nil vs))
+units_equal (suc n) at a b us vs all same last e =
     let p =
     step_gave (unit_at us (take 46 (drop at a))) (λ x. units_at n x (drop 46 (drop at a))) all e in
     let first : 46 * 0 + at ≡ at = omega arith in
     let head = subst (IsSameHead a b) first (same 0 (omega arith)) in
     let none : at + 0 ≡ at = omega arith in
     let here =
-    unit_alike (take 46 (drop at a)) (take 46 (drop at b)) us vs p.0
+    unit_equal (take 46 (drop at a)) (take 46 (drop at b)) us vs p.0
     (block_byte a at 0 (omega arith) ∙ ap (λ n. get_or a n 0) none ∙ head.id
     ∙ sym (block_byte b at 0 (omega arith) ∙ ap (λ n. get_or b n 0) none))
     (block_byte a at 1 (omega arith) ∙ head.size ∙ sym (block_byte b at 1 (omega arith)))
@@ -148,11 +148,11 @@ units_alike (suc n) at a b us vs all same last e =
     let next : ((k : ℕ) → k < n → IsSameHead a b (46 * k + (at + 46))) = λ k l.
     let e : 46 * suc k + at ≡ 46 * k + (at + 46) = omega arith in
     subst (IsSameHead a b) e (same (suc k) (omega arith)) in
-    let behind : (c : List ℕ) → drop 46 (drop at c) ≡ drop (at + 46) c =
+    let following : (c : List ℕ) → drop 46 (drop at c) ≡ drop (at + 46) c =
     λ c. drop-drop 46 at c ∙ ap (λ n. drop n c) (omega arith) in
     let rest =
-    units_alike n (at + 46) a b p.0 (vs ++ units_in (take 46 (drop at b))) all next here.last
-    (ap (units_at n p.0) (sym (behind a)) ∙ p.2) in
+    units_equal n (at + 46) a b p.0 (vs ++ units_in (take 46 (drop at b))) all next here.last
+    (ap (units_at n p.0) (sym (following a)) ∙ p.2) in
     let joined =
     append_assoc vs (sent_units b (teletext_place at b))
     (sent_units b (teletext_places n (at + 46) b)) in
@@ -160,7 +160,7 @@ units_alike (suc n) at a b us vs all same last e =
     map-append (λ k. unit_of (take 46 (drop k b))) (teletext_place at b)
     (teletext_places n (at + 46) b) in
     ap (λ r. r >>= λ x. units_at n x (drop 46 (drop at b))) here.read
-    ∙ ap (units_at n (vs ++ units_in (take 46 (drop at b)))) (behind b)
+    ∙ ap (units_at n (vs ++ units_in (take 46 (drop at b)))) (following b)
     ∙ rest
     ∙ ap (λ us. Ok us) (ap (λ one. (vs ++ one) ++ sent_units b (teletext_places n (at + 46) b))
     (sent_one b at) ∙ joined ∙ ap (λ us. vs ++ us) (sym mapped))
@@ -181,7 +181,7 @@ same_places (suc n) at a b same =
     rw (head.id, rest) refl
 
 -- Data fields with the same heads have their units at the same offsets. For `find_places`.
-pub places_alike : (a b places : List ℕ)
+pub places_equal : (a b places : List ℕ)
     → length a ≡ length b
     → 0 < length a
     → AreSameHeads a b
@@ -189,14 +189,14 @@ pub places_alike : (a b places : List ℕ)
     → HasUnits a (sent_units a places)
     → AreAllPlaces b places
     × (units_at (length (drop 1 b) / 46) [] (drop 1 b) ≡ Ok (sent_units b places))
-places_alike a b places size some same is units =
+places_equal a b places size some same is units =
     let n : ℕ = length (drop 1 a) / 46 in
     let heads : ((k : ℕ) → k < n → IsSameHead a b (46 * k + 1)) =
     λ k l. same k (omega (arith, length-drop 1 a)) in
     let count : length (drop 1 b) / 46 ≡ n =
     ap (λ n. n / 46) (length-drop 1 b ∙ ap (λ n. n - 1) (sym size) ∙ sym (length-drop 1 a)) in
     let there = is ∙ same_places n 1 a b heads in
-    let read = units_alike n 1 a b [] [] (sent_units a places) heads refl (units some) in
+    let read = units_equal n 1 a b [] [] (sent_units a places) heads refl (units some) in
     rw count (there, read ∙ ap (λ ps. Ok (sent_units b ps)) (sym there))
 
 -- For the loop of `are_same_heads`.

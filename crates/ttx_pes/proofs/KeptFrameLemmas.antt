@@ -7,14 +7,15 @@ use Rattle.std.proofs.Common.{◌∙◌}
 use Rattle.std.proofs.lemmas.List.{drop-drop, drop-take, length-take-le}
 use Rattle.sub_io.specs.Reading.{AreBytes}
 use Rattle.ttx_pes.specs.declared.fault.PesFault.{PesFault}
-use Rattle.ttx_pes.specs.PesPacket.{IsPesValue, PesValue}
+use Rattle.ttx_pes.specs.PesGrammar.{IsPesValue, PesValue}
 use Rattle.ttx_pes.specs.Reading.{pts_at, units_at, value_at}
 use Rattle.ttx_pes.specs.SentUnits.{AreWithin, sent_units}
-use Rattle.ttx_pes.specs.Taking.{AreAllPlaces, KeepsPiece, KeptValue, RoomValue, IsInRoom}
-use Rattle.ttx_pes.specs.Taking.{field_in, room_frame, no_packet}
+use Rattle.ttx_pes.specs.Taking.{AreAllPlaces, KeepsPesPacket, KeptValue, BufferedPacketValue}
+use Rattle.ttx_pes.specs.Taking.{IsInBuffer}
+use Rattle.ttx_pes.specs.Taking.{field_in, buffered_frame, no_packet}
 use Rattle.ttx_pes.proofs.HeadLemmas.{no_places}
 use Rattle.ttx_pes.proofs.PesHeaderLemmas.{body_sound, frame_made, six_of}
-use Rattle.ttx_pes.proofs.PesPacketLemmas.{value_of_packet}
+use Rattle.ttx_pes.proofs.PesGrammarLemmas.{value_of_packet}
 
 -- A fault of the units of a packet's data field is the packet's.
 pub value_refused : (b field : List ℕ) (t : ℕ) (f : PesFault)
@@ -48,12 +49,12 @@ pub record IsBody (body : List ℕ) : Type 0 where
   pub fit : AreBytes body
 
 -- The facts about a packet, from these bytes.
-pub record IsKnown (body : List ℕ) (h : RoomValue) : Type 0 where
-  pub value : value_at body ≡ Ok (room_frame (drop 39 body) h)
-  pub known : IsInRoom (drop 39 body) h
+pub record IsKnown (body : List ℕ) (h : BufferedPacketValue) : Type 0 where
+  pub value : value_at body ≡ Ok (buffered_frame (drop 39 body) h)
+  pub known : IsInBuffer (drop 39 body) h
 
 -- With newly read units of its data field.
-pub known_anew : (body field : List ℕ) (h : RoomValue)
+pub known_anew : (body field : List ℕ) (h : BufferedPacketValue)
     → IsBody body
     → pts_at body ≡ Ok h.pts
     → field ≡ drop 39 body
@@ -64,7 +65,7 @@ pub known_anew : (body field : List ℕ) (h : RoomValue)
     → IsKnown body h
 known_anew body field h is time same count within all read =
     let there = rw (same, drop-drop 1 39 body) at read in
-    let value : value_at body ≡ Ok (room_frame (drop 39 body) h) =
+    let value : value_at body ≡ Ok (buffered_frame (drop 39 body) h) =
     frame_made body h.pts (length (drop 40 body) / 46) (sent_units (drop 39 body) h.places) time
     refl there in
     record {
@@ -80,17 +81,17 @@ known_anew body field h is time same count within all read =
     }
 
 -- With the data field of a packet for which the facts are known.
-pub known_again : (body field before : List ℕ) (old h : RoomValue)
+pub known_again : (body field before : List ℕ) (old h : BufferedPacketValue)
     → IsBody body
     → pts_at body ≡ Ok h.pts
     → field ≡ drop 39 body
     → field ≡ before
-    → IsInRoom before old
+    → IsInBuffer before old
     → h.count ≡ old.count
     → h.places ≡ old.places
     → IsKnown body h
 known_again body field before old h is time same kept known count places =
-    let there : IsInRoom field old = subst (λ f. IsInRoom f old) (sym kept) known in
+    let there : IsInBuffer field old = subst (λ f. IsInBuffer f old) (sym kept) known in
     let some : 0 < length field =
     omega (arith, is.long, ap length same, length-drop 39 body) in
     known_anew body field h is time same (there.count ∙ sym count) (rw places there.within)
@@ -111,40 +112,40 @@ field_of_body size count room body is all long fits =
     ∙ ap (λ n. drop 45 (take n room)) (sym sum) ∙ drop-take 45 count room)
 
 -- The facts about no packet hold for an empty data field. For a `KeptFrame` without one.
-pub none_known : IsInRoom [] no_packet
+pub none_known : IsInBuffer [] no_packet
 unfolding units_at
 none_known = grind (arith, nat_tests, no_places)
 
 -- ---- a packet that is stored
 
 -- The stored value of a packet at the front of the buffer.
-abbrev pub kept_in : RoomValue → List ℕ → KeptValue
+abbrev pub kept_in : BufferedPacketValue → List ℕ → KeptValue
 kept_in h room = record {
-  frame = room_frame (field_in h.count room) h;
+  frame = buffered_frame (field_in h.count room) h;
   data_field = field_in h.count room;
 }
 
 -- A different packet, which was copied to the buffer.
-pub other_field : (new : RoomValue) (room piece body : List ℕ)
-    → body ≡ drop 6 piece
-    → take (length piece) room ≡ piece
+pub other_field : (new : BufferedPacketValue) (room pes_packet body : List ℕ)
+    → body ≡ drop 6 pes_packet
+    → take (length pes_packet) room ≡ pes_packet
     → new.count + 39 ≡ length body
-    → length piece ≡ length body + 6
-    → length piece ≤ length room
+    → length pes_packet ≡ length body + 6
+    → length pes_packet ≤ length room
     → field_in new.count room ≡ drop 39 body
-other_field new room piece body is put count size fits =
-    field_of_body (length piece) new.count room body (is ∙ ap (drop 6) (sym put)) count
+other_field new room pes_packet body is put count size fits =
+    field_of_body (length pes_packet) new.count room body (is ∙ ap (drop 6) (sym put)) count
     (omega (arith, size)) fits
 
-pub keeps_other : (old new : RoomValue) (before room piece body : List ℕ)
-    → body ≡ drop 6 piece
-    → value_at body ≡ Ok (room_frame (drop 39 body) new)
+pub keeps_other : (old new : BufferedPacketValue) (before room pes_packet body : List ℕ)
+    → body ≡ drop 6 pes_packet
+    → value_at body ≡ Ok (buffered_frame (drop 39 body) new)
     → (drop 39 body ≡ field_in old.count before → ⊥)
     → field_in new.count room ≡ drop 39 body
-    → KeepsPiece (kept_in old before) piece (Ok false) (kept_in new room)
-keeps_other old new before room piece body is value other there = record {
-  value = ap value_at (sym is) ∙ value ∙ ap (λ f. Ok (room_frame f new)) (sym there);
-  field = there ∙ ap (drop 39) is ∙ drop-drop 39 6 piece;
+    → KeepsPesPacket (kept_in old before) pes_packet (Ok false) (kept_in new room)
+keeps_other old new before room pes_packet body is value other there = record {
+  value = ap value_at (sym is) ∙ value ∙ ap (λ f. Ok (buffered_frame f new)) (sym there);
+  field = there ∙ ap (drop 39) is ∙ drop-drop 39 6 pes_packet;
   err = tt;
   kind = tt;
   same = λ no. absurd cc;

@@ -9,7 +9,7 @@ use Rattle.std.specs.List.{AllByRecursion}
 use Rattle.ttx_packet.specs.PacketAddress.{IsPacket}
 use Rattle.ttx_pes.specs.DataUnit.{UnitValue, IsUnit}
 use Rattle.ttx_pes.specs.Laws.{LawOfNumberedFrame}
-use Rattle.ttx_pes.specs.LineOrder.{line_order_place, last_place, stands_after, AreInLineOrder}
+use Rattle.ttx_pes.specs.LineOrder.{line_order_place, last_place, may_follow, AreInLineOrder}
 use Rattle.ttx_pes.specs.LineOrder.{numbered_units, numbered_unit, numbered_place}
 
 -- The last place, with one more unit.
@@ -22,7 +22,7 @@ last_place-push last (t ∷ us) u =
 -- A unit that may follow the last place keeps the order.
 pub AreInLineOrder-push : (last : ℕ) (us : List UnitValue) (u : UnitValue)
     → AreInLineOrder last us
-    → stands_after (last_place last us) u ≡ true
+    → may_follow (last_place last us) u ≡ true
     → AreInLineOrder last (us ++ u ∷ [])
 AreInLineOrder-push last [] u h e = (e, tt)
 AreInLineOrder-push last (t ∷ us) u h e =

@@ -4,10 +4,11 @@ use Rattle.std.proofs.Common.{ap, ◌∙◌, arith}
 use Rattle.std.proofs.lemmas.Bool.Decides.{nat_tests}
 use Rattle.ttx_pes.specs.declared.fault.PesFault.{PesFault}
 use Rattle.ttx_pes.specs.Outcome.{PesOutcome, ends, fails, gives, outcome_after, until_refused}
-use Rattle.ttx_pes.specs.PesPacket.{PesValue}
-use Rattle.ttx_pes.specs.Pieces.{PiecesValue, behind_piece, piece_then, pieces_after}
+use Rattle.ttx_pes.specs.PesGrammar.{PesValue}
+use Rattle.ttx_pes.specs.PesPackets.{PesPacketsValue, rest_after_pes_packet, pes_packet_then}
+use Rattle.ttx_pes.specs.PesPackets.{pes_packets_after}
 use Rattle.ttx_pes.specs.Reading.{answer_at, most_packets, rest_after}
-use Rattle.ttx_pes.proofs.PieceListLemmas.{behind_packet, pieces_after-next}
+use Rattle.ttx_pes.proofs.PesPacketListLemmas.{rest_after_packet, pes_packets_after-next}
 
 -- A reader's answer, and after a packet the following ones.
 abbrev pub answer_then : Result (Option PesValue) PesFault → PesOutcome → PesOutcome
@@ -16,17 +17,17 @@ answer_then (Ok None) more = ends
 answer_then (Err f) more = fails f
 
 -- The result up to the first rejected packet.
-until_then : (answer : Result (Option PesValue) PesFault) (more : PiecesValue)
-    → until_refused (piece_then answer more).pieces (piece_then answer more).left
-    ≡ answer_then answer (until_refused more.pieces more.left)
+until_then : (answer : Result (Option PesValue) PesFault) (more : PesPacketsValue)
+    → until_refused (pes_packet_then answer more).pes_packets (pes_packet_then answer more).left
+    ≡ answer_then answer (until_refused more.pes_packets more.left)
 until_then answer more = grind (arith, nat_tests)
 
 -- After a valid packet, both definitions leave the same bytes.
 same_rest : (given : ℕ) (bytes : List ℕ) (answer : Result (Option PesValue) PesFault)
     → answer_at given bytes ≡ answer
-    → answer_then answer (outcome_after (given + 1) (behind_piece bytes))
+    → answer_then answer (outcome_after (given + 1) (rest_after_pes_packet bytes))
     ≡ answer_then answer (outcome_after (given + 1) (rest_after bytes))
-same_rest given bytes answer h1 = grind (arith, nat_tests, behind_packet)
+same_rest given bytes answer h1 = grind (arith, nat_tests, rest_after_packet)
 
 -- The result after `given` PES packets, by the next answer.
 pub outcome_after-next : (given : ℕ) (bytes : List ℕ) (answer : Result (Option PesValue) PesFault)
@@ -36,7 +37,7 @@ pub outcome_after-next : (given : ℕ) (bytes : List ℕ) (answer : Result (Opti
     ≡ answer_then answer (outcome_after (given + 1) (rest_after bytes))
 unfolding outcome_after
 outcome_after-next given bytes answer few is =
-    ap (λ (p : PiecesValue). until_refused p.pieces p.left)
-    (pieces_after-next given bytes answer few is)
-    ∙ until_then answer (pieces_after (given + 1) (behind_piece bytes))
+    ap (λ (p : PesPacketsValue). until_refused p.pes_packets p.left)
+    (pes_packets_after-next given bytes answer few is)
+    ∙ until_then answer (pes_packets_after (given + 1) (rest_after_pes_packet bytes))
     ∙ same_rest given bytes answer is

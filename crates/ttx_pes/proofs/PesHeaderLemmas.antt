@@ -9,7 +9,8 @@ use Rattle.std.proofs.lemmas.List.{nil_from_length}
 use Rattle.std.specs.Int.{bytes_high_first}
 use Rattle.sub_io.specs.Reading.{AreBytes}
 use Rattle.ttx_pes.specs.DataUnit.{UnitValue}
-use Rattle.ttx_pes.specs.PesPacket.{IsPesPacket, PesValue, packet_length, packet_start, pts_bytes}
+use Rattle.ttx_pes.specs.PesGrammar.{IsValidPesPacket, PesValue, packet_length, packet_start}
+use Rattle.ttx_pes.specs.PesGrammar.{pts_bytes}
 use Rattle.ttx_pes.specs.Reading.{is_start, pts_at, pts_bits, size_at, stated_size, units_at}
 use Rattle.ttx_pes.specs.Reading.{value_at}
 use Rattle.ttx_pes.proofs.DataUnitLemmas.{AreBytes-drop, list_of_bytes, units_sound, units_complete}
@@ -94,7 +95,7 @@ pub body_sound : (n : ℕ) (b : List ℕ) (v : PesValue)
     → length b ≡ 184 * n - 6
     → AreBytes b
     → value_at b ≡ Ok v
-    → IsPesPacket v (six_of n ++ b)
+    → IsValidPesPacket v (six_of n ++ b)
 unfolding value_at
 body_sound n b v lo hi len fit e =
     let p = step_gave (pts_at b) _ v e in
@@ -109,7 +110,7 @@ body_sound n b v lo hi len fit e =
     let others = parted b (omega arith) in
     let body : b ≡ (get_or b 0 0 ∷ get_or b 1 0 ∷ 36 ∷ [])
     ++ (pts_bytes p.0 ++ (take 31 (drop 8 b) ++ (get_or b 39 0 ∷ drop 40 b))) = cc in
-    subst (λ (x : PesValue). IsPesPacket x (six_of n ++ b))
+    subst (λ (x : PesValue). IsValidPesPacket x (six_of n ++ b))
     (Ok-injective (value_with p.0 q.0) v q.2)
     (record {
       n = n;
@@ -139,35 +140,35 @@ unfolding value_at
 frame_made b t n us e count eu = rw (e, count, eu) refl
 
 -- The body of a packet of the grammar, after the first six bytes.
-unfoldable pub body_of : (v : PesValue) (p : List ℕ) → IsPesPacket v p → List ℕ
+unfoldable pub body_of : (v : PesValue) (p : List ℕ) → IsValidPesPacket v p → List ℕ
 body_of v p h =
     (h.flags ∷ h.pts_dts_flags ∷ 36 ∷ [])
     ++ (pts_bytes v.pts ++ (h.header_stuffing ++ (h.data_identifier ∷ h.data_units)))
 
-pub packet_of_body : (v : PesValue) (p : List ℕ) (h : IsPesPacket v p)
+pub packet_of_body : (v : PesValue) (p : List ℕ) (h : IsValidPesPacket v p)
     → p ≡ six_of h.n ++ body_of v p h
 unfolding body_of
 packet_of_body v p h = h.bytes
 
 -- The PTS is read from a header of the grammar.
-header_complete : (v : PesValue) (p : List ℕ) (h : IsPesPacket v p)
+header_complete : (v : PesValue) (p : List ℕ) (h : IsValidPesPacket v p)
     → pts_at (body_of v p h) ≡ Ok v.pts
 unfolding pts_at body_of
 header_complete v p h = grind (arith, nat_tests, get_or_at, given_as)
 
 -- The body of a packet of the grammar is read.
-pub body_complete : (v : PesValue) (p : List ℕ) (h : IsPesPacket v p)
+pub body_complete : (v : PesValue) (p : List ℕ) (h : IsValidPesPacket v p)
     → (value_at (body_of v p h) ≡ Ok v) × (length (body_of v p h) ≡ 184 * h.n - 6)
 unfolding body_of
 body_complete v p h =
-    let behind : drop 40 (body_of v p h) ≡ h.data_units =
+    let following : drop 40 (body_of v p h) ≡ h.data_units =
     ap (drop 32) (sym (append_assoc h.header_stuffing (h.data_identifier ∷ []) h.data_units))
     ∙ drop_at (h.header_stuffing ++ h.data_identifier ∷ []) h.data_units 32
     (length-append h.header_stuffing (h.data_identifier ∷ []) ∙ omega arith) in
     let us = units_complete (4 * h.n - 1) [] v.units h.data_units h.are_units h.in_order in
     let count : length h.data_units / 46 ≡ 4 * h.n - 1 = omega (arith, us.1) in (
       frame_made (body_of v p h) v.pts (4 * h.n - 1) v.units (header_complete v p h)
-          (ap (λ (x : List ℕ). length x / 46) behind ∙ count)
-          (ap (units_at (4 * h.n - 1) []) behind ∙ us.0),
+          (ap (λ (x : List ℕ). length x / 46) following ∙ count)
+          (ap (units_at (4 * h.n - 1) []) following ∙ us.0),
       omega (arith, length-append h.header_stuffing (h.data_identifier ∷ h.data_units), us.1),
     )

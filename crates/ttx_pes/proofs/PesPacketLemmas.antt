@@ -1,128 +1,47 @@
--- The canonical packet is a valid packet of its value, and the writer writes it. Main lemmas:
--- canonical_is_packet, refill-pts, spelled.
-use Rattle.std.proofs.Common.{List, Some, [], ap, append_assoc, arith, length, lit<, refl, suc}
-use Rattle.std.proofs.Common.{drop, take, zero, ℕ, ◌*◌, ◌++◌, ◌+◌, ◌-◌, ◌/◌, ◌∷◌, ◌≡◌, ◌≤◌, ◌<◌}
-use Rattle.std.proofs.lemmas.Bool.Decides.{nat_tests}
-use Rattle.std.specs.Prelude.{replicate}
-use Rattle.std.proofs.lemmas.List.{append-nil, take_all}
-use Rattle.std.proofs.Math.Seq.{take-append_seam}
-use Rattle.std.specs.List.{flat_map, AllByRecursion, refill}
-use Rattle.ttx_pes.specs.DataUnit.{UnitValue, IsUnit, IsPassedUnit, AreDataUnits, teletext_unit}
-use Rattle.ttx_pes.specs.DataUnit.{stuffing, stuffing_unit}
-use Rattle.ttx_pes.specs.Laws.{LawOfCanonicalPacket, LawOfPacketValue}
-use Rattle.ttx_pes.specs.PesPacket.{PesValue, canonical_packet, pes_packet_header, payloads_for}
-use Rattle.ttx_pes.specs.PesPacket.{pts_bytes, repeated}
+-- Packets as a reader consumes them. Main lemma: taken_pes_packet.
+use Rattle.std.proofs.Common.{◌≡◌, ◌≤◌, ℕ, List, [], ◌++◌, length, take, drop, Option, Ok, Err}
+use Rattle.std.proofs.Common.{refl, sym, ap, ◌∙◌, arith, length-take}
+use Rattle.std.proofs.lemmas.List.{append-nil, take-append-drop}
+use Rattle.sub_io.specs.Reading.{AreBytes}
+use Rattle.ttx_pes.specs.declared.fault.PesFault.{PesFault}
+use Rattle.ttx_pes.specs.PesPackets.{IsPesPacket, TakesPesPacket}
+use Rattle.ttx_pes.specs.Reading.{size_at, value_at, packet_at}
+use Rattle.ttx_pes.specs.Taking.{Settles}
+use Rattle.ttx_pes.proofs.DataUnitLemmas.{AreBytes-take}
+use Rattle.ttx_pes.proofs.PesHeaderLemmas.{head_sound}
+use Rattle.ttx_pes.proofs.TakingLemmas.{settles_as}
 
-stuffing_is_passed : IsPassedUnit stuffing_unit
-stuffing_is_passed = grind (arith, nat_tests)
-
--- Stuffing units are data units without Teletext.
-pub stuffing_units : (n : ℕ) → AreDataUnits n [] (repeated n stuffing_unit)
-stuffing_units zero = (refl, refl)
-stuffing_units (suc n) = grind (arith, nat_tests, stuffing_is_passed, stuffing_units n)
-
--- Written units and stuffing units are data units of the grammar.
-pub written_units : (us : List UnitValue) (n : ℕ)
-    → AllByRecursion IsUnit us
-    → AreDataUnits (length us + n) us (flat_map teletext_unit us ++ repeated n stuffing_unit)
-written_units [] n h = grind (arith, nat_tests, stuffing_units)
-written_units (u ∷ us) n h =
-    let one : AreDataUnits (suc (length us + n)) (u ∷ us)
-    (flat_map teletext_unit (u ∷ us) ++ repeated n stuffing_unit) = (
-      Some u,
-      us,
-      teletext_unit u,
-      flat_map teletext_unit us ++ repeated n stuffing_unit,
-      record { reserved = 3; two_bits = lit< tt; bytes = refl; is_unit = h.0 },
-      written_units us n h.1,
-      refl,
-      append_assoc (teletext_unit u) (flat_map teletext_unit us) (repeated n stuffing_unit),
-    ) in
-    let more : suc (length us + n) ≡ suc (length us) + n = omega arith in
-    grind (arith, nat_tests)
-
--- The law of the canonical packet.
-pub canonical_is_packet : LawOfCanonicalPacket
-unfolding canonical_packet payloads_for pes_packet_header
-canonical_is_packet v h =
-    let k = payloads_for (length v.units) in
-    let count : length v.units + (4 * k - 1 - length v.units) ≡ 4 * k - 1 = omega arith in
+-- Bytes with the size in their length field are a packet.
+pub sized_pes_packet : (b : List ℕ)
+    → AreBytes b
+    → 6 ≤ length b
+    → size_at (take 6 b) ≡ Ok (length b)
+    → IsPesPacket b
+sized_pes_packet b fit long e =
+    let h = head_sound (take 6 b) (length b) (length-take 6 b ∙ omega arith) (AreBytes-take 6 b fit)
+    e in
     record {
-      n = k;
-      flags = 0x84;
-      pts_dts_flags = 0x80;
-      header_stuffing = replicate 31 stuffing;
-      data_identifier = 0x10;
-      data_units =
-          flat_map teletext_unit v.units ++ repeated (4 * k - 1 - length v.units) stuffing_unit;
-      bytes = refl;
-      size = (omega arith, omega arith);
-      not_scrambled = refl;
-      pts_alone = refl;
-      pts_fits = h.pts;
-      header_filled = refl;
-      ebu_data = refl;
-      are_units = rw count at (written_units v.units (4 * k - 1 - length v.units) h.each);
-      in_order = h.in_order;
+      n = h.0;
+      body = drop 6 b;
+      bytes = sym (take-append-drop 6 b) ∙ ap (λ (x : List ℕ). x ++ drop 6 b) h.4;
+      size = (h.1, h.2);
+      long = h.3;
     }
 
--- The canonical packet has room for its PTS. For `RepeatedPacket`.
-pub has_room_for_pts : (v : PesValue) → 14 ≤ length (canonical_packet v)
-unfolding canonical_packet pes_packet_header
-has_room_for_pts v = omega arith
-
--- With the five bytes of another PTS it is the canonical packet for that PTS. For `RepeatedPacket`.
-pub refill-pts : (v : PesValue) (pts : ℕ) (bytes : List ℕ)
-    → bytes ≡ canonical_packet v
-    → refill (length bytes) bytes (take 9 bytes ++ (pts_bytes pts ++ drop 14 bytes))
-    ≡ canonical_packet (record v { pts = pts })
-unfolding canonical_packet pes_packet_header
-refill-pts v pts bytes is =
-    let n = payloads_for (length v.units) in
-    let units : List ℕ =
-    flat_map teletext_unit v.units ++ repeated (4 * n - 1 - length v.units) stuffing_unit in
-    rw is
-    (ap (λ rest. pes_packet_header n pts ++ rest)
-    (take-append_seam units (drop (length units) units)))
-
--- One more stuffing unit in the loop: the remaining ones come after it.
-pub stuffed_more : (count i : ℕ) (out all : List ℕ)
-    → i < count
-    → out ++ repeated (count - i) stuffing_unit ≡ all
-    → (out ++ stuffing_unit) ++ repeated (count - (i + 1)) stuffing_unit ≡ all
-stuffed_more count i out all lt e =
-    let next : count - i ≡ suc (count - (i + 1)) = omega arith in
-    grind (arith, nat_tests, append_assoc)
-
--- packet_of returns the canonical packet.
-pub spelled : (v : PesValue) (us : List UnitValue) (pts : ℕ) (out base head : List ℕ) (n i j : ℕ)
-    → us ≡ v.units
-    → pts ≡ v.pts
-    → out ++ repeated (n - j) stuffing_unit ≡ base ++ repeated n stuffing_unit
-    → base ≡ head ++ flat_map teletext_unit (take i us)
-    → length us ≤ i
-    → head ≡ pes_packet_header (length us / 4 + 1) pts
-    → n ≡ 4 * (length us / 4 + 1) - 1 - length us
-    → n ≤ j
-    → out ≡ canonical_packet v
-unfolding canonical_packet payloads_for
-spelled v us pts out base head n i j same pts-same e f le h k done =
-    grind (arith, nat_tests, take_all, append-nil, append_assoc)
-
--- ---- the value of a packet
-
--- The units of n data units: at most n.
-record Holds (n : ℕ) (units : List UnitValue) : Type 0 where
-  pub few : length units ≤ n
-  pub each : AllByRecursion IsUnit units
-
-units_hold : (n : ℕ) (units : List UnitValue) (b : List ℕ) → AreDataUnits n units b → Holds n units
-units_hold zero units b h = rw h.0 (record { few = omega arith; each = tt })
-units_hold (suc n) units b u = grind (arith, nat_tests, units_hold n)
-
--- The law of packet values.
-pub value_of_packet : LawOfPacketValue
-value_of_packet v b h = grind (arith, nat_tests, units_hold)
-
--- For the loops of `packet_of`.
-pub ruleset packing = (stuffed_more, spelled)
+-- A packet whose fault is returned was consumed. For `PesPacketReportingLemmas`.
+pub taken_pes_packet : (old new : Option (List ℕ)) (taken body : List ℕ) (f : PesFault)
+    → Settles old new taken (value_at (drop 6 taken))
+    → body ≡ drop 6 taken
+    → value_at body ≡ Err f
+    → AreBytes taken
+    → 6 ≤ length taken
+    → size_at (take 6 taken) ≡ Ok (length taken)
+    → TakesPesPacket old new f
+taken_pes_packet old new taken body f h same e fit long sized =
+    let s = settles_as old new taken body (Err f) h same e in
+    record {
+      bytes = taken;
+      is_pes_packet = sized_pes_packet taken fit long sized;
+      consumed = h.consumed;
+      refused = ap packet_at (sym (append-nil taken)) ∙ s.answer [] (λ _. refl);
+    }

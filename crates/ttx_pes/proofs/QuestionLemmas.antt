@@ -1,5 +1,5 @@
 -- The reader performs the checks of the refusal in order: these tests of the bytes decide whether
--- they are read, and which fault is returned. Main lemmas: packet_asked, tests_cases.
+-- they are read, and which fault is returned. Main lemmas: packet_requested, tests_cases.
 use Rattle.std.proofs.Common.{◌≡◌, ℕ, zero, suc, ◌+◌, ◌-◌, ◌*◌, ◌/◌, ◌%◌, ◌<◌, Bool, true, false}
 use Rattle.std.proofs.Common.{cond, not, eqb, leb, ltb, List, [], ◌∷◌, length, get_or, take, drop}
 use Rattle.std.proofs.Common.{Option, Some, None, Result, Ok, Err, refl, sym, ap, ◌∙◌, arith, inl}
@@ -12,11 +12,11 @@ use Rattle.sub_io.specs.Reading.{◌>>=◌}
 use Rattle.ttx_pes.specs.declared.fault.PesFault.{PesFault}
 use Rattle.ttx_pes.specs.declared.fault.PesFault.TheVariants as fault
 use Rattle.ttx_pes.specs.DataUnit.{UnitValue, is_teletext}
-use Rattle.ttx_pes.specs.LineOrder.{last_place, line_order_place, stands_after}
-use Rattle.ttx_pes.specs.PesPacket.{PesValue}
+use Rattle.ttx_pes.specs.LineOrder.{last_place, line_order_place, may_follow}
+use Rattle.ttx_pes.specs.PesGrammar.{PesValue}
 use Rattle.ttx_pes.specs.Reading.{flags_fault, is_start, packet_at, pts_at, size_at, stated_size}
 use Rattle.ttx_pes.specs.Reading.{teletext_at, unit_at, units_at, value_at}
-use Rattle.ttx_pes.specs.Refusal.{told_fault, unit_faults}
+use Rattle.ttx_pes.specs.Refusal.{reported_fault, unit_faults}
 use Rattle.ttx_pes.proofs.LineOrderLemmas.{last_place-push}
 
 -- ---- the first test that fails
@@ -24,7 +24,7 @@ use Rattle.ttx_pes.proofs.LineOrderLemmas.{last_place-push}
 -- The fault of the first test that fails, with the first test being number i.
 abbrev pub first_wrong : List ℕ → ℕ → List Bool → Option PesFault
 first_wrong b i [] = None
-first_wrong b i (t ∷ ts) = cond (not t) (Some (told_fault b i)) (first_wrong b (i + 1) ts)
+first_wrong b i (t ∷ ts) = cond (not t) (Some (reported_fault b i)) (first_wrong b (i + 1) ts)
 
 -- The tests before a number hold.
 abbrev pub HoldBelow : List Bool → ℕ → Type 0
@@ -33,13 +33,13 @@ HoldBelow ts i = (j : ℕ) → j < i → get_or ts j true ≡ true
 -- A test fails after others that hold.
 pub record FirstWrong (b : List ℕ) (i : ℕ) (ts : List Bool) : Type 0 where
   pub at : ℕ
-  pub held : HoldBelow ts at
+  pub buffered : HoldBelow ts at
   pub wrong : get_or ts at true ≡ false
-  pub told : first_wrong b i ts ≡ Some (told_fault b (i + at))
+  pub reported : first_wrong b i ts ≡ Some (reported_fault b (i + at))
 
 -- One more test before them holds.
-held_after : (ts : List Bool) (n : ℕ) → HoldBelow ts n → HoldBelow (true ∷ ts) (suc n)
-held_after ts n h u lt = grind (arith, nat_tests)
+buffered_after : (ts : List Bool) (n : ℕ) → HoldBelow ts n → HoldBelow (true ∷ ts) (suc n)
+buffered_after ts n h u lt = grind (arith, nat_tests)
 
 -- All tests hold, or one is the first that fails.
 pub tests_cases : (b : List ℕ) (i : ℕ) (ts : List Bool)
@@ -47,19 +47,19 @@ pub tests_cases : (b : List ℕ) (i : ℕ) (ts : List Bool)
 tests_cases b i [] = inl (λ j. refl, refl)
 tests_cases b i (false ∷ ts) = inr (record {
   at = 0;
-  held = λ j lt. absurd (omega arith);
+  buffered = λ j lt. absurd (omega arith);
   wrong = refl;
-  told =
+  reported =
       let number : i ≡ i + 0 = omega arith in
-      ap (λ (n : ℕ). Some (told_fault b n)) number;
+      ap (λ (n : ℕ). Some (reported_fault b n)) number;
 })
 tests_cases b i (true ∷ ts) = elim (tests_cases b (i + 1) ts) [
-  | inl all ↦ inl (λ j. held_after ts j (λ k lt. all.0 k) j (omega arith), all.1)
+  | inl all ↦ inl (λ j. buffered_after ts j (λ k lt. all.0 k) j (omega arith), all.1)
   | inr found ↦ inr (record {
     at = suc found.at;
-    held = held_after ts found.at found.held;
+    buffered = buffered_after ts found.at found.buffered;
     wrong = found.wrong;
-    told = grind (arith, nat_tests);
+    reported = grind (arith, nat_tests);
   })
 ]
 
@@ -94,7 +94,7 @@ units_tests b (suc n) k before =
     eqb (unit_byte b k 1) 44
     ∷ (not (is_teletext (unit_byte b k 0)) || eqb (unit_byte b k 3) 228)
     ∷ (not (is_teletext (unit_byte b k 0))
-    || stands_after before (lined_unit (unit_byte b k 0) (unit_byte b k 2)))
+    || may_follow before (lined_unit (unit_byte b k 0) (unit_byte b k 2)))
     ∷ units_tests b n (suc k) (next_place before (unit_byte b k 0) (unit_byte b k 2))
 
 -- The tests of a packet with n data units.
@@ -130,18 +130,18 @@ refusal (Err f) = Some f
 
 -- The fault of a check of a data unit.
 unit_fault : (b : List ℕ) (i k r : ℕ) → r < 3 → i ≡ 9 + 3 * k + r
-    → told_fault b i ≡ get_or unit_faults r fault.Truncated
+    → reported_fault b i ≡ get_or unit_faults r fault.Truncated
 unit_fault b i k r lt e = grind (arith, nat_tests, get_or_past)
 
 -- n data units from number k on are read exactly if their tests hold.
-units_asked : (n k i before : ℕ) (front : List UnitValue) (b d : List ℕ)
+units_requested : (n k i before : ℕ) (prefix : List UnitValue) (b d : List ℕ)
     → i ≡ 9 + 3 * k
-    → last_place 0 front ≡ before
+    → last_place 0 prefix ≡ before
     → ((j : ℕ) → j < 46 * n → get_or d j 0 ≡ get_or b (46 + (46 * k + j)) 0)
-    → refusal (units_at n front d) ≡ first_wrong b i (units_tests b n k before)
+    → refusal (units_at n prefix d) ≡ first_wrong b i (units_tests b n k before)
 unfolding units_at unit_at teletext_at
-units_asked zero k i before front b d number last same = refl
-units_asked (suc n) k i before front b d number last same =
+units_requested zero k i before prefix b d number last same = refl
+units_requested (suc n) k i before prefix b d number last same =
     let x = take 46 d in
     let at : (j : ℕ) → j < 46 → unit_byte b k j ≡ get_or x j 0 = λ j lt.
     sym (get_or-take 46 d j 0 lt ∙ same j (omega arith)) in
@@ -157,7 +157,7 @@ units_asked (suc n) k i before front b d number last same =
     let on : (us : List UnitValue) (p : ℕ) → last_place 0 us ≡ p
     → refusal (units_at n us (drop 46 d))
     ≡ first_wrong b (i + 1 + 1 + 1) (units_tests b n (suc k) p) = λ us p e.
-    units_asked n (suc k) (i + 1 + 1 + 1) p us b (drop 46 d) (omega arith) e rest in
+    units_requested n (suc k) (i + 1 + 1 + 1) p us b (drop 46 d) (omega arith) e rest in
     grind (arith, nat_tests, cases_Bool, last_place-push)
 
 -- A step after a test, moved inside it.
@@ -175,41 +175,41 @@ not-not : (c : Bool) → not (not c) ≡ c
 not-not c = grind (arith, nat_tests)
 
 -- A body is read exactly if its tests hold.
-body_asked : (n : ℕ) (b y rest : List ℕ)
+body_requested : (n : ℕ) (b y rest : List ℕ)
     → length y ≡ 40 + 46 * n
     → ((i : ℕ) → i < 40 + 46 * n → get_or y i 0 ≡ get_or b (6 + i) 0)
-    → told_fault b 4 ≡ flags_fault y
+    → reported_fault b 4 ≡ flags_fault y
     → refusal {A = PesValue × List ℕ} (value_at y >>= λ v. Ok (v, rest))
     ≡ first_wrong b 4 (body_tests b n)
 unfolding value_at pts_at
-body_asked n b y rest len same flags =
+body_requested n b y rest len same flags =
     let count : length (drop 40 y) / 46 ≡ n = rw length-drop (omega arith) in
-    let units = units_asked n 0 9 0 [] b (drop 40 y) refl refl (λ i lt. get_or-drop 40 y i 0
+    let units = units_requested n 0 9 0 [] b (drop 40 y) refl refl (λ i lt. get_or-drop 40 y i 0
     ∙ same (40 + i) (omega arith) ∙ ap (λ (j : ℕ). get_or b j 0) (omega arith)) in
     grind (arith, nat_tests)
 
 -- A packet is read exactly if its tests hold.
-pub packet_asked : (b : List ℕ)
+pub packet_requested : (b : List ℕ)
     → refusal (packet_at b) ≡ first_wrong b 0 (tests b (stated_units b))
 unfolding packet_at size_at
-packet_asked b =
+packet_requested b =
     simp (test_first, refusal-test, not-not)
     (rw (get_or-take 6 b 0 0 (omega arith), get_or-take 6 b 1 0 (omega arith))
     (rw (get_or-take 6 b 2 0 (omega arith), get_or-take 6 b 3 0 (omega arith))
     (rw (get_or-take 6 b 4 0 (omega arith), get_or-take 6 b 5 0 (omega arith))
     (elim (cases_Bool (size_is_right b)) [
       | inr wrong ↦ rw wrong refl
-      | inl told ↦ elim (cases_lt (length b) (stated_size b)) [
-        | inl cut ↦ rw (told, lt-ltb (length b) (stated_size b) cut) refl
+      | inl reported ↦ elim (cases_lt (length b) (stated_size b)) [
+        | inl cut ↦ rw (reported, lt-ltb (length b) (stated_size b) cut) refl
         | inr all ↦
             let y = take (stated_size b - 6) (drop 6 b) in
-            let whole : stated_size b % 184 ≡ 0 = eqb-true _ _ (and_parts _ _ told).0 in
+            let whole : stated_size b % 184 ≡ 0 = eqb-true _ _ (and_parts _ _ reported).0 in
             let len : length y ≡ 40 + 46 * (stated_size b / 46 - 1) =
             rw (length-take, length-drop) (omega arith) in
-            let body = body_asked _ b y (drop (stated_size b) b) len (λ i lt.
+            let body = body_requested _ b y (drop (stated_size b) b) len (λ i lt.
             get_or-take (stated_size b - 6) (drop 6 b) i 0 (omega arith)
             ∙ get_or-drop 6 b i 0)
             (ap (λ (n : ℕ). flags_fault (take n (drop 6 b))) (omega arith)) in
-            rw (told, le-ltb (length b) (stated_size b) all, body) refl
+            rw (reported, le-ltb (length b) (stated_size b) all, body) refl
       ]
     ]))))

@@ -11,23 +11,26 @@ use Rattle.std.specs.Int.{bytes_high_first}
 use Rattle.std.specs.List.{AllByRecursion, concat}
 use Rattle.sub_io.specs.Reading.{AreBytes}
 use Rattle.ttx_pes.specs.Laws.{LawOfRanges}
-use Rattle.ttx_pes.specs.PesPacket.{packet_length, packet_start}
-use Rattle.ttx_pes.specs.PieceRange.{BeginsNoPiece, behind_pieces, count_pieces, first_index}
-use Rattle.ttx_pes.specs.PieceRange.{first_pieces, in_range, piece_size, stated_piece}
-use Rattle.ttx_pes.specs.Pieces.{IsPiece}
+use Rattle.ttx_pes.specs.PesGrammar.{packet_length, packet_start}
+use Rattle.ttx_pes.specs.PesPacketRange.{BeginsNoPesPacket, rest_after_pes_packets}
+use Rattle.ttx_pes.specs.PesPacketRange.{count_pes_packets, first_index}
+use Rattle.ttx_pes.specs.PesPacketRange.{first_pes_packets, in_range, pes_packet_size}
+use Rattle.ttx_pes.specs.PesPacketRange.{stated_pes_packet}
+use Rattle.ttx_pes.specs.PesPackets.{IsPesPacket}
 use Rattle.ttx_pes.specs.Reading.{size_at}
 use Rattle.ttx_pes.proofs.DataUnitLemmas.{AreBytes-take}
 use Rattle.ttx_pes.proofs.PesHeaderLemmas.{head_complete, six_of}
-use Rattle.ttx_pes.proofs.PieceLemmas.{sized_piece}
-use Rattle.ttx_pes.proofs.PieceRangeLemmas.{behind_none, behind_one, count_none, count_one}
-use Rattle.ttx_pes.proofs.PieceRangeLemmas.{first_none, first_one, piece_stated, whole}
+use Rattle.ttx_pes.proofs.PesPacketLemmas.{sized_pes_packet}
+use Rattle.ttx_pes.proofs.PesPacketRangeLemmas.{rest_after_none, rest_after_one, count_none}
+use Rattle.ttx_pes.proofs.PesPacketRangeLemmas.{count_one}
+use Rattle.ttx_pes.proofs.PesPacketRangeLemmas.{first_none, first_one, pes_packet_stated, whole}
 
 -- ---- one packet
 
 -- A packet has the size in its length field, whatever follows it.
-piece_is : (p rest : List ℕ) → IsPiece p → piece_size (p ++ rest) ≡ Some (length p)
-unfolding stated_piece
-piece_is p rest h =
+pes_packet_is : (p rest : List ℕ) → IsPesPacket p → pes_packet_size (p ++ rest) ≡ Some (length p)
+unfolding stated_pes_packet
+pes_packet_is p rest h =
     let parts : p ≡ six_of h.n ++ h.body =
     h.bytes ∙ sym (append_assoc packet_start (bytes_high_first 2 (packet_length h.n)) h.body) in
     let all : p ++ rest ≡ six_of h.n ++ (h.body ++ rest) =
@@ -37,34 +40,34 @@ piece_is p rest h =
     let size = length-append p rest in
     let head : take 6 (p ++ rest) ≡ six_of h.n =
     ap (take 6) all ∙ take_at (six_of h.n) (h.body ++ rest) 6 refl in
-    let told : stated_piece (p ++ rest) ≡ Some (184 * h.n) =
+    let reported : stated_pes_packet (p ++ rest) ≡ Some (184 * h.n) =
     rw (
       le-ltb (length (p ++ rest)) 6 (omega (arith, size, long, lo)),
       head,
       head_complete h.n h.size.0 h.size.1,
     ) refl in
-    whole (p ++ rest) (length p) (told ∙ ap Some (sym long)) (omega (arith, size))
+    whole (p ++ rest) (length p) (reported ∙ ap Some (sym long)) (omega (arith, size))
 
 -- Bytes with the size of a packet are one.
-piece_of_size : (b : List ℕ) (size : ℕ)
+pes_packet_of_size : (b : List ℕ) (size : ℕ)
     → AreBytes b
-    → piece_size b ≡ Some size
-    → IsPiece (take size b)
-piece_of_size b size fit e =
-    let told = piece_stated b size e in
-    let len = length-take-le size b told.2 in
-    let head : take 6 (take size b) ≡ take 6 b = take-take 6 size b told.0 in
-    sized_piece (take size b) (AreBytes-take size b fit) (omega (arith, len, told.0))
-    (ap size_at head ∙ told.1 ∙ ap Ok (sym len))
+    → pes_packet_size b ≡ Some size
+    → IsPesPacket (take size b)
+pes_packet_of_size b size fit e =
+    let reported = pes_packet_stated b size e in
+    let len = length-take-le size b reported.2 in
+    let head : take 6 (take size b) ≡ take 6 b = take-take 6 size b reported.0 in
+    sized_pes_packet (take size b) (AreBytes-take size b fit) (omega (arith, len, reported.0))
+    (ap size_at head ∙ reported.1 ∙ ap Ok (sym len))
 
 -- The rest begins no packet.
-rest_is : (rest : List ℕ) → AreBytes rest → BeginsNoPiece rest → piece_size rest ≡ None
-rest_is rest fit none = by_size (piece_size rest) refl
+rest_is : (rest : List ℕ) → AreBytes rest → BeginsNoPesPacket rest → pes_packet_size rest ≡ None
+rest_is rest fit none = by_size (pes_packet_size rest) refl
   where
-    by_size : (r : Option ℕ) → piece_size rest ≡ r → piece_size rest ≡ None
+    by_size : (r : Option ℕ) → pes_packet_size rest ≡ r → pes_packet_size rest ≡ None
     by_size None e = e
     by_size (Some size) e =
-        absurd (none (take size rest) (drop size rest) (piece_of_size rest size fit e)
+        absurd (none (take size rest) (drop size rest) (pes_packet_of_size rest size fit e)
         (sym (take-append-drop size rest)))
 
 -- ---- several packets
@@ -72,42 +75,44 @@ rest_is rest fit none = by_size (piece_size rest) refl
 leb_suc : (a b : ℕ) → leb (suc a) (suc b) ≡ leb a b
 leb_suc a b = grind (arith, nat_tests, lt-leb, le-leb)
 
-module _ (rest : List ℕ) (end : piece_size rest ≡ None) where
+module _ (rest : List ℕ) (end : pes_packet_size rest ≡ None) where
   -- The bytes after the first n of them.
-  behind_all : (n : ℕ) (ps : List (List ℕ))
-      → AllByRecursion IsPiece ps
-      → behind_pieces n (concat ps ++ rest) ≡ concat (drop n ps) ++ rest
-  unfolding behind_pieces
-  behind_all zero ps each = refl
-  behind_all (suc n) [] each = behind_none (suc n) rest end
-  behind_all (suc n) (p ∷ ps) each =
+  rest_after_all : (n : ℕ) (ps : List (List ℕ))
+      → AllByRecursion IsPesPacket ps
+      → rest_after_pes_packets n (concat ps ++ rest) ≡ concat (drop n ps) ++ rest
+  unfolding rest_after_pes_packets
+  rest_after_all zero ps each = refl
+  rest_after_all (suc n) [] each = rest_after_none (suc n) rest end
+  rest_after_all (suc n) (p ∷ ps) each =
       let joined = append_assoc p (concat ps) rest in
-      ap (behind_pieces (suc n)) joined
-      ∙ behind_one n (p ++ (concat ps ++ rest)) (length p) (piece_is p (concat ps ++ rest) each.0)
-      ∙ ap (behind_pieces n) (drop_at p (concat ps ++ rest) (length p) refl)
-      ∙ behind_all n ps each.1
+      ap (rest_after_pes_packets (suc n)) joined
+      ∙ rest_after_one n (p ++ (concat ps ++ rest)) (length p) (pes_packet_is p (concat ps ++ rest)
+      each.0)
+      ∙ ap (rest_after_pes_packets n) (drop_at p (concat ps ++ rest) (length p) refl)
+      ∙ rest_after_all n ps each.1
 
   -- How many of the first n exist.
   count_all : (n : ℕ) (ps : List (List ℕ))
-      → AllByRecursion IsPiece ps
-      → count_pieces n (concat ps ++ rest) ≡ min n (length ps)
-  unfolding count_pieces
+      → AllByRecursion IsPesPacket ps
+      → count_pes_packets n (concat ps ++ rest) ≡ min n (length ps)
+  unfolding count_pes_packets
   count_all zero ps each = omega arith
   count_all (suc n) [] each = count_none (suc n) rest end ∙ omega arith
   count_all (suc n) (p ∷ ps) each =
       let joined = append_assoc p (concat ps) rest in
       let more = count_all n ps each.1 in
-      ap (count_pieces (suc n)) joined
-      ∙ count_one n (p ++ (concat ps ++ rest)) (length p) (piece_is p (concat ps ++ rest) each.0)
-      ∙ ap (λ b. suc (count_pieces n b)) (drop_at p (concat ps ++ rest) (length p) refl)
+      ap (count_pes_packets (suc n)) joined
+      ∙ count_one n (p ++ (concat ps ++ rest)) (length p) (pes_packet_is p (concat ps ++ rest)
+      each.0)
+      ∙ ap (λ b. suc (count_pes_packets n b)) (drop_at p (concat ps ++ rest) (length p) refl)
       ∙ omega (arith, more)
 
   -- The first n of them.
   first_all : (n : ℕ) (ps : List (List ℕ))
-      → AllByRecursion IsPiece ps
-      → first_pieces n (concat ps ++ rest)
+      → AllByRecursion IsPesPacket ps
+      → first_pes_packets n (concat ps ++ rest)
       ≡ concat (take n ps) ++ cond (leb n (length ps)) [] rest
-  unfolding first_pieces
+  unfolding first_pes_packets
   first_all zero ps each = grind (arith, nat_tests, le-leb)
   first_all (suc n) [] each = grind (arith, nat_tests, lt-leb, first_none)
   first_all (suc n) (p ∷ ps) each =
@@ -116,7 +121,7 @@ module _ (rest : List ℕ) (end : piece_size rest ≡ None) where
         nat_tests,
         append_assoc,
         first_one,
-        piece_is,
+        pes_packet_is,
         take_at,
         drop_at,
         leb_suc,
@@ -124,12 +129,12 @@ module _ (rest : List ℕ) (end : piece_size rest ≡ None) where
       )
 
 -- The packets after the first n are packets.
-each_behind : (n : ℕ) (ps : List (List ℕ))
-    → AllByRecursion IsPiece ps
-    → AllByRecursion IsPiece (drop n ps)
-each_behind zero ps each = each
-each_behind (suc n) [] each = each
-each_behind (suc n) (p ∷ ps) each = each_behind n ps each.1
+each_after : (n : ℕ) (ps : List (List ℕ))
+    → AllByRecursion IsPesPacket ps
+    → AllByRecursion IsPesPacket (drop n ps)
+each_after zero ps each = each
+each_after (suc n) [] each = each
+each_after (suc n) (p ∷ ps) each = each_after n ps each.1
 
 -- The last packet of the range exists exactly if the file has enough packets.
 last_there : (first last count : ℕ)
@@ -142,11 +147,11 @@ pub ranges : LawOfRanges
 unfolding in_range first_index
 ranges first None ps rest le each fit none =
     let end = rest_is rest fit none in
-    (behind_all rest end first ps each, count_all rest end first ps each)
+    (rest_after_all rest end first ps each, count_all rest end first ps each)
 ranges first (Some last) ps rest le each fit none =
     let end = rest_is rest fit none in (
-      ap (first_pieces (last + 1 - first)) (behind_all rest end first ps each)
-          ∙ first_all rest end (last + 1 - first) (drop first ps) (each_behind first ps each)
+      ap (first_pes_packets (last + 1 - first)) (rest_after_all rest end first ps each)
+          ∙ first_all rest end (last + 1 - first) (drop first ps) (each_after first ps each)
           ∙ ap (λ (k : ℕ). concat (take (last + 1 - first) (drop first ps))
           ++ cond (leb (last + 1 - first) k) [] rest) (length-drop first ps)
           ∙ ap (λ c. concat (take (last + 1 - first) (drop first ps)) ++ cond c [] rest)

@@ -7,10 +7,10 @@ use Rattle.std.proofs.lemmas.Option.{same_Some}
 use Rattle.std.specs.Io.KnownBytes.{Consumes}
 use Rattle.ttx_pes.proofs.ReadingLemmas.{answer_cases, packet_is_read, rest_after-packet}
 use Rattle.ttx_pes.specs.declared.fault.PesFault.{PesFault}
-use Rattle.ttx_pes.specs.PesPacket.{PesValue}
+use Rattle.ttx_pes.specs.PesGrammar.{PesValue}
 use Rattle.ttx_pes.specs.Reading.{packet_at, answer_at, rest_after, is_format_fault}
 use Rattle.ttx_pes.specs.Laws.{LawOfAnswers}
-use Rattle.ttx_pes.specs.Reader.{TakesPesPacket}
+use Rattle.ttx_pes.specs.Reader.{TakesValidPesPacket}
 
 -- The answer for a value that was read.
 abbrev pub value_in : PesValue × List ℕ → Result (Option PesValue) PesFault
@@ -30,7 +30,7 @@ left old new bytes taken h e = grind (arith, nat_tests, same_Some)
 
 -- The bytes left after a packet was consumed.
 pub packet_left : (old new : Option (List ℕ)) (v : PesValue) (bytes : List ℕ)
-    → TakesPesPacket old new v
+    → TakesValidPesPacket old new v
     → old ≡ Some bytes
     → new ≡ Some (rest_after bytes)
 packet_left old new v bytes h e =

@@ -10,12 +10,12 @@ use Rattle.sub_io.specs.Reading.{◌>>=◌, AreBytes}
 use Rattle.ttx_pes.specs.declared.fault.PesFault.{PesFault}
 use Rattle.ttx_pes.specs.declared.fault.PesFault.TheVariants as fault
 use Rattle.ttx_pes.specs.Laws.{LawOfGrammar, LawOfOneValue, LawOfReading, LawOfReadingBack}
-use Rattle.ttx_pes.specs.PesPacket.{PesValue, IsPesPacket, canonical_packet}
+use Rattle.ttx_pes.specs.PesGrammar.{PesValue, IsValidPesPacket, canonical_packet}
 use Rattle.ttx_pes.specs.Reading.{most_packets, size_at, value_at, packet_at, answer_at, rest_after}
 use Rattle.ttx_pes.proofs.DataUnitLemmas.{AreBytes-take, AreBytes-drop}
 use Rattle.ttx_pes.proofs.PesHeaderLemmas.{body_complete, body_of, body_sound, head_complete}
 use Rattle.ttx_pes.proofs.PesHeaderLemmas.{head_sound, packet_of_body, six_of}
-use Rattle.ttx_pes.proofs.PesPacketLemmas.{canonical_is_packet}
+use Rattle.ttx_pes.proofs.PesGrammarLemmas.{canonical_is_packet}
 use Rattle.sub_io.proofs.ReadingLemmas.{step_gave, Ok-injective}
 
 -- A result is a value or a fault.
@@ -63,13 +63,13 @@ unfolding packet_at
 packet_cut b size h e lt = rw (le-ltb (length b) 6 h, e, lt-ltb (length b) size lt) refl
 
 -- The packet is complete.
-pub packet_whole : (b : List ℕ) (size : ℕ)
+pub packet_complete : (b : List ℕ) (size : ℕ)
     → 6 ≤ length b
     → size_at (take 6 b) ≡ Ok size
     → size ≤ length b
     → packet_at b ≡ (value_at (take (size - 6) (drop 6 b)) >>= λ v. Ok (v, drop size b))
 unfolding packet_at
-packet_whole b size h e le = rw (le-ltb (length b) 6 h, e, le-ltb (length b) size le) refl
+packet_complete b size h e le = rw (le-ltb (length b) 6 h, e, le-ltb (length b) size le) refl
 
 -- A packet in two parts, followed by other bytes.
 pub packet_parts : (head body rest : List ℕ) (size : ℕ)
@@ -80,13 +80,13 @@ pub packet_parts : (head body rest : List ℕ) (size : ℕ)
     → packet_at (head ++ (body ++ rest)) ≡ (value_at body >>= λ v. Ok (v, rest))
 packet_parts head body rest size six e le len =
     let all = head ++ (body ++ rest) in
-    let front : take 6 all ≡ head = take_at head (body ++ rest) 6 six in
+    let prefix : take 6 all ≡ head = take_at head (body ++ rest) 6 six in
     let back : drop 6 all ≡ body ++ rest = drop_at head (body ++ rest) 6 six in
     let middle : take (size - 6) (body ++ rest) ≡ body = take_at body rest (size - 6) len in
     let both : length (head ++ body) ≡ size = length-append head body ∙ omega arith in
     let after : drop size all ≡ rest = grind (arith, nat_tests, append_assoc, drop_at) in
     let total : length all ≡ 6 + (size - 6 + length rest) = search (rules, length-append) in
-    packet_whole all size (omega arith) (ap size_at front ∙ e) (omega arith)
+    packet_complete all size (omega arith) (ap size_at prefix ∙ e) (omega arith)
     ∙ rw (back, middle, after) refl
 
 -- The answer if a packet is read.
@@ -121,7 +121,7 @@ pub sound_from : (b : List ℕ) (size : ℕ) (v : PesValue)
     → 6 ≤ length b
     → size ≤ length b
     → value_at (take (size - 6) (drop 6 b)) ≡ Ok v
-    → IsPesPacket v (take size b)
+    → IsValidPesPacket v (take size b)
 sound_from b size v fit e long le ev =
     let h = head_sound (take 6 b) size (length-take 6 b ∙ omega arith) (AreBytes-take 6 b fit) e in
     let body = take (size - 6) (drop 6 b) in
@@ -133,20 +133,20 @@ sound_from b size v fit e long le ev =
 -- The law of the grammar: bytes that are read are a packet of it.
 pub read_is_packet : LawOfGrammar
 read_is_packet v b rest fit e = elim (cases_lt (length b) 6) [
-  | inl short ↦ let told = packet_short b short in absurd cc
+  | inl short ↦ let reported = packet_short b short in absurd cc
   | inr long ↦ elim (answer_cases (size_at (take 6 b))) [
-    | inr (f, bad) ↦ let told = packet_size b f long bad in absurd cc
+    | inr (f, bad) ↦ let reported = packet_size b f long bad in absurd cc
     | inl (size, sized) ↦ elim (cases_lt (length b) size) [
-      | inl cut ↦ let told = packet_cut b size long sized cut in absurd cc
+      | inl cut ↦ let reported = packet_cut b size long sized cut in absurd cc
       | inr all ↦
           let s = step_gave (value_at (take (size - 6) (drop 6 b))) _ (v, rest)
-          (sym (packet_whole b size long sized all) ∙ e) in
-          let made : (c : List ℕ) × IsPesPacket s.0 c × (b ≡ c ++ drop size b) = (
+          (sym (packet_complete b size long sized all) ∙ e) in
+          let made : (c : List ℕ) × IsValidPesPacket s.0 c × (b ≡ c ++ drop size b) = (
             take size b,
             sound_from b size s.0 fit sized long all s.1,
             sym (take-append-drop size b),
           ) in
-          subst (λ (x : ValueAndRest). (c : List ℕ) × IsPesPacket x.0 c × (b ≡ c ++ x.1))
+          subst (λ (x : ValueAndRest). (c : List ℕ) × IsValidPesPacket x.0 c × (b ≡ c ++ x.1))
           (Ok-injective (s.0, drop size b) (v, rest) s.2) made
     ]
   ]

@@ -14,11 +14,12 @@ use Rattle.std.specs.List.{range_with_len}
 use Rattle.sub_io.specs.Reading.{AreBytes}
 use Rattle.ttx_pes.specs.declared.fault.PesFault.{PesFault}
 use Rattle.ttx_pes.specs.Laws.{LawOfRefusal}
-use Rattle.ttx_pes.specs.PesPacket.{IsPesPacket, PesValue, packet_length, packet_start, pts_bytes}
+use Rattle.ttx_pes.specs.PesGrammar.{IsValidPesPacket, PesValue, packet_length, packet_start}
+use Rattle.ttx_pes.specs.PesGrammar.{pts_bytes}
 use Rattle.ttx_pes.specs.Reading.{packet_at, stated_size}
-use Rattle.ttx_pes.specs.Refusal.{AgreeBefore, FailFirst, asker, header_askers, told_fault}
+use Rattle.ttx_pes.specs.Refusal.{AgreeBefore, FailFirst, asker, header_askers, reported_fault}
 use Rattle.ttx_pes.specs.Refusal.{unit_askers}
-use Rattle.ttx_pes.proofs.QuestionLemmas.{HoldBelow, first_wrong, packet_asked, refusal}
+use Rattle.ttx_pes.proofs.QuestionLemmas.{HoldBelow, first_wrong, packet_requested, refusal}
 use Rattle.ttx_pes.proofs.QuestionLemmas.{size_is_right, stated_units, tests, tests_cases}
 use Rattle.ttx_pes.proofs.QuestionLemmas.{unit_byte, unit_place, units_tests}
 use Rattle.ttx_pes.proofs.ReadingLemmas.{answer_cases, packet_is_read, read_is_packet}
@@ -42,20 +43,20 @@ held_if_read : (b : List ℕ) (r : PesValue × List ℕ)
     → packet_at b ≡ Ok r
     → (j : ℕ) → get_or (tests b (stated_units b)) j true ≡ true
 held_if_read b r read =
-    let asked : first_wrong b 0 (tests b (stated_units b)) ≡ None =
-    sym (packet_asked b) ∙ ap refusal read in
+    let requested : first_wrong b 0 (tests b (stated_units b)) ≡ None =
+    sym (packet_requested b) ∙ ap refusal read in
     elim (tests_cases b 0 (tests b (stated_units b))) [
       | inl all ↦ all.0
-      | inr found ↦ let told = found.told in absurd cc
+      | inr found ↦ let reported = found.reported in absurd cc
     ]
 
 read_if_held : (b : List ℕ)
     → ((j : ℕ) → get_or (tests b (stated_units b)) j true ≡ true)
     → (r : PesValue × List ℕ) × (packet_at b ≡ Ok r)
 read_if_held b all =
-    let asked = packet_asked b in
+    let requested = packet_requested b in
     elim (tests_cases b 0 (tests b (stated_units b))) [
-      | inr found ↦ let held = all found.at in let wrong = found.wrong in absurd cc
+      | inr found ↦ let buffered = all found.at in let wrong = found.wrong in absurd cc
       | inl none ↦ let nothing = none.1 in grind (arith, nat_tests, answer_cases (packet_at b))
     ]
 
@@ -134,8 +135,8 @@ mixed n q b i = cond (ltb (asker i) q) (get_or b i 0) (blank n i) % 256
 -- The tests of these bytes before a check hold, and n is the number of payloads if that was
 -- checked.
 module _ (b : List ℕ) (fit : AreBytes b) (q n : ℕ) (lo : 1 ≤ n) (hi : n ≤ 9)
-    (told : 2 < q → stated_size b ≡ 184 * n)
-    (held : HoldBelow (tests b (stated_units b)) q) where
+    (reported : 2 < q → stated_size b ≡ 184 * n)
+    (buffered : HoldBelow (tests b (stated_units b)) q) where
   -- The packet.
   abbrev made : List ℕ
   made = map (mixed n q b) (range_with_len 0 (184 * n))
@@ -162,17 +163,17 @@ module _ (b : List ℕ) (fit : AreBytes b) (q n : ℕ) (lo : 1 ≤ n) (hi : n �
   made_agrees c rest parts =
       let len : 184 * n ≡ length c + length rest = search (rules, length-made, length-append) in
       record {
-        six = λ lt. not_below (length b) 6 (held 0 lt);
+        six = λ lt. not_below (length b) 6 (buffered 0 lt);
         all =
-            λ lt. let all = not_below (length b) (stated_size b) (held 3 lt) in
-            let size = told (omega arith) in
+            λ lt. let all = not_below (length b) (stated_size b) (buffered 3 lt) in
+            let size = reported (omega arith) in
             omega arith;
         same = grind (arith, nat_tests, kept_byte, get_or_append_left);
       }
 
   -- Its length field is correct.
-  told-made : stated_size made ≡ 184 * n
-  told-made = grind (arith, nat_tests, cases_lt, kept_byte, blank_byte)
+  reported-made : stated_size made ≡ 184 * n
+  reported-made = grind (arith, nat_tests, cases_lt, kept_byte, blank_byte)
 
   -- The tests of its data units from number k on hold if these are blank.
   blank_units : (m k before j : ℕ)
@@ -185,7 +186,7 @@ module _ (b : List ℕ) (fit : AreBytes b) (q n : ℕ) (lo : 1 ≤ n) (hi : n �
   blank_units (suc m) k before (suc zero) le few =
       search (rules, unit_asker, blank_byte, unit_place, blank_unit)
   blank_units (suc m) k before (suc (suc zero)) le few =
-      let asked = unit_asker k 2 (omega arith) in
+      let requested = unit_asker k 2 (omega arith) in
       rw (blank_byte (unit_place k 2) (omega arith) (omega arith))
       (rw (blank_unit n k 2 (omega arith), or-true) refl)
   blank_units (suc m) k before (suc (suc (suc j))) le few =
@@ -195,8 +196,14 @@ module _ (b : List ℕ) (fit : AreBytes b) (q n : ℕ) (lo : 1 ≤ n) (hi : n �
   blank_tests : (j : ℕ) → q ≤ j → get_or (tests made (4 * n - 1)) j true ≡ true
   blank_tests zero le = rw (le-ltb (length made) 6 (omega (arith, length-made))) refl
   blank_tests (suc zero) le = grind (arith, nat_tests, blank_byte)
-  blank_tests (suc (suc zero)) le = grind (arith, nat_tests, told-made, eq-eqb, le-leb)
-  blank_tests (suc (suc (suc zero))) le = grind (arith, nat_tests, told-made, length-made, le-ltb)
+  blank_tests (suc (suc zero)) le = grind (arith, nat_tests, reported-made, eq-eqb, le-leb)
+  blank_tests (suc (suc (suc zero))) le = grind (
+    arith,
+    nat_tests,
+    reported-made,
+    length-made,
+    le-ltb,
+  )
   blank_tests (suc (suc (suc (suc zero)))) le = rw (blank_byte 6 le (omega arith)) refl
   blank_tests (suc (suc (suc (suc (suc zero))))) le = rw (blank_byte 7 le (omega arith)) refl
   blank_tests (suc (suc (suc (suc (suc (suc zero)))))) le = rw (blank_byte 8 le (omega arith)) refl
@@ -206,9 +213,9 @@ module _ (b : List ℕ) (fit : AreBytes b) (q n : ℕ) (lo : 1 ≤ n) (hi : n �
       blank_units (4 * n - 1) 0 0 j (omega arith) (omega arith)
 
   -- All tests hold.
-  made_held : (j : ℕ) → get_or (tests made (stated_units made)) j true ≡ true
-  made_held j =
-      let size = told-made in
+  made_buffered : (j : ℕ) → get_or (tests made (stated_units made)) j true ≡ true
+  made_buffered j =
+      let size = reported-made in
       let count : stated_units made ≡ 4 * n - 1 = omega arith in
       subst (λ (m : ℕ). get_or (tests made m) j true ≡ true) (sym count) (elim (cases_lt j q) [
         | inr le ↦ blank_tests j le
@@ -217,14 +224,14 @@ module _ (b : List ℕ) (fit : AreBytes b) (q n : ℕ) (lo : 1 ≤ n) (hi : n �
             let len = length-made in
             sym (same_test j (stated_units b) (4 * n - 1) b made
             (agree_below _ _ b made (omega arith) agree)
-            (λ more. let same = told (omega arith) in omega arith) (omega arith) (omega arith))
-            ∙ held j less
+            (λ more. let same = reported (omega arith) in omega arith) (omega arith) (omega arith))
+            ∙ buffered j less
       ])
 
   -- So such a packet of the grammar exists.
-  agreeing : (v : PesValue) × (p : List ℕ) × IsPesPacket v p × AgreeBefore q b p
+  agreeing : (v : PesValue) × (p : List ℕ) × IsValidPesPacket v p × AgreeBefore q b p
   agreeing =
-      let read = read_if_held made made_held in
+      let read = read_if_held made made_buffered in
       let found = read_is_packet read.0.0 made read.0.1 made_fits read.1 in
       (read.0.0, found.0, found.1, made_agrees found.0 read.0.1 found.2)
 
@@ -232,15 +239,15 @@ module _ (b : List ℕ) (fit : AreBytes b) (q n : ℕ) (lo : 1 ≤ n) (hi : n �
 payloads : (b : List ℕ) (q : ℕ)
     → HoldBelow (tests b (stated_units b)) q
     → (n : ℕ) × (1 ≤ n) × (n ≤ 9) × (2 < q → stated_size b ≡ 184 * n)
-payloads b q held = elim (cases_lt 2 q) [
+payloads b q buffered = elim (cases_lt 2 q) [
   | inr le ↦ (1, omega arith, omega arith, λ more. absurd (omega arith))
-  | inl more ↦ let t = stated_count b (held 2 more) in (t.0, t.1, t.2, λ _. t.3)
+  | inl more ↦ let t = stated_count b (buffered 2 more) in (t.0, t.1, t.2, λ _. t.3)
 ]
 
 -- No packet agrees with the bytes up to a test that fails.
 none_agrees : (b : List ℕ) (q : ℕ) (v : PesValue) (p : List ℕ)
     → get_or (tests b (stated_units b)) q true ≡ false
-    → IsPesPacket v p
+    → IsValidPesPacket v p
     → AgreeBefore (suc q) b p
     → ⊥
 none_agrees b q v p wrong h agree =
@@ -258,18 +265,18 @@ none_agrees b q v p wrong h agree =
 refused_first : (b : List ℕ) (f : PesFault)
     → AreBytes b
     → packet_at b ≡ Err f
-    → (q : ℕ) × (told_fault b q ≡ f) × FailFirst q b
+    → (q : ℕ) × (reported_fault b q ≡ f) × FailFirst q b
 refused_first b f fit e =
-    let asked : first_wrong b 0 (tests b (stated_units b)) ≡ Some f =
-    sym (packet_asked b) ∙ ap refusal e in
+    let requested : first_wrong b 0 (tests b (stated_units b)) ≡ Some f =
+    sym (packet_requested b) ∙ ap refusal e in
     elim (tests_cases b 0 (tests b (stated_units b))) [
       | inl all ↦ let none = all.1 in absurd cc
       | inr found ↦
-          let n = payloads b found.at found.held in
+          let n = payloads b found.at found.buffered in
           let number : found.at ≡ 0 + found.at = omega arith in
-          let a = agreeing b fit found.at n.0 n.1 n.2 n.3 found.held in (
+          let a = agreeing b fit found.at n.0 n.1 n.2 n.3 found.buffered in (
             found.at,
-            ap (told_fault b) number ∙ same_Some _ _ (sym found.told ∙ asked),
+            ap (reported_fault b) number ∙ same_Some _ _ (sym found.reported ∙ requested),
             record {
               value = a.0;
               packet = a.1;

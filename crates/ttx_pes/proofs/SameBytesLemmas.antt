@@ -1,5 +1,5 @@
 -- Slices compared in blocks: same_block for one, four_same for four of them, same_more_long for the
--- next, same_whole at the end; payload_same for the data field of one payload.
+-- next, same_complete at the end; payload_same for the data field of one payload.
 use Rattle.std.proofs.Common.{◌≡◌, ◌↔◌, ℕ, ◌+◌, ◌*◌, ◌≤◌, ◌^◌, ◌%◌, ◌-◌, Bool, true, List, []}
 use Rattle.std.proofs.Common.{◌∷◌, ◌++◌, map, length, take, drop, cond, nat_eq, refl, sym, ap}
 use Rattle.std.proofs.Common.{ap₂, ◌∙◌, ◌/◌, ◌<◌, ◌&&◌, arith, not, w8, eqb-true, eq-eqb}
@@ -47,26 +47,26 @@ more : (n at : ℕ) (a b : List ℕ)
     → take at a ≡ take at b
     → chunk at n a ≡ chunk at n b
     → take (at + n) a ≡ take (at + n) b
-more n at a b front block = grind (arith, nat_tests, take-add at n a, take-add at n b)
+more n at a b prefix block = grind (arith, nat_tests, take-add at n a, take-add at n b)
 
 -- One more block of 256. For `is_same_by_long_blocks`.
 pub same_more_long : (a b : List ℕ) (i : ℕ)
     → take (256 * i) a ≡ take (256 * i) b
     → chunk (256 * i) 256 a ≡ chunk (256 * i) 256 b
     → take (256 * (i + 1)) a ≡ take (256 * (i + 1)) b
-same_more_long a b i front block =
+same_more_long a b i prefix block =
     let e : 256 * i + 256 ≡ 256 * (i + 1) = omega arith in
-    rw (← e) (more 256 (256 * i) a b front block)
+    rw (← e) (more 256 (256 * i) a b prefix block)
 
 -- Blocks up to a place, and everything from an earlier place on.
-pub same_whole : (a b : List ℕ) (m n : ℕ)
+pub same_complete : (a b : List ℕ) (m n : ℕ)
     → m ≤ n
     → take n a ≡ take n b
     → drop m a ≡ drop m b
     → a ≡ b
-same_whole a b m n le front back =
+same_complete a b m n le prefix back =
     let first : take m a ≡ take m b =
-    sym (take-take m n a le) ∙ ap (take m) front ∙ take-take m n b le in
+    sym (take-take m n a le) ∙ ap (take m) prefix ∙ take-take m n b le in
     sym (take-append-drop m a) ∙ ap₂ (λ (x y : List ℕ). x ++ y) first back ∙ take-append-drop m b
 
 -- Four blocks of 64 are a block of 256.
@@ -130,9 +130,9 @@ payload_same a b xs ys la lb of_a of_b first second last =
     let block : (i : ℕ) → i < 2 → get_or xs i [] ≡ get_or ys i []
     → chunk (64 * i) 64 a ≡ chunk (64 * i) 64 b =
     λ i l e. sym (block_of xs 64 a i of_a (rw la l)) ∙ e ∙ block_of ys 64 b i of_b (rw lb l) in
-    let front = more 64 64 a b (more 64 0 a b refl (block 0 (omega arith) first))
+    let prefix = more 64 64 a b (more 64 0 a b refl (block 0 (omega arith) first))
     (block 1 (omega arith) second) in
-    same_whole a b 123 128 (omega arith) front last
+    same_complete a b 123 128 (omega arith) prefix last
 
 -- For the loops over blocks.
-pub ruleset same_blocks = (block_at, same_more_long, same_whole)
+pub ruleset same_blocks = (block_at, same_more_long, same_complete)

@@ -37,11 +37,11 @@ pub places_next : (count k : ℕ) (units : List UnitValue) (field : List ℕ)
     ≡ (unit_at units (take 46 (drop (1 + 46 * k) field)) >>= λ more.
     units_at (count - (k + 1)) more (drop (1 + 46 * (k + 1)) field))
 places_next count k units field l =
-    let behind : drop 46 (drop (1 + 46 * k) field) ≡ drop (1 + 46 * (k + 1)) field =
+    let following : drop 46 (drop (1 + 46 * k) field) ≡ drop (1 + 46 * (k + 1)) field =
     drop-drop 46 (1 + 46 * k) field ∙ ap (λ n. drop n field) (omega arith) in
     units_next count k units (drop (1 + 46 * k) field) l
     ∙ ap (λ rest. unit_at units (take 46 (drop (1 + 46 * k) field)) >>= λ more.
-    units_at (count - (k + 1)) more rest) behind
+    units_at (count - (k + 1)) more rest) following
 
 -- For the loop of `take_places`.
 pub ruleset places_left = (places_next, units_none, placed_next, placed_none)

@@ -5,21 +5,21 @@ use Rattle.std.proofs.lemmas.List.{append-nil}
 use Rattle.std.proofs.lemmas.List.Folds.{concat-append}
 use Rattle.std.specs.List.{AllByRecursion, concat}
 use Rattle.std.proofs.KnownBytes.{Consumes-trans}
-use Rattle.ttx_pes.specs.PesPacket.{PesValue, IsPesPacket}
-use Rattle.ttx_pes.specs.Reader.{TakesPackets, TakesPesPacket}
+use Rattle.ttx_pes.specs.PesGrammar.{PesValue, IsValidPesPacket}
+use Rattle.ttx_pes.specs.Reader.{TakesPackets, TakesValidPesPacket}
 
 -- One more packet.
 each-more : (packets : List (List ℕ)) (b : List ℕ)
-    → AllByRecursion (λ x. (v : PesValue) × IsPesPacket v x) packets
-    → (v : PesValue) × IsPesPacket v b
-    → AllByRecursion (λ x. (v : PesValue) × IsPesPacket v x) (packets ++ b ∷ [])
+    → AllByRecursion (λ x. (v : PesValue) × IsValidPesPacket v x) packets
+    → (v : PesValue) × IsValidPesPacket v b
+    → AllByRecursion (λ x. (v : PesValue) × IsValidPesPacket v x) (packets ++ b ∷ [])
 each-more [] b h p = (p, tt)
 each-more (x ∷ packets) b h p = (h.0, each-more packets b h.1 p)
 
 -- One more packet was consumed.
 pub takes-more : (n : ℕ) (old mid new : Option (List ℕ)) (v : PesValue)
     → TakesPackets n old mid
-    → TakesPesPacket mid new v
+    → TakesValidPesPacket mid new v
     → TakesPackets (n + 1) old new
 takes-more n old mid new v h t =
     let joined : concat (h.packets ++ t.bytes ∷ []) ≡ concat h.packets ++ t.bytes =

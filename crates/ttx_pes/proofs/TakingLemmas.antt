@@ -11,10 +11,10 @@ use Rattle.sub_io.specs.Reading.{◌>>=◌, AreBytes}
 use Rattle.ttx_pes.specs.declared.fault.PesFault.{PesFault}
 use Rattle.ttx_pes.specs.declared.fault.PesFault.TheVariants as fault
 use Rattle.ttx_pes.specs.declared.progress.Progress.TheVariants.{Reading}
-use Rattle.ttx_pes.specs.PesPacket.{PesValue, IsPesPacket}
+use Rattle.ttx_pes.specs.PesGrammar.{PesValue, IsValidPesPacket}
 use Rattle.ttx_pes.specs.Reading.{most_packets, size_at, value_at, packet_at, answer_at, rest_after}
 use Rattle.ttx_pes.specs.Reading.{is_format_fault}
-use Rattle.ttx_pes.specs.Reader.{TakesPesPacket, TakesRefused, TellsPacket}
+use Rattle.ttx_pes.specs.Reader.{TakesValidPesPacket, TakesRefused, ReportsPacket}
 use Rattle.ttx_pes.specs.Comparing.{TakesDataField}
 use Rattle.ttx_pes.specs.Taking.{Settles}
 use Rattle.ttx_pes.proofs.ReadingLemmas.{answer_full, answer_packet}
@@ -31,7 +31,7 @@ none_taken : (old new : Option (List ℕ)) (bytes taken : List ℕ)
     → IsAtEnd new
     → (bytes ≡ []) × (new ≡ Some (rest_after bytes))
 unfolding rest_after packet_at
-none_taken old new bytes taken h told none end = grind (arith, nat_tests, left)
+none_taken old new bytes taken h reported none end = grind (arith, nat_tests, left)
 
 -- Bytes after the maximum number of packets.
 too_many : (given : ℕ) (old new : Option (List ℕ)) (bytes taken : List ℕ)
@@ -40,18 +40,18 @@ too_many : (given : ℕ) (old new : Option (List ℕ)) (bytes taken : List ℕ)
     → 0 < length taken
     → given ≡ most_packets
     → answer_at given bytes ≡ Err fault.TooMany
-too_many given old new bytes taken h told some full =
+too_many given old new bytes taken h reported some full =
     grind (arith, nat_tests, left, answer_full, length-append)
 
 -- ---- what the bytes consumed determine
 
 -- The packet is complete: its value, or its first fault.
-pub whole_settles : (old new : Option (List ℕ)) (taken : List ℕ)
+pub complete_settles : (old new : Option (List ℕ)) (taken : List ℕ)
     → Consumes old new taken
     → 6 ≤ length taken
     → size_at (take 6 taken) ≡ Ok (length taken)
     → Settles old new taken (value_at (drop 6 taken))
-whole_settles old new taken h le sized =
+complete_settles old new taken h le sized =
     let six = length-take 6 taken in let others = length-drop 6 taken in
     grind (arith, nat_tests, take-append-drop 6 taken, append_assoc, packet_parts)
 
@@ -77,7 +77,7 @@ pub settled_answer : (given : ℕ) (old new : Option (List ℕ)) (taken bytes : 
     → (given ≡ most_packets → ⊥)
     → old ≡ Some bytes
     → answer_at given bytes ≡ (r >>= λ v. Ok (Some v))
-settled_answer given old new taken bytes r h ne told =
+settled_answer given old new taken bytes r h ne reported =
     grind (arith, nat_tests, left, answer_packet, length-append, answered)
 
 -- A fault: the bytes consumed are rejected for it, even if the source's bytes are not known.
@@ -90,17 +90,17 @@ settled_refusal old new taken f h = grind (arith, nat_tests, append-nil taken)
 abbrev pub settled_packet : (old new : Option (List ℕ)) (taken : List ℕ) (v : PesValue)
     → Settles old new taken (Ok v)
     → AreBytes taken
-    → TakesPesPacket old new v
+    → TakesValidPesPacket old new v
 settled_packet old new taken v h fit =
     let s = read_is_packet v taken [] fit
     (ap packet_at (sym (append-nil taken)) ∙ h.answer [] (λ _. refl)) in
     record {
       bytes = taken;
-      is_packet = subst (IsPesPacket v) (sym (s.2 ∙ append-nil s.0)) s.1;
+      is_packet = subst (IsValidPesPacket v) (sym (s.2 ∙ append-nil s.0)) s.1;
       consumed = h.consumed;
     }
 
--- A value with its data field, from byte 39 of the body on. For `PieceTellingLemmas`.
+-- A value with its data field, from byte 39 of the body on. For `PesPacketReportingLemmas`.
 pub settled_field : (old new : Option (List ℕ)) (taken body field : List ℕ) (v : PesValue)
     → Settles old new taken (Ok v)
     → AreBytes taken
@@ -112,7 +112,7 @@ settled_field old new taken body field v h fit same is = record {
   field_is = is ∙ ap (drop 39) same ∙ drop-drop 39 6 taken;
 }
 
--- The size in the first six bytes stays the same after more bytes were read. For `read_piece`.
+-- The size in the first six bytes stays the same after more bytes were read. For `read_pes_packet`.
 pub size_kept : (got n : ℕ) (old new six : List ℕ) (r : Result ℕ PesFault)
     → 6 ≤ got
     → got ≤ n
@@ -120,45 +120,45 @@ pub size_kept : (got n : ℕ) (old new six : List ℕ) (r : Result ℕ PesFault)
     → six ≡ take 6 old
     → size_at six ≡ r
     → size_at (take 6 (take n new)) ≡ r
-size_kept got n old new six r le more kept is told =
+size_kept got n old new six r le more kept is reported =
     ap size_at (take-take 6 n new (omega arith) ∙ sym (take-take 6 got new le) ∙ ap (take 6) kept
     ∙ take-take 6 got old le ∙ sym is)
-    ∙ told
+    ∙ reported
 
 -- ---- the reader's answer
 
 -- The end of the source, with no byte consumed.
-pub tells_end : (given : ℕ) (old new : Option (List ℕ)) (taken : List ℕ)
+pub reports_end : (given : ℕ) (old new : Option (List ℕ)) (taken : List ℕ)
     → Consumes old new taken
     → taken ≡ []
     → IsAtEnd new
-    → TellsPacket (Reading given) old new (Ok None)
-tells_end given old new taken h none end = grind (arith, nat_tests, none_taken, nothing)
+    → ReportsPacket (Reading given) old new (Ok None)
+reports_end given old new taken h none end = grind (arith, nat_tests, none_taken, nothing)
 
 -- Bytes after the maximum number of packets.
-pub tells_too_many : (given : ℕ) (old new : Option (List ℕ)) (taken : List ℕ)
+pub reports_too_many : (given : ℕ) (old new : Option (List ℕ)) (taken : List ℕ)
     → Consumes old new taken
     → 0 < length taken
     → given ≡ most_packets
-    → TellsPacket (Reading given) old new (Err fault.TooMany)
-tells_too_many given old new taken h some full = grind (arith, nat_tests, too_many)
+    → ReportsPacket (Reading given) old new (Err fault.TooMany)
+reports_too_many given old new taken h some full = grind (arith, nat_tests, too_many)
 
 -- The bytes consumed determine the answer.
-pub tells_settled : (given : ℕ) (old new : Option (List ℕ)) (taken : List ℕ)
+pub reports_settled : (given : ℕ) (old new : Option (List ℕ)) (taken : List ℕ)
     (r : Result PesValue PesFault)
     → Settles old new taken r
     → given ≢ most_packets
     → IfOk r (λ _. AreBytes taken)
     → IfErr r (λ f. is_format_fault f ≡ true)
-    → TellsPacket (Reading given) old new (r >>= λ v. Ok (Some v))
-tells_settled given old new taken (Ok v) h ne fit kind =
+    → ReportsPacket (Reading given) old new (r >>= λ v. Ok (Some v))
+reports_settled given old new taken (Ok v) h ne fit kind =
     let packet = settled_packet old new taken v h fit in
     let exact : (bytes : List ℕ) → old ≡ Some bytes → answer_at given bytes ≡ Ok (Some v) =
     λ bytes. settled_answer given old new taken bytes (Ok v) h ne in
     let left : (bytes : List ℕ) → old ≡ Some bytes → new ≡ Some (rest_after bytes) =
     λ bytes. packet_left old new v bytes packet in
     grind (arith, nat_tests, exact, left)
-tells_settled given old new taken (Err f) h ne fit kind =
+reports_settled given old new taken (Err f) h ne fit kind =
     let exact : (bytes : List ℕ) → old ≡ Some bytes → answer_at given bytes ≡ Err f =
     λ bytes. settled_answer given old new taken bytes (Err f) h ne in
     grind (arith, nat_tests, settled_answer, settled_refusal)

@@ -7,13 +7,13 @@ use Rattle.std.specs.Io.KnownBytes.{Consumes, IsAtEnd, Keeps, prepend_known}
 use Rattle.sub_io.specs.Reading.{AreBytes, IfKnown}
 use Rattle.ttx_pes.specs.declared.fault.PesFault.{PesFault}
 use Rattle.ttx_pes.specs.declared.fault.PesFault.TheVariants.{Truncated}
-use Rattle.ttx_pes.specs.PieceRange.{behind_pieces, count_pieces, limited}
-use Rattle.ttx_pes.specs.Pieces.{IsPiece}
-use Rattle.ttx_pes.specs.LentPacket.{holds_packet}
+use Rattle.ttx_pes.specs.PesPacketRange.{rest_after_pes_packets, count_pes_packets, limited}
+use Rattle.ttx_pes.specs.PesPackets.{IsPesPacket}
+use Rattle.ttx_pes.specs.BorrowedPacket.{holds_packet}
 use Rattle.ttx_pes.specs.Reader.{FailsWithin, IsBegun}
 use Rattle.ttx_pes.specs.Reading.{size_at}
-use Rattle.ttx_pes.specs.declared.pieces.Came.{Came}
-use Rattle.ttx_pes.specs.declared.pieces.Came.TheVariants.{End, Piece, Rest}
+use Rattle.ttx_pes.specs.declared.pes_packets.Received.{Received}
+use Rattle.ttx_pes.specs.declared.pes_packets.Received.TheVariants.{End, PesPacket, Rest}
 
 -- ---- one packet
 
@@ -28,80 +28,82 @@ rest_fault b =
     if nat_lt (length b) 6 then Some Truncated else fault_of_size (length b) (size_at (take 6 b))
 
 -- Bytes that were read show that the remaining bytes begin no packet, whatever follows.
-pub record ShowRest (behind : Option (List ℕ)) (bytes : List ℕ) (f : PesFault) : Type 0 where
+pub record ShowRest (following : Option (List ℕ)) (bytes : List ℕ) (f : PesFault) : Type 0 where
   pub some : 0 < length bytes
   pub all :
-      (more : List ℕ) → (IsAtEnd behind → more ≡ []) → rest_fault (bytes ++ more) ≡ Some f
+      (more : List ℕ) → (IsAtEnd following → more ≡ []) → rest_fault (bytes ++ more) ≡ Some f
 
 -- The remaining bytes begin no packet, for this fault, and those that were read show it.
-pub record IsRest (old behind : Option (List ℕ)) (f : PesFault) : Type 0 where
+pub record IsRest (old following : Option (List ℕ)) (f : PesFault) : Type 0 where
   pub bytes : List ℕ
-  pub consumed : Consumes old behind bytes
-  pub shows : ShowRest behind bytes f
+  pub consumed : Consumes old following bytes
+  pub shows : ShowRest following bytes f
 
 -- Exactly one packet was consumed, and a taker processed it.
-pub record TakesPieceBy
+pub record TakesPesPacketBy
     {T A : Type 0} (is_take : T → List ℕ → A → T → Type 0) (old new : Option (List ℕ))
     (before : T) (answer : A) (after : T)
     : Type 0 where
   pub bytes : List ℕ
-  pub is_piece : IsPiece bytes
+  pub is_pes_packet : IsPesPacket bytes
   pub fit : AreBytes bytes
   pub consumed : Consumes old new bytes
   pub takes : is_take before bytes answer after
 
--- The effect of a call of `next`. `old` and `new` are the bytes left before and after it, `behind`
--- those that the device has left. A packet is consumed completely, and the taker processes it.
--- Otherwise nothing is consumed; a failure happened within the next packet.
+-- The effect of a call of `next`. `old` and `new` are the bytes left before and after it,
+-- `following` those that the device has left. A packet is consumed completely, and the taker
+-- processes it. Otherwise nothing is consumed; a failure happened within the next packet.
 abbrev pub Advances : {T A E : Type 0}
     → Option (List ℕ) → Option (List ℕ) → Option (List ℕ)
-    → (T → List ℕ → A → T → Type 0) → T → T → Result (Came A) E → Type 0
-Advances old new behind is_take before after (Ok End) =
-    Keeps old new × (behind ≡ new) × IsAtEnd new × (after ≡ before)
-Advances old new behind is_take before after (Ok (Piece answer)) =
-    TakesPieceBy is_take old new before answer after × (behind ≡ new)
-Advances old new behind is_take before after (Ok (Rest f)) =
-    Keeps old new × IsRest old behind f × (after ≡ before)
-Advances old new behind is_take before after (Err e) =
-    Keeps old new × FailsWithin old behind × (after ≡ before)
+    → (T → List ℕ → A → T → Type 0) → T → T → Result (Received A) E → Type 0
+Advances old new following is_take before after (Ok End) =
+    Keeps old new × (following ≡ new) × IsAtEnd new × (after ≡ before)
+Advances old new following is_take before after (Ok (PesPacket answer)) =
+    TakesPesPacketBy is_take old new before answer after × (following ≡ new)
+Advances old new following is_take before after (Ok (Rest f)) =
+    Keeps old new × IsRest old following f × (after ≡ before)
+Advances old new following is_take before after (Err e) =
+    Keeps old new × FailsWithin old following × (after ≡ before)
 
 -- The result says that the remaining bytes begin no packet.
-abbrev pub tells_rest : {A E : Type 0} → Result (Came A) E → Bool
-tells_rest (Ok (Rest f)) = true
-tells_rest _ = false
+abbrev pub reports_rest : {A E : Type 0} → Result (Received A) E → Bool
+reports_rest (Ok (Rest f)) = true
+reports_rest _ = false
 
 -- Nothing is known about avoiding calls of the device.
 abbrev pub never_ready : {P : Type 0} → P → Bool
-never_ready pieces = false
+never_ready pes_packets = false
 
 -- It borrows no device.
 abbrev pub lends_none : {P : Type 0} → P → List GName
-lends_none pieces = []
+lends_none pes_packets = []
 
 -- ---- reading from a source
 
 -- The buffered bytes, then those of the source, if they are known.
-abbrev pub held_then : List ℕ → Option (List ℕ) → Option (List ℕ)
-held_then [] told = told
-held_then (x ∷ held) told = prepend_known (x ∷ held) told
+abbrev pub buffered_then : List ℕ → Option (List ℕ) → Option (List ℕ)
+buffered_then [] known_bytes = known_bytes
+buffered_then (x ∷ buffered) known_bytes = prepend_known (x ∷ buffered) known_bytes
 
 -- The next packet needs no call of the source's device: the source lends it completely, or has an
 -- invalid start code or length in the bytes that it lends.
-abbrev pub lends_piece : List ℕ → List ℕ → Bool
-lends_piece [] lent = holds_packet lent
-lends_piece (x ∷ held) lent = false
+abbrev pub lends_pes_packet : List ℕ → List ℕ → Bool
+lends_pes_packet [] borrowed = holds_packet borrowed
+lends_pes_packet (x ∷ buffered) borrowed = false
 
 -- The meaning of the bytes that were read for one packet.
-abbrev pub AreRead : {E : Type 0} → Option (List ℕ) → List ℕ → Result (Came (Unit {0})) E → Type 0
+abbrev pub AreRead : {E : Type 0} → Option (List ℕ) → List ℕ → Result (Received (Unit {0})) E → Type
+    0
 AreRead new bytes (Ok End) = (bytes ≡ []) × IsAtEnd new
-AreRead new bytes (Ok (Piece answer)) =
+AreRead new bytes (Ok (PesPacket answer)) =
     (6 ≤ length bytes) × (size_at (take 6 bytes) ≡ Ok (length bytes))
 AreRead new bytes (Ok (Rest f)) = ShowRest new bytes f
 AreRead new bytes (Err e) = IsBegun bytes
 
 -- These bytes were read for one packet.
-pub record ReadsForPiece
-    {E : Type 0} (old new : Option (List ℕ)) (bytes : List ℕ) (result : Result (Came (Unit {0})) E)
+pub record ReadsForPesPacket
+    {E : Type 0} (old new : Option (List ℕ)) (bytes : List ℕ) (result : Result (Received (Unit {0}))
+    E)
     : Type 0 where
   pub consumed : Consumes old new bytes
   pub are_read : AreRead new bytes result
@@ -110,17 +112,18 @@ pub record ReadsForPiece
 
 -- Of the first n packets, k were skipped; skipping the others from here gives the same as skipping
 -- all from the start.
-abbrev pub HasPassed : ℕ → ℕ → Option (List ℕ) → Option (List ℕ) → Type 0
-HasPassed n k old new =
+abbrev pub HasSkipped : ℕ → ℕ → Option (List ℕ) → Option (List ℕ) → Type 0
+HasSkipped n k old new =
     IfKnown old (λ bytes. (rest : List ℕ)
     × (new ≡ Some rest)
-    × (behind_pieces n bytes ≡ behind_pieces (n - k) rest)
-    × (count_pieces n bytes ≡ k + count_pieces (n - k) rest))
+    × (rest_after_pes_packets n bytes ≡ rest_after_pes_packets (n - k) rest)
+    × (count_pes_packets n bytes ≡ k + count_pes_packets (n - k) rest))
 
--- The first n packets were skipped, or all if there are fewer, and `passed` is their number.
+-- The first n packets were skipped, or all if there are fewer, and `skipped` is their number.
 abbrev pub Passes : ℕ → Option (List ℕ) → Option (List ℕ) → ℕ → Type 0
-Passes n old new passed =
-    IfKnown old (λ bytes. (new ≡ Some (behind_pieces n bytes)) × (passed ≡ count_pieces n bytes))
+Passes n old new skipped =
+    IfKnown old (λ bytes. (new ≡ Some (rest_after_pes_packets n bytes)) ×
+    (skipped ≡ count_pes_packets n bytes))
 
 -- ---- a limited number of packets
 
@@ -137,15 +140,15 @@ one_less (Some zero) = Some zero
 one_less (Some (suc n)) = Some n
 
 -- How many may come after this result.
-abbrev pub left_after : {A : Type 0} → Option ℕ → Came A → Option ℕ
+abbrev pub left_after : {A : Type 0} → Option ℕ → Received A → Option ℕ
 left_after left End = left
-left_after left (Piece answer) = one_less left
+left_after left (PesPacket answer) = one_less left
 left_after left (Rest f) = None
 
 -- The bytes that are left under the limit.
 abbrev pub limited_known : Option ℕ → Option (List ℕ) → Option (List ℕ)
-limited_known None told = told
-limited_known (Some n) told = option_map (limited (Some n)) told
+limited_known None known_bytes = known_bytes
+limited_known (Some n) known_bytes = option_map (limited (Some n)) known_bytes
 
 -- After bytes that begin no packet there is no limit.
 abbrev pub limited_rest : Option ℕ → Bool → Bool
@@ -153,6 +156,6 @@ limited_rest None rest = rest
 limited_rest (Some n) rest = false
 
 -- The bytes that the device has left, under the limit.
-abbrev pub limited_behind : Option ℕ → Option (List ℕ) → Option (List ℕ) → Option (List ℕ)
-limited_behind None known behind = behind
-limited_behind (Some n) known behind = option_map (limited (Some n)) known
+abbrev pub limited_remaining : Option ℕ → Option (List ℕ) → Option (List ℕ) → Option (List ℕ)
+limited_remaining None known following = following
+limited_remaining (Some n) known following = option_map (limited (Some n)) known

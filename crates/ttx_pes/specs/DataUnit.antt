@@ -70,7 +70,7 @@ pub record IsTeletextUnit (u : UnitValue) (b : List ℕ) : Type 0 where
   pub is_unit : IsUnit u
 
 -- A data unit with any other data_unit_id, 46 bytes, of which a reader checks only the first two.
-pub record IsPassedUnit (b : List ℕ) : Type 0 where
+pub record IsSkippedUnit (b : List ℕ) : Type 0 where
   pub id : ℕ
   pub rest : List ℕ
   pub bytes : b ≡ id ∷ data_unit_length ∷ rest
@@ -80,7 +80,7 @@ pub record IsPassedUnit (b : List ℕ) : Type 0 where
 -- A data unit, and its Teletext unit, if it carries one.
 abbrev pub IsDataUnit : Option UnitValue → List ℕ → Type 0
 IsDataUnit (Some u) b = IsTeletextUnit u b
-IsDataUnit None b = IsPassedUnit b
+IsDataUnit None b = IsSkippedUnit b
 
 -- n consecutive data units, and the Teletext units among them in order.
 abbrev pub AreDataUnits : ℕ → List UnitValue → List ℕ → Type 0

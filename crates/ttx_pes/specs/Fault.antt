@@ -24,17 +24,17 @@ pes_code fault.TooMany = fault_code 44 (codes "TooMany")
 pes_code fault.Lost = fault_code 45 (codes "Lost")
 
 -- The fault is in a packet that is as long as its length field says, so another packet may follow.
-abbrev pub is_of_piece : PesFault → Bool
-is_of_piece fault.Flags = true
-is_of_piece fault.NoTime = true
-is_of_piece fault.HeaderLength = true
-is_of_piece fault.Time = true
-is_of_piece fault.DataId = true
-is_of_piece fault.UnitLength = true
-is_of_piece fault.Framing = true
-is_of_piece fault.LineOrder = true
-is_of_piece fault.Lost = true
-is_of_piece _ = false
+abbrev pub is_of_pes_packet : PesFault → Bool
+is_of_pes_packet fault.Flags = true
+is_of_pes_packet fault.NoTime = true
+is_of_pes_packet fault.HeaderLength = true
+is_of_pes_packet fault.Time = true
+is_of_pes_packet fault.DataId = true
+is_of_pes_packet fault.UnitLength = true
+is_of_pes_packet fault.Framing = true
+is_of_pes_packet fault.LineOrder = true
+is_of_pes_packet fault.Lost = true
+is_of_pes_packet _ = false
 
 -- The source failed.
 abbrev pub is_read : PesFault → Bool

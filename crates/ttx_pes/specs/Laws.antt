@@ -7,13 +7,13 @@ use Rattle.sub_io.specs.Reading.{AreBytes}
 use Rattle.ttx_packet.specs.PacketAddress.{IsPacket}
 use Rattle.ttx_pes.specs.DataUnit.{UnitValue}
 use Rattle.ttx_pes.specs.LineOrder.{numbered_units, AreInLineOrder, RisesTo}
-use Rattle.ttx_pes.specs.PesPacket.{PesValue, IsPesPacket, IsPesValue, canonical_packet}
-use Rattle.ttx_pes.specs.PesPacket.{numbered_frame}
-use Rattle.ttx_pes.specs.PieceRange.{BeginsNoPiece, chosen_of, first_index, in_range}
-use Rattle.ttx_pes.specs.Pieces.{FallInto, IsPiece, pieces_after}
+use Rattle.ttx_pes.specs.PesGrammar.{PesValue, IsValidPesPacket, IsPesValue, canonical_packet}
+use Rattle.ttx_pes.specs.PesGrammar.{numbered_frame}
+use Rattle.ttx_pes.specs.PesPacketRange.{BeginsNoPesPacket, chosen_of, first_index, in_range}
+use Rattle.ttx_pes.specs.PesPackets.{SplitInto, IsPesPacket, pes_packets_after}
 use Rattle.ttx_pes.specs.Reader.{BeginsNone}
 use Rattle.ttx_pes.specs.Reading.{packet_at, answer_at, rest_after, is_format_fault, most_packets}
-use Rattle.ttx_pes.specs.Refusal.{told_fault, FailFirst}
+use Rattle.ttx_pes.specs.Refusal.{reported_fault, FailFirst}
 use Rattle.ttx_pes.specs.declared.fault.PesFault.{PesFault}
 use Rattle.ttx_pes.specs.declared.fault.PesFault.TheVariants.{TooMany}
 
@@ -22,25 +22,25 @@ use Rattle.ttx_pes.specs.declared.fault.PesFault.TheVariants.{TooMany}
 abbrev pub LawOfOneValue : Type 0
 LawOfOneValue =
     (a b x y : List ℕ) (v w : PesValue)
-    → IsPesPacket v a
-    → IsPesPacket w b
+    → IsValidPesPacket v a
+    → IsValidPesPacket w b
     → a ++ x ≡ b ++ y
     → (a ≡ b) × (v ≡ w)
 
 -- The value of a valid packet fits in a frame.
 abbrev pub LawOfPacketValue : Type 0
-LawOfPacketValue = (v : PesValue) (b : List ℕ) → IsPesPacket v b → IsPesValue v
+LawOfPacketValue = (v : PesValue) (b : List ℕ) → IsValidPesPacket v b → IsPesValue v
 
 -- The canonical packet of each value that fits in a frame is a valid packet with that value. So the
 -- bytes written for a frame mean that frame.
 abbrev pub LawOfCanonicalPacket : Type 0
-LawOfCanonicalPacket = (v : PesValue) → IsPesValue v → IsPesPacket v (canonical_packet v)
+LawOfCanonicalPacket = (v : PesValue) → IsPesValue v → IsValidPesPacket v (canonical_packet v)
 
 -- A valid packet is read as its value, whatever follows it. So a reader rejects nothing that
 -- matches the grammar.
 abbrev pub LawOfReading : Type 0
 LawOfReading =
-    (v : PesValue) (b rest : List ℕ) → IsPesPacket v b → packet_at (b ++ rest) ≡ Ok (v, rest)
+    (v : PesValue) (b rest : List ℕ) → IsValidPesPacket v b → packet_at (b ++ rest) ≡ Ok (v, rest)
 
 -- Bytes that are read as a value are a valid packet with that value. So a reader accepts nothing
 -- that does not match the grammar.
@@ -49,7 +49,7 @@ LawOfGrammar =
     (v : PesValue) (bytes rest : List ℕ)
     → AreBytes bytes
     → packet_at bytes ≡ Ok (v, rest)
-    → (b : List ℕ) × IsPesPacket v b × (bytes ≡ b ++ rest)
+    → (b : List ℕ) × IsValidPesPacket v b × (bytes ≡ b ++ rest)
 
 -- If no packet is read, the fault is that of the first check that the bytes fail: some packet of
 -- the grammar agrees with them in everything checked before, and none agrees with them there too.
@@ -61,7 +61,7 @@ LawOfRefusal =
     → AreBytes bytes
     → ((f : PesFault)
     → packet_at bytes ≡ Err f
-    → (question : ℕ) × (told_fault bytes question ≡ f) × FailFirst question bytes)
+    → (question : ℕ) × (reported_fault bytes question ≡ f) × FailFirst question bytes)
     × ((question : ℕ) → FailFirst question bytes → (f : PesFault) × (packet_at bytes ≡ Err f))
 
 -- What an answer means for the remaining bytes, in terms of the grammar: at the end there are none;
@@ -107,8 +107,8 @@ LawOfNumberedFrame =
 -- Bytes split into the PES packets that are read from them: the longest list of byte strings with
 -- correct length fields that, joined, begins the bytes. Each packet is read as its value by the
 -- grammar, or its fault. So skipped packets are reported completely, and nothing else is.
-abbrev pub LawOfPieces : Type 0
-LawOfPieces = (bytes : List ℕ) → AreBytes bytes → FallInto bytes (pieces_after 0 bytes)
+abbrev pub LawOfPesPackets : Type 0
+LawOfPesPackets = (bytes : List ℕ) → AreBytes bytes → SplitInto bytes (pes_packets_after 0 bytes)
 
 -- A range of a file that splits into packets and a rest that begins no packet has the packets with
 -- the numbers of the range, and the rest if the file has no packet with the last number. As many
@@ -116,12 +116,12 @@ LawOfPieces = (bytes : List ℕ) → AreBytes bytes → FallInto bytes (pieces_a
 -- packets as the file has there, with the same numbers.
 abbrev pub LawOfRanges : Type 0
 LawOfRanges =
-    (first : ℕ) (last : Option ℕ) (pieces : List (List ℕ)) (rest : List ℕ)
+    (first : ℕ) (last : Option ℕ) (pes_packets : List (List ℕ)) (rest : List ℕ)
     → IfSome last (λ l. first ≤ l)
-    → AllByRecursion IsPiece pieces
+    → AllByRecursion IsPesPacket pes_packets
     → AreBytes rest
-    → BeginsNoPiece rest
-    → (in_range (record { first = first; last = last }) (concat pieces ++ rest)
-    ≡ chosen_of first last pieces rest)
-    × (first_index (record { first = first; last = last }) (concat pieces ++ rest)
-    ≡ min first (length pieces))
+    → BeginsNoPesPacket rest
+    → (in_range (record { first = first; last = last }) (concat pes_packets ++ rest)
+    ≡ chosen_of first last pes_packets rest)
+    × (first_index (record { first = first; last = last }) (concat pes_packets ++ rest)
+    ≡ min first (length pes_packets))

@@ -1,6 +1,6 @@
 pub mod DataUnit
 pub mod LineOrder
-pub mod PesPacket
+pub mod PesGrammar
 pub mod Reading
 pub mod Refusal
 pub mod Reader
@@ -9,9 +9,9 @@ pub mod Laws
 pub mod Fault
 pub mod Taking
 pub mod Comparing
-pub mod LentPacket
-pub mod Pieces
+pub mod BorrowedPacket
+pub mod PesPackets
 pub mod Advancing
-pub mod PartOfPieces
+pub mod PartOfPesPackets
 pub mod SentUnits
-pub mod PieceRange
+pub mod PesPacketRange

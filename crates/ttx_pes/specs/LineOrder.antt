@@ -20,14 +20,14 @@ last_place before (u ∷ units) =
     last_place (if u.line == 0 then before else line_order_place u) units
 
 -- The unit may follow that place.
-abbrev pub stands_after : ℕ → UnitValue → Bool
-stands_after before u = (u.line == 0) || nat_lt before (line_order_place u)
+abbrev pub may_follow : ℕ → UnitValue → Bool
+may_follow before u = (u.line == 0) || nat_lt before (line_order_place u)
 
 -- Each unit may follow those before it.
 abbrev pub AreInLineOrder : ℕ → List UnitValue → Type 0
 AreInLineOrder before [] = Unit {0}
 AreInLineOrder before (u ∷ units) =
-    (stands_after before u ≡ true)
+    (may_follow before u ≡ true)
     × AreInLineOrder (if u.line == 0 then before else line_order_place u) units
 
 -- If both units have a defined line, the place of the second is after that of the first.

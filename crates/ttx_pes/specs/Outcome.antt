@@ -3,10 +3,10 @@ use Rattle.std.specs.Prelude.{◌≡◌, ℕ, Bool, true, false, List, [], ◌�
 use Rattle.std.specs.Prelude.{Ok, Err}
 use Rattle.ttx_pes.specs.declared.fault.PesFault.{PesFault}
 use Rattle.ttx_pes.specs.Fault.{is_read}
-use Rattle.ttx_pes.specs.PesPacket.{PesValue}
-use Rattle.ttx_pes.specs.Pieces.{pieces_after}
+use Rattle.ttx_pes.specs.PesGrammar.{PesValue}
+use Rattle.ttx_pes.specs.PesPackets.{pes_packets_after}
 use Rattle.ttx_pes.specs.Reading.{is_format_fault}
-use Rattle.ttx_pes.specs.Reader.{FailsWithin, TakesPesPacket, TakesRefused}
+use Rattle.ttx_pes.specs.Reader.{FailsWithin, TakesValidPesPacket, TakesRefused}
 
 -- The packets of a file, then the end or a fault.
 pub data PesOutcome : Type 0 where
@@ -18,14 +18,14 @@ pub data PesOutcome : Type 0 where
 abbrev pub until_refused : List (Result PesValue PesFault) → Option PesFault → PesOutcome
 until_refused [] None = ends
 until_refused [] (Some f) = fails f
-until_refused (Ok v ∷ pieces) left = gives v (until_refused pieces left)
-until_refused (Err f ∷ pieces) left = fails f
+until_refused (Ok v ∷ pes_packets) left = gives v (until_refused pes_packets left)
+until_refused (Err f ∷ pes_packets) left = fails f
 
 -- The result for the bytes after `given` PES packets. A reader that stops at the first fault
 -- agrees, up to there, with one that continues.
 unfoldable pub outcome_after : ℕ → List ℕ → PesOutcome
 outcome_after given bytes =
-    let value = pieces_after given bytes in until_refused value.pieces value.left
+    let value = pes_packets_after given bytes in until_refused value.pes_packets value.left
 
 -- These PES packets were consumed from a source. If it failed, it failed within the next one. If
 -- the next one is rejected for a fault of the format, the bytes consumed show that fault.
@@ -35,5 +35,5 @@ ReadsPackets failed known (fails f) left =
     (is_read f ≡ failed) × (failed ≡ true → FailsWithin known left)
     × (is_format_fault f ≡ true → TakesRefused known left f)
 ReadsPackets failed known (gives v more) left =
-    (behind : Option (List ℕ)) × TakesPesPacket known behind v
-    × ReadsPackets failed behind more left
+    (following : Option (List ℕ)) × TakesValidPesPacket known following v
+    × ReadsPackets failed following more left

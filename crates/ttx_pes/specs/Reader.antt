@@ -11,7 +11,7 @@ use Rattle.ttx_pes.specs.declared.fault.PesFault.TheVariants.{Ended, TooMany, Wr
 use Rattle.ttx_pes.specs.declared.progress.Progress.{Progress}
 use Rattle.ttx_pes.specs.declared.progress.Progress.TheVariants.{Reading, AtEnd, Broken}
 use Rattle.ttx_pes.specs.Fault.{is_read}
-use Rattle.ttx_pes.specs.PesPacket.{PesValue, IsPesPacket}
+use Rattle.ttx_pes.specs.PesGrammar.{PesValue, IsValidPesPacket}
 use Rattle.ttx_pes.specs.Reading.{answer_at, is_format_fault, most_packets, packet_at, rest_after}
 use Rattle.ttx_pes.specs.Reading.{size_at}
 
@@ -28,15 +28,15 @@ GivesAtMost most AtEnd = Unit {0}
 GivesAtMost most Broken = Unit {0}
 
 -- The result of `next_into` with its frame, in the form of a result of `next`.
-abbrev pub given_frame : Result Bool PesFault → PesValue → Result (Option PesValue) PesFault
-given_frame (Ok true) v = Ok (Some v)
-given_frame (Ok false) v = Ok None
-given_frame (Err f) v = Err f
+abbrev pub yielded_frame : Result Bool PesFault → PesValue → Result (Option PesValue) PesFault
+yielded_frame (Ok true) v = Ok (Some v)
+yielded_frame (Ok false) v = Ok None
+yielded_frame (Err f) v = Err f
 
 -- Exactly one valid PES packet with this value was consumed.
-pub record TakesPesPacket (old new : Option (List ℕ)) (v : PesValue) : Type 0 where
+pub record TakesValidPesPacket (old new : Option (List ℕ)) (v : PesValue) : Type 0 where
   pub bytes : List ℕ
-  pub is_packet : IsPesPacket v bytes
+  pub is_packet : IsValidPesPacket v bytes
   pub consumed : Consumes old new bytes
 
 -- The bytes are an incomplete packet: fewer than the six bytes that contain its size, or fewer than
@@ -61,13 +61,13 @@ pub record TakesRefused (old new : Option (List ℕ)) (f : PesFault) : Type 0 wh
 
 -- The meaning of each reader's answer. `before` is its progress before the call; `old` and `new`
 -- are the bytes that its source has left before and after the call, if they are known.
-pub record TellsPacket
+pub record ReportsPacket
     (before : Progress)
     (old new : Option (List ℕ))
     (answer : Result (Option PesValue) PesFault)
     : Type 0 where
   -- A packet that is returned is the value of exactly the bytes consumed.
-  pub packet : IfOk answer (λ given. IfSome given (TakesPesPacket old new))
+  pub packet : IfOk answer (λ given. IfSome given (TakesValidPesPacket old new))
   -- If the source's bytes are known and it does not fail, they determine the answer and the bytes
   -- left.
   pub exact :
@@ -93,15 +93,15 @@ pub record TellsPacket
 pub record TakesPackets (n : ℕ) (old new : Option (List ℕ)) : Type 0 where
   pub packets : List (List ℕ)
   pub number : length packets ≡ n
-  pub each : AllByRecursion (λ b. (v : PesValue) × IsPesPacket v b) packets
+  pub each : AllByRecursion (λ b. (v : PesValue) × IsValidPesPacket v b) packets
   pub consumed : Consumes old new (concat packets)
 
 -- The source failed within PES packet n, counted from 0. Those before it were consumed.
 pub record FailsAtPacket (n : ℕ) (old new : Option (List ℕ)) : Type 0 where
-  pub behind : Option (List ℕ)
-  pub before : TakesPackets n old behind
-  pub within : FailsWithin behind new
+  pub following : Option (List ℕ)
+  pub before : TakesPackets n old following
+  pub within : FailsWithin following new
 
 -- The bytes do not begin with a valid PES packet.
 abbrev pub BeginsNone : List ℕ → Type 0
-BeginsNone bytes = (v : PesValue) (b rest : List ℕ) → IsPesPacket v b → bytes ≡ b ++ rest → ⊥
+BeginsNone bytes = (v : PesValue) (b rest : List ℕ) → IsValidPesPacket v b → bytes ≡ b ++ rest → ⊥

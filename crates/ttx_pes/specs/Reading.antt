@@ -11,8 +11,8 @@ use Rattle.ttx_pes.specs.declared.fault.PesFault.{PesFault}
 use Rattle.ttx_pes.specs.declared.fault.PesFault.TheVariants as fault
 use Rattle.ttx_pes.specs.DataUnit.{UnitValue, is_teletext, data_unit_length, data_unit_size}
 use Rattle.ttx_pes.specs.DataUnit.{framing_code, stuffing}
-use Rattle.ttx_pes.specs.LineOrder.{last_place, stands_after}
-use Rattle.ttx_pes.specs.PesPacket.{PesValue, header_data_length, longest_packet, payload_size}
+use Rattle.ttx_pes.specs.LineOrder.{last_place, may_follow}
+use Rattle.ttx_pes.specs.PesGrammar.{PesValue, header_data_length, longest_packet, payload_size}
 
 -- The Teletext unit in 46 bytes.
 abbrev pub unit_of : List ℕ → UnitValue
@@ -35,7 +35,7 @@ teletext_at b =
 abbrev pub with_unit : List UnitValue → Option UnitValue → Result (List UnitValue) PesFault
 with_unit units None = Ok units
 with_unit units (Some u) =
-    if stands_after (last_place 0 units) u then Ok (units ++ u ∷ []) else Err fault.LineOrder
+    if may_follow (last_place 0 units) u then Ok (units ++ u ∷ []) else Err fault.LineOrder
 
 -- Appends the unit of a data unit.
 unfoldable pub unit_at : List UnitValue → List ℕ → Result (List UnitValue) PesFault
@@ -77,8 +77,8 @@ abbrev pub is_filled : List ℕ → Bool
 is_filled b = list_all (λ byte. byte == stuffing) b
 
 -- The packet is a gap marker: 184 bytes, FF from byte 6 on.
-abbrev pub is_mark : List ℕ → Bool
-is_mark piece = (length piece == payload_size) && is_filled (drop 6 piece)
+abbrev pub is_gap_marker : List ℕ → Bool
+is_gap_marker pes_packet = (length pes_packet == payload_size) && is_filled (drop 6 pes_packet)
 
 -- The fault if byte 6 does not begin with 1000.
 abbrev pub flags_fault : List ℕ → PesFault
@@ -143,13 +143,13 @@ answer_at given (x ∷ b) =
     else (packet_at (x ∷ b) >>= λ p. Ok (Some p.0))
 
 -- The bytes left after reading a packet; all if none was read.
-abbrev pub left_behind : List ℕ → Result (PesValue × List ℕ) PesFault → List ℕ
-left_behind b (Ok p) = p.1
-left_behind b (Err _) = b
+abbrev pub bytes_left_after : List ℕ → Result (PesValue × List ℕ) PesFault → List ℕ
+bytes_left_after b (Ok p) = p.1
+bytes_left_after b (Err _) = b
 
 -- The bytes after the packet at the front of these bytes.
 unfoldable pub rest_after : List ℕ → List ℕ
-rest_after b = left_behind b (packet_at b)
+rest_after b = bytes_left_after b (packet_at b)
 
 -- The fault is one of the format: `Truncated` to `LineOrder`, or `Lost`.
 abbrev pub is_format_fault : PesFault → Bool

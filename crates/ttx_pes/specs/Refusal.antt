@@ -25,7 +25,7 @@ use Rattle.std.specs.Prelude.{drop, length, replicate, slice_index, slice_index_
 use Rattle.ttx_pes.specs.declared.fault.PesFault.{PesFault}
 use Rattle.ttx_pes.specs.declared.fault.PesFault.TheVariants as fault
 use Rattle.ttx_pes.specs.DataUnit.{data_unit_size}
-use Rattle.ttx_pes.specs.PesPacket.{PesValue, IsPesPacket, header_size, most_units}
+use Rattle.ttx_pes.specs.PesGrammar.{PesValue, IsValidPesPacket, header_size, most_units}
 use Rattle.ttx_pes.specs.Reading.{flags_fault}
 
 -- The bytes of a packet from 6 on, as many as PES_packet_length says.
@@ -43,8 +43,8 @@ abbrev pub unit_faults : List PesFault
 unit_faults = fault.UnitLength ∷ fault.Framing ∷ fault.LineOrder ∷ []
 
 -- The fault of check number i for these bytes.
-abbrev pub told_fault : List ℕ → ℕ → PesFault
-told_fault b i =
+abbrev pub reported_fault : List ℕ → ℕ → PesFault
+reported_fault b i =
     slice_index_or (packet_faults b) i (slice_index_or unit_faults (i % 3) fault.Truncated)
 
 -- A number after those of all checks, for bytes with arbitrary values: no packet has more units.
@@ -85,10 +85,10 @@ pub record AgreeBefore (question : ℕ) (bytes packet : List ℕ) : Type 0 where
 pub record FailFirst (question : ℕ) (bytes : List ℕ) : Type 0 where
   pub value : PesValue
   pub packet : List ℕ
-  pub is_packet : IsPesPacket value packet
+  pub is_packet : IsValidPesPacket value packet
   pub before : AgreeBefore question bytes packet
   pub none :
       (v : PesValue) (p : List ℕ)
-      → IsPesPacket v p
+      → IsValidPesPacket v p
       → AgreeBefore (question + 1) bytes p
       → ⊥

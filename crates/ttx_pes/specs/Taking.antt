@@ -7,7 +7,7 @@ use Rattle.std.specs.Io.KnownBytes.{Consumes, IsAtEnd}
 use Rattle.sub_io.specs.Reading.{◌>>=◌}
 use Rattle.ttx_pes.specs.declared.fault.PesFault.{PesFault}
 use Rattle.ttx_pes.specs.DataUnit.{UnitValue, data_unit_size, is_teletext}
-use Rattle.ttx_pes.specs.PesPacket.{IsPesValue, PesValue, longest_packet, payload_size}
+use Rattle.ttx_pes.specs.PesGrammar.{IsPesValue, PesValue, longest_packet, payload_size}
 use Rattle.ttx_pes.specs.Reading.{is_format_fault, packet_at, units_at}
 use Rattle.ttx_pes.specs.Reading.{value_at}
 use Rattle.ttx_pes.specs.SentUnits.{AreWithin, sent_units}
@@ -64,13 +64,13 @@ pub record IsFieldSize (count : ℕ) : Type 0 where
 
 -- Facts about the packet at the front of a buffer: its PTS, the size of its data field in bytes,
 -- and the offsets of the data units of its Teletext units.
-pub record RoomValue : Type 0 where
+pub record BufferedPacketValue : Type 0 where
   pub pts : ℕ
   pub count : ℕ
   pub places : List ℕ
 
 -- The facts about no packet, with an empty data field.
-abbrev pub no_packet : RoomValue
+abbrev pub no_packet : BufferedPacketValue
 no_packet = record { pts = 0; count = 0; places = [] }
 
 -- The data field of the packet at the front of a buffer.
@@ -78,23 +78,24 @@ abbrev pub field_in : ℕ → List ℕ → List ℕ
 field_in count room = take count (drop 45 room)
 
 -- The value of a packet with that data field.
-abbrev pub room_frame : List ℕ → RoomValue → PesValue
-room_frame field h = record { pts = h.pts; units = sent_units field h.places }
+abbrev pub buffered_frame : List ℕ → BufferedPacketValue → PesValue
+buffered_frame field h = record { pts = h.pts; units = sent_units field h.places }
 
 -- The facts are true of a packet with this data field.
-pub record IsInRoom (field : List ℕ) (h : RoomValue) : Type 0 where
+pub record IsInBuffer (field : List ℕ) (h : BufferedPacketValue) : Type 0 where
   pub count : length field ≡ h.count
   pub short : h.count + 45 ≤ longest_packet
   pub within : AreWithin (length field) h.places
   pub units : HasUnits field (sent_units field h.places)
   pub all : AreAllPlaces field h.places
-  pub value : IsPesValue (room_frame field h)
+  pub value : IsPesValue (buffered_frame field h)
 
 -- The packet repeats the one with this data field and these facts, with this PTS.
-pub record IsSentAgain (field : List ℕ) (h : RoomValue) (piece : List ℕ) (pts : ℕ) : Type 0 where
-  pub value : value_at (drop 6 piece) ≡ Ok (room_frame field (record h { pts = pts }))
-  pub field_is : drop 45 piece ≡ field
-  pub known : IsInRoom field (record h { pts = pts })
+pub record IsSentAgain (field : List ℕ) (h : BufferedPacketValue) (pes_packet : List ℕ) (pts : ℕ) :
+    Type 0 where
+  pub value : value_at (drop 6 pes_packet) ≡ Ok (buffered_frame field (record h { pts = pts }))
+  pub field_is : drop 45 pes_packet ≡ field
+  pub known : IsInBuffer field (record h { pts = pts })
 
 -- A frame and the data field that it was read from, which is empty if none is stored.
 pub record KeptValue : Type 0 where
@@ -103,12 +104,12 @@ pub record KeptValue : Type 0 where
 
 -- A packet is stored: it is valid with the value of the frame, and its data field is the stored one
 -- or another; or it is invalid, for this fault.
-pub record KeepsPiece
-    (old : KeptValue) (piece : List ℕ) (answer : Result Bool PesFault) (new : KeptValue)
+pub record KeepsPesPacket
+    (old : KeptValue) (pes_packet : List ℕ) (answer : Result Bool PesFault) (new : KeptValue)
     : Type 0 where
-  pub value : OnOk answer (value_at (drop 6 piece) ≡ Ok new.frame)
-  pub field : OnOk answer (new.data_field ≡ drop 45 piece)
-  pub err : IfErr answer (λ fault. value_at (drop 6 piece) ≡ Err fault)
+  pub value : OnOk answer (value_at (drop 6 pes_packet) ≡ Ok new.frame)
+  pub field : OnOk answer (new.data_field ≡ drop 45 pes_packet)
+  pub err : IfErr answer (λ fault. value_at (drop 6 pes_packet) ≡ Err fault)
   pub kind : IfErr answer (λ fault. is_format_fault fault ≡ true)
   pub same : answer ≡ Ok true → new.data_field ≡ old.data_field
   pub units : answer ≡ Ok true → new.frame.units ≡ old.frame.units
@@ -116,8 +117,8 @@ pub record KeepsPiece
 
 -- The value of a packet is stored in a frame; or the packet is invalid, for this fault.
 pub record ReadsValue
-    (old : PesValue) (piece : List ℕ) (answer : Result (Unit {0}) PesFault) (new : PesValue)
+    (old : PesValue) (pes_packet : List ℕ) (answer : Result (Unit {0}) PesFault) (new : PesValue)
     : Type 0 where
-  pub value : OnOk answer (value_at (drop 6 piece) ≡ Ok new)
-  pub err : IfErr answer (λ fault. value_at (drop 6 piece) ≡ Err fault)
+  pub value : OnOk answer (value_at (drop 6 pes_packet) ≡ Ok new)
+  pub err : IfErr answer (λ fault. value_at (drop 6 pes_packet) ≡ Err fault)
   pub kind : IfErr answer (λ fault. is_format_fault fault ≡ true)

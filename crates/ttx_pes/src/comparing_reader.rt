@@ -4,19 +4,20 @@
 //! tried and proved, but took more lemmas than it saved.
 ghost use Rattle.std.specs.Prelude.{◌≡◌, ℕ, ◌+◌, ◌≤◌, ◌≢◌, true, false, [], None, Ok, IfErr};
 ghost use Rattle.sub_io.specs.Device.{CanFail, CountsIf, failed};
-ghost use Rattle.ttx_pes.specs.Comparing.{as_given, behind_after, passed_over, TakesDataField};
-ghost use Rattle.ttx_pes.specs.Fault.{is_of_piece, is_read};
-ghost use Rattle.ttx_pes.specs.Pieces.{TakesPiece};
+ghost use Rattle.ttx_pes.specs.Comparing.{as_yielded, taken_count_after, skipped_over};
+ghost use Rattle.ttx_pes.specs.Comparing.{TakesDataField};
+ghost use Rattle.ttx_pes.specs.Fault.{is_of_pes_packet, is_read};
+ghost use Rattle.ttx_pes.specs.PesPackets.{TakesPesPacket};
 ghost use Rattle.ttx_pes.specs.declared.comparing_reader.Compared.TheVariants.{Same, Other};
 ghost use Rattle.ttx_pes.specs.declared.progress.Progress.TheVariants.{Reading, AtEnd, Broken};
-ghost use Rattle.ttx_pes.specs.PesPacket.{IsPesValue, empty_value};
+ghost use Rattle.ttx_pes.specs.PesGrammar.{IsPesValue, empty_value};
 ghost use Rattle.ttx_pes.specs.Reading.{most_packets};
-ghost use Rattle.ttx_pes.specs.Reader.{TellsPacket, given_frame, progress_after};
+ghost use Rattle.ttx_pes.specs.Reader.{ReportsPacket, yielded_frame, progress_after};
 
 use crate::fault::PesFault;
 use crate::kept_frame::KeptFrame;
 use crate::passing::{MOST_PACKETS, read_end};
-use crate::pieces::{Came, Pieces};
+use crate::pes_packets::{PesPackets, Received};
 use crate::progress::Progress;
 use crate::sent_units::SentUnits;
 use std::marker::Model;
@@ -43,8 +44,8 @@ pub enum Compared {
 pub struct ComparingReader {
     progress: Progress,
     // Set after the fault of a complete packet: how many packets were consumed, including this one.
-    // `pass_over` then continues; any other fault ends reading.
-    behind: Option<u32>,
+    // `skip_packet` then continues; any other fault ends reading.
+    following: Option<u32>,
     kept: KeptFrame,
 }
 
@@ -60,50 +61,53 @@ impl Model for ComparingReader {
       progress = r.progress;
       frame = r.kept.frame;
       data_field = r.kept.data_field;
-      behind = r.behind;
+      following = r.following;
     } };
 
     ghost invariant = { λ r. GivesAtMost most_packets r.progress
-        × IfSome r.behind (λ given. given ≤ most_packets) };
+        × IfSome r.following (λ given. given ≤ most_packets) };
 }
 
 // Reads the next PES packet, and compares it with the stored one.
 #[inline(always)]
-fn read_compared<P: Pieces>(
+fn read_compared<P: PesPackets>(
     given: u32,
-    pieces: &mut P,
+    pes_packets: &mut P,
     kept: &mut KeptFrame,
 ) -> Result<Compared, PesFault>
-    requires count { CanFail (P.failure_count pieces.old) }
-    ensures tells { TellsPacket (Reading given) (P.remaining pieces.old) (P.left pieces.new)
-        (given_frame (as_given result) kept.new.frame) }
-    ensures taken { as_given result ≡ Ok true → TakesDataField (P.remaining pieces.old)
-        (P.left pieces.new) kept.new.frame kept.new.data_field }
+    requires count { CanFail (P.failure_count pes_packets.old) }
+    ensures reports { ReportsPacket (Reading given) (P.remaining pes_packets.old)
+        (P.left pes_packets.new)
+        (yielded_frame (as_yielded result) kept.new.frame) }
+    ensures taken { as_yielded result ≡ Ok true → TakesDataField (P.remaining pes_packets.old)
+        (P.left pes_packets.new) kept.new.frame kept.new.data_field }
     ensures same { result ≡ Ok Same → kept.new.data_field ≡ kept.old.data_field }
     ensures units { result ≡ Ok Same → kept.new.frame.units ≡ kept.old.frame.units }
     ensures other { result ≡ Ok Other → kept.new.data_field ≢ kept.old.data_field }
-    ensures below { as_given result ≡ Ok true → given ≢ most_packets }
-    ensures piece { IfErr result (λ fault. is_of_piece fault ≡ true
-        → TakesPiece (P.remaining pieces.old) (P.left pieces.new) fault) }
-    ensures before_piece { IfErr result (λ fault. is_of_piece fault ≡ true
+    ensures below { as_yielded result ≡ Ok true → given ≢ most_packets }
+    ensures pes_packet { IfErr result (λ fault. is_of_pes_packet fault ≡ true
+        → TakesPesPacket (P.remaining pes_packets.old) (P.left pes_packets.new) fault) }
+    ensures before_pes_packet { IfErr result (λ fault. is_of_pes_packet fault ≡ true
         → given ≢ most_packets) }
-    ensures settled { as_given result ≡ Ok true → P.left pieces.new ≡ P.remaining pieces.new }
-    ensures piece_settled { IfErr result (λ fault. is_of_piece fault ≡ true
-        → P.left pieces.new ≡ P.remaining pieces.new) }
-    ensures ready { P.ready pieces.old ≡ true → failed is_read result ≡ false }
-    ensures device { P.device pieces.new ≡ P.device pieces.old }
-    ensures count { CountsIf P.failure_count pieces.old (failed is_read result) pieces.new }
+    ensures settled { as_yielded result ≡ Ok true → P.left pes_packets.new ≡ P.remaining
+        pes_packets.new }
+    ensures pes_packet_settled { IfErr result (λ fault. is_of_pes_packet fault ≡ true
+        → P.left pes_packets.new ≡ P.remaining pes_packets.new) }
+    ensures ready { P.ready pes_packets.old ≡ true → failed is_read result ≡ false }
+    ensures device { P.device pes_packets.new ≡ P.device pes_packets.old }
+    ensures count { CountsIf P.failure_count pes_packets.old (failed is_read result)
+        pes_packets.new }
 {
     if given == MOST_PACKETS {
-        read_end(given, pieces)?;
+        read_end(given, pes_packets)?;
         return Ok(Compared::End);
     }
-    match pieces.next(kept)? {
-        Came::End => Ok(Compared::End),
-        Came::Piece(Ok(true)) => Ok(Compared::Same),
-        Came::Piece(Ok(false)) => Ok(Compared::Other),
-        Came::Piece(Err(fault)) => Err(fault),
-        Came::Rest(fault) => Err(fault),
+    match pes_packets.next(kept)? {
+        Received::End => Ok(Compared::End),
+        Received::PesPacket(Ok(true)) => Ok(Compared::Same),
+        Received::PesPacket(Ok(false)) => Ok(Compared::Other),
+        Received::PesPacket(Err(fault)) => Err(fault),
+        Received::Rest(fault) => Err(fault),
     }
 }
 
@@ -111,11 +115,16 @@ impl ComparingReader {
     /// Creates a reader at the start of a file. Its frame has PTS 0 and no units.
     pub fn new() -> Self
         ensures { result
-            ≡ record { progress = Reading 0; frame = empty_value; data_field = []; behind = None } }
+            ≡ record {
+              progress = Reading 0;
+              frame = empty_value;
+              data_field = [];
+              following = None;
+            } }
     {
         ComparingReader {
             progress: Progress::Reading(0),
-            behind: None,
+            following: None,
             kept: KeptFrame::new(),
         }
     }
@@ -148,47 +157,49 @@ impl ComparingReader {
     ///
     /// Returns the errors of `PesReader::next`, in the same order: the header of each packet is
     /// checked, and the units of a repeated data field were checked before. After `Flags` to
-    /// `LineOrder`, exactly the packet's bytes were consumed, and `pass_over` allows reading to
+    /// `LineOrder`, exactly the packet's bytes were consumed, and `skip_packet` allows reading to
     /// continue.
     #[inline(always)]
-    pub fn next<P: Pieces>(&mut self, pieces: &mut P) -> Result<Compared, PesFault>
-        requires { CanFail (P.failure_count pieces.old) }
-        ensures tells { TellsPacket self.old.progress (P.remaining pieces.old)
-            (P.left pieces.new) (given_frame (as_given result) self.new.frame) }
-        ensures taken { as_given result ≡ Ok true → TakesDataField (P.remaining pieces.old)
-            (P.left pieces.new) self.new.frame self.new.data_field }
-        ensures empty { as_given result ≢ Ok true → self.new.frame ≡ empty_value }
+    pub fn next<P: PesPackets>(&mut self, pes_packets: &mut P) -> Result<Compared, PesFault>
+        requires { CanFail (P.failure_count pes_packets.old) }
+        ensures reports { ReportsPacket self.old.progress (P.remaining pes_packets.old)
+            (P.left pes_packets.new) (yielded_frame (as_yielded result) self.new.frame) }
+        ensures taken { as_yielded result ≡ Ok true → TakesDataField (P.remaining pes_packets.old)
+            (P.left pes_packets.new) self.new.frame self.new.data_field }
+        ensures empty { as_yielded result ≢ Ok true → self.new.frame ≡ empty_value }
         // The meaning of `Same` and `Other`.
         ensures same { result ≡ Ok Same → self.new.data_field ≡ self.old.data_field }
         ensures units { result ≡ Ok Same → self.new.frame.units ≡ self.old.frame.units }
         ensures other { result ≡ Ok Other → self.new.data_field ≢ self.old.data_field }
 
         // After the fault of a complete packet, its bytes were consumed.
-        ensures piece { IfErr result (λ fault. is_of_piece fault ≡ true
-            → TakesPiece (P.remaining pieces.old) (P.left pieces.new) fault) }
-        ensures behind { self.new.behind ≡ behind_after self.old.progress result }
+        ensures pes_packet { IfErr result (λ fault. is_of_pes_packet fault ≡ true
+            → TakesPesPacket (P.remaining pes_packets.old) (P.left pes_packets.new) fault) }
+        ensures following { self.new.following ≡ taken_count_after self.old.progress result }
         ensures progress { self.new.progress
-            ≡ progress_after self.old.progress (given_frame (as_given result) self.new.frame) }
+            ≡ progress_after self.old.progress (yielded_frame (as_yielded result) self.new.frame) }
         ensures few { (given : ℕ) → self.new.progress ≡ Reading given → given ≤ most_packets }
         // Consumes nothing after the end or a fault.
-        ensures at_end { self.old.progress ≡ AtEnd → pieces.new ≡ pieces.old }
-        ensures broken { self.old.progress ≡ Broken → pieces.new ≡ pieces.old }
+        ensures at_end { self.old.progress ≡ AtEnd → pes_packets.new ≡ pes_packets.old }
+        ensures broken { self.old.progress ≡ Broken → pes_packets.new ≡ pes_packets.old }
         // After a valid packet, or the fault of a complete one, no bytes have been read ahead.
-        ensures settled { as_given result ≡ Ok true → P.left pieces.new ≡ P.remaining pieces.new }
-        ensures piece_settled { IfErr result (λ fault. is_of_piece fault ≡ true
-            → P.left pieces.new ≡ P.remaining pieces.new) }
+        ensures settled { as_yielded result ≡ Ok true → P.left pes_packets.new ≡ P.remaining
+            pes_packets.new }
+        ensures pes_packet_settled { IfErr result (λ fault. is_of_pes_packet fault ≡ true
+            → P.left pes_packets.new ≡ P.remaining pes_packets.new) }
         // Cannot fail if no device is called.
-        ensures ready { P.ready pieces.old ≡ true → failed is_read result ≡ false }
-        ensures device { P.device pieces.new ≡ P.device pieces.old }
-        ensures count { CountsIf P.failure_count pieces.old (failed is_read result) pieces.new }
+        ensures ready { P.ready pes_packets.old ≡ true → failed is_read result ≡ false }
+        ensures device { P.device pes_packets.new ≡ P.device pes_packets.old }
+        ensures count { CountsIf P.failure_count pes_packets.old (failed is_read result)
+            pes_packets.new }
     {
-        self.behind = None;
+        self.following = None;
         let given = match self.progress {
             Progress::Reading(given) => given,
             Progress::AtEnd => return self.give_none(Ok(Compared::End)),
             Progress::Broken => return self.give_none(Err(PesFault::Ended)),
         };
-        match read_compared(given, pieces, &mut self.kept) {
+        match read_compared(given, pes_packets, &mut self.kept) {
             Ok(Compared::End) => {
                 self.progress = Progress::AtEnd;
                 self.give_none(Ok(Compared::End))
@@ -203,8 +214,8 @@ impl ComparingReader {
             }
             Err(fault) => {
                 self.progress = Progress::Broken;
-                if fault.is_of_piece() {
-                    self.behind = Some(given + 1);
+                if fault.is_of_pes_packet() {
+                    self.following = Some(given + 1);
                 }
                 self.give_none(Err(fault))
             }
@@ -223,13 +234,13 @@ impl ComparingReader {
 
     /// Continues after a packet with a fault, if the last answer was the fault of a complete
     /// packet, whose length field says where it ends. Does nothing after any other answer.
-    pub fn pass_over(&mut self)
-        ensures over { self.new ≡ passed_over self.old }
+    pub fn skip_packet(&mut self)
+        ensures over { self.new ≡ skipped_over self.old }
         ensures few { (given : ℕ) → self.new.progress ≡ Reading given → given ≤ most_packets }
     {
-        if let Some(given) = self.behind {
+        if let Some(given) = self.following {
             self.progress = Progress::Reading(given);
-            self.behind = None;
+            self.following = None;
         }
     }
 }

@@ -3,7 +3,7 @@ ghost use Rattle.std.specs.Prelude.{◌≡◌, ◌+◌, ◌*◌, ◌≤◌, ◌+
 ghost use Rattle.std.specs.Prelude.{IfErr, IfOk, slice_index};
 ghost use Rattle.ttx_pes.specs.DataUnit.{data_unit_size, teletext_unit, stuffing_unit};
 ghost use Rattle.ttx_pes.specs.DataUnit as data_unit_words;
-ghost use Rattle.ttx_pes.specs.PesPacket.{longest_packet, most_units};
+ghost use Rattle.ttx_pes.specs.PesGrammar.{longest_packet, most_units};
 ghost use Rattle.ttx_pes.specs.Reading.{teletext_at, unit_at, unit_of, units_at, is_format_fault};
 ghost use Rattle.ttx_pes.specs.SentUnits.{unit_where};
 

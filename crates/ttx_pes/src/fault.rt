@@ -45,7 +45,7 @@ pub enum PesFault {
 }
 
 impl PesFault {
-    ghost use Rattle.ttx_pes.specs.Fault.{is_of_piece, pes_code};
+    ghost use Rattle.ttx_pes.specs.Fault.{is_of_pes_packet, pes_code};
 
     /// Returns the number and the name of the fault in reports (own).
     pub fn code(self) -> FaultCode
@@ -73,8 +73,8 @@ impl PesFault {
 
     /// Returns whether the fault is in the contents of a packet that is as long as its length field
     /// says (EN 300 472, PES_packet_length). Then it is known where the next packet begins.
-    pub fn is_of_piece(self) -> bool
-        ensures { result ≡ is_of_piece self }
+    pub fn is_of_pes_packet(self) -> bool
+        ensures { result ≡ is_of_pes_packet self }
     {
         match self {
             PesFault::Flags

@@ -1,14 +1,14 @@
 //! The PES packet that was read last.
 ghost use Rattle.std.specs.Prelude.{◌≡◌, ◌+◌, ◌%◌, ◌≤◌, [], drop, length, take};
-ghost use Rattle.ttx_pes.specs.PesPacket.{IsPesValue, empty_value, longest_packet, payload_size};
-ghost use Rattle.ttx_pes.specs.Pieces.{IsPiece};
-ghost use Rattle.ttx_pes.specs.Taking.{KeepsPiece};
+ghost use Rattle.ttx_pes.specs.PesGrammar.{IsPesValue, empty_value, longest_packet, payload_size};
+ghost use Rattle.ttx_pes.specs.PesPackets.{IsPesPacket};
+ghost use Rattle.ttx_pes.specs.Taking.{KeepsPesPacket};
 
+use crate::buffered_packet::BufferedPacket;
 use crate::fault::PesFault;
 use crate::pes_header::LONGEST_PACKET;
-use crate::piece_room::Room;
-use crate::pieces::TakePiece;
-use crate::room_packet::RoomPacket;
+use crate::pes_packet_buffer::PacketBuffer;
+use crate::pes_packets::TakePesPacket;
 use crate::sent_units::SentUnits;
 use std::marker::Model;
 
@@ -16,46 +16,46 @@ use std::marker::Model;
 #[derive(Drop)]
 pub(crate) struct KeptFrame {
     // The stored packet.
-    room: Room,
-    known: RoomPacket,
+    room: PacketBuffer,
+    known: BufferedPacket,
 }
 
 impl Model for KeptFrame {
-    ghost use Rattle.ttx_pes.specs.Taking.{IsInRoom, KeptValue, field_in, room_frame};
+    ghost use Rattle.ttx_pes.specs.Taking.{IsInBuffer, KeptValue, field_in, buffered_frame};
 
     ghost Value = { KeptValue };
 
     ghost view = { λ k. record {
-      frame = room_frame (field_in k.known.count k.room) k.known;
+      frame = buffered_frame (field_in k.known.count k.room) k.known;
       data_field = field_in k.known.count k.room;
     } };
 
-    ghost invariant = { λ k. IsInRoom (field_in k.known.count k.room) k.known };
+    ghost invariant = { λ k. IsInBuffer (field_in k.known.count k.room) k.known };
 }
 
 // Returns the bytes of a packet from byte 6 on.
 #[inline(always)]
-#[tactic(auto, using(crate::proofs::PieceRoomLemmas::piece_sized))]
-pub(crate) fn body_of_piece(piece: &[u8]) -> &[u8]
-    requires { IsPiece piece.now }
-    ensures value { result.now ≡ drop 6 piece.now }
+#[tactic(auto, using(crate::proofs::PesPacketBufferLemmas::pes_packet_sized))]
+pub(crate) fn body_of_pes_packet(pes_packet: &[u8]) -> &[u8]
+    requires { IsPesPacket pes_packet.now }
+    ensures value { result.now ≡ drop 6 pes_packet.now }
     ensures long { payload_size ≤ length result.now + 6 }
     ensures short { length result.now + 6 ≤ longest_packet }
     ensures whole { (length result.now + 6) % payload_size ≡ 0 }
-    ensures size { length piece.now ≡ length result.now + 6 }
+    ensures size { length pes_packet.now ≡ length result.now + 6 }
 {
-    let (_, body) = piece.split_at(6);
+    let (_, body) = pes_packet.split_at(6);
     body
 }
 
 // Copies a packet to the front of the buffer.
 #[inline(always)]
-fn put_in_room(room: &mut Room, piece: &[u8])
-    requires { length piece.now ≤ longest_packet }
-    ensures { take (length piece.now) room.new ≡ piece.now }
+fn put_in_buffer(room: &mut PacketBuffer, pes_packet: &[u8])
+    requires { length pes_packet.now ≤ longest_packet }
+    ensures { take (length pes_packet.now) room.new ≡ pes_packet.now }
 {
-    let (front, _) = room.split_at_mut(piece.len());
-    front.copy_from_slice(piece);
+    let (prefix, _) = room.split_at_mut(pes_packet.len());
+    prefix.copy_from_slice(pes_packet);
 }
 
 impl KeptFrame {
@@ -65,7 +65,7 @@ impl KeptFrame {
     {
         KeptFrame {
             room: [0; LONGEST_PACKET],
-            known: RoomPacket::new(),
+            known: BufferedPacket::new(),
         }
     }
 
@@ -94,14 +94,14 @@ impl KeptFrame {
     // Takes a packet that may differ from the stored one. Such packets are rare, so this is a
     // function of its own, which makes the others faster.
     #[inline(never)]
-    fn take_other(&mut self, piece: &[u8]) -> Result<bool, PesFault>
-        requires { IsPiece piece.now }
-        ensures { KeepsPiece self.old piece.now result self.new }
+    fn take_other(&mut self, pes_packet: &[u8]) -> Result<bool, PesFault>
+        requires { IsPesPacket pes_packet.now }
+        ensures { KeepsPesPacket self.old pes_packet.now result self.new }
     {
-        match self.known.take(&self.room, body_of_piece(piece)) {
+        match self.known.take(&self.room, body_of_pes_packet(pes_packet)) {
             Ok(true) => Ok(true),
             Ok(false) => {
-                put_in_room(&mut self.room, piece);
+                put_in_buffer(&mut self.room, pes_packet);
                 Ok(false)
             }
             Err(fault) => {
@@ -112,24 +112,24 @@ impl KeptFrame {
     }
 }
 
-impl TakePiece for KeptFrame {
+impl TakePesPacket for KeptFrame {
     // `Ok(true)` if the data field is the stored one, `Ok(false)` if not, or the fault of the
     // packet.
     type Answer = Result<bool, PesFault>;
 
-    ghost is_take = { KeepsPiece };
+    ghost is_take = { KeepsPesPacket };
 
     // Stores the packet, and compares it with the stored one. Usually it is a repetition. This is
     // tested only if the stored packet was a repetition too, so that no time is lost if every
     // packet is different.
     #[inline(always)]
-    fn take(&mut self, piece: &[u8]) -> Result<bool, PesFault> {
+    fn take(&mut self, pes_packet: &[u8]) -> Result<bool, PesFault> {
         if self.known.repeats() {
-            if let Some(pts) = self.known.pts_again(&self.room, piece) {
+            if let Some(pts) = self.known.pts_again(&self.room, pes_packet) {
                 self.known.set_pts(pts);
                 return Ok(true);
             }
         }
-        self.take_other(piece)
+        self.take_other(pes_packet)
     }
 }

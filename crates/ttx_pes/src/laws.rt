@@ -1,6 +1,6 @@
 //! Laws of the format, each a function whose contract is the law.
 ghost use Rattle.ttx_pes.specs.Laws.{LawOfAnswers, LawOfCanonicalPacket, LawOfGrammar};
-ghost use Rattle.ttx_pes.specs.Laws.{LawOfNumberedFrame, LawOfPieces};
+ghost use Rattle.ttx_pes.specs.Laws.{LawOfNumberedFrame, LawOfPesPackets};
 ghost use Rattle.ttx_pes.specs.Laws.{LawOfLineOrder, LawOfOneValue, LawOfPacketValue, LawOfReading};
 ghost use Rattle.ttx_pes.specs.Laws.{LawOfRanges, LawOfReadingBack, LawOfRefusal};
 
@@ -16,7 +16,7 @@ pub fn law_of_packet_value()
 {}
 
 /// The canonical packet of each value that fits in a `PesFrame` is a valid packet with that value.
-#[tactic(auto, using(crate::proofs::PesPacketLemmas::canonical_is_packet))]
+#[tactic(auto, using(crate::proofs::PesGrammarLemmas::canonical_is_packet))]
 pub fn law_of_canonical_packet()
     ensures { LawOfCanonicalPacket }
 {}
@@ -66,8 +66,8 @@ pub fn law_of_numbered_frame()
 
 /// The PES packets that are read from bytes, valid or skipped, are the longest list of byte strings
 /// with correct length fields at the front of the bytes.
-pub fn law_of_pieces()
-    ensures { LawOfPieces }
+pub fn law_of_pes_packets()
+    ensures { LawOfPesPackets }
 {}
 
 /// A range of a file has the PES packets with the numbers of the range, and the bytes after the

@@ -16,28 +16,28 @@
 //! ```
 #![tactic(auto)]
 
+mod borrowed_packet;
+mod buffered_packet;
 mod comparing_reader;
 mod data_unit;
 mod fault;
-mod file_pieces;
+mod file_pes_packets;
 mod kept_frame;
 mod laws;
-mod lent_packet;
-mod limited_pieces;
+mod limited_pes_packets;
 mod line_numbers;
-mod numbered_pieces;
-mod part_of_pieces;
+mod numbered_pes_packets;
+mod part_of_pes_packets;
 mod passing;
 mod pes_frame;
 mod pes_header;
-mod piece_range;
-mod piece_room;
-mod pieces;
-mod pieces_ahead;
+mod pes_packet_buffer;
+mod pes_packet_range;
+mod pes_packets;
+mod pes_packets_ahead;
 mod progress;
 mod reader;
 mod repeated_packet;
-mod room_packet;
 mod same_bytes;
 mod same_heads;
 mod sent_units;
@@ -45,25 +45,25 @@ mod unit;
 mod unit_places;
 mod writer;
 
+pub use borrowed_packet::{flush_first, holds_packet};
 pub use comparing_reader::{Compared, ComparingReader};
 pub use fault::PesFault;
-pub use file_pieces::FilePieces;
+pub use file_pes_packets::FilePesPackets;
 pub use laws::{
     law_of_answers, law_of_canonical_packet, law_of_grammar, law_of_line_order,
-    law_of_numbered_frame, law_of_one_value, law_of_packet_value, law_of_pieces, law_of_ranges,
-    law_of_reading, law_of_reading_back, law_of_refusal,
+    law_of_numbered_frame, law_of_one_value, law_of_packet_value, law_of_pes_packets,
+    law_of_ranges, law_of_reading, law_of_reading_back, law_of_refusal,
 };
-pub use lent_packet::{hand_on_first, holds_packet};
-pub use limited_pieces::LimitedPieces;
+pub use limited_pes_packets::LimitedPesPackets;
 pub use line_numbers::put_frame;
-pub use numbered_pieces::{FailedAt, NumberedPieces};
-pub use part_of_pieces::PartOfPieces;
-pub use passing::{MOST_PACKETS, pass_pieces};
+pub use numbered_pes_packets::{FailedAt, NumberedPesPackets};
+pub use part_of_pes_packets::PartOfPesPackets;
+pub use passing::{MOST_PACKETS, skip_pes_packets};
 pub use pes_frame::{MOST_UNITS, PesFrame};
-pub use pes_header::{is_mark, size_of};
-pub use piece_range::PieceRange;
-pub use pieces::{Came, Pieces, REST_ROOM, TakePiece};
-pub use pieces_ahead::PiecesAhead;
+pub use pes_header::{is_gap_marker, size_of};
+pub use pes_packet_range::PesPacketRange;
+pub use pes_packets::{PesPackets, REST_BUFFER_SIZE, Received, TakePesPacket};
+pub use pes_packets_ahead::PesPacketsAhead;
 pub use progress::Progress;
 pub use reader::PesReader;
 pub use repeated_packet::RepeatedPacket;

@@ -4,7 +4,7 @@ ghost use Rattle.sub_io.specs.Device.{CanFail, CountsIf, Writes, failed};
 ghost use Rattle.ttx_pes.specs.Fault.{is_write};
 ghost use Rattle.ttx_pes.specs.declared.fault.PesFault.TheVariants.{Write};
 ghost use Rattle.ttx_pes.specs.LineOrder.{line_order_place, numbered_place, numbered_unit};
-ghost use Rattle.ttx_pes.specs.PesPacket.{canonical_packet, numbered_frame};
+ghost use Rattle.ttx_pes.specs.PesGrammar.{canonical_packet, numbered_frame};
 
 use crate::fault::PesFault;
 use crate::pes_frame::PesFrame;

@@ -2,14 +2,14 @@
 ghost use Rattle.std.specs.Prelude.{◌≡◌, ◌<◌, ◌≤◌, ⊤, Err, IfErr, None, Ok, OnErr, OnOk, false};
 ghost use Rattle.std.specs.Prelude.{true};
 ghost use Rattle.sub_io.specs.Device.{CanFail, CountsFailure, CountsIf, failed};
-ghost use Rattle.ttx_pes.specs.Advancing.{HasPassed, Passes};
-ghost use Rattle.ttx_pes.specs.Fault.{is_of_piece, is_read};
-ghost use Rattle.ttx_pes.specs.Reader.{TellsPacket};
+ghost use Rattle.ttx_pes.specs.Advancing.{HasSkipped, Passes};
+ghost use Rattle.ttx_pes.specs.Fault.{is_of_pes_packet, is_read};
+ghost use Rattle.ttx_pes.specs.Reader.{ReportsPacket};
 ghost use Rattle.ttx_pes.specs.Reading.{most_packets};
 ghost use Rattle.ttx_pes.specs.declared.progress.Progress.TheVariants.{Reading};
 
 use crate::fault::PesFault;
-use crate::pieces::{Came, Pieces, TakePiece};
+use crate::pes_packets::{PesPackets, Received, TakePesPacket};
 use sub_io::Failed;
 
 /// The maximum number of PES packets of a file: one for each frame of a day at 25 frames per
@@ -18,62 +18,65 @@ pub const MOST_PACKETS: u32 = 2_160_000;
 
 // Ignores a packet.
 #[derive(Drop)]
-pub(crate) struct PassOver;
+pub(crate) struct SkipOver;
 
-impl TakePiece for PassOver {
+impl TakePesPacket for SkipOver {
     type Answer = ();
 
-    ghost is_take = { λ old piece answer new. ⊤ };
+    ghost is_take = { λ old pes_packet answer new. ⊤ };
 
-    fn take(&mut self, _piece: &[u8]) {}
+    fn take(&mut self, _pes_packet: &[u8]) {}
 }
 
 /// Skips the first `n` packets, or all if there are fewer. Returns how many it skipped, and whether
 /// the device failed.
-pub fn pass_pieces<P: Pieces>(n: u64, pieces: &mut P) -> (u64, Result<(), Failed>)
-    requires failures { CanFail (P.failure_count pieces.old) }
+pub fn skip_pes_packets<P: PesPackets>(n: u64, pes_packets: &mut P) -> (u64, Result<(), Failed>)
+    requires failures { CanFail (P.failure_count pes_packets.old) }
     ensures most { result.0 ≤ n }
     // If it failed, fewer than `n` were skipped.
     ensures fewer { OnErr result.1 (result.0 < n) }
-    ensures passed { OnOk result.1
-        (Passes n (P.remaining pieces.old) (P.remaining pieces.new) result.0) }
+    ensures skipped { OnOk result.1
+        (Passes n (P.remaining pes_packets.old) (P.remaining pes_packets.new) result.0) }
     // Even if the device failed, it is known how many remain to be skipped.
-    ensures so_far { HasPassed n result.0 (P.remaining pieces.old) (P.remaining pieces.new) }
-    ensures same { P.device pieces.new ≡ P.device pieces.old }
-    ensures count { CountsFailure (P.failure_count pieces.old) result.1
-        (P.failure_count pieces.new) }
+    ensures so_far { HasSkipped n result.0 (P.remaining pes_packets.old)
+        (P.remaining pes_packets.new) }
+    ensures same { P.device pes_packets.new ≡ P.device pes_packets.old }
+    ensures count { CountsFailure (P.failure_count pes_packets.old) result.1
+        (P.failure_count pes_packets.new) }
 {
-    let mut passed = 0;
-    while passed < n {
-        let came = match pieces.next(&mut PassOver) {
-            Ok(came) => came,
-            Err(failed) => return (passed, Err(failed)),
+    let mut skipped = 0;
+    while skipped < n {
+        let received = match pes_packets.next(&mut SkipOver) {
+            Ok(received) => received,
+            Err(failed) => return (skipped, Err(failed)),
         };
-        match came {
-            Came::Piece(()) => passed += 1,
-            _ => return (passed, Ok(())),
+        match received {
+            Received::PesPacket(()) => skipped += 1,
+            _ => return (skipped, Ok(())),
         }
     }
-    (passed, Ok(()))
+    (skipped, Ok(()))
 }
 
 // Reads on after the maximum number of packets: no byte may be left.
 #[inline(never)]
-pub(crate) fn read_end<P: Pieces>(given: u32, pieces: &mut P) -> Result<(), PesFault>
-    requires count { CanFail (P.failure_count pieces.old) }
+pub(crate) fn read_end<P: PesPackets>(given: u32, pes_packets: &mut P) -> Result<(), PesFault>
+    requires count { CanFail (P.failure_count pes_packets.old) }
     requires full { given ≡ most_packets }
-    ensures none { OnOk result (TellsPacket (Reading given) (P.remaining pieces.old)
-        (P.left pieces.new) (Ok None)) }
-    ensures fault { IfErr result (λ fault. TellsPacket (Reading given) (P.remaining pieces.old)
-        (P.left pieces.new) (Err fault)) }
-    ensures of_no_piece { IfErr result (λ fault. is_of_piece fault ≡ false) }
-    ensures ready { P.ready pieces.old ≡ true → failed is_read result ≡ false }
-    ensures device { P.device pieces.new ≡ P.device pieces.old }
-    ensures count { CountsIf P.failure_count pieces.old (failed is_read result) pieces.new }
+    ensures none { OnOk result (ReportsPacket (Reading given) (P.remaining pes_packets.old)
+        (P.left pes_packets.new) (Ok None)) }
+    ensures fault { IfErr result
+        (λ fault. ReportsPacket (Reading given) (P.remaining pes_packets.old)
+        (P.left pes_packets.new) (Err fault)) }
+    ensures of_no_pes_packet { IfErr result (λ fault. is_of_pes_packet fault ≡ false) }
+    ensures ready { P.ready pes_packets.old ≡ true → failed is_read result ≡ false }
+    ensures device { P.device pes_packets.new ≡ P.device pes_packets.old }
+    ensures count { CountsIf P.failure_count pes_packets.old (failed is_read result)
+        pes_packets.new }
 {
-    match pieces.next(&mut PassOver)? {
-        Came::End => Ok(()),
-        Came::Piece(()) => Err(PesFault::TooMany),
-        Came::Rest(_) => Err(PesFault::TooMany),
+    match pes_packets.next(&mut SkipOver)? {
+        Received::End => Ok(()),
+        Received::PesPacket(()) => Err(PesFault::TooMany),
+        Received::Rest(_) => Err(PesFault::TooMany),
     }
 }

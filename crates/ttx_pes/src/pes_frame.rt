@@ -2,7 +2,7 @@
 ghost use Rattle.std.specs.Prelude.{◌≡◌, ◌+◌, ◌^◌, ◌<◌, ◌≤◌, ◌↔◌, true, [], ◌∷◌, ◌++◌, length};
 ghost use Rattle.std.specs.Prelude.{take};
 ghost use Rattle.std.specs.Prelude.{IsOk, OnOk, IfErr, OnErr};
-ghost use Rattle.ttx_pes.specs.PesPacket.{most_units};
+ghost use Rattle.ttx_pes.specs.PesGrammar.{most_units};
 
 use crate::unit::Unit;
 use arrayvec::ArrayVec;
@@ -29,7 +29,7 @@ impl Model for PesFrame {
     ghost use Rattle.std.specs.List.{AllByRecursion};
     ghost use Rattle.ttx_pes.specs.DataUnit.{IsUnit};
     ghost use Rattle.ttx_pes.specs.LineOrder.{last_place, AreInLineOrder};
-    ghost use Rattle.ttx_pes.specs.PesPacket.{PesValue};
+    ghost use Rattle.ttx_pes.specs.PesGrammar.{PesValue};
 
     ghost Value = { PesValue };
 
@@ -45,8 +45,8 @@ impl Model for PesFrame {
 }
 
 impl PesFrame {
-    ghost use Rattle.ttx_pes.specs.LineOrder.{last_place, stands_after};
-    ghost use Rattle.ttx_pes.specs.PesPacket.{IsPesValue, empty_value};
+    ghost use Rattle.ttx_pes.specs.LineOrder.{last_place, may_follow};
+    ghost use Rattle.ttx_pes.specs.PesGrammar.{IsPesValue, empty_value};
 
     /// Creates a frame without units. `pts` is in ticks of 90 kHz, 33 bits.
     pub fn new(pts: u64) -> Self
@@ -87,7 +87,7 @@ impl PesFrame {
     #[tactic(auto, using(crate::proofs::LineOrderLemmas::order))]
     pub fn add(&mut self, unit: Unit) -> Result<(), Unit>
         ensures variant { IsOk result ↔ ((length self.old.units < most_units)
-            × (stands_after (last_place 0 self.old.units) unit ≡ true)) }
+            × (may_follow (last_place 0 self.old.units) unit ≡ true)) }
         ensures ok { OnOk result
             (self.new ≡ record self.old { units = self.old.units ++ unit ∷ [] }) }
         ensures err { OnErr result (self.new ≡ self.old) }
@@ -109,7 +109,7 @@ impl PesFrame {
     #[tactic(auto, using(crate::proofs::LineOrderLemmas::order))]
     pub(crate) fn push(&mut self, unit: Unit)
         requires room { length self.old.units < most_units }
-        requires stands { stands_after (last_place 0 self.old.units) unit ≡ true }
+        requires stands { may_follow (last_place 0 self.old.units) unit ≡ true }
         ensures { self.new ≡ record self.old { units = self.old.units ++ unit ∷ [] } }
     {
         let place = unit.place_after(self.last).unwrap();

@@ -2,10 +2,10 @@
 //! data_identifier).
 ghost use Rattle.std.specs.Prelude.{◌≡◌, ◌+◌, ◌*◌, ◌/◌, ◌%◌, ◌^◌, ◌<◌, ◌≤◌, true, false, length};
 ghost use Rattle.std.specs.Prelude.{slice_index, IfOk, IfErr};
-ghost use Rattle.ttx_pes.specs.Fault.{is_of_piece};
-ghost use Rattle.ttx_pes.specs.PesPacket.{header_size, longest_packet, payload_size};
-ghost use Rattle.ttx_pes.specs.PesPacket.{pes_packet_header, pts_bytes};
-ghost use Rattle.ttx_pes.specs.Reading.{flags_fault, is_filled, is_format_fault, is_mark};
+ghost use Rattle.ttx_pes.specs.Fault.{is_of_pes_packet};
+ghost use Rattle.ttx_pes.specs.PesGrammar.{header_size, longest_packet, payload_size};
+ghost use Rattle.ttx_pes.specs.PesGrammar.{pes_packet_header, pts_bytes};
+ghost use Rattle.ttx_pes.specs.Reading.{flags_fault, is_filled, is_format_fault, is_gap_marker};
 ghost use Rattle.ttx_pes.specs.Reading.{is_start, pts_at};
 ghost use Rattle.ttx_pes.specs.Reading.{size_at};
 
@@ -31,7 +31,7 @@ pub(crate) const LONGEST_PACKET: usize = 9 * PAYLOAD;
 pub fn size_of(head: &[u8; 6]) -> Result<usize, PesFault>
     ensures exact { size_at head.now ≡ result }
     ensures kind { IfErr result (λ fault. is_format_fault fault ≡ true) }
-    ensures of_no_piece { IfErr result (λ fault. is_of_piece fault ≡ false) }
+    ensures of_no_pes_packet { IfErr result (λ fault. is_of_pes_packet fault ≡ false) }
     ensures range { IfOk result (λ size.
         (payload_size ≤ size) × (size ≤ longest_packet) × (size % payload_size ≡ 0)) }
 {
@@ -110,13 +110,13 @@ fn is_filled(body: &[u8]) -> bool
 
 /// Returns whether a packet is a gap marker, which replaces lost PES packets: 184 bytes, FF from
 /// byte 6 on (own).
-pub fn is_mark(piece: &[u8]) -> bool
-    ensures { result ≡ is_mark piece.now }
+pub fn is_gap_marker(pes_packet: &[u8]) -> bool
+    ensures { result ≡ is_gap_marker pes_packet.now }
 {
-    if piece.len() != PAYLOAD {
+    if pes_packet.len() != PAYLOAD {
         return false;
     }
-    let (_, body) = piece.split_at(6);
+    let (_, body) = pes_packet.split_at(6);
     is_filled(body)
 }
 
@@ -145,7 +145,7 @@ pub(crate) fn bytes_of_pts(pts: u64) -> [u8; 5]
 }
 
 // Returns the first 46 bytes of the canonical packet of `n` payloads.
-#[tactic(auto, unfolding(crate::specs::PesPacket::pes_packet_header))]
+#[tactic(auto, unfolding(crate::specs::PesGrammar::pes_packet_header))]
 pub(crate) fn header_of(n: u16, pts: u64) -> Bytes
     requires n { (1 ≤ n) × (n ≤ 9) }
     requires pts { pts < 2 ^ 33 }

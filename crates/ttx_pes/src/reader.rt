@@ -3,19 +3,19 @@ ghost use Rattle.std.specs.Prelude.{◌≡◌, ℕ, ◌+◌, ◌%◌, ◌≤◌,
 ghost use Rattle.sub_io.specs.Device.{CanFail, CountsIf, failed};
 ghost use Rattle.ttx_pes.specs.Fault.{is_read};
 ghost use Rattle.ttx_pes.specs.declared.progress.Progress.TheVariants.{Reading, AtEnd, Broken};
-ghost use Rattle.ttx_pes.specs.PesPacket.{empty_value, longest_packet, payload_size};
+ghost use Rattle.ttx_pes.specs.PesGrammar.{empty_value, longest_packet, payload_size};
 ghost use Rattle.ttx_pes.specs.Reading.{value_at, is_format_fault, most_packets};
-ghost use Rattle.ttx_pes.specs.Reader.{TellsPacket, given_frame, progress_after};
+ghost use Rattle.ttx_pes.specs.Reader.{ReportsPacket, yielded_frame, progress_after};
 ghost use Rattle.ttx_pes.specs.Taking.{ReadsValue};
 
 use crate::data_unit::{DATA_UNIT, take_units};
 use crate::fault::PesFault;
-use crate::file_pieces::FilePieces;
-use crate::kept_frame::body_of_piece;
+use crate::file_pes_packets::FilePesPackets;
+use crate::kept_frame::body_of_pes_packet;
 use crate::passing::{MOST_PACKETS, read_end};
 use crate::pes_frame::PesFrame;
 use crate::pes_header::pts_of;
-use crate::pieces::{Came, Pieces, TakePiece};
+use crate::pes_packets::{PesPackets, Received, TakePesPacket};
 use crate::progress::Progress;
 use std::marker::Model;
 use sub_io::Source;
@@ -53,53 +53,56 @@ fn read_value(body: &[u8], frame: &mut PesFrame) -> Result<(), PesFault>
     take_units(frame, blocks.len() / DATA_UNIT, blocks)
 }
 
-impl TakePiece for PesFrame {
+impl TakePesPacket for PesFrame {
     // Whether the packet is valid, or its fault.
     type Answer = Result<(), PesFault>;
 
     ghost is_take = { ReadsValue };
 
     // Stores the value of a packet in the frame.
-    fn take(&mut self, piece: &[u8]) -> Result<(), PesFault> {
-        read_value(body_of_piece(piece), self)
+    fn take(&mut self, pes_packet: &[u8]) -> Result<(), PesFault> {
+        read_value(body_of_pes_packet(pes_packet), self)
     }
 }
 
 // Stores the next packet's value in the frame. Returns `false` at the end.
-fn read_packet<P: Pieces>(
+fn read_packet<P: PesPackets>(
     given: u32,
-    pieces: &mut P,
+    pes_packets: &mut P,
     frame: &mut PesFrame,
 ) -> Result<bool, PesFault>
-    requires { CanFail (P.failure_count pieces.old) }
-    ensures tells { TellsPacket (Reading given) (P.remaining pieces.old) (P.left pieces.new)
-        (given_frame result frame.new) }
+    requires { CanFail (P.failure_count pes_packets.old) }
+    ensures reports { ReportsPacket (Reading given) (P.remaining pes_packets.old)
+        (P.left pes_packets.new)
+        (yielded_frame result frame.new) }
     ensures below { result ≡ Ok true → given ≢ most_packets }
-    ensures device { P.device pieces.new ≡ P.device pieces.old }
-    ensures count { CountsIf P.failure_count pieces.old (failed is_read result) pieces.new }
+    ensures device { P.device pes_packets.new ≡ P.device pes_packets.old }
+    ensures count { CountsIf P.failure_count pes_packets.old (failed is_read result)
+        pes_packets.new }
 {
     if given == MOST_PACKETS {
-        read_end(given, pieces)?;
+        read_end(given, pes_packets)?;
         return Ok(false);
     }
-    match pieces.next(frame)? {
-        Came::End => Ok(false),
-        Came::Piece(Ok(())) => Ok(true),
-        Came::Piece(Err(fault)) => Err(fault),
-        Came::Rest(fault) => Err(fault),
+    match pes_packets.next(frame)? {
+        Received::End => Ok(false),
+        Received::PesPacket(Ok(())) => Ok(true),
+        Received::PesPacket(Err(fault)) => Err(fault),
+        Received::Rest(fault) => Err(fault),
     }
 }
 
 // Stores the next packet's value in the frame. Returns `false` at the end of the source.
 fn read_next<S: Source>(given: u32, source: &mut S, frame: &mut PesFrame) -> Result<bool, PesFault>
     requires { CanFail (S.failure_count source.old) }
-    ensures tells { TellsPacket (Reading given) (S.remaining source.old) (S.remaining source.new)
-        (given_frame result frame.new) }
+    ensures reports { ReportsPacket (Reading given) (S.remaining source.old)
+        (S.remaining source.new)
+        (yielded_frame result frame.new) }
     ensures below { result ≡ Ok true → given ≢ most_packets }
     ensures count { CountsIf S.failure_count source.old (failed is_read result) source.new }
 {
-    let mut pieces = FilePieces::new(source);
-    read_packet(given, &mut pieces, frame)
+    let mut pes_packets = FilePesPackets::new(source);
+    read_packet(given, &mut pes_packets, frame)
 }
 
 impl PesReader {
@@ -126,7 +129,7 @@ impl PesReader {
     /// fault are read. After any error each call returns `Ended` and consumes nothing.
     pub fn next<S: Source>(&mut self, source: &mut S) -> Result<Option<PesFrame>, PesFault>
         requires { CanFail (S.failure_count source.old) }
-        ensures tells { TellsPacket self.old (S.remaining source.old) (S.remaining source.new)
+        ensures reports { ReportsPacket self.old (S.remaining source.old) (S.remaining source.new)
             result }
         ensures progress { self.new ≡ progress_after self.old result }
         // Consumes nothing after the end or a fault.
@@ -157,10 +160,10 @@ impl PesReader {
         frame: &mut PesFrame,
     ) -> Result<bool, PesFault>
         requires { CanFail (S.failure_count source.old) }
-        ensures tells { TellsPacket self.old (S.remaining source.old) (S.remaining source.new)
-            (given_frame result frame.new) }
+        ensures reports { ReportsPacket self.old (S.remaining source.old) (S.remaining source.new)
+            (yielded_frame result frame.new) }
         ensures empty { result ≢ Ok true → frame.new ≡ empty_value }
-        ensures progress { self.new ≡ progress_after self.old (given_frame result frame.new) }
+        ensures progress { self.new ≡ progress_after self.old (yielded_frame result frame.new) }
         ensures few { (given : ℕ) → self.new ≡ Reading given → given ≤ most_packets }
         // Consumes nothing after the end or a fault.
         ensures at_end { self.old ≡ AtEnd → source.new ≡ source.old }

@@ -1,7 +1,7 @@
 //! PES packets that are sent repeatedly, each time with another PTS.
 ghost use Rattle.std.specs.Prelude.{◌≡◌, ◌++◌, ◌^◌, ◌<◌, ◌≤◌, drop, length, take};
 ghost use Rattle.sub_io.specs.Device.{CanFail, CountsFailure, Writes};
-ghost use Rattle.ttx_pes.specs.PesPacket.{canonical_packet, numbered_frame, pts_bytes};
+ghost use Rattle.ttx_pes.specs.PesGrammar.{canonical_packet, numbered_frame, pts_bytes};
 
 use crate::line_numbers::frame_of;
 use crate::pes_frame::PesFrame;
@@ -23,7 +23,7 @@ pub struct RepeatedPacket {
 
 impl Model for RepeatedPacket {
     ghost use Rattle.std.specs.Prelude.{◌≡◌};
-    ghost use Rattle.ttx_pes.specs.PesPacket.{PesValue, canonical_packet};
+    ghost use Rattle.ttx_pes.specs.PesGrammar.{PesValue, canonical_packet};
 
     ghost Value = { PesValue };
 

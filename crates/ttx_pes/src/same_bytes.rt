@@ -12,7 +12,7 @@ const ONE_PAYLOAD: usize = 139;
 
 // Returns whether two slices have the same first eight bytes.
 #[inline(always)]
-pub(crate) fn begin_alike(a: &[u8], b: &[u8]) -> bool
+pub(crate) fn begin_equally(a: &[u8], b: &[u8]) -> bool
     requires a { 8 ≤ length a.now }
     requires b { 8 ≤ length b.now }
     ensures { a.now ≡ b.now → result ≡ true }

@@ -1,7 +1,7 @@
 //! Compares the heads of the data units of two data fields. If they are equal, both have their
 //! Teletext units at the same positions.
 ghost use Rattle.std.specs.Prelude.{◌≡◌, ◌+◌, ◌%◌, ◌≤◌, length, true};
-ghost use Rattle.ttx_pes.specs.PesPacket.{payload_size};
+ghost use Rattle.ttx_pes.specs.PesGrammar.{payload_size};
 ghost use Rattle.ttx_pes.specs.Taking.{AreSameHeads, IsSameHead};
 
 use crate::data_unit::DATA_UNIT;

@@ -2,7 +2,7 @@
 ghost use Rattle.std.specs.Prelude.{◌≡◌, ◌<◌, ◌≤◌, [], length, slice_index_or};
 ghost use Rattle.std.specs.List.{AllByRecursion};
 ghost use Rattle.ttx_pes.specs.DataUnit.{IsUnit, UnitValue};
-ghost use Rattle.ttx_pes.specs.PesPacket.{most_units};
+ghost use Rattle.ttx_pes.specs.PesGrammar.{most_units};
 ghost use Rattle.ttx_pes.specs.SentUnits.{AreWithin, packets_of_units, sent_units};
 
 use crate::data_unit::{DATA_UNIT, unit_in};
@@ -26,7 +26,7 @@ impl<'a> Model for SentUnits<'a> {
     ghost use Rattle.std.specs.Prelude.{◌≤◌, List, length};
     ghost use Rattle.std.specs.List.{AllByRecursion};
     ghost use Rattle.ttx_pes.specs.DataUnit.{IsUnit, UnitValue};
-    ghost use Rattle.ttx_pes.specs.PesPacket.{most_units};
+    ghost use Rattle.ttx_pes.specs.PesGrammar.{most_units};
     ghost use Rattle.ttx_pes.specs.SentUnits.{AreWithin, sent_units};
 
     ghost Value = { List UnitValue };

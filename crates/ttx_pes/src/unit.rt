@@ -40,7 +40,7 @@ impl Default for Unit {
 
 impl Unit {
     ghost use Rattle.ttx_pes.specs.DataUnit.{IsUnit};
-    ghost use Rattle.ttx_pes.specs.LineOrder.{line_order_place, stands_after};
+    ghost use Rattle.ttx_pes.specs.LineOrder.{line_order_place, may_follow};
 
     /// Creates a unit from its fields.
     ///
@@ -95,7 +95,7 @@ impl Unit {
     // Returns the place in line order after this unit, if the unit may follow the place `last`.
     pub(crate) fn place_after(&self, last: u8) -> Option<u8>
         requires { last < 64 }
-        ensures variant { is_some result ≡ stands_after last self.now }
+        ensures variant { is_some result ≡ may_follow last self.now }
         ensures value { IfSome result (λ next.
             next ≡ (if self.now.line == 0 then last else line_order_place self.now)) }
         ensures range { IfSome result (λ next. next < 64) }

@@ -3,8 +3,8 @@ ghost use Rattle.std.specs.Prelude.{◌≡◌, ◌+◌, ◌*◌, ◌/◌, ◌<�
 ghost use Rattle.std.specs.Prelude.{drop};
 ghost use Rattle.std.specs.Prelude.{Err, IfErr, IfOk, MatchOption, Ok, OnOk, false, true};
 ghost use Rattle.ttx_pes.specs.DataUnit.{data_unit_size};
-ghost use Rattle.ttx_pes.specs.LineOrder.{last_place, stands_after};
-ghost use Rattle.ttx_pes.specs.PesPacket.{longest_packet, most_units};
+ghost use Rattle.ttx_pes.specs.LineOrder.{last_place, may_follow};
+ghost use Rattle.ttx_pes.specs.PesGrammar.{longest_packet, most_units};
 ghost use Rattle.ttx_pes.specs.Reading.{is_format_fault, unit_at, unit_of, units_at};
 ghost use Rattle.ttx_pes.specs.SentUnits.{AreWithin, sent_units};
 ghost use Rattle.ttx_pes.specs.Taking.{AreAllPlaces, teletext_place};
@@ -24,7 +24,7 @@ pub(crate) struct UnitPlaces {
 
 impl Model for UnitPlaces {
     ghost use Rattle.std.specs.Prelude.{ℕ, ◌≤◌, List, take};
-    ghost use Rattle.ttx_pes.specs.PesPacket.{most_units};
+    ghost use Rattle.ttx_pes.specs.PesGrammar.{most_units};
 
     ghost Value = { List ℕ };
 
@@ -75,8 +75,8 @@ impl UnitPlaces {
 fn place_after(last: u8, block: &[u8]) -> Option<u8>
     requires last { last < 64 }
     requires block { length block.now ≡ data_unit_size }
-    ensures { MatchOption result (stands_after last (unit_of block.now) ≡ false) (λ next.
-        (stands_after last (unit_of block.now) ≡ true)
+    ensures { MatchOption result (may_follow last (unit_of block.now) ≡ false) (λ next.
+        (may_follow last (unit_of block.now) ≡ true)
         × (next ≡ last_place last (unit_of block.now ∷ []))
         × (next < 64)) }
 {

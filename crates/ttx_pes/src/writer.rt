@@ -4,7 +4,7 @@ ghost use Rattle.std.specs.Prelude.{false, if◌then◌else◌};
 ghost use Rattle.sub_io.specs.Device.{CanFail, CountsIf, Writes, failed};
 ghost use Rattle.ttx_pes.specs.Fault.{is_write};
 ghost use Rattle.ttx_pes.specs.declared.fault.PesFault.TheVariants.{Ended, Write};
-ghost use Rattle.ttx_pes.specs.PesPacket.{canonical_packet, longest_packet};
+ghost use Rattle.ttx_pes.specs.PesGrammar.{canonical_packet, longest_packet};
 
 use crate::data_unit::{add_stuffing, add_unit};
 use crate::fault::PesFault;
@@ -27,7 +27,7 @@ pub(crate) fn add(out: &mut Bytes, bytes: &[u8])
 }
 
 // Returns the canonical packet of a frame.
-#[tactic(auto, using(crate::proofs::PesPacketLemmas::packing))]
+#[tactic(auto, using(crate::proofs::PesGrammarLemmas::packing))]
 pub(crate) fn packet_of(frame: &PesFrame) -> Bytes
     ensures { result.items ≡ canonical_packet frame.now }
 {

@@ -7,16 +7,18 @@ use std::process::Abort;
 use std::test::Fail;
 use stl_rows::National;
 use sub_plan::Options;
-use sub_request::{FileNames, Flip, Listening, PesPackets, ReceiverKind, Request, TransportStream};
+use sub_request::{
+    FileNames, Flip, Listening, PesSelection, ReceiverKind, Request, TransportStream,
+};
 use sub_words::ParseWords;
-use ttx_pes::PieceRange;
+use ttx_pes::PesPacketRange;
 
 const NORMAL: [&str; 4] = ["subttx", "normal", "a", "b"];
 
 const SCHEDULE: [&str; 4] = ["subttx", "schedule", "a", "b"];
 
 #[test]
-fn reads_the_words_of_files(rt: HostRuntime) {
+fn reads_the_arguments_of_files(rt: HostRuntime) {
     match Request::parse(rt.alloc(), &NORMAL) {
         Ok(Request::Normal { input, output }) => assert!(rt; input == "a" && output == "b"),
         _ => panic!(rt; "no normal form"),
@@ -38,9 +40,9 @@ const HELPS: [&[&str]; 9] = [
 ];
 
 #[test]
-fn reads_the_words_for_help(rt: HostRuntime) {
-    for words in &HELPS {
-        match Request::parse(rt.alloc(), *words) {
+fn reads_the_arguments_for_help(rt: HostRuntime) {
+    for arguments in &HELPS {
+        match Request::parse(rt.alloc(), *arguments) {
             Ok(Request::Help) => {}
             _ => panic!(rt; "no help"),
         }
@@ -48,7 +50,7 @@ fn reads_the_words_for_help(rt: HostRuntime) {
 }
 
 #[test]
-fn reads_the_words_for_the_version(rt: HostRuntime) {
+fn reads_the_arguments_for_the_version(rt: HostRuntime) {
     for word in ["--version", "-V"] {
         match Request::parse(rt.alloc(), &["subttx", word]) {
             Ok(Request::Version) => {}
@@ -59,7 +61,7 @@ fn reads_the_words_for_the_version(rt: HostRuntime) {
 
 // A file may have the name of a word for help.
 #[test]
-fn reads_the_name_of_a_file_behind_two_dashes(rt: HostRuntime) {
+fn reads_the_name_of_a_file_after_two_dashes(rt: HostRuntime) {
     match Request::parse(rt.alloc(), &["subttx", "show", "--", "--help"]) {
         Ok(Request::Show { stl }) => assert!(rt; stl == "--help"),
         _ => panic!(rt; "no listing"),
@@ -67,7 +69,7 @@ fn reads_the_name_of_a_file_behind_two_dashes(rt: HostRuntime) {
 }
 
 #[test]
-fn reads_help_behind_a_command_as_the_name_of_a_file(rt: HostRuntime) {
+fn reads_help_after_a_command_as_the_name_of_a_file(rt: HostRuntime) {
     match Request::parse(rt.alloc(), &["subttx", "show", "help"]) {
         Ok(Request::Show { stl }) => assert!(rt; stl == "help"),
         _ => panic!(rt; "no listing"),
@@ -77,12 +79,12 @@ fn reads_help_behind_a_command_as_the_name_of_a_file(rt: HostRuntime) {
 // Asserts that arguments request the schedule of files a and b with these options.
 fn assert_schedules<'a>(
     rt: &(impl Abort + Alloc<A = Global>),
-    words: &'a [&'a str],
+    arguments: &'a [&'a str],
     want: &Options,
     is_serial: bool,
     option: National,
 ) {
-    match Request::parse(rt.alloc(), words) {
+    match Request::parse(rt.alloc(), arguments) {
         Ok(request) => assert_is_schedule(rt, &request, want, is_serial, option),
         Err(_) => panic!(rt; "no request"),
     }
@@ -114,15 +116,15 @@ fn assert_is_schedule(
 
 #[rattlefmt::skip]
 #[test]
-fn reads_the_words_of_a_schedule(rt: HostRuntime) -> Result<(), Fail> {
+fn reads_the_arguments_of_a_schedule(rt: HostRuntime) -> Result<(), Fail> {
     let defaults = options("888", 250, 0)?;
     assert_schedules(&rt, &SCHEDULE, &defaults, false, National::English);
-    let words = [
+    let arguments = [
         "subttx", "schedule", "a", "b", "--serial", "--page", "100", "--every", "25", "--origin",
         "1", "--option", "german",
     ];
     let given = options("100", 25, 1)?;
-    assert_schedules(&rt, &words, &given, true, National::German);
+    assert_schedules(&rt, &arguments, &given, true, National::German);
     Ok(())
 }
 
@@ -137,11 +139,11 @@ fn assert_writes(rt: &impl Abort, request: &Request<'_>) {
 // Asserts that arguments request a check of files a and b with these flags.
 fn assert_checks<'a>(
     rt: &(impl Abort + Alloc<A = Global>),
-    words: &'a [&'a str],
+    arguments: &'a [&'a str],
     is_complete: bool,
     is_all: bool,
 ) {
-    match Request::parse(rt.alloc(), words) {
+    match Request::parse(rt.alloc(), arguments) {
         Ok(request) => assert_is_check(rt, &request, is_complete, is_all),
         Err(_) => panic!(rt; "no request"),
     }
@@ -179,8 +181,8 @@ fn reads_the_flags_of_a_check(rt: HostRuntime) {
 
 // Returns the part of a subtitle file that arguments select: whether open subtitles are included,
 // and the frames from which and before which subtitles begin.
-fn scope_of<'a>(alloc: Global, words: &'a [&'a str]) -> Option<(bool, u32, u32)> {
-    match Request::parse(alloc, words) {
+fn scope_of<'a>(alloc: Global, arguments: &'a [&'a str]) -> Option<(bool, u32, u32)> {
+    match Request::parse(alloc, arguments) {
         Ok(Request::Check { scope, .. }) => Some((scope.takes_open, scope.from, scope.to)),
         Ok(Request::Schedule { scope, .. }) => Some((scope.takes_open, scope.from, scope.to)),
         _ => None,
@@ -210,8 +212,8 @@ fn allowed(request: &Request<'_>) -> Option<u64> {
 }
 
 // Asserts it for arguments.
-fn assert_allows<'a>(rt: &(impl Abort + Alloc<A = Global>), words: &'a [&'a str], frames: u64) {
-    match Request::parse(rt.alloc(), words) {
+fn assert_allows<'a>(rt: &(impl Abort + Alloc<A = Global>), arguments: &'a [&'a str], frames: u64) {
+    match Request::parse(rt.alloc(), arguments) {
         Ok(request) => assert_same(rt, &allowed(&request), &Some(frames)),
         Err(_) => panic!(rt; "no request"),
     }
@@ -240,10 +242,10 @@ fn bounds(request: &Request<'_>) -> Option<(u64, Option<u64>)> {
 // Asserts them for arguments.
 fn assert_bounds<'a>(
     rt: &(impl Abort + Alloc<A = Global>),
-    words: &'a [&'a str],
+    arguments: &'a [&'a str],
     want: (u64, Option<u64>),
 ) {
-    match Request::parse(rt.alloc(), words) {
+    match Request::parse(rt.alloc(), arguments) {
         Ok(request) => assert_same(rt, &bounds(&request), &Some(want)),
         Err(_) => panic!(rt; "no request"),
     }
@@ -267,8 +269,8 @@ fn keeps(request: &Request<'_>) -> Option<bool> {
 }
 
 // Asserts it for arguments.
-fn assert_keeps<'a>(rt: &(impl Abort + Alloc<A = Global>), words: &'a [&'a str], want: bool) {
-    match Request::parse(rt.alloc(), words) {
+fn assert_keeps<'a>(rt: &(impl Abort + Alloc<A = Global>), arguments: &'a [&'a str], want: bool) {
+    match Request::parse(rt.alloc(), arguments) {
         Ok(request) => assert_same(rt, &keeps(&request), &Some(want)),
         Err(_) => panic!(rt; "no request"),
     }
@@ -288,18 +290,18 @@ fn reads_whether_repeats_may_keep(rt: HostRuntime) {
 // frame, with this number of skipped packets, and with these flips and lost packets.
 fn assert_listens<'a>(
     rt: &(impl Abort + Alloc<A = Global>),
-    words: &'a [&'a str],
+    arguments: &'a [&'a str],
     want: &Options,
     (at, skip): (u32, u64),
     flips: &[Flip],
     lost: &[u64],
     receiver: ReceiverKind,
 ) {
-    match Request::parse(rt.alloc(), words) {
+    match Request::parse(rt.alloc(), arguments) {
         Ok(request) => match &request {
             Request::Listen { pes, listening } => {
                 assert!(rt; pes.name == "a" && listening.receiver == receiver);
-                assert_asks(rt, listening, want, at, skip);
+                assert_file_calls(rt, listening, want, at, skip);
                 assert!(rt; listening.flips.as_slice() == flips);
                 assert!(rt; listening.lost.as_slice() == lost);
             }
@@ -311,7 +313,7 @@ fn assert_listens<'a>(
 
 // Asserts the request of `listen`: the page, the PTS of frame 0, the last frame, and the first
 // packet.
-fn assert_asks(rt: &impl Abort, listening: &Listening, want: &Options, at: u32, skip: u64) {
+fn assert_file_calls(rt: &impl Abort, listening: &Listening, want: &Options, at: u32, skip: u64) {
     assert!(rt; listening.options.page() == want.page());
     assert!(rt; listening.options.origin() == want.origin());
     assert!(rt; listening.at == at && listening.skip == skip);
@@ -325,12 +327,12 @@ const FLIPS: [Flip; 2] = [
 ];
 
 #[test]
-fn reads_the_words_of_a_receiver_by_default(rt: HostRuntime) -> Result<(), Fail> {
-    let words = ["subttx", "listen", "a", "--at", "10:00:00:10"];
+fn reads_the_arguments_of_a_receiver_by_default(rt: HostRuntime) -> Result<(), Fail> {
+    let arguments = ["subttx", "listen", "a", "--at", "10:00:00:10"];
     let defaults = options("888", 250, 0)?;
     assert_listens(
         &rt,
-        &words,
+        &arguments,
         &defaults,
         (900_010, 0),
         &[],
@@ -342,13 +344,13 @@ fn reads_the_words_of_a_receiver_by_default(rt: HostRuntime) -> Result<(), Fail>
 
 #[rattlefmt::skip]
 #[test]
-fn reads_the_words_of_a_receiver(rt: HostRuntime) -> Result<(), Fail> {
-    let words = [
+fn reads_the_arguments_of_a_receiver(rt: HostRuntime) -> Result<(), Fail> {
+    let arguments = [
         "subttx", "listen", "a", "--page", "100", "--origin", "1", "--at", "23:59:59:24",
         "--skip", "07", "--flip", "1:21:1,02:0:8", "--lose", "3,4", "--receiver", "keep",
     ];
     let given = options("100", 250, 1)?;
-    assert_listens(&rt, &words, &given, (2_159_999, 7), &FLIPS, &[3, 4], ReceiverKind::Keep);
+    assert_listens(&rt, &arguments, &given, (2_159_999, 7), &FLIPS, &[3, 4], ReceiverKind::Keep);
     Ok(())
 }
 
@@ -366,7 +368,7 @@ fn names_what_is_read_and_what_is_written(rt: HostRuntime) {
 }
 
 // Returns the PES packets that a request reads.
-fn read_by<'r, 'a>(request: &'r Request<'a>) -> Option<&'r PesPackets<'a>> {
+fn read_by<'r, 'a>(request: &'r Request<'a>) -> Option<&'r PesSelection<'a>> {
     match request {
         Request::Packets { pes } => Some(pes),
         Request::Check { pes, .. } => Some(pes),
@@ -378,20 +380,20 @@ fn read_by<'r, 'a>(request: &'r Request<'a>) -> Option<&'r PesPackets<'a>> {
 // Asserts which PES packets of a file b arguments select.
 fn assert_reads<'a>(
     rt: &(impl Abort + Alloc<A = Global>),
-    words: &'a [&'a str],
+    arguments: &'a [&'a str],
     stream: &Option<TransportStream>,
-    range: &Option<PieceRange>,
+    range: &Option<PesPacketRange>,
 ) {
-    let Ok(request) = Request::parse(rt.alloc(), words) else {
-        return panic!(rt; "{words:?} is no request");
+    let Ok(request) = Request::parse(rt.alloc(), arguments) else {
+        return panic!(rt; "{arguments:?} is no request");
     };
     match read_by(&request) {
         Some(pes) => {
             assert_same(rt, &pes.name, &"b");
-            assert_same_in(rt, &pes.stream, stream, &words);
-            assert_same_in(rt, &pes.range, range, &words);
+            assert_same_in(rt, &pes.stream, stream, &arguments);
+            assert_same_in(rt, &pes.range, range, &arguments);
         }
-        None => panic!(rt; "{words:?} reads no PES packets"),
+        None => panic!(rt; "{arguments:?} reads no PES packets"),
     }
 }
 
@@ -411,11 +413,11 @@ fn reads_which_pes_packets_are_read(rt: HostRuntime) {
     assert_reads(&rt, &["subttx", "check", "a", "b"], &None, &all);
     assert_reads(&rt, &["subttx", "listen", "b", "--at", "10:00:00:10"], &None, &all);
     // from the second on, and from one to another
-    let behind = PieceRange::new(2, None);
+    let behind = PesPacketRange::new(2, None);
     assert_reads(&rt, &["subttx", "packets", "b", "--pes", "2-"], &None, &behind);
-    let some = PieceRange::new(0, Some(1));
+    let some = PesPacketRange::new(0, Some(1));
     assert_reads(&rt, &["subttx", "check", "--pes=0-1", "a", "b"], &None, &some);
-    let one = PieceRange::new(3, Some(3));
+    let one = PesPacketRange::new(3, Some(3));
     let at = "10:00:00:10";
     assert_reads(&rt, &["subttx", "listen", "b", "--pes", "3-3", "--at", at], &None, &one);
 }
@@ -438,7 +440,7 @@ fn reads_of_which_transport_packets(rt: HostRuntime) {
     let given = [
         "subttx", "listen", "b", "--pid", "8190", "--packet-size", "204", "--pes", "7-", "--at", at,
     ];
-    assert_reads(&rt, &given, &corrected, &PieceRange::new(7, None));
+    assert_reads(&rt, &given, &corrected, &PesPacketRange::new(7, None));
     // The packet size alone has no effect.
     assert_reads(&rt, &["subttx", "packets", "b", "--packet-size", "192"], &None, &all);
 }
@@ -446,11 +448,11 @@ fn reads_of_which_transport_packets(rt: HostRuntime) {
 // Asserts that arguments request to write the PES packets of file a to file b.
 fn assert_extracts<'a>(
     rt: &(impl Abort + Alloc<A = Global>),
-    words: &'a [&'a str],
+    arguments: &'a [&'a str],
     want: &Option<TransportStream>,
 ) {
-    let Ok(request) = Request::parse(rt.alloc(), words) else {
-        return panic!(rt; "{words:?} is no request");
+    let Ok(request) = Request::parse(rt.alloc(), arguments) else {
+        return panic!(rt; "{arguments:?} is no request");
     };
     match &request {
         Request::Extract {
@@ -462,7 +464,7 @@ fn assert_extracts<'a>(
             assert_same(rt, &Some(*stream), want);
             assert_writes_pes(rt, &request);
         }
-        _ => panic!(rt; "{words:?} extracts nothing"),
+        _ => panic!(rt; "{arguments:?} extracts nothing"),
     }
 }
 
@@ -478,7 +480,7 @@ fn assert_writes_pes(rt: &impl Abort, request: &Request<'_>) {
 
 #[rattlefmt::skip]
 #[test]
-fn reads_the_words_that_extract(rt: HostRuntime) {
+fn reads_the_arguments_that_extract(rt: HostRuntime) {
     let plain = stream_of(257, PacketSize::Plain);
     assert_extracts(&rt, &["subttx", "extract", "a", "b", "--pid", "257"], &plain);
     let stamped = stream_of(4353, PacketSize::TimeStamped);

@@ -19,13 +19,13 @@ ghost use Rattle.sub_listing.specs.Listing.{PrintsOrFails, done};
 use std::alloc::Global;
 use stl_file::Scope;
 use stl_rows::{Drawing, Layout, National, Programme, law_of_loading, load};
-use sub_check::{Accepted, CheckFault, check_pieces};
+use sub_check::{Accepted, CheckFault, check_pes_packets};
 use sub_io::{Sink, Source};
 use sub_listing::{
     Line, Status, line_of_check, print_done, print_fault_line, push_number, push_text,
 };
 use sub_plan::Options;
-use ttx_pes::{NumberedPieces, PesFault};
+use ttx_pes::{NumberedPesPackets, PesFault};
 
 /// Checks a PES file against a subtitle file, and prints the line of the verdict.
 ///
@@ -33,7 +33,7 @@ use ttx_pes::{NumberedPieces, PesFault};
 /// Returns `Done` if the files are accepted, and prints how many frames of the day the PES file
 /// covers and how many headers of the page it has; `Refused` with the first fault; `Fault` if a
 /// device failed or memory ran out.
-pub fn print_verdict<S: Source, P: NumberedPieces, K: Sink>(
+pub fn print_verdict<S: Source, P: NumberedPesPackets, K: Sink>(
     alloc: Global,
     stl: &mut S,
     pes: &mut P,
@@ -47,7 +47,7 @@ pub fn print_verdict<S: Source, P: NumberedPieces, K: Sink>(
     ensures check { AnswersCheck drawing options.now
         (source_call S.remaining S.failure_count stl.old stl.new)
         (read_call P.remaining P.left P.failure_count pes.old pes.new)
-        (first_number P.first P.passed pes.old pes.new)
+        (first_number P.first P.skipped pes.old pes.new)
         (pes.new ≡ pes.old)
         (sink_call K.contents K.failure_count out.old out.new) result }
     ensures stl_count { CountsFault S.failure_count stl.old result stl.new }
@@ -69,7 +69,7 @@ struct Answer {
 }
 
 // Loads a subtitle file, and checks a PES file against it, from its first PES packet.
-fn check_files<S: Source, P: NumberedPieces>(
+fn check_files<S: Source, P: NumberedPesPackets>(
     alloc: Global,
     stl: &mut S,
     pes: &mut P,
@@ -84,7 +84,7 @@ fn check_files<S: Source, P: NumberedPieces>(
         AreChecked (drawing_within national layout scope) options.now file (P.remaining pes.old)
         result.result) }
     ensures starts { failed is_subtitle_fault result.result ≡ false
-        → StartsAt (first_number P.first P.passed pes.old pes.new)
+        → StartsAt (first_number P.first P.skipped pes.old pes.new)
         (read_call P.remaining P.left P.failure_count pes.old pes.new) result.first }
     ensures stl_read { (fault : LoadFault)
         → result.result ≡ Err (CheckFault.Subtitles fault)
@@ -112,14 +112,18 @@ fn check_files<S: Source, P: NumberedPieces>(
 }
 
 // Checks a PES file against a programme, from its first PES packet.
-fn check_from<P: NumberedPieces>(programme: &Programme, pes: &mut P, options: &Options) -> Answer
+fn check_from<P: NumberedPesPackets>(
+    programme: &Programme,
+    pes: &mut P,
+    options: &Options,
+) -> Answer
     requires { CanFail (P.failure_count pes.old) }
     ensures checked { IsFalse options.now.keeps → options.now.within ≡ 0
         → IfKnown (P.remaining pes.old) (λ bytes.
         IsChecked programme.now options.now bytes result.result) }
     ensures checked_by { IfKnown (P.remaining pes.old) (λ bytes.
         IsCheckedBy programme.now options.now bytes result.result) }
-    ensures starts { StartsAt (first_number P.first P.passed pes.old pes.new)
+    ensures starts { StartsAt (first_number P.first P.skipped pes.old pes.new)
         (read_call P.remaining P.left P.failure_count pes.old pes.new) result.first }
     ensures read { (index : ℕ)
         → result.result ≡ Err (CheckFault.Pes index PesFault.Read)
@@ -131,7 +135,7 @@ fn check_from<P: NumberedPieces>(programme: &Programme, pes: &mut P, options: &O
     match pes.find_first() {
         Ok(first) => Answer {
             first,
-            result: check_pieces(programme, pes, options),
+            result: check_pes_packets(programme, pes, options),
         },
         Err(at) => Answer {
             first: at.pes,

@@ -1,15 +1,15 @@
 //! `check STL PES --all`: prints every fault of a subtitle file, and then of a PES file.
 ghost use Rattle.std.specs.Prelude.{◌≡◌, ◌<◌, ◌≤◌, IfErr, OnOk, false, is_err, true};
 ghost use Rattle.sub_io.specs.Device.{CountsIf, failed};
-ghost use Rattle.sub_io.specs.HandingOn.{HoldsWhileWaiting, KeepsTold};
+ghost use Rattle.sub_io.specs.Flushing.{BuffersOnlyWhilePending, KeepsReported};
 ghost use Rattle.sub_rules.specs.Fault.{is_pes_read};
 ghost use Rattle.sub_listing.specs.DeviceCall.{CanFail, CountsFault, read_call, sink_call};
 ghost use Rattle.sub_listing.specs.DeviceCall.{source_call};
-ghost use Rattle.sub_answer.specs.EveryFault.{AnswersAll, TellsBoth, TellsPes};
+ghost use Rattle.sub_answer.specs.EveryFault.{AnswersAll, ReportsBoth, ReportsPes};
 ghost use Rattle.sub_listing.specs.EventLines.{most_counted};
 ghost use Rattle.sub_answer.specs.FaultListing.{faults_listing, last_listing};
 ghost use Rattle.sub_listing.specs.Faults.{check_line};
-ghost use Rattle.sub_listing.specs.LastLine.{HoldsLastLine, PutsLine};
+ghost use Rattle.sub_listing.specs.LastLine.{BuffersLastLineOnly, PutsLine};
 ghost use Rattle.sub_listing.specs.Listing.{PrintsOrFails};
 ghost use Rattle.sub_listing.specs.Printer.{printer_value};
 ghost use Rattle.sub_listing.specs.FaultLine.{line_of, counted_from};
@@ -18,13 +18,13 @@ ghost use Rattle.sub_listing.specs.FirstPacket.{first_number};
 use crate::answering::check::print_accepted;
 use std::alloc::Global;
 use stl_rows::{Drawing, Judging, LoadFault, law_of_loading, load_all};
-use sub_check::{Accepted, CheckFault, check_all_pieces};
+use sub_check::{Accepted, CheckFault, check_all_pes_packets};
 use sub_io::{Flush, LiveAudience, Sink, Source, Stopped, put_all};
 use sub_listing::{
     Line, Printer, Status, line_of_check, print_fault_line, push_decimal, push_text,
 };
 use sub_plan::Options;
-use ttx_pes::{NumberedPieces, PesFault};
+use ttx_pes::{NumberedPesPackets, PesFault};
 
 /// Checks a PES file against a subtitle file. Prints a line for each fault, and one for the last
 /// frame at whose end a reported rule is broken, as they are found, those of the subtitle file
@@ -34,7 +34,7 @@ use ttx_pes::{NumberedPieces, PesFault};
 /// these do not suffice. Returns `Done` if the files are accepted; `Refused` if there is a fault;
 /// `Fault` if a device failed or memory ran out, with its line last. After `out` failed nothing
 /// more is read or printed.
-pub fn print_every_fault<S: Source, P: NumberedPieces, K: Flush>(
+pub fn print_every_fault<S: Source, P: NumberedPesPackets, K: Flush>(
     alloc: Global,
     stl: &mut S,
     pes: &mut P,
@@ -48,7 +48,7 @@ pub fn print_every_fault<S: Source, P: NumberedPieces, K: Flush>(
     ensures all { AnswersAll drawing options.now
         (source_call S.remaining S.failure_count stl.old stl.new)
         (read_call P.remaining P.left P.failure_count pes.old pes.new)
-        (first_number P.first P.passed pes.old pes.new)
+        (first_number P.first P.skipped pes.old pes.new)
         (pes.new ≡ pes.old)
         (sink_call K.contents K.failure_count out.old out.new) result }
     ensures stl_count { CountsFault S.failure_count stl.old result stl.new }
@@ -57,24 +57,24 @@ pub fn print_every_fault<S: Source, P: NumberedPieces, K: Flush>(
     ensures out_count { CountsFault K.failure_count out.old result out.new }
     // Before the source of the PES file may ask its device, which may fail, all output is flushed.
     // So if it failed, only its line may be held back.
-    ensures followed { K.held out.old ≡ 0
+    ensures followed { K.buffered out.old ≡ 0
         → P.failure_count pes.old < P.failure_count pes.new
-        → HoldsLastLine K.contents K.held K.is_push out.new }
+        → BuffersLastLineOnly K.contents K.buffered K.is_push out.new }
 {
     law_of_loading();
     let mut printer = Printer {
         out,
         refused: 0,
         failed: false,
-        waiting: false,
+        pending: false,
         first: 0,
     };
-    let answer = tell_every_fault(alloc, stl, pes, drawing, options, &mut printer);
+    let answer = report_every_fault(alloc, stl, pes, drawing, options, &mut printer);
     let Printer {
         out,
         refused,
         failed,
-        waiting: _,
+        pending: _,
         first,
     } = printer;
     if failed {
@@ -86,7 +86,7 @@ pub fn print_every_fault<S: Source, P: NumberedPieces, K: Flush>(
 // Reports to a printer the faults of the subtitle file, and then those of the PES file, if it can
 // be judged. Returns `None` if it can't, or the printer said stop, otherwise what was read of the
 // PES file.
-fn tell_every_fault<S: Source, P: NumberedPieces, K: Flush>(
+fn report_every_fault<S: Source, P: NumberedPesPackets, K: Flush>(
     alloc: Global,
     stl: &mut S,
     pes: &mut P,
@@ -98,13 +98,13 @@ fn tell_every_fault<S: Source, P: NumberedPieces, K: Flush>(
     requires pes { CanFail (P.failure_count pes.old) }
     requires out { CanFail (K.failure_count printer.old.out.now) }
     requires goes_on { printer.old.failed ≡ false }
-    requires still { printer.old.waiting ≡ false }
+    requires still { printer.old.pending ≡ false }
     requires none { printer.old.refused ≡ 0 }
     ensures same { printer.new.out.ghost_name ≡ printer.old.out.ghost_name }
-    ensures told { TellsBoth drawing options.now
+    ensures reported { ReportsBoth drawing options.now
         (source_call S.remaining S.failure_count stl.old stl.new)
         (read_call P.remaining P.left P.failure_count pes.old pes.new)
-        (first_number P.first P.passed pes.old pes.new)
+        (first_number P.first P.skipped pes.old pes.new)
         (pes.new ≡ pes.old)
         (printer_value (K.contents printer.old.out.now) (K.failure_count printer.old.out.now)
         printer.old.refused printer.old.failed printer.old.first)
@@ -112,8 +112,8 @@ fn tell_every_fault<S: Source, P: NumberedPieces, K: Flush>(
         printer.new.refused printer.new.failed printer.new.first) result }
     ensures device { P.device pes.new ≡ P.device pes.old }
     ensures count { CountsIf P.failure_count pes.old (failed is_pes_read result) pes.new }
-    ensures asked { K.held printer.old.out.now ≡ 0
-        → failed is_pes_read result ≡ true → K.held printer.new.out.now ≡ 0 }
+    ensures requested { K.buffered printer.old.out.now ≡ 0
+        → failed is_pes_read result ≡ true → K.buffered printer.new.out.now ≡ 0 }
 {
     let (national, layout, scope) = (drawing.national, drawing.layout, drawing.scope);
     match load_all(alloc, stl, national, layout, scope, printer) {
@@ -121,33 +121,33 @@ fn tell_every_fault<S: Source, P: NumberedPieces, K: Flush>(
         Ok(None) => Ok(None),
         Ok(Some(judged)) => {
             // Reading the PES file may block.
-            if hand_on_told(printer).is_err() {
+            if flush_reports(printer).is_err() {
                 return Ok(None);
             }
-            tell_transmission(&judged.judging(), pes, options, printer)
+            report_transmission(&judged.judging(), pes, options, printer)
         }
     }
 }
 
 // Flushes a device after the faults of a subtitle file, if it may hold something back.
-fn hand_on_told<A: LiveAudience<LoadFault>>(audience: &mut A) -> Result<(), Stopped>
+fn flush_reports<A: LiveAudience<LoadFault>>(audience: &mut A) -> Result<(), Stopped>
     requires { A.has_stopped audience.old ≡ false }
-    ensures told { KeepsTold A.is_told A.is_waiting audience.old audience.new }
+    ensures reported { KeepsReported A.is_reported A.has_pending_reports audience.old audience.new }
     ensures stopped { A.has_stopped audience.new ≡ is_err result }
-    ensures waited { IfErr result (λ _. A.is_waiting audience.old ≡ true) }
-    ensures still { OnOk result (A.is_waiting audience.new ≡ false) }
-    ensures held { HoldsWhileWaiting A.is_waiting A.held audience.old
-        → OnOk result (A.held audience.new ≡ 0) }
+    ensures waited { IfErr result (λ _. A.has_pending_reports audience.old ≡ true) }
+    ensures still { OnOk result (A.has_pending_reports audience.new ≡ false) }
+    ensures buffered { BuffersOnlyWhilePending A.has_pending_reports A.buffered audience.old
+        → OnOk result (A.buffered audience.new ≡ 0) }
 {
-    if !audience.waits() {
+    if !audience.has_pending() {
         return Ok(());
     }
-    audience.hand_on()
+    audience.flush_pending()
 }
 
 // Reports to a printer the events of the PES file, compared with what can be judged of the subtitle
 // file.
-fn tell_transmission<P: NumberedPieces, K: Flush>(
+fn report_transmission<P: NumberedPesPackets, K: Flush>(
     judging: &Judging<'_>,
     pes: &mut P,
     options: &Options,
@@ -156,25 +156,25 @@ fn tell_transmission<P: NumberedPieces, K: Flush>(
     requires pes { CanFail (P.failure_count pes.old) }
     requires out { CanFail (K.failure_count printer.old.out.now) }
     requires goes_on { printer.old.failed ≡ false }
-    requires still { printer.old.waiting ≡ false }
+    requires still { printer.old.pending ≡ false }
     requires few { printer.old.refused ≤ most_counted }
     ensures same { printer.new.out.ghost_name ≡ printer.old.out.ghost_name }
-    ensures told { TellsPes judging.now options.now
+    ensures reported { ReportsPes judging.now options.now
         (read_call P.remaining P.left P.failure_count pes.old pes.new)
-        (first_number P.first P.passed pes.old pes.new)
+        (first_number P.first P.skipped pes.old pes.new)
         (printer_value (K.contents printer.old.out.now) (K.failure_count printer.old.out.now)
         printer.old.refused printer.old.failed printer.old.first)
         (printer_value (K.contents printer.new.out.now) (K.failure_count printer.new.out.now)
         printer.new.refused printer.new.failed printer.new.first) result }
     ensures device { P.device pes.new ≡ P.device pes.old }
     ensures count { CountsIf P.failure_count pes.old (failed is_pes_read result) pes.new }
-    ensures asked { K.held printer.old.out.now ≡ 0
-        → failed is_pes_read result ≡ true → K.held printer.new.out.now ≡ 0 }
+    ensures requested { K.buffered printer.old.out.now ≡ 0
+        → failed is_pes_read result ≡ true → K.buffered printer.new.out.now ≡ 0 }
 {
     match pes.find_first() {
         Ok(first) => {
             printer.first = first;
-            check_all_pieces(judging, pes, options, printer)
+            check_all_pes_packets(judging, pes, options, printer)
         }
         Err(at) => {
             printer.first = at.pes;

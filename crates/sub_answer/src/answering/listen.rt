@@ -8,14 +8,14 @@ ghost use Rattle.sub_answer.specs.ListenListing.{IsOldPage, listen_line};
 ghost use Rattle.sub_listen.specs.Reception.{left_by};
 
 use sub_io::Sink;
-use sub_listen::{ListenFault, listen_pieces};
+use sub_listen::{ListenFault, listen_pes_packets};
 use sub_listing::{
     FaultLine, Kind, Status, line_of_check, line_of_failed_read, print_fault_line, print_state,
 };
 use sub_request::{Listening, ReceiverKind};
 use sub_rules::FaultPlace;
 use ttx_page::{Blank, Keep, Page, Receiver};
-use ttx_pes::{NumberedPieces, Pieces};
+use ttx_pes::{NumberedPesPackets, PesPackets};
 
 /// Runs the requested receiver over the PES packets of a file up to TIME, and prints what it has
 /// received and shows, or why the file is refused (`listen` of `sub_listen`).
@@ -23,7 +23,7 @@ use ttx_pes::{NumberedPieces, Pieces};
 /// The receiver is tuned to the page with an old page that has 3F in every cell. Nothing is printed
 /// before the last packet was received. If complete pages are required, the output is its screen: a
 /// page is put on it when a header of another page ends it. Otherwise it has no screen.
-pub fn print_listening<P: NumberedPieces, K: Sink>(
+pub fn print_listening<P: NumberedPesPackets, K: Sink>(
     pes: &mut P,
     listening: &Listening,
     out: &mut K,
@@ -35,7 +35,7 @@ pub fn print_listening<P: NumberedPieces, K: Sink>(
     // fails is reported at the PES packet in which it failed, after what was received.
     ensures exact { AnswersListen (left_by listening.now.receiver) listening.now
         (read_call P.remaining P.left P.failure_count pes.old pes.new)
-        (first_number P.first P.passed pes.old pes.new)
+        (first_number P.first P.skipped pes.old pes.new)
         (sink_call K.contents K.failure_count out.old out.new) result }
     ensures device { P.device pes.new ≡ P.device pes.old }
     ensures first_count { CountsFault P.failure_count pes.old result pes.new }
@@ -57,7 +57,7 @@ pub fn print_listening<P: NumberedPieces, K: Sink>(
 }
 
 // Runs a receiver of this type.
-fn print_state_of<R: Receiver + Drop, P: NumberedPieces, K: Sink>(
+fn print_state_of<R: Receiver + Drop, P: NumberedPesPackets, K: Sink>(
     pes: &mut P,
     listening: &Listening,
     out: &mut K,
@@ -66,7 +66,7 @@ fn print_state_of<R: Receiver + Drop, P: NumberedPieces, K: Sink>(
     requires out { CanFail (K.failure_count out.old) }
     ensures exact { AnswersListen R.leaves listening.now
         (read_call P.remaining P.left P.failure_count pes.old pes.new)
-        (first_number P.first P.passed pes.old pes.new)
+        (first_number P.first P.skipped pes.old pes.new)
         (sink_call K.contents K.failure_count out.old out.new) result }
     ensures device { P.device pes.new ≡ P.device pes.old }
     ensures first_count { CountsFault P.failure_count pes.old result pes.new }
@@ -82,7 +82,7 @@ fn print_state_of<R: Receiver + Drop, P: NumberedPieces, K: Sink>(
 }
 
 // Runs it from the first PES packet, which has this number in its file.
-fn print_heard<R: Receiver + Drop, P: Pieces, K: Sink>(
+fn print_heard<R: Receiver + Drop, P: PesPackets, K: Sink>(
     pes: &mut P,
     first: u64,
     listening: &Listening,
@@ -102,7 +102,7 @@ fn print_heard<R: Receiver + Drop, P: Pieces, K: Sink>(
 {
     let mut receiver = R::tune(listening.options.page(), old_page());
     let mut screen = None;
-    match listen_pieces(&mut receiver, &mut screen, pes, listening) {
+    match listen_pes_packets(&mut receiver, &mut screen, pes, listening) {
         Ok(()) => print_state(&receiver, &screen, listening.options.asks_complete(), out),
         Err(fault) => print_fault_line(&line_of_listen(fault).counted_from(first), out),
     }

@@ -2,7 +2,7 @@
 ghost use Rattle.std.specs.Prelude.{◌≡◌, ◌<◌};
 ghost use Rattle.std.specs.Io.KnownBytes.{IsAtEnd};
 ghost use Rattle.sub_listing.specs.DeviceCall.{CanFail, CountsFault, sink_call};
-ghost use Rattle.sub_listing.specs.LastLine.{HoldsLastLine};
+ghost use Rattle.sub_listing.specs.LastLine.{BuffersLastLineOnly};
 ghost use Rattle.sub_answer.specs.SurveyListing.{PrintsSurvey};
 
 use mpeg_ts::SurveyOptions;
@@ -33,9 +33,9 @@ pub fn print_survey<S: Source, K: Flush>(
     ensures out_count { CountsFault K.failure_count out.old result out.new }
     // Before the source may ask its device, which may fail, all output is flushed. So if it failed,
     // only the line of its failure may be held back.
-    ensures followed { K.held out.old ≡ 0
+    ensures followed { K.buffered out.old ≡ 0
         → S.failure_count source.old < S.failure_count source.new
-        → HoldsLastLine K.contents K.held K.is_push out.new }
+        → BuffersLastLineOnly K.contents K.buffered K.is_push out.new }
 {
     match survey(alloc, options, source, out) {
         Ok(()) => Status::Done,

@@ -15,9 +15,9 @@ returns-in-Some g c = record {
 pub returns-in-None : goal.returns-in-None
 returns-in-None g c = record {
   room = c.new-out-in-None.result.room;
-  new = c.say_and_hand_on-status.new.out;
+  new = c.say_and_flush-status.new.out;
   left_is = c.into_inner-in-None.ensures;
-  status = c.say_and_hand_on-status.result;
+  status = c.say_and_flush-status.result;
   code_is = c.code-in-None.ensures;
-  ends = inr (refl, rw c.new-out-in-None.ensures at c.say_and_hand_on-status.ensures.says);
+  ends = inr (refl, rw c.new-out-in-None.ensures at c.say_and_flush-status.ensures.says);
 }

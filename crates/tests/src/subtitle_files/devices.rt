@@ -8,7 +8,7 @@ use stl_file::{StlFault, StlReader};
 use sub_io::{FailAt, Source};
 
 #[test]
-fn tells_the_block_of_the_byte_that_could_not_be_read(rt: HostRuntime) {
+fn reports_the_block_of_the_byte_that_could_not_be_read(rt: HostRuntime) {
     let file = a_file();
     for k in 0..1665 {
         let block = if k < 1024 {

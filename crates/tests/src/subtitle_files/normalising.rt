@@ -21,8 +21,8 @@ fn wanted() -> [u8; 1408] {
 #[test]
 fn writes_the_normal_form_and_that_again(rt: HostRuntime) {
     let want = wanted();
-    let mut room = [0; 2000];
-    let mut sink = MemSink::new(&mut room);
+    let mut buffer = [0; 2000];
+    let mut sink = MemSink::new(&mut buffer);
     assert_same(&rt, &normal(&a_file(), &mut sink), &Ok(2));
     assert!(rt; sink.written() == want.as_slice());
     let mut again = [0; 2000];
@@ -40,8 +40,8 @@ fn writes_a_subtitle_in_the_fewest_blocks(rt: HostRuntime) {
         .next(&mut source)
         .expect(&rt, "it is read")
         .expect(&rt, "it is read");
-    let mut room = [0; 300];
-    let mut sink = MemSink::new(&mut room);
+    let mut buffer = [0; 300];
+    let mut sink = MemSink::new(&mut buffer);
     assert!(rt; write_subtitle(&subtitle, &mut sink) == Ok(2));
     let all = wanted();
     let (_, blocks) = all.split_at(1024);

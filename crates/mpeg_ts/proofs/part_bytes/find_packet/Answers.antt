@@ -5,9 +5,9 @@ use Rattle.mpeg_ts.proofs.part_bytes.find_packet.Goals as goal
 
 pub returns-clause-packet : goal.returns-clause-packet
 returns-clause-packet c = λ size is.
-    packet_found c.args.bytes.now size c.found_at_front.ensures.fit
-    (c.found_at_front.ensures.found ∙ is)
+    packet_found c.args.bytes.now size c.found_at_start.ensures.fit
+    (c.found_at_start.ensures.found ∙ is)
 
 pub returns-clause-other : goal.returns-clause-other
 returns-clause-other c = λ fault is.
-    refused_found c.args.bytes.now fault (c.found_at_front.ensures.found ∙ is)
+    refused_found c.args.bytes.now fault (c.found_at_start.ensures.found ∙ is)

@@ -1,8 +1,8 @@
 -- The bytes so far contain no sync byte.
 use Rattle.std.proofs.Common.{◌≡◌, ◌≤◌, ◌-◌, ◌+◌, ◌<◌, List, [], ◌++◌, ℕ, length, take, false}
-use Rattle.mpeg_ts.specs.GoodPackets.{hole_size}
+use Rattle.mpeg_ts.specs.GoodPackets.{loss_size}
 use Rattle.mpeg_ts.specs.Joining.{JoiningValue, has_ended}
-use Rattle.mpeg_ts.specs.Stream.{stream_gives}
+use Rattle.mpeg_ts.specs.Stream.{stream_output}
 use Rattle.mpeg_ts.proofs.passing.junk_size.Given as goal
 
 abbrev pub invariant-loop-at : goal.invariant-loop-at
@@ -11,11 +11,11 @@ invariant-loop-at l = record {
   gives :
       (distance number run : ℕ) (joining : JoiningValue) (rest : List ℕ)
       → 188 ≤ distance
-      → (run < hole_size distance → run + l.at < hole_size distance)
+      → (run < loss_size distance → run + l.at < loss_size distance)
       → has_ended joining.part ≡ false
       → joining.pending ≡ []
-      → stream_gives distance number (run + l.at) false joining rest
-      ≡ stream_gives distance number run false joining (take l.at l.bytes ++ rest);
+      → stream_output distance number (run + l.at) false joining rest
+      ≡ stream_output distance number run false joining (take l.at l.bytes ++ rest);
 }
 
 abbrev pub decreases-loop-at : goal.decreases-loop-at

@@ -3,7 +3,7 @@ use Rattle.std.proofs.Common.{ap, refl, Some}
 use Rattle.std.proofs.lemmas.Result.{err_from_is_err_and}
 use Rattle.stl_file.proofs.NormalCountsLemmas.{no_failure}
 use Rattle.stl_file.proofs.NormalFormLemmas.{refused_open, refused_body, prefix_written}
-use Rattle.stl_file.proofs.NormalFormLemmas.{whole_written}
+use Rattle.stl_file.proofs.NormalFormLemmas.{all_written}
 use Rattle.stl_file.proofs.normal_form.normal.Goals as goal
 
 pub returns-in-Err-clause-answer : goal.returns-in-Err-clause-answer
@@ -34,7 +34,7 @@ returns-in_err-put_normal-clause-answer g c =
 
 pub returns-clause-answer : goal.returns-clause-answer
 returns-clause-answer g c =
-    whole_written c.args.file.now c.in-Ok.reader c.in_ok-counts.counts c.set_counts.new.self
+    all_written c.args.file.now c.in-Ok.reader c.in_ok-counts.counts c.set_counts.new.self
     (c.in-Ok.ensures.exact c.args.file.now (ap Some c.new-source.ensures) refl)
     (rw c.split_at.ensures.back at c.in_ok-counts.ensures.exact)
     (rw c.gsi-gsi.ensures at c.set_counts.ensures) _ _

@@ -1,7 +1,7 @@
 -- Invariant of the loop: the blocks read so far, and room for those that may follow.
 use Rattle.std.proofs.Common.{◌≡◌, ◌≤◌, ◌-◌}
 use Rattle.std.specs.Prelude.{option_map}
-use Rattle.stl_file.specs.Reading.{BegunFits, begun_in, passed_by}
+use Rattle.stl_file.specs.Reading.{BegunFits, begun_in, begun_skipped}
 use Rattle.stl_file.specs.Tti.{most_blocks}
 use Rattle.stl_file.proofs.ReadBlocksLemmas.{HasRead}
 use Rattle.stl_file.proofs.reader.read_blocks.Given as goal
@@ -9,7 +9,7 @@ use Rattle.stl_file.proofs.reader.read_blocks.Given as goal
 abbrev pub invariant-loop-got : goal.invariant-loop-got
 invariant-loop-got g l = record {
   fits : BegunFits (begun_in l.subtitle l.read);
-  taken : HasRead l.scope l.initial.block (option_map passed_by l.initial.refused)
+  taken : HasRead l.scope l.initial.block (option_map begun_skipped l.initial.refused)
       (g.S.Source.remaining l.initial.source) (g.S.Source.remaining l.source) l.block
       (begun_in l.subtitle l.read);
   few : l.block ≤ most_blocks;

@@ -2,7 +2,7 @@
 use Rattle.std.proofs.Common.{arith, rules}
 use Rattle.std.proofs.lemmas.Grind.{common_steps}
 use Rattle.stl_file.proofs.OpeningLemmas.{bad_opening, if_err, if_ok, open_rest, open_short}
-use Rattle.stl_file.proofs.OpeningLemmas.{open_whole}
+use Rattle.stl_file.proofs.OpeningLemmas.{open_complete}
 use Rattle.stl_file.proofs.reader.read_gsi.Goals as goal
 
 pub returns-then-got-lt1024-clause-exact : goal.returns-then-got-lt1024-clause-exact
@@ -15,7 +15,7 @@ returns-then-got-lt1024-clause-refused g c = grind (arith, common_steps)
 
 pub returns-clause-exact : goal.returns-clause-exact
 returns-clause-exact g c = λ bytes told _.
-    open_whole (c.in_ok-got.ensures.told bytes told) c.in_ok-got.ensures.bound (search rules)
+    open_complete (c.in_ok-got.ensures.told bytes told) c.in_ok-got.ensures.bound (search rules)
     c.args.scope.takes_open _ c.if-got-lt1024.false (rw c.read.ensures at c.checked.ensures.exact)
 
 pub returns-clause-left : goal.returns-clause-left

@@ -7,7 +7,7 @@ returns-in-Ok-Some-clause-exact g c = λ bytes e.
     rw (c.of.ensures, sym c.new-drawing.ensures)
     (rw c.in-Ok-Some.field-0-is at (c.in-Ok-Some.ensures.exact bytes e)).0
 
-pub returns-in-Ok-Some-clause-told_all : goal.returns-in-Ok-Some-clause-told_all
-returns-in-Ok-Some-clause-told_all g c = λ bytes e.
+pub returns-in-Ok-Some-clause-reported_all : goal.returns-in-Ok-Some-clause-reported_all
+returns-in-Ok-Some-clause-reported_all g c = λ bytes e.
     rw (sym c.new-drawing.ensures)
     (rw c.in-Ok-Some.field-0-is at (c.in-Ok-Some.ensures.exact bytes e)).1

@@ -1,12 +1,12 @@
 -- The faults reported so far and those of the rest, in each iteration and at each return:
--- goes_on-next, tells-end, tells-stop, fails-next; and the subtitles used for checking:
+-- goes_on-next, reports-end, reports-stop, fails-next; and the subtitles used for checking:
 -- judges-enough, judges-not, judges-broken.
 use Rattle.std.proofs.Common.{◌∙◌, ◌++◌, ◌<◌, refl, rules, sym, [], ◌∷◌, map, arith}
 use Rattle.std.proofs.Common.{drop, inl, inr}
 use Rattle.std.proofs.lemmas.Bool.Decides.{nat_tests}
 use Rattle.std.proofs.lemmas.Bool.{cases_Bool, lt-ltb}
 use Rattle.std.specs.Prelude.{◌≢◌}
-use Rattle.sub_io.proofs.TellingLemmas.{Tells-none, Tells-trans}
+use Rattle.sub_io.proofs.ReportingLemmas.{Reports-none, Reports-trans}
 use Rattle.stl_file.specs.declared.fault.StlFault.TheVariants.{Ended}
 use Rattle.stl_rows.specs.declared.fault.LoadFaultKind.TheVariants.{File}
 use Rattle.stl_rows.specs.EveryFault.{load_fault}
@@ -16,22 +16,23 @@ use Rattle.std.proofs.lemmas.List.Elements.{All-nil}
 use Rattle.stl_file.proofs.FileLemmas.{findings_for-begun, findings_for-refused}
 use Rattle.stl_file.proofs.ReaderLemmas.{left-then}
 use Rattle.stl_rows.proofs.FailedReadLemmas.{fails-next, has_taken-next, reads-nothing}
-use Rattle.stl_rows.proofs.KeepingLemmas.{kept-next, kept-none, kept-refused, none-asked}
+use Rattle.stl_rows.proofs.KeepingLemmas.{kept-next, kept-none, kept-refused, none-requested}
 use Rattle.stl_rows.proofs.KeepingLemmas.{programme-kept}
 use Rattle.stl_rows.proofs.LoadingLemmas.{found-from, goes_on-next, goes_on-start}
 use Rattle.stl_rows.proofs.LoadingLemmas.{judges-broken, judges-enough, judges-not}
 use Rattle.stl_rows.proofs.LoadingLemmas.{of_file-end, of_file-stopped}
-use Rattle.stl_rows.proofs.LoadingLemmas.{IsToldBy, some-few, tells-end, told-all}
+use Rattle.stl_rows.proofs.LoadingLemmas.{IsReportedBy, some-few, reports-end, reported-all}
 use Rattle.stl_rows.proofs.LoadingLemmas.{first_kind, goes_on-refused, wants-memory}
-use Rattle.stl_rows.proofs.LoadingLemmas.{tells-none, tells-refused, tells-stop, told-next}
-use Rattle.stl_rows.proofs.LoadingLemmas.{told-of_file, told-refused}
+use Rattle.stl_rows.proofs.LoadingLemmas.{reports-none, reports-refused, reports-stop}
+use Rattle.stl_rows.proofs.LoadingLemmas.{reported-next}
+use Rattle.stl_rows.proofs.LoadingLemmas.{reported-of_file, reported-refused}
 use Rattle.stl_rows.proofs.every_fault.load_all_in.Goals as goal
 
 pub subtitles-init : goal.subtitles-init
 subtitles-init g c = rw c.new-kept.ensures (record {
   early = [];
-  told = Tells-none _;
-  early_told = All-nil (IsToldBy c.in-Ok.reader.block);
+  reported = Reports-none _;
+  early_reported = All-nil (IsReportedBy c.in-Ok.reader.block);
   are_kept = kept-none c.args.drawing;
   listens = c.requires.listens;
   reading = rw c.in-Ok.ensures.start refl;
@@ -58,12 +59,13 @@ subtitles-preserved-in-Ok-Refused g c =
     let fault = c.in-Ok-Refused.fault in
     let l = rw (c.in-Ok-Refused.field-0-is, i.scope) at (c.in-Ok-Refused.ensures.leads refl) in
     let first = rw c.in-Ok-Refused.field-0-is at c.in-Ok-Refused.ensures.first in
-    let told = rw c.block-in-Ok-Refused.ensures.value at c.in-Ok-tell_fault.ensures.told in
+    let reported = rw c.block-in-Ok-Refused.ensures.value at c.in-Ok-report_fault.ensures.reported
+    in
     rw c.refuse.ensures (record {
       early = i.early ++ load_fault here (File fault) ∷ [];
-      told = Tells-trans _ _ _ i.early _ i.told told;
-      early_told = told-refused fault c.subtitles.reader.block here i.early
-          (let b = l.block in omega arith) first i.early_told;
+      reported = Reports-trans _ _ _ i.early _ i.reported reported;
+      early_reported = reported-refused fault c.subtitles.reader.block here i.early
+          (let b = l.block in omega arith) first i.early_reported;
       are_kept = kept-refused (load_fault here (File fault)) i.are_kept;
       listens = search rules;
       reading = rw c.in-Ok-Refused.field-0-is at c.in-Ok-Refused.ensures.progress;
@@ -76,42 +78,43 @@ subtitles-preserved-in-Ok-Refused g c =
           (now.0, now.1, goes_on-refused fault here (rw now.2 at was.2));
     })
 
-pub returns-in-Ok-tell_end-clause-exact : goal.returns-in-Ok-tell_end-clause-exact
-returns-in-Ok-tell_end-clause-exact g c = λ bytes e.
-    let refused = c.in-Err.ensures.exact bytes e c.in-Ok-tell_end.ensures.file in
+pub returns-in-Ok-report_end-clause-exact : goal.returns-in-Ok-report_end-clause-exact
+returns-in-Ok-report_end-clause-exact g c = λ bytes e.
+    let refused = c.in-Err.ensures.exact bytes e c.in-Ok-report_end.ensures.file in
     let end = findings_for-refused c.args.drawing.scope bytes _ refused in
     let start = goes_on-start c.args.drawing bytes in (
-      tells-end start (Tells-none _) end c.in-Ok-tell_end.ensures.told,
+      reports-end start (Reports-none _) end c.in-Ok-report_end.ensures.reported,
       inr (judges-broken start end),
     )
 
-pub returns-in-Err-tell_end-clause-read : goal.returns-in-Err-tell_end-clause-read
-returns-in-Err-tell_end-clause-read g c = grind (arith, nat_tests, lt-ltb, reads-nothing)
+pub returns-in-Err-report_end-clause-read : goal.returns-in-Err-report_end-clause-read
+returns-in-Err-report_end-clause-read g c = grind (arith, nat_tests, lt-ltb, reads-nothing)
 
-pub returns-in-Ok-tell_end-2-clause-exact : goal.returns-in-Ok-tell_end-2-clause-exact
-returns-in-Ok-tell_end-2-clause-exact g c = λ bytes e.
+pub returns-in-Ok-report_end-2-clause-exact : goal.returns-in-Ok-report_end-2-clause-exact
+returns-in-Ok-report_end-2-clause-exact g c = λ bytes e.
     let i = c.subtitles.invariant in
     let here = i.goes_on bytes e in
-    let l = rw i.scope at (c.in-Err-next_into.ensures.leads c.in-Ok-tell_end-2.ensures.file) in
+    let l = rw i.scope at (c.in-Err-next_into.ensures.leads c.in-Ok-report_end-2.ensures.file) in
     let end = left-then _ _ here.0 l here.1 in (
-      tells-end here.2 i.told end.2
-          (rw c.block.ensures.value at c.in-Ok-tell_end-2.ensures.told),
+      reports-end here.2 i.reported end.2
+          (rw c.block.ensures.value at c.in-Ok-report_end-2.ensures.reported),
       inr (judges-broken here.2 end.2),
     )
 
-pub returns-in-Ok-tell_end-2-clause-told : goal.returns-in-Ok-tell_end-2-clause-told
-returns-in-Ok-tell_end-2-clause-told g c =
+pub returns-in-Ok-report_end-2-clause-reported : goal.returns-in-Ok-report_end-2-clause-reported
+returns-in-Ok-report_end-2-clause-reported g c =
     let i = c.subtitles.invariant in
     let ended : c.in-Err-next_into.fault ≢ Ended = grind (arith, nat_tests) in
-    of_file-end i.early c.in-Err-next_into.fault i.early_told c.in-Ok-tell_end-2.ensures.file ended
-    i.told c.in-Ok-tell_end-2.ensures.told
+    of_file-end i.early c.in-Err-next_into.fault i.early_reported c.in-Ok-report_end-2.ensures.file
+    ended
+    i.reported c.in-Ok-report_end-2.ensures.reported
 
-pub returns-in-Err-tell_end-2-clause-read : goal.returns-in-Err-tell_end-2-clause-read
-returns-in-Err-tell_end-2-clause-read g c = λ is.
+pub returns-in-Err-report_end-2-clause-read : goal.returns-in-Err-report_end-2-clause-read
+returns-in-Err-report_end-2-clause-read g c = λ is.
     let i = c.subtitles.invariant in
-    let failed = c.in-Err-tell_end-2.ensures.read in
+    let failed = c.in-Err-report_end-2.ensures.read in
     rw (failed.1, failed.2, c.block.ensures.value)
-    (fails-next c.subtitles.reader i.taken i.early_told i.told i.goes_on
+    (fails-next c.subtitles.reader i.taken i.early_reported i.reported i.goes_on
     (rw i.scope at (c.in-Err-next_into.ensures.failed (rw failed.0 refl))))
 
 pub returns-in_default-clause-exact : goal.returns-in_default-clause-exact
@@ -120,38 +123,41 @@ returns-in_default-clause-exact g c = λ bytes e.
     let here = i.goes_on bytes e in
     let l = rw (c.in-Ok-Refused.field-0-is, i.scope) at (c.in-Ok-Refused.ensures.leads refl) in
     let now = left-then _ _ here.0 l here.1 in (
-      tells-refused here.2 i.told _ now.2 c.in_default.ensures.stopped
-          (rw c.block-in-Ok-Refused.ensures.value at c.in_default.ensures.told),
+      reports-refused here.2 i.reported _ now.2 c.in_default.ensures.stopped
+          (rw c.block-in-Ok-Refused.ensures.value at c.in_default.ensures.reported),
       inl c.in_default.ensures.stopped,
     )
 
-pub returns-in_default-clause-told : goal.returns-in_default-clause-told
-returns-in_default-clause-told g c =
+pub returns-in_default-clause-reported : goal.returns-in_default-clause-reported
+returns-in_default-clause-reported g c =
     let i = c.subtitles.invariant in
     let first = rw c.in-Ok-Refused.field-0-is at c.in-Ok-Refused.ensures.first in
     let kind = first_kind c.in-Ok-Refused.fault first in
-    of_file-end i.early c.in-Ok-Refused.fault i.early_told kind.0 kind.1 i.told
-    c.in_default.ensures.told
+    of_file-end i.early c.in-Ok-Refused.fault i.early_reported kind.0 kind.1 i.reported
+    c.in_default.ensures.reported
 
-pub returns-in_default-tell_faults-clause-exact : goal.returns-in_default-tell_faults-clause-exact
-returns-in_default-tell_faults-clause-exact g c = λ bytes e.
+pub returns-in_default-report_faults-clause-exact :
+    goal.returns-in_default-report_faults-clause-exact
+returns-in_default-report_faults-clause-exact g c = λ bytes e.
     let i = c.subtitles.invariant in
     let here = i.goes_on bytes e in
     let l = rw (c.in-Ok-Subtitle.field-0-is, i.scope) at (c.in-Ok-Subtitle.ensures.leads refl) in
     let now = left-then _ _ here.0 l here.1 in (
-      tells-stop here.2 i.told _ now.2 c.in_default-tell_faults.ensures.stopped
-          (rw c.block-block.ensures.value at c.in_default-tell_faults.ensures.stops),
-      inl c.in_default-tell_faults.ensures.stopped,
+      reports-stop here.2 i.reported _ now.2 c.in_default-report_faults.ensures.stopped
+          (rw c.block-block.ensures.value at c.in_default-report_faults.ensures.stops),
+      inl c.in_default-report_faults.ensures.stopped,
     )
 
-pub returns-in_default-tell_faults-clause-told : goal.returns-in_default-tell_faults-clause-told
-returns-in_default-tell_faults-clause-told g c =
+pub returns-in_default-report_faults-clause-reported :
+    goal.returns-in_default-report_faults-clause-reported
+returns-in_default-report_faults-clause-reported g c =
     let i = c.subtitles.invariant in
     let l = rw (c.in-Ok-Subtitle.field-0-is, i.scope) at (c.in-Ok-Subtitle.ensures.leads refl) in
     of_file-stopped i.early _
-    (told-next c.args.drawing c.subtitles.before c.next_into.new.subtitle
+    (reported-next c.args.drawing c.subtitles.before c.next_into.new.subtitle
     c.subtitles.reader.block c.next_into.new.self.block i.early (let b = l.block in omega arith)
-    i.early_told) i.told (rw c.block-block.ensures.value at c.in_default-tell_faults.ensures.stops)
+    i.early_reported) i.reported
+    (rw c.block-block.ensures.value at c.in_default-report_faults.ensures.stops)
 
 pub returns-in-Ok-End-clause-exact : goal.returns-in-Ok-End-clause-exact
 returns-in-Ok-End-clause-exact g c = λ bytes e.
@@ -163,11 +169,11 @@ returns-in-Ok-End-clause-exact g c = λ bytes e.
       | inl enough ↦
           rw (c.if_enough.ensures, enough) (
             judges-enough here.2 end.2 i.are_kept enough,
-            rw (told-all here.2 end.2) i.told,
+            rw (reported-all here.2 end.2) i.reported,
           )
       | inr few ↦
           rw (c.if_enough.ensures, few) (
-            tells-none here.2 i.told end.2 (some-few i.are_kept few),
+            reports-none here.2 i.reported end.2 (some-few i.are_kept few),
             inr (judges-not here.2 end.2 few),
           )
     ]
@@ -181,19 +187,19 @@ returns-in-Ok-End-clause-programme g c =
       | inr few ↦ rw (c.if_enough.ensures, few) tt
     ]
 
-pub returns-in-Ok-End-clause-told : goal.returns-in-Ok-End-clause-told
-returns-in-Ok-End-clause-told g c =
+pub returns-in-Ok-End-clause-reported : goal.returns-in-Ok-End-clause-reported
+returns-in-Ok-End-clause-reported g c =
     let i = c.subtitles.invariant in
-    let of_file = told-of_file c.subtitles.reader.block i.early i.early_told in
+    let of_file = reported-of_file c.subtitles.reader.block i.early i.early_reported in
     elim (cases_Bool (is_enough c.subtitles.kept)) [
       | inl enough ↦
           rw (c.if_enough.ensures, enough)
-          (record { faults = i.early; of_file = of_file; told = i.told })
+          (record { faults = i.early; of_file = of_file; reported = i.reported })
       | inr few ↦ rw (c.if_enough.ensures, few) (record {
         faults = i.early;
         some = some-few i.are_kept few;
         of_file = of_file;
-        told = i.told;
+        reported = i.reported;
       })
     ]
 
@@ -203,18 +209,19 @@ subtitles-preserved g c =
     let t = c.next_into.new.subtitle in
     let here = c.next_into.new.self.block in
     let l = rw (c.in-Ok-Subtitle.field-0-is, i.scope) at (c.in-Ok-Subtitle.ensures.leads refl) in
-    let is_clean = c.in-Ok-tell_faults.ensures.clean in
+    let is_clean = c.in-Ok-report_faults.ensures.clean in
     let is_order =
-    none-asked _ _
+    none-requested _ _
     (rw (c.fault_after.ensures, c.of-times.ensures.value) at c.is_none-in_order.ensures) in
-    let told = rw c.block-block.ensures.value at c.in-Ok-tell_faults.ensures.told in
+    let reported = rw c.block-block.ensures.value at c.in-Ok-report_faults.ensures.reported in
     rw (c.in_default-put.ensures.kept, c.of-times.ensures.value) (record {
       early = i.early ++ map (load_fault here) (follow_faults c.args.drawing c.subtitles.before t);
-      told = Tells-trans _ _ _ i.early _ i.told told;
-      early_told = told-next c.args.drawing c.subtitles.before t c.subtitles.reader.block here
-          i.early (let b = l.block in omega arith) i.early_told;
+      reported = Reports-trans _ _ _ i.early _ i.reported reported;
+      early_reported = reported-next c.args.drawing c.subtitles.before t c.subtitles.reader.block
+          here
+          i.early (let b = l.block in omega arith) i.early_reported;
       are_kept = kept-next t here i.are_kept c.is_none-in_order.result
-          c.in-Ok-tell_faults.clean is_clean c.of-times.ensures.subtitle;
+          c.in-Ok-report_faults.clean is_clean c.of-times.ensures.subtitle;
       listens = search rules;
       reading = rw c.in-Ok-Subtitle.field-0-is at c.in-Ok-Subtitle.ensures.progress;
       scope = c.in-Ok-Subtitle.ensures.scope ∙ i.scope;
@@ -225,7 +232,7 @@ subtitles-preserved g c =
           let now = left-then _ _ was.0 l was.1 in (
             now.0,
             now.1,
-            goes_on-next t here c.is_none-in_order.result c.in-Ok-tell_faults.clean i.are_kept
+            goes_on-next t here c.is_none-in_order.result c.in-Ok-report_faults.clean i.are_kept
                 is_order is_clean (rw now.2 at was.2),
           );
     })
@@ -245,8 +252,8 @@ returns-in-Err-put-clause-exact g c = λ bytes e is.
     let whole = l.whole refl in
     let some = l.some refl in
     omega (arith, whole, some) in
-    let told = rw c.block-block.ensures.value at c.in-Ok-tell_faults.ensures.told in
+    let reported = rw c.block-block.ensures.value at c.in-Ok-report_faults.ensures.reported in
     rw c.block-block.ensures.value
-    (wants-memory c.subtitles.reader.block here t _ later i.early_told named
-    (sym c.in-Ok-tell_faults.ensures.clean ∙ c.in-Err-put.ensures.memory.1) (rw now.2 at was.2)
-    (Tells-trans _ _ _ i.early _ i.told told))
+    (wants-memory c.subtitles.reader.block here t _ later i.early_reported named
+    (sym c.in-Ok-report_faults.ensures.clean ∙ c.in-Err-put.ensures.memory.1) (rw now.2 at was.2)
+    (Reports-trans _ _ _ i.early _ i.reported reported))

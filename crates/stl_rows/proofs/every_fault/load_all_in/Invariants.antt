@@ -2,20 +2,20 @@
 -- file; likewise the kept subtitles and the reliable ones of the rest.
 use Rattle.std.proofs.Common.{◌≡◌, ◌-◌, ℕ, false, List, Some}
 use Rattle.std.specs.List.{All}
-use Rattle.sub_io.specs.Telling.{Tells}
+use Rattle.sub_io.specs.Reporting.{Reports}
 use Rattle.stl_file.specs.declared.progress.Progress.TheVariants.{Reading}
 use Rattle.stl_file.specs.Reading.{findings_from}
 use Rattle.stl_rows.specs.declared.fault.LoadFault.{LoadFault}
 use Rattle.stl_rows.proofs.FailedReadLemmas.{HasTaken}
 use Rattle.stl_rows.proofs.KeepingLemmas.{AreKept}
-use Rattle.stl_rows.proofs.LoadingLemmas.{GoesOn, IsToldBy}
+use Rattle.stl_rows.proofs.LoadingLemmas.{GoesOn, IsReportedBy}
 use Rattle.stl_rows.proofs.every_fault.load_all_in.Given as goal
 
 abbrev pub invariant-subtitles : goal.invariant-subtitles
 invariant-subtitles g l = record {
   early : List LoadFault;
-  told : Tells g.D.Audience.is_told l.fn.audience l.audience early;
-  early_told : All (IsToldBy l.reader.block) early;
+  reported : Reports g.D.Audience.is_reported l.fn.audience l.audience early;
+  early_reported : All (IsReportedBy l.reader.block) early;
   are_kept : AreKept l.drawing l.before early l.kept;
   listens : g.D.Audience.has_stopped l.audience ≡ false;
   reading : l.reader.progress ≡ Reading;

@@ -1,7 +1,7 @@
 -- One more line: line-fault, line-next, line-end.
 use Rattle.std.proofs.Common.{arith}
 use Rattle.std.proofs.lemmas.Bool.Decides.{nat_tests}
-use Rattle.stl_rows.proofs.DrawLinesLemmas.{behind-codes, line-codes, line-end, line-fault}
+use Rattle.stl_rows.proofs.DrawLinesLemmas.{following-codes, line-codes, line-end, line-fault}
 use Rattle.stl_rows.proofs.DrawLinesLemmas.{line-next, place-grows}
 use Rattle.stl_rows.proofs.laid_out.draw_lines.Goals as goal
 
@@ -29,7 +29,8 @@ lines-preserved c =
       arith,
       nat_tests,
       place-grows c.args.items.now c.lines.place,
-      behind-codes c.args.items.now c.args.jc c.args.off c.lines.place c.lines.page c.lines.rest.now
+      following-codes c.args.items.now c.args.jc c.args.off c.lines.place c.lines.page
+          c.lines.rest.now
           c.first_line.result.0.now c.prepare_by.new.line.items c.first_line.result.1
           c.first_line.ensures.lines c.prepare_by.ensures,
       line-next c.args.items.now c.args.jc c.args.off c.lines.place c.lines.page c.lines.rest.now

@@ -9,7 +9,7 @@ invariant-lines l = record {
   pitch : l.pitch ≡ pitch l.items;
   few : l.depth + 2 * length l.rest ≤ 2 * length l.fn.cells;
   last : l.last ≤ l.depth;
-  told :
+  reported :
       last_depth l.items l.depth l.last (prepared_cut l.items l.rest)
       ≡ last_depth l.items 0 0 (prepared_cut l.items l.fn.cells);
 }

@@ -8,7 +8,7 @@ invariant-loop-at g l = record {
   within : l.at ≤ length l.text;
   few : l.filled ≤ g.row.N;
   places : length l.places ≡ g.row.N;
-  told : codes_filled l.places l.filled (drop l.at l.text) ≡ codes_of_text g.row.N l.text;
+  reported : codes_filled l.places l.filled (drop l.at l.text) ≡ codes_of_text g.row.N l.text;
 }
 
 abbrev pub decreases-loop-at : goal.decreases-loop-at

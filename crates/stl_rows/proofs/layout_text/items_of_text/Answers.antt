@@ -11,15 +11,15 @@ returns-in_err-number c =
     grind (
       arith,
       nat_tests,
-      items_set-bad c.texts.items c.texts.came c.first_text.result.0.now,
+      items_set-bad c.texts.items c.texts.received c.first_text.result.0.now,
     )
 
-pub returns-then-came-number : goal.returns-then-came-number
-returns-then-came-number c =
+pub returns-then-received-number : goal.returns-then-received-number
+returns-then-received-number c =
     grind (
       arith,
       nat_tests,
-      items_set-again c.texts.items c.set_item.new.items c.texts.came c.in_ok-number.number
+      items_set-again c.texts.items c.set_item.new.items c.texts.received c.in_ok-number.number
           c.first_text.result.0.now,
     )
 
@@ -28,8 +28,8 @@ texts-preserved c =
     grind (
       arith,
       nat_tests,
-      length-set c.texts.came,
-      items_set-more c.texts.items c.set_item.new.items c.texts.came c.in_ok-number.number
+      length-set c.texts.received,
+      items_set-more c.texts.items c.set_item.new.items c.texts.received c.in_ok-number.number
           c.first_text.result.0.now,
     )
 
@@ -39,6 +39,6 @@ returns-in-None c =
       arith,
       nat_tests,
       items_set-end,
-      items_set-more c.texts.items c.set_item.new.items c.texts.came c.in_ok-number.number
+      items_set-more c.texts.items c.set_item.new.items c.texts.received c.in_ok-number.number
           c.first_text.result.0.now,
     )

@@ -9,9 +9,9 @@ use Rattle.stl_rows.proofs.layout_text.items_of_text.Given as goal
 abbrev pub invariant-texts : goal.invariant-texts
 invariant-texts l = record {
   utf8 : IsUtf8 l.rest;
-  came : length l.came ≡ 15;
-  told :
-      items_set l.items l.came (slice_split (λ c. c == between_items) l.rest)
+  received : length l.received ≡ 15;
+  reported :
+      items_set l.items l.received (slice_split (λ c. c == between_items) l.rest)
       ≡ items_set default_items (replicate 15 false) (slice_split (λ c. c == between_items) l.text);
 }
 

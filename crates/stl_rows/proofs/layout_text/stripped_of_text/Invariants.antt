@@ -7,7 +7,7 @@ abbrev pub invariant-loop-at : goal.invariant-loop-at
 invariant-loop-at l = record {
   within : l.at ≤ length l.text;
   strip : length l.strip ≡ 32;
-  told :
+  reported :
       stripped_with l.strip (drop l.at l.text) ≡ stripped_with (replicate 32 false) l.text;
 }
 

@@ -1,10 +1,11 @@
--- The first reported fault is the result: tells-first; if none is reported, all is loaded:
--- loads-all; if the source failed or memory was refused, there is none before: none-told,
--- tells-failed.
+-- The first reported fault is the result: reports-first; if none is reported, all is loaded:
+-- loads-all; if the source failed or memory was refused, there is none before: none-reported,
+-- reports-failed.
 use Rattle.std.proofs.Common.{arith, ◌∙◌, rules, sym}
 use Rattle.std.proofs.lemmas.Bool.Decides.{nat_tests}
 use Rattle.stl_rows.proofs.EveryFaultLemmas.{first-not_read, first-of_file, keeps-none}
-use Rattle.stl_rows.proofs.EveryFaultLemmas.{loads-all, none-told, tells-failed, tells-first}
+use Rattle.stl_rows.proofs.EveryFaultLemmas.{loads-all, none-reported, reports-failed}
+use Rattle.stl_rows.proofs.EveryFaultLemmas.{reports-first}
 use Rattle.stl_rows.proofs.loading.load_in.Goals as goal
 
 pub returns-in-Ok-Some-clause-exact : goal.returns-in-Ok-Some-clause-exact
@@ -22,7 +23,7 @@ returns-in-Err-clause-fault g c = λ bytes e.
     let failed = c.in-Err.ensures in
     let goes_on =
     keeps-none c.load_all_in.new.audience (λ stopped. let is = failed.stopped stopped in cc) in
-    tells-failed c.args.drawing bytes c.in-Err.fault.block c.in-Err.fault.kind failed.kinds
+    reports-failed c.args.drawing bytes c.in-Err.fault.block c.in-Err.fault.kind failed.kinds
     (λ is. rw (c.new-first.ensures, goes_on) at (failed.exact bytes e is))
 
 pub unreachable-requires : goal.unreachable-requires
@@ -31,13 +32,13 @@ unreachable-requires g c = grind (arith, nat_tests, first-of_file)
 pub returns-in-Some : goal.returns-in-Some
 returns-in-Some g c =
     let first = sym c.into_first.ensures ∙ c.in-Some.is in
-    let of_file = rw c.in-Ok-None.field-0-is at c.in-Ok-None.ensures.told in
+    let of_file = rw c.in-Ok-None.field-0-is at c.in-Ok-None.ensures.reported in
     let own = first-not_read _ _ c.in-Some.fault c.new-first.ensures first of_file in
     record {
       exact = search rules;
       fault = λ bytes e.
           let exact = rw c.in-Ok-None.field-0-is at (c.in-Ok-None.ensures.exact bytes e) in
-          tells-first c.args.drawing bytes c.in-Some.fault _
+          reports-first c.args.drawing bytes c.in-Some.fault _
           (rw (c.new-first.ensures, first) at exact.0)
           (rw (c.new-first.ensures, first) at of_file);
       never = own.0;
@@ -47,4 +48,4 @@ returns-in-Some g c =
     }
 
 pub returns-in-Err-clause-read : goal.returns-in-Err-clause-read
-returns-in-Err-clause-read g c = grind (arith, nat_tests, none-told)
+returns-in-Err-clause-read g c = grind (arith, nat_tests, none-reported)

@@ -1,6 +1,6 @@
 -- The first fault of the remaining text codes is the result for all.
 use Rattle.std.proofs.Common.{◌≡◌, ◌+◌, ◌-◌, ◌≤◌, None, false, length, drop}
-use Rattle.stl_rows.specs.LineByLine.{empty_line, told}
+use Rattle.stl_rows.specs.LineByLine.{empty_line, reported}
 use Rattle.stl_rows.specs.TextCode.{text_codes}
 use Rattle.stl_rows.proofs.text_faults.fault_of_text.Given as goal
 
@@ -10,9 +10,9 @@ invariant-loop-at l = record {
   numbers : l.line.number ≤ l.at;
   rows : l.line.row ≤ l.vp + l.at;
   cells : l.line.len ≤ l.at;
-  told :
-      told l.fault l.line (text_codes l.national l.at (drop l.at l.text))
-      ≡ told None (empty_line 0 l.vp false) (text_codes l.national 0 l.text);
+  reported :
+      reported l.fault l.line (text_codes l.national l.at (drop l.at l.text))
+      ≡ reported None (empty_line 0 l.vp false) (text_codes l.national 0 l.text);
 }
 
 abbrev pub decreases-loop-at : goal.decreases-loop-at

@@ -1,9 +1,9 @@
--- The first of all faults is returned: told-faults, drawn-first.
+-- The first of all faults is returned: reported-faults, drawn-first.
 use Rattle.std.proofs.Common.{arith}
 use Rattle.std.proofs.lemmas.Bool.Decides.{nat_tests}
 use Rattle.stl_rows.proofs.DefaultLayoutLemmas.{drawn-none, drawn-some}
 use Rattle.stl_rows.proofs.DrawnPageLemmas.{drawn-first}
-use Rattle.stl_rows.proofs.TextFaultLemmas.{told-faults}
+use Rattle.stl_rows.proofs.TextFaultLemmas.{reported-faults}
 use Rattle.stl_rows.proofs.text_faults.first_fault.Goals as goal
 
 pub returns-in-None : goal.returns-in-None
@@ -11,7 +11,7 @@ returns-in-None c =
     grind (
       arith,
       nat_tests,
-      told-faults,
+      reported-faults,
       drawn-first,
       drawn-none c.args.drawing.now c.args.subtitle.now,
     )

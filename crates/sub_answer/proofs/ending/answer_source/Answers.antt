@@ -1,11 +1,11 @@
 use Rattle.std.proofs.Common.{◌∙◌}
-use Rattle.sub_answer.proofs.EndingLemmas.{ends_weaker, first_source, told_nothing}
+use Rattle.sub_answer.proofs.EndingLemmas.{ends_weaker, first_source, reported_nothing}
 use Rattle.sub_answer.proofs.ending.answer_source.Goals as goal
 
 pub returns-clause-ends : goal.returns-clause-ends
 returns-clause-ends g c =
     let none =
-    told_nothing _ _ c.new-pes.ensures.none (c.new-pes.ensures.now ∙ c.new-nothing.ensures) in
-    ends_weaker _ _ _ _ _ _ _ _ _ _ _ _ c.answer_and_hand_on.ensures.ends
+    reported_nothing _ _ c.new-pes.ensures.none (c.new-pes.ensures.now ∙ c.new-nothing.ensures) in
+    ends_weaker _ _ _ _ _ _ _ _ _ _ _ _ c.answer_and_flush.ensures.ends
     (λ call is. is ∙ first_source _ _ _ c.requires.reads)
     (λ call is. rw is none) (λ is. tt) (λ first call is. is)

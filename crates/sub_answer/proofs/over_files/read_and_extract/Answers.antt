@@ -21,7 +21,8 @@ returns g c = record {
         room = _;
         new = _;
         left_is = c.into_inner.ensures;
-        is_part = rw (c.part_asked-part.ensures, c.new-first.ensures, c.into_file.ensures) at is;
+        is_part = rw (c.part_requested-part.ensures, c.new-first.ensures, c.into_file.ensures) at
+            is;
       })
       (λ input is. is) (λ is. refl)
       (λ first call is. record {

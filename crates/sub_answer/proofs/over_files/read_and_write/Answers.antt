@@ -1,7 +1,7 @@
 -- The files were released as the answer left them.
 use Rattle.std.proofs.Common.{None, Some, refl}
 use Rattle.std.specs.Io.KnownBytes.{prepend_known}
-use Rattle.sub_answer.proofs.EndingLemmas.{ends_weaker, whole_source}
+use Rattle.sub_answer.proofs.EndingLemmas.{ends_weaker, entire_source}
 use Rattle.sub_answer.proofs.over_files.read_and_write.Goals as goal
 
 pub returns : goal.returns
@@ -24,8 +24,8 @@ returns g c = record {
         left_is = c.into_inner.ensures;
         is_part =
             rw (c.new-first.ensures, c.into_file.ensures) at
-            (whole_source
-            (λ s. prepend_known s.held (g.D.Input.Source.remaining s.device))
+            (entire_source
+            (λ s. prepend_known s.buffered (g.D.Input.Source.remaining s.device))
             (λ s. g.D.Input.Source.failure_count s.device) c.new-first.result
             c.answer_source-status.new.first input is);
       })

@@ -5,13 +5,14 @@ use Rattle.sub_answer.proofs.EndingLemmas.{ends_weaker}
 use Rattle.sub_answer.proofs.PartLemmas.{all_of_source, file_of_source, stream_of_source}
 use Rattle.sub_answer.proofs.parts.answer_part.Goals as goal
 
-pub returns-then-not-reads_pieces-clause-ends : goal.returns-then-not-reads_pieces-clause-ends
-returns-then-not-reads_pieces-clause-ends g c =
+pub returns-then-not-reads_pes_packets-clause-ends :
+    goal.returns-then-not-reads_pes_packets-clause-ends
+returns-then-not-reads_pes_packets-clause-ends g c =
     ends_weaker _ _ _ _ _ _ _ _ _ _ _ _ c.answer_source-status.ensures.ends
     (λ input is.
     all_of_source g.S.Source.remaining g.S.Source.failure_count _ _ input c.args.request.now
     c.args.part c.requires.fits
-    (sym c.reads_pieces.ensures ∙ c.if-not-reads_pieces.true) is)
+    (sym c.reads_pes_packets.ensures ∙ c.if-not-reads_pes_packets.true) is)
     (λ input is. is) (λ is. is) (λ first call is. is)
 
 pub returns-in-None-clause-ends : goal.returns-in-None-clause-ends
@@ -28,8 +29,8 @@ returns-in-Some-clause-ends g c =
     (ends_weaker _ _ _ _ _ _ _ _ _ _ _ _ c.answer_range-status-in-Some.ensures.ends
     (λ input is.
     stream_of_source g.S.Source.remaining g.S.Source.failure_count _ _ input _ _ _ _ _ c.args.part
-    c.in-Some.stream is c.in-Some.is c.new-pieces-in-Some.ensures.carried
+    c.in-Some.stream is c.in-Some.is c.new-pes_packets-in-Some.ensures.carried
     (ap (λ (v : RecordingValue g.row.S.Denot). g.S.Source.failure_count v.device)
-    c.new-pieces-in-Some.ensures.start)
+    c.new-pes_packets-in-Some.ensures.start)
     refl)
     (λ input is. is) (λ is. is) (λ first call is. is))

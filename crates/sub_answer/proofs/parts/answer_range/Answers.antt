@@ -1,23 +1,24 @@
--- All PES packets, or those of a range: all_of_pieces, range_of_pieces.
+-- All PES packets, or those of a range: all_of_pes_packets, range_of_pes_packets.
 use Rattle.std.proofs.Common.{rules}
 use Rattle.ttx_pes.proofs.PartLemmas.{number_is, part_is}
 use Rattle.sub_answer.proofs.EndingLemmas.{ends_weaker}
-use Rattle.sub_answer.proofs.PartLemmas.{all_of_pieces, range_of_pieces}
+use Rattle.sub_answer.proofs.PartLemmas.{all_of_pes_packets, range_of_pes_packets}
 use Rattle.sub_answer.proofs.parts.answer_range.Goals as goal
 
 pub returns-in-None-clause-ends : goal.returns-in-None-clause-ends
 returns-in-None-clause-ends g c =
-    rw c.in-None.is (ends_weaker _ _ _ _ _ _ _ _ _ _ _ _ c.answer_pieces.ensures.ends
-    (λ input is. all_of_pieces _ _ _ _ _ input g.P.NumberedPieces.first g.P.NumberedPieces.passed
+    rw c.in-None.is (ends_weaker _ _ _ _ _ _ _ _ _ _ _ _ c.answer_pes_packets.ensures.ends
+    (λ input is. all_of_pes_packets _ _ _ _ _ input g.P.NumberedPesPackets.first
+    g.P.NumberedPesPackets.skipped
     c.requires.start is)
     (λ input is. is) (λ is. is) (λ first call is. is))
 
 pub returns-in-Some-clause-ends : goal.returns-in-Some-clause-ends
 returns-in-Some-clause-ends g c =
     rw c.in-Some.is
-    (ends_weaker _ _ _ _ _ _ _ _ _ _ _ _ c.answer_pieces-in-Some.ensures.ends
+    (ends_weaker _ _ _ _ _ _ _ _ _ _ _ _ c.answer_pes_packets-in-Some.ensures.ends
     (λ input is.
-    range_of_pieces _ _ _ _ _ input _ c.in-Some.range is
+    range_of_pes_packets _ _ _ _ _ input _ c.in-Some.range is
     (rw (
       c.new.ensures.now,
       c.new.ensures.left,

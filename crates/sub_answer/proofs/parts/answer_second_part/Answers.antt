@@ -1,7 +1,7 @@
 -- A part of a source, by how it was made: file_of_source, stream_of_source.
 use Rattle.std.proofs.Common.{ap, refl, rules}
 use Rattle.mpeg_ts.specs.Recording.{RecordingValue}
-use Rattle.ttx_pes.specs.declared.file_pieces.FilePieces.{FilePieces}
+use Rattle.ttx_pes.specs.declared.file_pes_packets.FilePesPackets.{FilePesPackets}
 use Rattle.sub_answer.proofs.EndingLemmas.{ends_weaker}
 use Rattle.sub_answer.proofs.PartLemmas.{file_of_source, stream_of_source}
 use Rattle.sub_answer.proofs.parts.answer_second_part.Goals as goal
@@ -13,7 +13,7 @@ returns-in-None g c =
     (λ input is.
     file_of_source g.T.Source.remaining g.T.Source.failure_count _ _ input _ _ _ _ _ c.args.part
     is c.in-None.is (search rules) (search rules) (search rules) (search rules))
-    (λ is. let same = ap (λ (f : FilePieces g.row.T.Denot). f.source.now) is in search rules)
+    (λ is. let same = ap (λ (f : FilePesPackets g.row.T.Denot). f.source.now) is in search rules)
     (λ first call is. is)
 
 pub returns-in-Some : goal.returns-in-Some
@@ -23,8 +23,8 @@ returns-in-Some g c =
     (λ input is. is)
     (λ input is.
     stream_of_source g.T.Source.remaining g.T.Source.failure_count _ _ input _ _ _ _ _ c.args.part
-    c.in-Some.stream is c.in-Some.is c.new-pieces-in-Some.ensures.carried
+    c.in-Some.stream is c.in-Some.is c.new-pes_packets-in-Some.ensures.carried
     (ap (λ (v : RecordingValue g.row.T.Denot). g.T.Source.failure_count v.device)
-    c.new-pieces-in-Some.ensures.start)
+    c.new-pes_packets-in-Some.ensures.start)
     refl)
-    (λ is. rw (is, c.new-pieces-in-Some.ensures.start) refl) (λ first call is. is))
+    (λ is. rw (is, c.new-pes_packets-in-Some.ensures.start) refl) (λ first call is. is))

@@ -1,16 +1,17 @@
--- All PES packets, or those of a range: all_of_pieces, range_of_pieces.
+-- All PES packets, or those of a range: all_of_pes_packets, range_of_pes_packets.
 use Rattle.std.proofs.Common.{◌∙◌, ap, rules}
-use Rattle.ttx_pes.specs.declared.part_of_pieces.PartOfPieces.{PartOfPieces}
+use Rattle.ttx_pes.specs.declared.part_of_pes_packets.PartOfPesPackets.{PartOfPesPackets}
 use Rattle.ttx_pes.proofs.PartLemmas.{number_is, part_is}
 use Rattle.sub_answer.proofs.EndingLemmas.{ends_weaker, first_source}
-use Rattle.sub_answer.proofs.PartLemmas.{all_of_pieces, range_of_pieces}
+use Rattle.sub_answer.proofs.PartLemmas.{all_of_pes_packets, range_of_pes_packets}
 use Rattle.sub_answer.proofs.parts.answer_second_range.Goals as goal
 
 pub returns-in-None-clause-ends : goal.returns-in-None-clause-ends
 returns-in-None-clause-ends g c =
     rw c.in-None.is (ends_weaker _ _ _ _ _ _ _ _ _ _ _ _ c.answer_pair.ensures.ends
     (λ input is. is ∙ first_source _ _ _ c.requires.reads)
-    (λ input is. all_of_pieces _ _ _ _ _ input g.P.NumberedPieces.first g.P.NumberedPieces.passed
+    (λ input is. all_of_pes_packets _ _ _ _ _ input g.P.NumberedPesPackets.first
+    g.P.NumberedPesPackets.skipped
     c.requires.start is)
     (λ is. is) (λ first call is. is))
 
@@ -20,7 +21,7 @@ returns-in-Some-clause-ends g c =
     (ends_weaker _ _ _ _ _ _ _ _ _ _ _ _ c.answer_pair-in-Some.ensures.ends
     (λ input is. is ∙ first_source _ _ _ c.requires.reads)
     (λ input is.
-    range_of_pieces _ _ _ _ _ input _ c.in-Some.range is
+    range_of_pes_packets _ _ _ _ _ input _ c.in-Some.range is
     (rw (
       c.new.ensures.now,
       c.new.ensures.left,
@@ -33,5 +34,5 @@ returns-in-Some-clause-ends g c =
     (number_is c.in-Some.range _))
     (search rules) (search rules))
     (λ is.
-    let same = ap (λ (p : PartOfPieces g.row.P.Denot). p.inner.inner.now) is in search rules)
+    let same = ap (λ (p : PartOfPesPackets g.row.P.Denot). p.inner.inner.now) is in search rules)
     (λ first call is. is))

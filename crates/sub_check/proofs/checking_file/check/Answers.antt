@@ -5,6 +5,6 @@ use Rattle.sub_check.proofs.checking_file.check.Goals as goal
 pub returns-clause-read : goal.returns-clause-read
 returns-clause-read g c = λ pes is.
     let read =
-    rw (c.new-pieces.ensures.none, c.new-pieces.ensures.now) at
-    (c.check_pieces.ensures.read pes is) in
+    rw (c.new-pes_packets.ensures.none, c.new-pes_packets.ensures.now) at
+    (c.check_pes_packets.ensures.read pes is) in
     search rules

@@ -14,15 +14,15 @@ pub returns-in-Err-clause-accepted_by : goal.returns-in-Err-clause-accepted_by
 returns-in-Err-clause-accepted_by g c = grind (arith, nat_tests, files_refused_by)
 
 pub returns-in-Ok-clause-accepted : goal.returns-in-Ok-clause-accepted
-returns-in-Ok-clause-accepted g c = λ none at_once file told bytes heard.
+returns-in-Ok-clause-accepted g c = λ none at_once file reported bytes heard.
     files_accepted (drawing_within c.args.national c.args.layout c.args.scope)
     c.args.options.now file bytes
-    c.law_of_loading.ensures c.in-Ok.programme (c.in-Ok.ensures.exact file told)
+    c.law_of_loading.ensures c.in-Ok.programme (c.in-Ok.ensures.exact file reported)
     c.check.result c.check.ensures.own (c.check.ensures.checked none at_once bytes heard)
 
 pub returns-in-Ok-clause-accepted_by : goal.returns-in-Ok-clause-accepted_by
-returns-in-Ok-clause-accepted_by g c = λ file told bytes heard.
+returns-in-Ok-clause-accepted_by g c = λ file reported bytes heard.
     files_accepted_by (drawing_within c.args.national c.args.layout c.args.scope)
     c.args.options.now file bytes
-    c.law_of_loading.ensures c.in-Ok.programme (c.in-Ok.ensures.exact file told)
+    c.law_of_loading.ensures c.in-Ok.programme (c.in-Ok.ensures.exact file reported)
     c.check.result c.check.ensures.own (c.check.ensures.checked_by bytes heard)

@@ -1,28 +1,28 @@
 -- The trusted frames of the last run, and then the last events.
 use Rattle.std.proofs.Common.{◌++◌, [], ◌∷◌, length, ap, map, refl, sym}
-use Rattle.sub_rules.specs.PieceEvents.{closing_of_pieces}
+use Rattle.sub_rules.specs.PesPacketEvents.{closing_of_pes_packets}
 use Rattle.sub_rules.specs.Trusted.{CheckStep}
-use Rattle.sub_rules.specs.Trusted.CheckStep.{AtPes, Says}
-use Rattle.sub_checker.proofs.LastEventsLemmas.{closes_are, closing_are, relays_alike}
-use Rattle.sub_checker.proofs.ReporterLemmas.{relays_step, relays_told, relays_two}
+use Rattle.sub_rules.specs.Trusted.CheckStep.{AtPes, Emits}
+use Rattle.sub_checker.proofs.LastEventsLemmas.{closes_are, closing_are, relays_equal}
+use Rattle.sub_checker.proofs.ReporterLemmas.{relays_step, relays_reported, relays_two}
 use Rattle.sub_checker.proofs.file_end.close.Goals as goal
 
-pub returns-clause-told : goal.returns-clause-told
-returns-clause-told g c = λ criteria list last follows is.
+pub returns-clause-reported : goal.returns-clause-reported
+returns-clause-reported g c = λ criteria list last follows is.
     let step =
     closes_are criteria list c.args.pes last _ c.args.fault c.is_some.result
-    c.tells_trusted-more.result follows is c.is_some.ensures c.tells_trusted-more.ensures in
+    c.reports_trusted-more.result follows is c.is_some.ensures c.reports_trusted-more.ensures in
     relays_two
     (ap (λ (m : CheckStep). (AtPes c.args.pes ∷ m ∷ [])
-    ++ map Says (closing_of_pieces criteria list c.args.pes (length list))) (sym step))
+    ++ map Emits (closing_of_pes_packets criteria list c.args.pes (length list))) (sym step))
     (relays_two refl (relays_step refl c.go_to.ensures refl) c.close.ensures)
-    (relays_alike _ _ (closing_are criteria list c.args.pes last _ c.args.fault follows is)
-    (relays_told refl c.close-2.ensures))
+    (relays_equal _ _ (closing_are criteria list c.args.pes last _ c.args.fault follows is)
+    (relays_reported refl c.close-2.ensures))
 
 pub returns-clause-some : goal.returns-clause-some
 returns-clause-some g c =
     let relays =
     relays_two refl
     (relays_two refl (relays_step refl c.go_to.ensures refl) c.close.ensures)
-    (relays_told refl c.close-2.ensures) in
-    record { items = _; told = relays.told }
+    (relays_reported refl c.close-2.ensures) in
+    record { items = _; reported = relays.reported }

@@ -1,15 +1,15 @@
 -- The last end, if it is open, and the events after it.
 use Rattle.std.proofs.Common.{refl}
-use Rattle.sub_io.proofs.TellingLemmas.{TellsSome-trans}
+use Rattle.sub_io.proofs.ReportingLemmas.{ReportsSome-trans}
 use Rattle.sub_checker.proofs.ReporterLemmas.{relays_two}
 use Rattle.sub_checker.proofs.file_end.end_and_close.Goals as goal
 
 pub returns-clause-some : goal.returns-clause-some
 returns-clause-some g c = λ criteria list last keeps.
-    let end = c.end_waiting.ensures.told criteria list last keeps in
-    TellsSome-trans _ _ _ (record { items = _; told = end.0.told }) c.close.ensures.some
+    let end = c.end_pending_frame.ensures.reported criteria list last keeps in
+    ReportsSome-trans _ _ _ (record { items = _; reported = end.0.reported }) c.close.ensures.some
 
-pub returns-clause-told : goal.returns-clause-told
-returns-clause-told g c = λ criteria list last keeps is.
-    let end = c.end_waiting.ensures.told criteria list last keeps in
-    relays_two refl end.0 (c.close.ensures.told criteria list last end.1 is)
+pub returns-clause-reported : goal.returns-clause-reported
+returns-clause-reported g c = λ criteria list last keeps is.
+    let end = c.end_pending_frame.ensures.reported criteria list last keeps in
+    relays_two refl end.0 (c.close.ensures.reported criteria list last end.1 is)

@@ -4,27 +4,27 @@ use Rattle.sub_checker.proofs.UndecidedLemmas.{known_last, known_never, known_no
 use Rattle.sub_checker.proofs.undecided.known_from.Goals as goal
 
 pub returns-then-not-any_refused : goal.returns-then-not-any_refused
-returns-then-not-any_refused c edge tells =
-    known_none c.args.judging.now c.args.first c.args.within c.args.frame edge tells
+returns-then-not-any_refused c edge reports =
+    known_none c.args.judging.now c.args.first c.args.within c.args.frame edge reports
     (sym c.requires ∙ c.if-not-any_refused.true)
 
 pub returns-then-is_undecided : goal.returns-then-is_undecided
-returns-then-is_undecided c edge tells =
-    known_not c.args.judging.now c.args.first c.args.within c.args.frame edge tells
+returns-then-is_undecided c edge reports =
+    known_not c.args.judging.now c.args.first c.args.within c.args.frame edge reports
     (sym c.requires ∙ c.if-not-any_refused.false) 18446744073709551615 (omega arith)
     (sym c.is_undecided.ensures ∙ c.if-is_undecided.true)
 
 pub returns-in-Some : goal.returns-in-Some
-returns-in-Some c edge tells =
+returns-in-Some c edge reports =
     let last = c.in-Some.ensures in
     rw (c.from.ensures, c.from-in-Some.ensures)
-    (known_last c.args.judging.now c.args.first c.args.within c.args.frame edge tells
+    (known_last c.args.judging.now c.args.first c.args.within c.args.frame edge reports
     (sym c.requires ∙ c.if-not-any_refused.false) c.in-Some.last
     (omega (arith, c.earliest-least.ensures.first, last.0)) last.1 last.2 last.3)
 
 pub returns-in-None : goal.returns-in-None
-returns-in-None c edge tells =
-    known_never c.args.judging.now c.args.first c.args.within c.args.frame edge tells
+returns-in-None c edge reports =
+    known_never c.args.judging.now c.args.first c.args.within c.args.frame edge reports
     (sym c.requires ∙ c.if-not-any_refused.false) c.earliest-least.result
     c.earliest-least.ensures.least (sym c.is_undecided.ensures ∙ c.if-is_undecided.false)
     c.in-None.ensures

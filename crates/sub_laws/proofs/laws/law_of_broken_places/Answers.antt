@@ -1,5 +1,5 @@
 -- The law: EventLemmas.
-use Rattle.sub_laws.proofs.NothingToldLemmas.{law_of_broken_places}
+use Rattle.sub_laws.proofs.NothingReportedLemmas.{law_of_broken_places}
 use Rattle.sub_laws.proofs.laws.law_of_broken_places.Goals as goal
 
 pub returns : goal.returns

@@ -10,45 +10,45 @@ pub reads-init : goal.reads-init
 reads-init g c = record {
   rest = search rules;
   device = search rules;
-  pieces = search rules;
+  pes_packets = search rules;
   file = search rules;
-  held = λ none. none;
-  copied = λ bytes told. none_copied bytes _ _ told;
+  buffered = λ none. none;
+  copied = λ bytes reported. none_copied bytes _ _ reported;
 }
 
-pub returns-in_default-clause-told : goal.returns-in_default-clause-told
-returns-in_default-clause-told g c = λ bytes told.
-    prefix_copied bytes _ _ _ _ (c.reads.invariant.copied bytes told)
+pub returns-in_default-clause-reported : goal.returns-in_default-clause-reported
+returns-in_default-clause-reported g c = λ bytes reported.
+    prefix_copied bytes _ _ _ _ (c.reads.invariant.copied bytes reported)
 
-pub returns-then-n-eq0-clause-told : goal.returns-then-n-eq0-clause-told
-returns-then-n-eq0-clause-told g c = λ bytes told.
+pub returns-then-n-eq0-clause-reported : goal.returns-then-n-eq0-clause-reported
+returns-then-n-eq0-clause-reported g c = λ bytes reported.
     let taken = c.in-Ok.ensures.bytes in
     let none = c.if-n-eq0.true in
     let all =
-    all_copied bytes _ _ _ _ _ (c.reads.invariant.copied bytes told) (rw none at taken.0)
+    all_copied bytes _ _ _ _ _ (c.reads.invariant.copied bytes reported) (rw none at taken.0)
     (taken.1 none (omega arith)) in
     (AppendsPrefix-whole _ _ bytes all, λ few. all)
 
-pub returns-then-is_err-clause-told : goal.returns-then-is_err-clause-told
-returns-then-is_err-clause-told g c = λ bytes told.
-    cut_copied bytes _ _ _ _ _ _ _ c.in-Ok.n (c.reads.invariant.copied bytes told)
+pub returns-then-is_err-clause-reported : goal.returns-then-is_err-clause-reported
+returns-then-is_err-clause-reported g c = λ bytes reported.
+    cut_copied bytes _ _ _ _ _ _ _ c.in-Ok.n (c.reads.invariant.copied bytes reported)
     c.in-Ok.ensures.bytes.0 (search rules)
 
 pub reads-preserved : goal.reads-preserved
 reads-preserved g c = record {
   rest = search rules;
   device = search rules;
-  pieces = search rules;
+  pes_packets = search rules;
   file = search rules;
-  held = search rules;
-  copied = λ bytes told.
-      more_copied bytes _ _ _ _ _ _ _ c.in-Ok.n (c.reads.invariant.copied bytes told)
+  buffered = search rules;
+  copied = λ bytes reported.
+      more_copied bytes _ _ _ _ _ _ _ c.in-Ok.n (c.reads.invariant.copied bytes reported)
       c.in-Ok.ensures.bytes.0 (search rules) (search rules) (search rules);
 }
 
-pub returns-clause-told : goal.returns-clause-told
-returns-clause-told g c = λ bytes told.
-    let some = c.reads.invariant.copied bytes told in
+pub returns-clause-reported : goal.returns-clause-reported
+returns-clause-reported g c = λ bytes reported.
+    let some = c.reads.invariant.copied bytes reported in
     let enough = some.enough in
     let within = some.within in (
       prefix_copied bytes _ _ _ _ some,

@@ -6,12 +6,14 @@ use Rattle.sub_listing.proofs.copying.copy_rest.Given as goal
 
 abbrev pub invariant-reads : goal.invariant-reads
 invariant-reads g l = record {
-  rest : g.P.Pieces.is_rest l.pieces ≡ true;
-  device : g.P.Pieces.device l.pieces ≡ g.P.Pieces.device l.initial.pieces;
-  pieces : g.P.Pieces.failure_count l.pieces ≡ g.P.Pieces.failure_count l.initial.pieces;
+  rest : g.P.PesPackets.is_rest l.pes_packets ≡ true;
+  device : g.P.PesPackets.device l.pes_packets ≡ g.P.PesPackets.device l.initial.pes_packets;
+  pes_packets : g.P.PesPackets.failure_count l.pes_packets ≡ g.P.PesPackets.failure_count
+      l.initial.pes_packets;
   file : g.F.Sink.failure_count l.file ≡ g.F.Sink.failure_count l.initial.file;
-  held : g.F.Flush.held l.initial.file ≡ 0 → g.F.Flush.held l.file ≡ 0;
-  copied : IfKnown (g.P.Pieces.remaining l.initial.pieces) (λ bytes.
-      HasCopiedSome bytes (g.P.Pieces.remaining l.pieces) (g.F.Sink.contents l.initial.file)
+  buffered : g.F.Flush.buffered l.initial.file ≡ 0 → g.F.Flush.buffered l.file ≡ 0;
+  copied : IfKnown (g.P.PesPackets.remaining l.initial.pes_packets) (λ bytes.
+      HasCopiedSome bytes (g.P.PesPackets.remaining l.pes_packets)
+      (g.F.Sink.contents l.initial.file)
       (g.F.Sink.contents l.file) l.turn);
 }

@@ -1,33 +1,33 @@
--- The lines of one more part, the last ones, and those at which the sink failed: front-more,
--- front-end, front-cut, front-stopped; lines that were flushed before: front-kept.
+-- The lines of one more part, the last ones, and those at which the sink failed: prefix-more,
+-- prefix-end, prefix-cut, prefix-stopped; lines that were flushed before: prefix-kept.
 use Rattle.std.proofs.Common.{◌∙◌, ◌+◌, ap, arith, if◌then◌else◌, refl, subst, sym, Some, ℕ}
 use Rattle.std.proofs.lemmas.Bool.{true≢false}
 use Rattle.std.specs.Io.KnownBytes.{Appends}
 use Rattle.sub_io.specs.Device.{AppendsPrefix}
 use Rattle.sub_listing.specs.DeviceCall.{read_call, sink_call}
 use Rattle.sub_listing.specs.Listing.{has_failed}
-use Rattle.sub_listing.proofs.ListingLemmas.{counts-fault, counts-status, front-cut, front-end}
-use Rattle.sub_listing.proofs.ListingLemmas.{front-kept, front-more, front-none, front-stopped}
+use Rattle.sub_listing.proofs.ListingLemmas.{counts-fault, counts-status, prefix-cut, prefix-end}
+use Rattle.sub_listing.proofs.ListingLemmas.{prefix-kept, prefix-more, prefix-none, prefix-stopped}
 use Rattle.sub_listing.proofs.LastLineLemmas.{last_alone, risen_fails}
 use Rattle.sub_listing.proofs.listing.list_to.Goals as goal
 
-pub pieces-init : goal.pieces-init
-pieces-init g c = record {
+pub pes_packets-init : goal.pes_packets-init
+pes_packets-init g c = record {
   ready = c.requires.ready;
   source = refl;
-  held = refl;
+  buffered = refl;
   same = refl;
   goes_on = c.requires.goes_on;
   holds = λ sound. sound;
   out = refl;
-  front = front-none _ _ _;
+  prefix = prefix-none _ _ _;
 }
 
 -- ---- the sink failed when lines were flushed
 
 pub returns-then-printer-clause-out_count : goal.returns-then-printer-clause-out_count
 returns-then-printer-clause-out_count g c =
-    let before = c.pieces.invariant in
+    let before = c.pes_packets.invariant in
     let risen =
     (c.next-end.ensures.stays.risen
     (λ same. true≢false (sym c.if-printer.true ∙ same ∙ before.goes_on))).1 in
@@ -41,7 +41,7 @@ returns-then-printer-clause-out_count g c =
 pub returns-then-printer-clause-input_count : goal.returns-then-printer-clause-input_count
 returns-then-printer-clause-input_count g c =
     let same = c.next-end.ensures.cut_count c.if-printer.true in
-    let source = c.pieces.invariant.source in
+    let source = c.pes_packets.invariant.source in
     record {
       kept = λ _. same ∙ source;
       risen = omega (arith, same, source);
@@ -50,22 +50,22 @@ returns-then-printer-clause-input_count g c =
 
 pub returns-then-printer-clause-listing : goal.returns-then-printer-clause-listing
 returns-then-printer-clause-listing g c =
-    let before = c.pieces.invariant in
+    let before = c.pes_packets.invariant in
     let stays = c.next-end.ensures.stays in
     let risen =
     (stays.risen (λ same. true≢false (sym c.if-printer.true ∙ same ∙ before.goes_on))).1 in
-    front-stopped (g.L.Lister.lists c.args.lister.now) (g.L.Lister.lists c.pieces.lister)
+    prefix-stopped (g.L.Lister.lists c.args.lister.now) (g.L.Lister.lists c.pes_packets.lister)
     (read_call g.L.Lister.known g.L.Lister.left g.L.Lister.failure_count c.args.input.now
     c.next-end.new.input)
     (sink_call g.K.Sink.contents g.K.Sink.failure_count c.args.printer.now.out.now
     c.next-end.new.printer.out.now)
-    _ _ before.front (c.next-end.ensures.cut c.if-printer.true) stays.kept
+    _ _ before.prefix (c.next-end.ensures.cut c.if-printer.true) stays.kept
     (risen ∙ ap (λ (n : ℕ). n + 1) before.out)
     (c.next-end.ensures.cut_count c.if-printer.true ∙ before.source)
 
 pub returns-then-printer-clause-fault : goal.returns-then-printer-clause-fault
 returns-then-printer-clause-fault g c = λ _.
-    let before = c.pieces.invariant in
+    let before = c.pes_packets.invariant in
     let risen =
     (c.next-end.ensures.stays.risen
     (λ same. true≢false (sym c.if-printer.true ∙ same ∙ before.goes_on))).1 in
@@ -78,18 +78,18 @@ returns-then-printer-clause-fault g c = λ _.
 
 pub returns-in-Err-clause-listing : goal.returns-in-Err-clause-listing
 returns-in-Err-clause-listing g c =
-    let before = c.pieces.invariant in
+    let before = c.pes_packets.invariant in
     let stays = c.next-end.ensures.stays in
     let out = stays.same (c.if-printer.false ∙ sym before.goes_on) ∙ before.out in
     let put = c.in-Err.ensures.count in
-    front-cut (g.L.Lister.lists c.args.lister.now) (g.L.Lister.lists c.pieces.lister)
+    prefix-cut (g.L.Lister.lists c.args.lister.now) (g.L.Lister.lists c.pes_packets.lister)
     (g.L.Lister.lists c.next-end.new.self)
     (read_call g.L.Lister.known g.L.Lister.left g.L.Lister.failure_count c.args.input.now
     c.next-end.new.input)
     (sink_call g.K.Sink.contents g.K.Sink.failure_count c.args.printer.now.out.now
     c.put.new.self.out.now)
     _ _ c.next-end.new.text.items c.next-end.result
-    (front-kept _ _ _ _ _ _ _ before.front stays.kept)
+    (prefix-kept _ _ _ _ _ _ _ before.prefix stays.kept)
     (c.next-end.ensures.gives c.if-printer.false)
     (subst (AppendsPrefix (g.K.Sink.contents c.next-end.new.printer.out.now)
     (g.K.Sink.contents c.put.new.self.out.now))
@@ -100,7 +100,7 @@ returns-in-Err-clause-listing g c =
 
 pub returns-in-Err-clause-out_count : goal.returns-in-Err-clause-out_count
 returns-in-Err-clause-out_count g c =
-    let before = c.pieces.invariant in
+    let before = c.pes_packets.invariant in
     let out =
     c.next-end.ensures.stays.same (c.if-printer.false ∙ sym before.goes_on) ∙ before.out in
     let put = c.in-Err.ensures.count in
@@ -115,11 +115,11 @@ returns-in-Err-clause-input_count g c =
     counts-fault _ _ (has_failed c.next-end.result)
     (c.next-end.ensures.count c.if-printer.false
     ∙ ap (λ (n : ℕ). n + (if has_failed c.next-end.result then 1 else 0))
-    c.pieces.invariant.source)
+    c.pes_packets.invariant.source)
 
 pub returns-in-Err-clause-fault : goal.returns-in-Err-clause-fault
 returns-in-Err-clause-fault g c = λ _.
-    let before = c.pieces.invariant in
+    let before = c.pes_packets.invariant in
     let out =
     c.next-end.ensures.stays.same (c.if-printer.false ∙ sym before.goes_on) ∙ before.out in
     let put = c.in-Err.ensures.count in
@@ -130,19 +130,19 @@ returns-in-Err-clause-fault g c = λ _.
 
 pub returns-in-Some-clause-listing : goal.returns-in-Some-clause-listing
 returns-in-Some-clause-listing g c =
-    let before = c.pieces.invariant in
+    let before = c.pes_packets.invariant in
     let stays = c.next-end.ensures.stays in
     let out = stays.same (c.if-printer.false ∙ sym before.goes_on) ∙ before.out in
     let put = c.in-Ok.ensures.count in
     let status = c.in-Some.status in
-    front-end (g.L.Lister.lists c.args.lister.now) (g.L.Lister.lists c.pieces.lister)
+    prefix-end (g.L.Lister.lists c.args.lister.now) (g.L.Lister.lists c.pes_packets.lister)
     (g.L.Lister.lists c.next-end.new.self)
     (read_call g.L.Lister.known g.L.Lister.left g.L.Lister.failure_count c.args.input.now
     c.next-end.new.input)
     (sink_call g.K.Sink.contents g.K.Sink.failure_count c.args.printer.now.out.now
     c.put.new.self.out.now)
     _ _ c.next-end.new.text.items status
-    (front-kept _ _ _ _ _ _ _ before.front stays.kept)
+    (prefix-kept _ _ _ _ _ _ _ before.prefix stays.kept)
     (c.in-Some.ensures.gives c.if-printer.false)
     (subst (Appends (g.K.Sink.contents c.next-end.new.printer.out.now)
     (g.K.Sink.contents c.put.new.self.out.now))
@@ -153,7 +153,7 @@ returns-in-Some-clause-listing g c =
 
 pub returns-in-Some-clause-out_count : goal.returns-in-Some-clause-out_count
 returns-in-Some-clause-out_count g c =
-    let before = c.pieces.invariant in
+    let before = c.pes_packets.invariant in
     let out =
     c.next-end.ensures.stays.same (c.if-printer.false ∙ sym before.goes_on) ∙ before.out in
     let put = c.in-Ok.ensures.count in
@@ -168,11 +168,12 @@ returns-in-Some-clause-input_count g c =
     let status = c.in-Some.status in
     counts-status _ _ status
     (c.in-Some.ensures.count c.if-printer.false
-    ∙ ap (λ (n : ℕ). n + (if has_failed (Some status) then 1 else 0)) c.pieces.invariant.source)
+    ∙ ap (λ (n : ℕ). n + (if has_failed (Some status) then 1 else 0))
+    c.pes_packets.invariant.source)
 
 pub returns-in-Some-clause-fault : goal.returns-in-Some-clause-fault
 returns-in-Some-clause-fault g c = λ is.
-    let before = c.pieces.invariant in
+    let before = c.pes_packets.invariant in
     let out =
     c.next-end.ensures.stays.same (c.if-printer.false ∙ sym before.goes_on) ∙ before.out in
     let put = c.in-Ok.ensures.count in
@@ -182,9 +183,9 @@ returns-in-Some-clause-fault g c = λ is.
 
 -- ---- one more part
 
-pub pieces-preserved : goal.pieces-preserved
-pieces-preserved g c =
-    let before = c.pieces.invariant in
+pub pes_packets-preserved : goal.pes_packets-preserved
+pes_packets-preserved g c =
+    let before = c.pes_packets.invariant in
     let stays = c.next-end.ensures.stays in
     let out = stays.same (c.if-printer.false ∙ sym before.goes_on) ∙ before.out in
     let put = c.in-Ok.ensures.count in
@@ -193,15 +194,15 @@ pieces-preserved g c =
     record {
       ready = c.in_default.ensures.ready c.if-printer.false refl;
       source = omega (arith, source, counted);
-      held = c.next-end.ensures.held ∙ before.held;
+      buffered = c.next-end.ensures.buffered ∙ before.buffered;
       same = c.put.ensures.same ∙ c.next-end.ensures.same ∙ before.same;
       goes_on = c.in-Ok.ensures.failed ∙ c.if-printer.false;
-      holds = λ sound still. absurd (true≢false (sym c.put.ensures.waits ∙ still));
+      holds = λ sound still. absurd (true≢false (sym c.put.ensures.has_pending ∙ still));
       out = omega (arith, out, put);
-      front =
-          front-more (g.L.Lister.lists c.args.lister.now) (g.L.Lister.lists c.pieces.lister)
+      prefix =
+          prefix-more (g.L.Lister.lists c.args.lister.now) (g.L.Lister.lists c.pes_packets.lister)
           (g.L.Lister.lists c.next-end.new.self) _ _ _ _ _ _ c.next-end.new.text.items
-          (front-kept _ _ _ _ _ _ _ before.front stays.kept)
+          (prefix-kept _ _ _ _ _ _ _ before.prefix stays.kept)
           (rw (← c.in_default.ensures.settled c.if-printer.false refl)
           (c.in_default.ensures.gives c.if-printer.false))
           (subst
@@ -215,11 +216,11 @@ pieces-preserved g c =
 pub returns-then-printer-clause-followed : goal.returns-then-printer-clause-followed
 returns-then-printer-clause-followed g c = λ is sound risen.
     let same = c.next-end.ensures.cut_count c.if-printer.true in
-    let source = c.pieces.invariant.source in absurd (omega (arith, same, source, risen))
+    let source = c.pes_packets.invariant.source in absurd (omega (arith, same, source, risen))
 
 pub returns-in-Err-clause-followed : goal.returns-in-Err-clause-followed
 returns-in-Err-clause-followed g c = λ is sound risen.
-    let before = c.pieces.invariant in
+    let before = c.pes_packets.invariant in
     let fails = risen_fails _ _ (has_failed c.next-end.result) risen
     (c.next-end.ensures.count c.if-printer.false
     ∙ ap (λ (n : ℕ). n + (if has_failed c.next-end.result then 1 else 0)) before.source) in
@@ -229,7 +230,7 @@ returns-in-Err-clause-followed g c = λ is sound risen.
 
 pub returns-in-Some-clause-followed : goal.returns-in-Some-clause-followed
 returns-in-Some-clause-followed g c = λ is sound risen.
-    let before = c.pieces.invariant in
+    let before = c.pes_packets.invariant in
     let fails = risen_fails _ _ (has_failed c.next-end.result) risen
     (c.next-end.ensures.count c.if-printer.false
     ∙ ap (λ (n : ℕ). n + (if has_failed c.next-end.result then 1 else 0)) before.source) in

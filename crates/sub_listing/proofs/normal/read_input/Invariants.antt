@@ -5,13 +5,13 @@ use Rattle.std.specs.Io.KnownBytes.{Consumes}
 use Rattle.sub_listing.specs.Writing.{most_read}
 use Rattle.sub_listing.proofs.normal.read_input.Given as goal
 
-abbrev pub invariant-pieces : goal.invariant-pieces
-invariant-pieces g l = record {
+abbrev pub invariant-pes_packets : goal.invariant-pes_packets
+invariant-pes_packets g l = record {
   most : vec_len l.bytes ≤ most_read;
   taken : Consumes
       (g.S.Source.remaining l.initial.input) (g.S.Source.remaining l.input) l.bytes.items;
   count : g.S.Source.failure_count l.input ≡ g.S.Source.failure_count l.initial.input;
 }
 
-abbrev pub decreases-pieces : goal.decreases-pieces
-decreases-pieces g l = most_read - vec_len l.bytes
+abbrev pub decreases-pes_packets : goal.decreases-pes_packets
+decreases-pes_packets g l = most_read - vec_len l.bytes

@@ -8,8 +8,8 @@ use Rattle.sub_listing.proofs.packets.list_packets.Goals as goal
 pub returns-in-Ok-clause-listing : goal.returns-in-Ok-clause-listing
 returns-in-Ok-clause-listing g c =
     let counted = c.in-Ok.ensures.count in
-    let same : g.P.Pieces.failure_count c.find_first.new.self
-    ≡ g.P.Pieces.failure_count c.args.pieces.now = omega (arith, counted) in
+    let same : g.P.PesPackets.failure_count c.find_first.new.self
+    ≡ g.P.PesPackets.failure_count c.args.pes_packets.now = omega (arith, counted) in
     prints_found _ c.in-Ok.first _ _ _ _ _ _ _ _ (λ n is. c.in-Ok.ensures.first n is)
     c.in-Ok.ensures.kept same
     (rw (c.new.ensures.start, c.new.ensures.first) at c.list.ensures.listing)
@@ -17,10 +17,11 @@ returns-in-Ok-clause-listing g c =
 pub returns-in-Err-clause-listing : goal.returns-in-Err-clause-listing
 returns-in-Err-clause-listing g c =
     let counted = c.in-Err.ensures.count in
-    let risen : g.P.Pieces.failure_count c.find_first.new.self
-    ≡ g.P.Pieces.failure_count c.args.pieces.now + 1 = omega (arith, counted) in
+    let risen : g.P.PesPackets.failure_count c.find_first.new.self
+    ≡ g.P.PesPackets.failure_count c.args.pes_packets.now + 1 = omega (arith, counted) in
     prints_failed _ c.in-Err.at.pes
-    (read_call g.P.Pieces.remaining g.P.Pieces.left g.P.Pieces.failure_count c.args.pieces.now
+    (read_call g.P.PesPackets.remaining g.P.PesPackets.left g.P.PesPackets.failure_count
+    c.args.pes_packets.now
     c.find_first.new.self)
     _ _ (λ n is. c.in-Err.ensures.before n is) c.in-Err.ensures.failed
     (λ n is. c.in-Err.ensures.left n is) c.in-Err.ensures.unread risen

@@ -8,7 +8,7 @@ use Rattle.sub_listing.proofs.printing.print_fault_line.Goals as goal
 
 pub returns-in-Ok-clause-line : goal.returns-in-Ok-clause-line
 returns-in-Ok-clause-line g c =
-    let line : c.as_slice.result.now ≡ line_of c.args.told.now = search rules in
+    let line : c.as_slice.result.now ≡ line_of c.args.reported.now = search rules in
     record {
       ok = true;
       calls =

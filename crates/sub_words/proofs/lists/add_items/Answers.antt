@@ -7,47 +7,47 @@ use Rattle.std.specs.Prelude.{if◌then◌else◌}
 use Rattle.sub_words.specs.Texts.{items_after}
 use Rattle.sub_words.proofs.lists.add_items.Goals as goal
 
-items_more : {A : Type 0} (said : List ℕ → Option A) (same : A → A → Bool)
+items_more : {A : Type 0} (parsed : List ℕ → Option A) (same : A → A → Bool)
     (texts : List (Bor (List ℕ))) (i : ℕ) (d : Bor (List ℕ)) (items new : List A)
     (whole : Option (List A)) (added b : Bool)
     → i < length texts
-    → items_after said same items (map (λ x. x.now) (drop i texts)) ≡ whole
+    → items_after parsed same items (map (λ x. x.now) (drop i texts)) ≡ whole
     → ((more : List (List ℕ))
-    → items_after said same items ((get_or texts i d).now ∷ more)
-    ≡ (if added then items_after said same new more else None))
+    → items_after parsed same items ((get_or texts i d).now ∷ more)
+    ≡ (if added then items_after parsed same new more else None))
     → added ≡ b
-    → (if b then items_after said same new (map (λ x. x.now) (drop (i + 1) texts)) else None)
+    → (if b then items_after parsed same new (map (λ x. x.now) (drop (i + 1) texts)) else None)
     ≡ whole
-items_more said same texts i d items new whole added b within so_far adds is =
+items_more parsed same texts i d items new whole added b within so_far adds is =
     let left : List (List ℕ) = map (λ x. x.now) (drop (i + 1) texts) in
-    subst (λ (o : Bool). (if o then items_after said same new left else None) ≡ whole) is
+    subst (λ (o : Bool). (if o then items_after parsed same new left else None) ≡ whole) is
     (sym (adds left)
-    ∙ sym (at_drop_more (λ (rest : List (Bor (List ℕ))). items_after said same items
+    ∙ sym (at_drop_more (λ (rest : List (Bor (List ℕ))). items_after parsed same items
     (map (λ x. x.now) rest)) texts i d within) ∙ so_far)
 
-items_all : {A : Type 0} (said : List ℕ → Option A) (same : A → A → Bool)
+items_all : {A : Type 0} (parsed : List ℕ → Option A) (same : A → A → Bool)
     (texts : List (Bor (List ℕ))) (i : ℕ) (items : List A) (whole : Option (List A))
     → length texts ≤ i
-    → items_after said same items (map (λ x. x.now) (drop i texts)) ≡ whole
+    → items_after parsed same items (map (λ x. x.now) (drop i texts)) ≡ whole
     → whole ≡ Some items
-items_all said same texts i items whole over so_far =
+items_all parsed same texts i items whole over so_far =
     sym so_far
-    ∙ at_drop_all (λ (rest : List (Bor (List ℕ))). items_after said same items
+    ∙ at_drop_all (λ (rest : List (Bor (List ℕ))). items_after parsed same items
     (map (λ x. x.now) rest)) texts i over
 
 pub loop-text-preserved : goal.loop-text-preserved
 loop-text-preserved g c =
-    items_more g.T.Item.said g.T.Item.same c.args.texts.now c.loop-text.text-index _
+    items_more g.T.Item.parsed g.T.Item.same c.args.texts.now c.loop-text.text-index _
     c.loop-text.list.items c.add_item.new.list.items _ c.in_ok-add_item.field-0 true
     c.loop-text-test.true c.loop-text.invariant c.in_ok-add_item.ensures c.if-not-branch.false
 
 pub returns-then-not-branch : goal.returns-then-not-branch
 returns-then-not-branch g c =
-    sym (items_more g.T.Item.said g.T.Item.same c.args.texts.now c.loop-text.text-index _
+    sym (items_more g.T.Item.parsed g.T.Item.same c.args.texts.now c.loop-text.text-index _
     c.loop-text.list.items c.add_item.new.list.items _ c.in_ok-add_item.field-0 false
     c.loop-text-test.true c.loop-text.invariant c.in_ok-add_item.ensures c.if-not-branch.true)
 
 pub returns : goal.returns
 returns g c =
-    items_all g.T.Item.said g.T.Item.same c.args.texts.now c.loop-text.text-index
+    items_all g.T.Item.parsed g.T.Item.same c.args.texts.now c.loop-text.text-index
     c.loop-text.list.items _ c.loop-text-test.false c.loop-text.invariant

@@ -5,6 +5,6 @@ use Rattle.sub_words.proofs.lists.add_items.Given as goal
 
 abbrev pub invariant-loop-text : goal.invariant-loop-text
 invariant-loop-text g l =
-    let rest = items_after g.T.Item.said g.T.Item.same in
+    let rest = items_after g.T.Item.parsed g.T.Item.same in
     rest l.list.items (map (λ x. x.now) (drop l.text-index l.texts))
     ≡ rest l.fn.list.items (map (λ x. x.now) l.texts)

@@ -3,20 +3,21 @@ use Rattle.std.proofs.Common.{rules}
 use Rattle.clap.specs.Words.{found_of, rows_of}
 use Rattle.clap.specs.declared.parser.matches.ArgMatches.TheViews.{out-ArgMatches}
 use Rattle.sub_words.specs.Commands.{texts_of}
-use Rattle.sub_words.proofs.CommandLemmas.{asked_for-met, fault-of_read, no-words, some-texts}
+use Rattle.sub_words.proofs.CommandLemmas.{asked_for-met, fault-of_read, no-arguments, some-texts}
 use Rattle.sub_words.proofs.parsing.parse_command.Goals as goal
 
 pub returns-in-Some : goal.returns-in-Some
 returns-in-Some c =
-    let asked = asked_for-met (texts_of c.args.words.now)
+    let requested = asked_for-met (texts_of c.args.arguments.now)
     (out-ArgMatches c.in_ok-matches.matches).subcommand c.in-Some.name.now
-    (rows_of (found_of c.in-Some.arguments.now)) c.in_ok-matches.ensures.command
+    (rows_of (found_of c.in-Some.sub_matches.now)) c.in_ok-matches.ensures.command
     (rw c.in-Some.is at c.subcommand.ensures.name) (rw c.in-Some.is at c.subcommand.ensures.rows) in
     record {
       request = search rules;
-      fault = fault-of_read _ _ _ (some-texts _ (search rules)) c.in_ok-matches.ensures.taken asked
+      fault = fault-of_read _ _ _ (some-texts _ (search rules)) c.in_ok-matches.ensures.taken
+          requested
           c.read_command.ensures;
     }
 
 pub returns-then-is_empty-clause-fault : goal.returns-then-is_empty-clause-fault
-returns-then-is_empty-clause-fault c = no-words _ (search rules)
+returns-then-is_empty-clause-fault c = no-arguments _ (search rules)

@@ -5,7 +5,7 @@ pub returns : goal.returns
 returns g c =
     let first = c.take_first-next.ensures.first in
     record {
-      piece = c.taken.result.now;
+      pes_packet = c.taken.result.now;
       joined = rw c.taken.ensures first.0;
       same = first.1;
       some = rw c.taken.ensures first.2;

@@ -3,18 +3,18 @@ use Rattle.std.proofs.Common.{◌≡◌, ◌+◌, ◌*◌, ◌/◌, ◌<◌, map
 use Rattle.std.proofs.Common.{ap}
 use Rattle.std.proofs.lemmas.List.{drop-drop, drop-map, take-map}
 use Rattle.ttx_packet.specs.BitOrder.{mirror}
-use Rattle.ttx_packet.proofs.BlockLemmas.{block_of, IsMadeTo, block_more, made_whole}
+use Rattle.ttx_packet.proofs.BlockLemmas.{block_of, IsMadeTo, block_more, made_complete}
 use Rattle.ttx_packet.proofs.bit_order.mirrored.Goals as goal
 
 pub loop-i-preserved : goal.loop-i-preserved
 loop-i-preserved c =
     let xs = c.args.bytes.now in
     let i = c.loop-i.i in
-    let front : i < length xs / 16 = search rules in
+    let prefix : i < length xs / 16 = search rules in
     let block =
     c.copy_from_slice.ensures.after
     ∙ c.mirrored_block.ensures
-    ∙ ap (map mirror) (block_of _ 16 xs i c.as_chunks.ensures.front front) in
+    ∙ ap (map mirror) (block_of _ 16 xs i c.as_chunks.ensures.prefix prefix) in
     block_more mirror xs c.loop-i.other _ 42 (16 * i) 16 _ (16 * (i + 1)) (omega arith)
     (omega arith) (omega arith) (omega arith) block c.loop-i.invariant
 
@@ -30,6 +30,6 @@ returns c =
     ∙ ap (take 10) (drop-map mirror 6 (drop 26 xs))
     ∙ take-map mirror 10 (drop 6 (drop 26 xs))
     ∙ ap (λ l. map mirror (take 10 l)) (drop-drop 6 26 xs) in
-    made_whole mirror xs _ 42 (omega arith)
+    made_complete mirror xs _ 42 (omega arith)
     (block_more mirror xs c.loop-i.other _ 42 32 10 10 42 (omega arith) (omega arith) (omega arith)
     (omega arith) block made)

@@ -15,15 +15,15 @@ returns c is_equal =
     let back : c.unwrap.result.now ≡ drop 24 xs = search rules in
     let back-2 : c.unwrap-2.result.now ≡ drop 24 ys = search rules in
     let long = length-zip2 differ xs ys (omega arith) in
-    let front =
-    c.differing-front.ensures
-    ∙ ap₂ differing_mask (block_of _ 16 xs 0 c.as_chunks.ensures.front (omega arith))
-    (block_of _ 16 ys 0 c.as_chunks-2.ensures.front (omega arith))
+    let prefix =
+    c.differing-prefix.ensures
+    ∙ ap₂ differing_mask (block_of _ 16 xs 0 c.as_chunks.ensures.prefix (omega arith))
+    (block_of _ 16 ys 0 c.as_chunks-2.ensures.prefix (omega arith))
     ∙ mask_of_block xs ys 0 (omega arith) (omega arith) in
     let middle =
     c.differing-middle.ensures
-    ∙ ap₂ differing_mask (block_of _ 16 xs 1 c.as_chunks.ensures.front (omega arith))
-    (block_of _ 16 ys 1 c.as_chunks-2.ensures.front (omega arith))
+    ∙ ap₂ differing_mask (block_of _ 16 xs 1 c.as_chunks.ensures.prefix (omega arith))
+    (block_of _ 16 ys 1 c.as_chunks-2.ensures.prefix (omega arith))
     ∙ mask_of_block xs ys 16 (omega arith) (omega arith) in
     let last =
     c.differing-last.ensures
@@ -32,7 +32,7 @@ returns c is_equal =
     ∙ mask_of_block xs ys 24 (omega arith) (omega arith) in
     let tests = zip2 differ xs ys in
     let to16 : (k : ℕ) → k < 16 → get_or tests k false ≡ false =
-    none_so_far (λ x. x) tests 0 _ false (omega (arith, long)) front (grind (arith, nat_tests))
+    none_so_far (λ x. x) tests 0 _ false (omega (arith, long)) prefix (grind (arith, nat_tests))
     (λ k l. absurd (omega arith)) in
     let to32 : (k : ℕ) → k < 32 → get_or tests k false ≡ false =
     none_so_far (λ x. x) tests 16 _ false (omega (arith, long)) middle (grind (arith, nat_tests))

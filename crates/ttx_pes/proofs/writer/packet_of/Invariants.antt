@@ -1,7 +1,7 @@
 use Rattle.std.proofs.Common.{◌≡◌, ◌+◌, ◌*◌, ◌++◌, ◌-◌, length, take}
 use Rattle.std.specs.List.{flat_map}
 use Rattle.ttx_pes.specs.DataUnit.{teletext_unit, stuffing_unit}
-use Rattle.ttx_pes.specs.PesPacket.{repeated}
+use Rattle.ttx_pes.specs.PesGrammar.{repeated}
 use Rattle.ttx_pes.proofs.writer.packet_of.Given as goal
 
 abbrev pub invariant-loop-unit : goal.invariant-loop-unit

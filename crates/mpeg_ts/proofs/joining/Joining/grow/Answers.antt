@@ -1,6 +1,6 @@
 -- The PES packet that was found is ready.
 use Rattle.std.proofs.Common.{◌≤◌, List, ℕ, arith, length, subst, take}
-use Rattle.ttx_pes.specs.Pieces.{IsPiece}
+use Rattle.ttx_pes.specs.PesPackets.{IsPesPacket}
 use Rattle.mpeg_ts.proofs.joining.Joining.grow.Goals as goal
 
 pub invariant_of-self-in-Whole : goal.invariant_of-self-in-Whole
@@ -10,6 +10,7 @@ invariant_of-self-in-Whole c =
       last = omega (arith, c.add.ensures.len);
       room = λ e. absurd cc;
       waits =
-          subst (λ (l : List ℕ). IsPiece (take size l) × (size ≤ length l)) c.as_slice.ensures.bytes
+          subst (λ (l : List ℕ). IsPesPacket (take size l) × (size ≤ length l))
+          c.as_slice.ensures.bytes
           (c.find_packet.ensures.packet size c.in-Whole.is);
     }

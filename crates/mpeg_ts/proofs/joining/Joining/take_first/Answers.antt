@@ -1,10 +1,10 @@
--- A PES packet, or nothing: piece_first.
-use Rattle.mpeg_ts.proofs.ReadyLemmas.{piece_first}
+-- A PES packet, or nothing: pes_packet_first.
+use Rattle.mpeg_ts.proofs.ReadyLemmas.{pes_packet_first}
 use Rattle.mpeg_ts.proofs.joining.Joining.take_first.Goals as goal
 
 pub returns-in_default : goal.returns-in_default
 returns-in_default c = record {
-  first = piece_first c.args.self.now c.take_next-next.new.self c.take_next-next.result
+  first = pes_packet_first c.args.self.now c.take_next-next.new.self c.take_next-next.result
       c.in_default.not-Rest c.take_next-next.ensures.next;
   within = c.take_next-next.ensures.within;
 }

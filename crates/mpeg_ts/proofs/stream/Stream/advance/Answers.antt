@@ -17,5 +17,5 @@ returns-clause-ahead c =
       joining = i.joining;
     } in
     rw (← c.self.view_is) (λ bytes.
-    ahead_moved (the_view i) moved c.args.count bytes c.advance-self-inside.ensures.held
+    ahead_moved (the_view i) moved c.args.count bytes c.advance-self-inside.ensures.buffered
     c.advance-self-inside.ensures.left c.advance-self-inside.ensures.rest)

@@ -1,10 +1,10 @@
 -- If the next item is known, at least a packet is buffered: needs_packet. No byte is read after
--- those that determine it: need_asks.
+-- those that determine it: need_requests.
 use Rattle.std.proofs.Common.{◌≡◌, ◌≤◌, ◌+◌, ◌∙◌, [], ap, arith, is_ok, sym}
 use Rattle.mpeg_ts.specs.PacketsInStep.{bytes_needed}
 use Rattle.mpeg_ts.specs.Stream.{StreamValue}
 use Rattle.mpeg_ts.specs.contracts.stream.Stream.{the_view}
-use Rattle.mpeg_ts.proofs.StreamLemmas.{cut_gives, given_takes, need_asks, needs_packet}
+use Rattle.mpeg_ts.proofs.StreamLemmas.{cut_gives, given_takes, need_requests, needs_packet}
 use Rattle.mpeg_ts.proofs.stream.Stream.need.Goals as goal
 
 pub returns-clause-packet : goal.returns-clause-packet
@@ -33,8 +33,8 @@ returns-clause-cut g c = λ failed.
     cut_gives (record (the_view i) { window = c.fill_to.new.self }) c.self.invariant.near idle
     (omega (arith, c.fill_to.ensures.cut failed, count))
 
-pub returns-clause-asks : goal.returns-clause-asks
-returns-clause-asks g c =
+pub returns-clause-requests : goal.returns-clause-requests
+returns-clause-requests g c =
     let i = c.self.inside in
     let count : i.lead + c.needed.result ≡ i.lead + bytes_needed i.distance i.in_step =
     ap (λ n. i.lead + n) (c.needed.ensures
@@ -42,6 +42,6 @@ returns-clause-asks g c =
     let idle : i.joining.pending ≡ [] =
     ap (λ (s : StreamValue). s.joining.pending) c.self.view_is ∙ c.requires.idle in
     rw (← c.self.view_is)
-    (need_asks g.S.Source.is_pull g.S.Source.lent g.S.Source.remaining (the_view i)
+    (need_requests g.S.Source.is_pull g.S.Source.borrowed g.S.Source.remaining (the_view i)
     c.fill_to.new.self c.args.source.now c.fill_to.new.source (is_ok c.fill_to.result)
-    (i.lead + c.needed.result) c.fill_to.ensures.asks count c.self.invariant.near idle)
+    (i.lead + c.needed.result) c.fill_to.ensures.requests count c.self.invariant.near idle)

@@ -1,9 +1,9 @@
 -- The output still to come after bytes that contain no packet: junk_given.
 use Rattle.std.proofs.Common.{◌≡◌, ◌≤◌, ◌+◌, ◌<◌, ◌++◌, ℕ, List, [], length, take, refl, ap, sym}
 use Rattle.std.proofs.Common.{◌∙◌, arith, false, rules, subst}
-use Rattle.mpeg_ts.specs.GoodPackets.{hole_size}
+use Rattle.mpeg_ts.specs.GoodPackets.{loss_size}
 use Rattle.mpeg_ts.specs.Joining.{has_ended}
-use Rattle.mpeg_ts.specs.Stream.{StreamValue, stream_gives}
+use Rattle.mpeg_ts.specs.Stream.{StreamValue, stream_output}
 use Rattle.mpeg_ts.specs.contracts.stream.Stream.{the_view}
 use Rattle.mpeg_ts.proofs.StreamLemmas.{junk_given}
 use Rattle.mpeg_ts.proofs.stream.Stream.skip_on.Goals as goal
@@ -18,11 +18,11 @@ returns-clause-gives c = λ bytes.
       lead = c.advance-self-inside.result;
       run = v.run + count;
     } in
-    let within : count ≤ length v.window.held =
+    let within : count ≤ length v.window.buffered =
     omega (
       arith,
       c.junk_size-count.ensures.within,
-      ap (λ (l : List ℕ). length l) c.held.ensures.held,
+      ap (λ (l : List ℕ). length l) c.buffered.ensures.buffered,
     ) in
     let step : i.in_step ≡ false =
     ap (λ (s : StreamValue). s.in_step) c.self.view_is ∙ c.requires.out in
@@ -30,13 +30,13 @@ returns-clause-gives c = λ bytes.
     ap (λ (s : StreamValue). has_ended s.joining.part) c.self.view_is ∙ c.requires.going in
     let idle : i.joining.pending ≡ [] =
     ap (λ (s : StreamValue). s.joining.pending) c.self.view_is ∙ c.requires.idle in
-    let room : i.run < hole_size i.distance → i.run + count < hole_size i.distance =
-    subst (λ (s : StreamValue). s.run < hole_size s.distance → s.run + count < hole_size s.distance)
-    (sym c.self.view_is) (c.may_end_hole.ensures (search rules)) in
+    let room : i.run < loss_size i.distance → i.run + count < loss_size i.distance =
+    subst (λ (s : StreamValue). s.run < loss_size s.distance → s.run + count < loss_size s.distance)
+    (sym c.self.view_is) (c.may_end_loss.ensures (search rules)) in
     rw (← c.self.view_is) (junk_given v w count bytes within step (c.self.invariant.no_lead step)
     refl refl refl refl refl c.advance-self-inside.ensures.rest
-    c.advance-self-inside.ensures.held c.advance-self-inside.ensures.left
+    c.advance-self-inside.ensures.buffered c.advance-self-inside.ensures.left
     (λ rest. c.junk_size-count.ensures.gives i.distance i.number i.run i.joining rest
     c.self.invariant.near room going idle
-    ∙ ap (λ (l : List ℕ). stream_gives i.distance i.number i.run false i.joining
-    (take count l ++ rest)) c.held.ensures.held))
+    ∙ ap (λ (l : List ℕ). stream_output i.distance i.number i.run false i.joining
+    (take count l ++ rest)) c.buffered.ensures.buffered))

@@ -1,21 +1,21 @@
 -- The bytes read and those that may be read are the same in total, and no pull has failed.
 use Rattle.std.proofs.Common.{length, true, ◌+◌, ◌-◌, ◌≡◌, ◌≤◌}
-use Rattle.mpeg_ts.specs.TakenBytes.{TakesFront}
-use Rattle.mpeg_ts.specs.Window.{AsksUpTo, held_and_left}
+use Rattle.mpeg_ts.specs.TakenBytes.{TakesPrefix}
+use Rattle.mpeg_ts.specs.Window.{RequestsUpTo, buffered_and_left}
 use Rattle.mpeg_ts.proofs.window.Window.fill_to.Given as goal
 
 abbrev pub invariant-loop-have : goal.invariant-loop-have
 invariant-loop-have g l = record {
-  have : l.have ≡ length l.self.held;
+  have : l.have ≡ length l.self.buffered;
   takes :
-      TakesFront (held_and_left l.initial.self) (held_and_left l.self)
+      TakesPrefix (buffered_and_left l.initial.self) (buffered_and_left l.self)
       (g.S.Source.remaining l.initial.source) (g.S.Source.remaining l.source);
   sum :
-      length l.self.held + l.self.left
-      ≡ length l.initial.self.held + l.initial.self.left;
-  grows : length l.initial.self.held ≤ length l.self.held;
-  asks :
-      AsksUpTo g.S.Source.is_pull g.S.Source.lent g.S.Source.remaining l.count
+      length l.self.buffered + l.self.left
+      ≡ length l.initial.self.buffered + l.initial.self.left;
+  grows : length l.initial.self.buffered ≤ length l.self.buffered;
+  requests :
+      RequestsUpTo g.S.Source.is_pull g.S.Source.borrowed g.S.Source.remaining l.count
       l.initial.self l.initial.source true l.self l.source;
   count : g.S.Source.failure_count l.source ≡ g.S.Source.failure_count l.initial.source;
 }

@@ -1,13 +1,14 @@
 -- If a fault was reported, there must be a subtitle, and all must be in order: enough-some.
 use Rattle.std.proofs.Common.{ap, arith, refl, sym, ◌∙◌, ◌≡◌, ◌<◌, length, false}
 use Rattle.std.proofs.lemmas.Bool.Decides.{nat_tests}
-use Rattle.stl_rows.specs.Keeping.{is_whole}
+use Rattle.stl_rows.specs.Keeping.{are_all_kept}
 use Rattle.stl_rows.proofs.KeepingLemmas.{enough-some}
 use Rattle.stl_rows.proofs.keeping.Kept.is_enough.Goals as goal
 
 pub returns : goal.returns
 returns g c =
-    let part : is_whole c.args.self.now ≡ false = sym c.is_whole.ensures ∙ c.if-is_whole.false in
+    let part : are_all_kept c.args.self.now ≡ false = sym c.are_all_kept.ensures ∙
+    c.if-are_all_kept.false in
     let records : c.self.inside.subtitles ≡ c.args.self.now.records =
     ap (λ k. k.records) c.self.view_is in
     let some : 0 < length c.args.self.now.records = grind (arith, nat_tests) in

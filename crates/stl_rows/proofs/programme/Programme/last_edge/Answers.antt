@@ -1,9 +1,9 @@
 -- The cues are the records of the programme.
 use Rattle.std.proofs.Common.{ap, subst}
-use Rattle.stl_rows.specs.DuePage.{TellsLastEdge}
+use Rattle.stl_rows.specs.DuePage.{ReportsLastEdge}
 use Rattle.stl_rows.proofs.programme.Programme.last_edge.Goals as goal
 
 pub returns-clause-value : goal.returns-clause-value
 returns-clause-value c =
-    subst (λ ts. TellsLastEdge ts c.args.frame c.edge_until.result)
+    subst (λ ts. ReportsLastEdge ts c.args.frame c.edge_until.result)
     (ap (λ s. s.records) c.self.view_is) c.edge_until.ensures

@@ -1,16 +1,16 @@
 -- The first PES packet was found, or the source failed before.
 use Rattle.std.proofs.Common.{◌≡◌}
 use Rattle.sub_listing.proofs.FirstPacketLemmas.{fails_first_packet, fails_packet_kept}
-use Rattle.sub_answer.proofs.AnsweringLemmas.{no_piece_read}
+use Rattle.sub_answer.proofs.AnsweringLemmas.{no_pes_packet_read}
 use Rattle.sub_answer.proofs.answering.check.check_from.Goals as goal
 
 pub returns-in-Ok-clause-read : goal.returns-in-Ok-clause-read
 returns-in-Ok-clause-read g c = λ index is.
-    fails_packet_kept index _ _ _ c.in-Ok.ensures.kept (c.check_pieces.ensures.read index is)
+    fails_packet_kept index _ _ _ c.in-Ok.ensures.kept (c.check_pes_packets.ensures.read index is)
 
 pub returns-in-Err-clause-checked_by : goal.returns-in-Err-clause-checked_by
-returns-in-Err-clause-checked_by g c = λ bytes told.
-    no_piece_read c.args.programme.now c.args.options.now bytes
+returns-in-Err-clause-checked_by g c = λ bytes reported.
+    no_pes_packet_read c.args.programme.now c.args.options.now bytes
 
 pub returns-in-Err-clause-read : goal.returns-in-Err-clause-read
 returns-in-Err-clause-read g c = λ index is.

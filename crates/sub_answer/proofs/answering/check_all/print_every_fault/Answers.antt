@@ -8,36 +8,39 @@ use Rattle.sub_answer.proofs.answering.check_all.print_every_fault.Goals as goal
 pub returns-then-failed-clause-all : goal.returns-then-failed-clause-all
 returns-then-failed-clause-all g c =
     answers_at _ _ _ _ _ _ _ _ _ _ _ _ _
-    (answers_cut _ _ _ _ _ _ _ _ _ c.tell_every_fault-answer.ensures.told c.if-failed.true)
+    (answers_cut _ _ _ _ _ _ _ _ _ c.report_every_fault-answer.ensures.reported c.if-failed.true)
     (search rules) (search rules)
 
 pub returns-clause-all : goal.returns-clause-all
 returns-clause-all g c =
     answers_at _ _ _ _ _ _ _ _ _ _ _ _ _
     (answers_end _ _ _ _ _ _ _ _ _ _ _ _ c.law_of_loading.ensures
-    c.tell_every_fault-answer.ensures.told c.if-failed.false refl c.print_end.ensures.printed)
+    c.report_every_fault-answer.ensures.reported c.if-failed.false refl c.print_end.ensures.printed)
     (search rules) (search rules)
 
 pub returns-clause-stl_count : goal.returns-clause-stl_count
 returns-clause-stl_count g c =
     (counts _ _ _ _ _ _ _ _
     (answers_end _ _ _ _ _ _ _ _ _ _ _ _ c.law_of_loading.ensures
-    c.tell_every_fault-answer.ensures.told c.if-failed.false refl c.print_end.ensures.printed)).0
+    c.report_every_fault-answer.ensures.reported c.if-failed.false refl
+    c.print_end.ensures.printed)).0
 
 pub returns-clause-pes_count : goal.returns-clause-pes_count
 returns-clause-pes_count g c =
     (counts _ _ _ _ _ _ _ _
     (answers_end _ _ _ _ _ _ _ _ _ _ _ _ c.law_of_loading.ensures
-    c.tell_every_fault-answer.ensures.told c.if-failed.false refl c.print_end.ensures.printed)).1
+    c.report_every_fault-answer.ensures.reported c.if-failed.false refl
+    c.print_end.ensures.printed)).1
 
 pub returns-then-failed-clause-followed : goal.returns-then-failed-clause-followed
 returns-then-failed-clause-followed g c = λ none risen.
-    absurd (cut_reads c.tell_every_fault-answer.ensures.told c.if-failed.true risen)
+    absurd (cut_reads c.report_every_fault-answer.ensures.reported c.if-failed.true risen)
 
 pub returns-clause-followed : goal.returns-clause-followed
 returns-clause-followed g c = λ none risen.
-    let told = c.tell_every_fault-answer.ensures in
-    let fails = risen_fails _ _ _ risen told.count in
-    last_line g.K.Sink.contents g.K.Flush.held g.K.Sink.is_push _ _ _ _
-    c.tell_every_fault-answer.result fails (told.asked none fails) c.print_end.ensures.line
+    let reported = c.report_every_fault-answer.ensures in
+    let fails = risen_fails _ _ _ risen reported.count in
+    last_line g.K.Sink.contents g.K.Flush.buffered g.K.Sink.is_push _ _ _ _
+    c.report_every_fault-answer.result fails (reported.requested none fails)
+    c.print_end.ensures.line
     (search rules)

@@ -9,15 +9,16 @@ use Rattle.sub_answer.proofs.answering.listen.print_heard.Goals as goal
 
 pub returns-in-Ok-clause-exact : goal.returns-in-Ok-clause-exact
 returns-in-Ok-clause-exact g c = record {
-  exact = λ frames unread bytes told reads same. (
+  exact = λ frames unread bytes reported reads same. (
     listing_of c.args.first c.asks_complete.result
-        (display (g.R.Receiver.state c.listen_pieces.new.receiver) c.listen_pieces.new.screen)
+        (display (g.R.Receiver.state c.listen_pes_packets.new.receiver)
+        c.listen_pes_packets.new.screen)
         (Ok tt),
     listens_from _ c.args.listening.now c.args.first frames unread _ _ _ _ _ (Ok tt)
         c.old_page.result c.asks_complete.result c.asks_complete.ensures.value
         (c.tune-receiver.ensures.tuned ∙ c.page.ensures.value)
         (ap (λ s. display s None) c.tune-receiver.ensures.state)
-        c.old_page.ensures (c.in-Ok.ensures.exact frames unread bytes told reads refl)
+        c.old_page.ensures (c.in-Ok.ensures.exact frames unread bytes reported reads refl)
         c.print_state.ensures.page,
     c.print_state.ensures.printed,
   );
@@ -27,9 +28,10 @@ returns-in-Ok-clause-exact g c = record {
 
 pub returns-clause-exact : goal.returns-clause-exact
 returns-clause-exact g c = record {
-  exact = λ frames unread bytes told reads same. (
+  exact = λ frames unread bytes reported reads same. (
     listing_of c.args.first c.args.listening.now.options.asks_complete
-        (display (g.R.Receiver.state c.listen_pieces.new.receiver) c.listen_pieces.new.screen)
+        (display (g.R.Receiver.state c.listen_pes_packets.new.receiver)
+        c.listen_pes_packets.new.screen)
         (Err c.in-Err.fault),
     listens_from _ c.args.listening.now c.args.first frames unread _ _ _ _ _ (Err c.in-Err.fault)
         c.old_page.result
@@ -37,7 +39,7 @@ returns-clause-exact g c = record {
         (c.tune-receiver.ensures.tuned ∙ c.page.ensures.value)
         (ap (λ s. display s None) c.tune-receiver.ensures.state)
         c.old_page.ensures
-        (c.in-Err.ensures.exact frames unread bytes told reads
+        (c.in-Err.ensures.exact frames unread bytes reported reads
         (did_not_rise (is_failed_read c.in-Err.fault) _ _ c.in-Err.ensures.count same)) tt,
     rw (c.counted_from.ensures, c.line_of_listen.ensures) at c.print_fault_line.ensures.printed,
   );

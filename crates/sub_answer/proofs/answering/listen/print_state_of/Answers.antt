@@ -7,8 +7,8 @@ use Rattle.sub_answer.proofs.answering.listen.print_state_of.Goals as goal
 pub returns-in-Ok-clause-exact : goal.returns-in-Ok-clause-exact
 returns-in-Ok-clause-exact g c =
     let counted = c.in-Ok.ensures.count in
-    let same : g.P.Pieces.failure_count c.find_first.new.self
-    ≡ g.P.Pieces.failure_count c.args.pes.now = omega (arith, counted) in
+    let same : g.P.PesPackets.failure_count c.find_first.new.self
+    ≡ g.P.PesPackets.failure_count c.args.pes.now = omega (arith, counted) in
     record {
       number = c.in-Ok.first;
       starts = λ n is. inl (c.in-Ok.ensures.first n is);
@@ -20,8 +20,8 @@ returns-in-Ok-clause-exact g c =
 pub returns-in-Err-clause-exact : goal.returns-in-Err-clause-exact
 returns-in-Err-clause-exact g c =
     let counted = c.in-Err.ensures.count in
-    let risen : g.P.Pieces.failure_count c.find_first.new.self
-    ≡ g.P.Pieces.failure_count c.args.pes.now + 1 = omega (arith, counted) in
+    let risen : g.P.PesPackets.failure_count c.find_first.new.self
+    ≡ g.P.PesPackets.failure_count c.args.pes.now + 1 = omega (arith, counted) in
     record {
       number = c.in-Err.at.pes;
       starts = λ n is.
@@ -33,7 +33,8 @@ returns-in-Err-clause-exact g c =
           );
       heard =
           none_heard _ _ c.in-Err.at.pes
-          (read_call g.P.Pieces.remaining g.P.Pieces.left g.P.Pieces.failure_count c.args.pes.now
+          (read_call g.P.PesPackets.remaining g.P.PesPackets.left g.P.PesPackets.failure_count
+          c.args.pes.now
           c.find_first.new.self)
           _ _ c.in-Err.ensures.unread risen
           (rw c.line_of_failed_read.ensures at c.print_fault_line.ensures.printed);

@@ -1,11 +1,11 @@
 -- The active faults end, and the last fault follows.
 use Rattle.sub_checker.proofs.LastEventsLemmas.{closing_parts}
-use Rattle.sub_checker.proofs.EventPartsLemmas.{told_two}
+use Rattle.sub_checker.proofs.EventPartsLemmas.{reported_two}
 use Rattle.sub_checker.proofs.checker.Checker.close.Goals as goal
 
 pub returns : goal.returns
 returns g c =
-    told_two _ _ _ _ _ _
+    reported_two _ _ _ _ _ _
     (closing_parts c.args.pes c.args.fault _ _ _ _ c.self.view_is c.none-none.ensures
     c.last_fault.ensures)
-    c.tell_change.ensures c.tell_fault.ensures
+    c.report_change.ensures c.report_fault.ensures

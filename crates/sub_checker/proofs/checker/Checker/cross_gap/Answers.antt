@@ -1,10 +1,10 @@
 -- Ends one frame after another.
 use Rattle.std.proofs.Common.{◌+◌, ◌-◌, ◌<◌, ◌∙◌, ap, sym, subst, arith, refl}
 use Rattle.sub_rules.specs.Events.{latest}
-use Rattle.sub_rules.specs.PieceEvents.{steps_of_gap}
+use Rattle.sub_rules.specs.PesPacketEvents.{steps_of_gap}
 use Rattle.sub_checker.specs.CheckedFrames.{AfterEnd, BeforeEnd}
-use Rattle.sub_checker.proofs.CheckedFramesLemmas.{follows_waits, gap_ended, gap_more}
-use Rattle.sub_checker.proofs.CheckedFramesLemmas.{gap_start, gap_steps, gap_waits}
+use Rattle.sub_checker.proofs.CheckedFramesLemmas.{follows_pending, gap_ended, gap_more}
+use Rattle.sub_checker.proofs.CheckedFramesLemmas.{gap_start, gap_steps, gap_pending}
 use Rattle.sub_checker.proofs.ReporterLemmas.{relays_nothing, relays_same, relays_two}
 use Rattle.sub_rules.proofs.EndLemmas.{gap_length-is}
 use Rattle.sub_checker.proofs.checker.Checker.cross_gap.Goals as goal
@@ -15,11 +15,11 @@ loop-f-init g c = record {
   latest_is = grind arith;
   later = grind arith;
   upto = grind arith;
-  told = λ criteria frames n last follows some is.
+  reported = λ criteria frames n last follows some is.
       let here = subst (AfterEnd criteria frames n last) (sym c.self.view_is) follows in (
         relays_nothing (gap_start criteria frames n _ (here.latest_is some)),
         subst (BeforeEnd criteria frames n _ last) c.self.view_is
-            (follows_waits criteria frames n _ last _ here some (omega arith)),
+            (follows_pending criteria frames n _ last _ here some (omega arith)),
       );
 }
 
@@ -31,30 +31,30 @@ loop-f-preserved g c =
       latest_is = grind arith;
       later = let l = i.later in omega arith;
       upto = λ l. let t = c.loop-f-test.true in omega arith;
-      told = λ criteria frames n last follows some is.
-          let before = i.told criteria frames n last follows some is in
+      reported = λ criteria frames n last follows some is.
+          let before = i.reported criteria frames n last follows some is in
           let later = i.later in
           let past : latest frames n < c.loop-f.f =
           let latest_is = follows.latest_is some in omega arith in
           let due = c.end_of_frame.ensures.due in
-          let told = c.end_of_frame.ensures.told in
+          let reported = c.end_of_frame.ensures.reported in
           let steps =
           gap_steps criteria frames n c.loop-f.f last _ _ before.1 some past c.move_to.ensures
           (i.latest_is ∙ follows.latest_is some) due in (
             relays_two (gap_more criteria frames n c.loop-f.f _ past refl) before.0
-                (relays_same (sym steps) told),
+                (relays_same (sym steps) reported),
             subst (BeforeEnd criteria frames n _ last)
                 (sym c.end_of_frame.ensures.ended)
-                (gap_waits criteria frames n c.loop-f.f last _ _ before.1 some past
+                (gap_pending criteria frames n c.loop-f.f last _ _ before.1 some past
                 c.move_to.ensures
                 (i.latest_is ∙ follows.latest_is some) due _ refl),
           );
     }
 
-pub returns-clause-told : goal.returns-clause-told
-returns-clause-told g c = λ criteria frames n last follows some is.
+pub returns-clause-reported : goal.returns-clause-reported
+returns-clause-reported g c = λ criteria frames n last follows some is.
     let i = c.loop-f.invariant in
-    let before = i.told criteria frames n last follows some is in
+    let before = i.reported criteria frames n last follows some is in
     let size = gap_length-is frames n some ∙ ap (λ f. f - (latest frames n + 1)) is in
     let ended =
     gap_ended criteria frames n c.loop-f.f c.args.to c.args.self.now.latest last _ before.1 some

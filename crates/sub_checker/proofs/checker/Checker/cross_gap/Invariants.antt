@@ -1,7 +1,7 @@
 -- The steps of the ends so far, and the state after them.
 use Rattle.std.proofs.Common.{◌≡◌, ℕ, ◌+◌, ◌-◌, ◌<◌, ◌≤◌, List}
 use Rattle.sub_rules.specs.Events.{latest}
-use Rattle.sub_rules.specs.PieceEvents.{steps_of_gap}
+use Rattle.sub_rules.specs.PesPacketEvents.{steps_of_gap}
 use Rattle.sub_checker.specs.CheckedFrames.{AfterEnd, BeforeEnd}
 use Rattle.sub_checker.specs.Relay.{ReporterRelays}
 use Rattle.sub_rules.specs.FrameRules.{Criteria, frame_at}
@@ -14,12 +14,12 @@ invariant-loop-f g l = record {
   latest_is : l.self.latest ≡ l.fn.self.latest;
   later : l.fn.self.latest < l.f;
   upto : l.fn.self.latest + 1 < l.f → l.f ≤ l.to;
-  told :
+  reported :
       (criteria : Criteria) (frames : Transmission) (n : ℕ) (last : List (List ℕ))
       → AfterEnd criteria frames n last l.fn.self
       → 0 < n
       → frame_at frames n ≡ l.to
-      → ReporterRelays g.A.Audience.is_told l.fn.reporter
+      → ReporterRelays g.A.Audience.is_reported l.fn.reporter
       (steps_of_gap criteria frames n (l.f - (latest frames n + 1))) l.reporter
       × BeforeEnd criteria frames n l.f last l.self;
 }

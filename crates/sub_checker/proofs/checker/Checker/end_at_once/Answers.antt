@@ -1,9 +1,9 @@
 -- The changes are reported.
 use Rattle.sub_checker.proofs.FrameEndLemmas.{once_steps}
-use Rattle.sub_checker.proofs.ReporterLemmas.{relays_told}
+use Rattle.sub_checker.proofs.ReporterLemmas.{relays_reported}
 use Rattle.sub_checker.proofs.checker.Checker.end_at_once.Goals as goal
 
-pub returns-clause-told : goal.returns-clause-told
-returns-clause-told g c =
-    relays_told (once_steps _ c.args.self.now _ c.self.view_is c.requires.each
-    (c.standing_now-standing.ensures)) c.tell_change.ensures
+pub returns-clause-reported : goal.returns-clause-reported
+returns-clause-reported g c =
+    relays_reported (once_steps _ c.args.self.now _ c.self.view_is c.requires.each
+    (c.active_faults_now-active_faults.ensures)) c.report_change.ensures

@@ -2,12 +2,12 @@
 use Rattle.std.proofs.Common.{◌-◌, ◌<◌, ◌∙◌, length, arith, ap, false}
 use Rattle.sub_checker.specs.Checker.{CheckerValue}
 use Rattle.sub_checker.proofs.AfterPacketsLemmas.{header_more}
-use Rattle.sub_checker.proofs.BetweenPiecesLemmas.{follows_all, heard_shut, waiting_some}
+use Rattle.sub_checker.proofs.BetweenPesPacketsLemmas.{follows_all, heard_shut, pending_some}
 use Rattle.sub_checker.proofs.ReporterLemmas.{relays_same}
 use Rattle.sub_checker.proofs.checker.Checker.end_open.Goals as goal
 
-pub returns-clause-told : goal.returns-clause-told
-returns-clause-told g c = λ criteria sent last keeps.
+pub returns-clause-reported : goal.returns-clause-reported
+returns-clause-reported g c = λ criteria sent last keeps.
     let opened = c.requires.opened in
     let opens = keeps.opens opened in
     let some = keeps.some opened in
@@ -17,9 +17,9 @@ returns-clause-told g c = λ criteria sent last keeps.
     c.self.view_is) opens.heard in
     let there : length sent - 1 < length sent = omega (arith, some) in
     let end =
-    c.end_sent.ensures.told criteria sent (length sent - 1) last shut there
+    c.end_sent.ensures.reported criteria sent (length sent - 1) last shut there
     (header_more criteria sent (length sent - 1) last _ shut _ there
     (ap (λ (v : CheckerValue). v.counts.headers_before) c.self.view_is ∙ opens.before)) in (
-      relays_same (waiting_some criteria sent last c.args.self.now keeps opened) end.0,
+      relays_same (pending_some criteria sent last c.args.self.now keeps opened) end.0,
       follows_all criteria sent last _ some end.1,
     )

@@ -4,45 +4,46 @@ use Rattle.sub_rules.specs.PacketRules.{packets_of_units}
 use Rattle.sub_rules.specs.Transmission.{SentFrame, Transmission}
 use Rattle.sub_rules.proofs.JoinedLemmas.{sent_after-other, sent_after-same}
 use Rattle.sub_checker.specs.Checker.{sent_as}
-use Rattle.sub_checker.specs.CheckedFrames.{BetweenPieces}
+use Rattle.sub_checker.specs.CheckedFrames.{BetweenPesPackets}
 use Rattle.sub_checker.proofs.CheckedFramesLemmas.{AfterEnd-prefix}
 use Rattle.sub_checker.proofs.ReporterLemmas.{relays_step, relays_two}
-use Rattle.sub_checker.proofs.BetweenPiecesLemmas.{goes_on_is, is_sent, more_is, next_is}
-use Rattle.sub_checker.proofs.BetweenPiecesLemmas.{one_longer}
+use Rattle.sub_checker.proofs.BetweenPesPacketsLemmas.{goes_on_is, is_sent, more_is, next_is}
+use Rattle.sub_checker.proofs.BetweenPesPacketsLemmas.{one_longer}
 use Rattle.sub_checker.proofs.checker.Checker.go_on.Goals as goal
 
-pub returns-then-goes_on-clause-told : goal.returns-then-goes_on-clause-told
-returns-then-goes_on-clause-told g c = λ criteria sent last keeps again.
+pub returns-then-goes_on-clause-reported : goal.returns-then-goes_on-clause-reported
+returns-then-goes_on-clause-reported g c = λ criteria sent last keeps again.
     let s : SentFrame = sent_as c.args.sending c.args.units.now in
     let same =
     goes_on_is criteria sent last c.args.self.now s c.goes_on.result keeps c.goes_on.ensures
     ∙ c.if-goes_on.true in
-    let more = c.take_more.ensures.told criteria sent last keeps again in (
+    let more = c.take_more.ensures.reported criteria sent last keeps again in (
       relays_two (more_is criteria sent c.args.pes s same)
           (relays_step refl c.go_to.ensures refl) more.0,
-      subst (λ (l : Transmission). BetweenPieces criteria l
+      subst (λ (l : Transmission). BetweenPesPackets criteria l
           (packets_of_units c.args.units.now) c.take_more.new.self)
           (sym (sent_after-same criteria.within sent s same)) more.1,
     )
 
 pub take_next-requires-clause-room : goal.take_next-requires-clause-room
 take_next-requires-clause-room g c =
-    c.end_waiting.ensures.few c.args.pes c.requires.room
+    c.end_pending_frame.ensures.few c.args.pes c.requires.room
 
-pub returns-clause-told : goal.returns-clause-told
-returns-clause-told g c = λ criteria sent last keeps again.
+pub returns-clause-reported : goal.returns-clause-reported
+returns-clause-reported g c = λ criteria sent last keeps again.
     let s : SentFrame = sent_as c.args.sending c.args.units.now in
     let other =
     goes_on_is criteria sent last c.args.self.now s c.goes_on.result keeps c.goes_on.ensures
     ∙ c.if-goes_on.false in
-    let end = c.end_waiting.ensures.told criteria sent last keeps in
+    let end = c.end_pending_frame.ensures.reported criteria sent last keeps in
     let next =
-    c.take_next.ensures.told criteria (sent ++ s ∷ []) (length sent) last
-    (AfterEnd-prefix criteria sent (s ∷ []) last c.end_waiting.new.self end.1) (one_longer sent s)
+    c.take_next.ensures.reported criteria (sent ++ s ∷ []) (length sent) last
+    (AfterEnd-prefix criteria sent (s ∷ []) last c.end_pending_frame.new.self end.1)
+    (one_longer sent s)
     (is_sent sent s) again in (
       relays_two (next_is criteria sent c.args.pes s other) end.0
           (relays_two refl (relays_step refl c.go_to-2.ensures refl) next.0),
-      subst (λ (l : Transmission). BetweenPieces criteria l
+      subst (λ (l : Transmission). BetweenPesPackets criteria l
           (packets_of_units c.args.units.now) c.take_next.new.self)
           (sym (sent_after-other criteria.within sent s other)) next.1,
     )

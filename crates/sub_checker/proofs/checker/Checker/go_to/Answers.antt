@@ -1,18 +1,18 @@
 -- The order, and the ends of the frames before.
 use Rattle.std.proofs.Common.{◌∙◌, ap, map, refl, sym, subst}
-use Rattle.sub_rules.specs.Trusted.CheckStep.{Says}
+use Rattle.sub_rules.specs.Trusted.CheckStep.{Emits}
 use Rattle.sub_checker.specs.CheckedFrames.{AfterEnd, BeforePackets}
 use Rattle.sub_checker.proofs.CheckedFramesLemmas.{arrives_next, order_are}
-use Rattle.sub_checker.proofs.ReporterLemmas.{relays_told, relays_two}
+use Rattle.sub_checker.proofs.ReporterLemmas.{relays_reported, relays_two}
 use Rattle.sub_checker.proofs.checker.Checker.go_to.Goals as goal
 
-pub returns-clause-told : goal.returns-clause-told
-returns-clause-told g c = λ criteria frames n last follows some is.
+pub returns-clause-reported : goal.returns-clause-reported
+returns-clause-reported g c = λ criteria frames n last follows some is.
     let here = subst (AfterEnd criteria frames n last) (sym c.self.view_is) follows in
     let order =
     order_are criteria frames n c.args.frame _ _ _ some is (here.last_is some) here.number refl in
-    let gap = c.cross_gap.ensures.told criteria frames n last follows some is in (
-      relays_two refl (relays_told (ap (map Says) order) c.tell_if.ensures) gap.0,
+    let gap = c.cross_gap.ensures.reported criteria frames n last follows some is in (
+      relays_two refl (relays_reported (ap (map Emits) order) c.report_if.ensures) gap.0,
       subst (BeforePackets criteria frames n last) (sym c.arrive.ensures)
           (arrives_next criteria frames n c.args.frame last _ gap.1 is
           (c.cross_gap.ensures.latest ∙ follows.latest_is some)),

@@ -1,22 +1,23 @@
 -- The packets, and the headers among them.
 use Rattle.std.proofs.Common.{◌∙◌, length, map, ap, sym, subst}
 use Rattle.sub_packets.specs.Listener.{KnowsLast, begins_frame}
-use Rattle.sub_rules.specs.Events.{packets_told}
+use Rattle.sub_rules.specs.Events.{packets_reported}
 use Rattle.sub_rules.specs.PacketRules.{header_count, packets_of_units}
-use Rattle.sub_rules.specs.Trusted.CheckStep.{Says}
+use Rattle.sub_rules.specs.Trusted.CheckStep.{Emits}
 use Rattle.sub_checker.specs.Checker.{CheckerValue, after_headers}
-use Rattle.sub_checker.proofs.ReporterLemmas.{relays_told}
+use Rattle.sub_checker.proofs.ReporterLemmas.{relays_reported}
 use Rattle.sub_checker.proofs.checker.Checker.hear.Goals as goal
 
-pub returns-clause-told : goal.returns-clause-told
-returns-clause-told g c = λ heard last knows again.
+pub returns-clause-reported : goal.returns-clause-reported
+returns-clause-reported g c = λ heard last knows again.
     let ps = packets_of_units c.args.units.now in
     let here = subst (λ (v : CheckerValue). KnowsLast heard last v.listener) (sym c.self.view_is)
     knows in
     let hears = c.hear_sending-headers.ensures.knows heard last here again in
     let count =
     hears.1 ∙ ap (λ (v : CheckerValue). header_count v.listener.watched.page ps) c.self.view_is in (
-      relays_told (ap (λ (v : CheckerValue). map Says (packets_told v.listener.watched v.frame
+      relays_reported (ap (λ (v : CheckerValue). map Emits (packets_reported v.listener.watched
+          v.frame
           c.args.from heard ps (length ps))) (sym c.self.view_is)) hears.3,
       record {
         listener = c.hear_sending-headers.new.self;

@@ -30,8 +30,8 @@ returns-then-is_before c =
       latest = i.latest;
       frame = i.frame;
       last = i.last;
-      standing = i.standing;
-      since = i.since;
+      active_faults = i.active_faults;
+      first_unfinished = i.first_unfinished;
       late_at = i.late_at;
       counts = i.counts;
     } in

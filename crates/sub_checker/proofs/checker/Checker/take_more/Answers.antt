@@ -1,30 +1,30 @@
 -- More packets of the last frame.
 use Rattle.std.proofs.Common.{◌≡◌, ◌∙◌, ◌+◌, ◌-◌, ℕ, length, suc, map, ap, arith, subst, sym}
 use Rattle.std.proofs.lemmas.List.{length-map}
-use Rattle.sub_rules.specs.Events.{packets_told}
+use Rattle.sub_rules.specs.Events.{packets_reported}
 use Rattle.sub_rules.specs.FrameRules.{packets_before}
 use Rattle.sub_rules.specs.PacketRules.{packets_of_units}
-use Rattle.sub_rules.specs.Trusted.CheckStep.{Says}
+use Rattle.sub_rules.specs.Trusted.CheckStep.{Emits}
 use Rattle.sub_checker.specs.Checker.{CheckerValue, HasHeard}
 use Rattle.sub_checker.proofs.MorePacketsLemmas.{more_are}
 use Rattle.sub_checker.proofs.ReporterLemmas.{relays_same}
-use Rattle.sub_checker.proofs.BetweenPiecesLemmas.{more_keeps}
+use Rattle.sub_checker.proofs.BetweenPesPacketsLemmas.{more_keeps}
 use Rattle.sub_checker.proofs.checker.Checker.take_more.Goals as goal
 
-pub returns-clause-told : goal.returns-clause-told
-returns-clause-told g c = λ criteria sent last keeps again.
+pub returns-clause-reported : goal.returns-clause-reported
+returns-clause-reported g c = λ criteria sent last keeps again.
     let opened = c.requires.opened in
     let some = keeps.some opened in
     let opens = keeps.opens opened in
     let all : length sent ≡ suc (length sent - 1) = omega (arith, some) in
     let ps = packets_of_units c.args.units.now in
     let heard =
-    c.hear.ensures.told (packets_before sent (suc (length sent - 1))) last
+    c.hear.ensures.reported (packets_before sent (suc (length sent - 1))) last
     opens.heard.known.knows again in
     let steps = more_are criteria sent (length sent - 1) last ps c.args.self.now opens all in
     let from = ap (λ (v : CheckerValue). v.counts.packets) c.self.view_is in (
       relays_same
-          (steps ∙ ap (λ (k : ℕ). map Says (packets_told c.args.self.now.listener.watched
+          (steps ∙ ap (λ (k : ℕ). map Emits (packets_reported c.args.self.now.listener.watched
           c.args.self.now.frame k (packets_before sent (suc (length sent - 1))) ps (length ps)))
           (sym from)) heard.0,
       more_keeps criteria sent last ps c.args.self.now c.hear.new.self _ _ keeps opened

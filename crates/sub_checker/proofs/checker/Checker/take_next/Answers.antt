@@ -11,18 +11,20 @@ use Rattle.sub_checker.specs.CheckedFrames.{AfterEnd}
 use Rattle.sub_checker.specs.declared.counts.Counts.{Counts}
 use Rattle.sub_checker.proofs.AfterPacketsLemmas.{packets_are}
 use Rattle.sub_checker.proofs.ReporterLemmas.{relays_same, relays_two}
-use Rattle.sub_checker.proofs.BetweenPiecesLemmas.{BetweenPieces-closed, arrived, each_is}
-use Rattle.sub_checker.proofs.BetweenPiecesLemmas.{next_each, next_heard, next_keeps, next_within}
-use Rattle.sub_checker.proofs.BetweenPiecesLemmas.{some_is}
+use Rattle.sub_checker.proofs.BetweenPesPacketsLemmas.{BetweenPesPackets-closed, arrived, each_is}
+use Rattle.sub_checker.proofs.BetweenPesPacketsLemmas.{next_each, next_heard, next_keeps}
+use Rattle.sub_checker.proofs.BetweenPesPacketsLemmas.{next_within}
+use Rattle.sub_checker.proofs.BetweenPesPacketsLemmas.{some_is}
 use Rattle.sub_checker.proofs.checker.Checker.take_next.Goals as goal
 
-pub returns-then-self-eq0-clause-told : goal.returns-then-self-eq0-clause-told
-returns-then-self-eq0-clause-told g c = λ criteria frames n last follows long sent again.
+pub returns-then-self-eq0-clause-reported : goal.returns-then-self-eq0-clause-reported
+returns-then-self-eq0-clause-reported g c = λ criteria frames n last follows long sent again.
     let ps = packets_of_units c.args.units.now in
-    let reached = c.reach.ensures.told criteria frames n last follows sent.frame_is in
+    let reached = c.reach.ensures.reported criteria frames n last follows sent.frame_is in
     let arrives = reached.1 in
     let heard =
-    c.hear-headers.ensures.told (packets_before frames n) last arrives.waits.known.knows again in
+    c.hear-headers.ensures.reported (packets_before frames n) last arrives.has_pending.known.knows
+    again in
     let steps = packets_are criteria frames n last ps _ arrives sent.packets_are in
     let view = c.self.view_is in
     let each =
@@ -36,10 +38,10 @@ returns-then-self-eq0-clause-told g c = λ criteria frames n last follows long s
       counts = record v.counts { frames = v.counts.frames + 1 };
     }) view) in
     let end =
-    c.end_sent.ensures.told criteria frames n ps there sent.there
+    c.end_sent.ensures.reported criteria frames n ps there sent.there
     (ap (nat_lt 0) heard.2
     ∙ ap (λ (t : Criteria). nat_lt 0 (header_count t.watched.page ps))
-    (sym arrives.waits.known.criteria_are)
+    (sym arrives.has_pending.known.criteria_are)
     ∙ sym (holds-count criteria.watched.page ps)
     ∙ ap (holds_header (kind criteria.watched.page)) (sym sent.packets_are)) in
     let shut =
@@ -53,17 +55,18 @@ returns-then-self-eq0-clause-told g c = λ criteria frames n last follows long s
           (arrived criteria frames n last _ arrives reached.0 c.begin_frame.ensures.begun)
           (relays_same steps heard.0))
           end.0,
-      BetweenPieces-closed criteria frames ps c.end_sent.new.self shut each
+      BetweenPesPackets-closed criteria frames ps c.end_sent.new.self shut each
           (subst (λ (k : ℕ). AfterEnd criteria frames k ps c.end_sent.new.self) (sym long) end.1),
     )
 
-pub returns-clause-told : goal.returns-clause-told
-returns-clause-told g c = λ criteria frames n last follows long sent again.
+pub returns-clause-reported : goal.returns-clause-reported
+returns-clause-reported g c = λ criteria frames n last follows long sent again.
     let ps = packets_of_units c.args.units.now in
-    let reached = c.reach.ensures.told criteria frames n last follows sent.frame_is in
+    let reached = c.reach.ensures.reported criteria frames n last follows sent.frame_is in
     let arrives = reached.1 in
     let heard =
-    c.hear-headers.ensures.told (packets_before frames n) last arrives.waits.known.knows again in
+    c.hear-headers.ensures.reported (packets_before frames n) last arrives.has_pending.known.knows
+    again in
     let steps = packets_are criteria frames n last ps _ arrives sent.packets_are in
     let view = c.self.view_is in
     let not_each = c.if-self-eq0.false in
@@ -75,7 +78,8 @@ returns-clause-told g c = λ criteria frames n last follows long sent again.
     let grown =
     ap (λ (v : CheckerValue). v.counts.headers) view
     ∙ ap (λ (m : Counts). m.headers) c.hear-headers.ensures.counts.1 in
-    let criteria_within = ap (λ (t : Criteria). t.within) arrives.waits.known.criteria_are in (
+    let criteria_within = ap (λ (t : Criteria). t.within) arrives.has_pending.known.criteria_are
+    in (
       relays_two (next_within criteria frames n (omega (arith, criteria_within, within)))
           (arrived criteria frames n last _ arrives reached.0 c.begin_frame.ensures.begun)
           (relays_same steps heard.0),

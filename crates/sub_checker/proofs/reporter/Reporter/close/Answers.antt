@@ -5,6 +5,7 @@ use Rattle.sub_checker.proofs.reporter.Reporter.close.Goals as goal
 
 pub returns : goal.returns
 returns g c =
-    relay_one g.A.Audience.is_told c.args.self.now _ (Closes c.args.are_left c.args.tells_more) _
-    c.close-last.ensures.told c.close-last.ensures.kept c.announce_some.ensures.told
+    relay_one g.A.Audience.is_reported c.args.self.now
+    _ (Closes c.args.are_left c.args.reports_more) _
+    c.close-last.ensures.reported c.close-last.ensures.kept c.announce_some.ensures.reported
     c.announce_some.ensures.kept

@@ -59,8 +59,8 @@ module _
     abbrev bound : (walk_of 𝓛 f.ended stayed (f.clauses 𝓛 mem run)).Ghost
     bound = ((κs, qs, bounds, a, (before ∷ [], (named_by ∷ [], tt))), tt)
 
-    abbrev passed : Fml
-    passed = owns (types_at f.signature.params κs) a (before ∷ [], (named_by ∷ [], tt))
+    abbrev skipped : Fml
+    skipped = owns (types_at f.signature.params κs) a (before ∷ [], (named_by ∷ [], tt))
 
     abbrev joined : Taken
     joined = record { bytes = a.0.now.bytes ++ a.1.0.now.bytes.now }
@@ -69,7 +69,7 @@ module _
         (WpFn 𝓤 H C Λ code.function (before ∷ named_by ∷ [])
         ((walk_of 𝓛 f.ended stayed (f.clauses 𝓛 mem run)).post bound))
     walk =
-        qed 𝓛 (raw (alive 𝓛 f.signature κs qs) ∷ ‵ passed ∷ [])
+        qed 𝓛 (raw (alive 𝓛 f.signature κs qs) ∷ ‵ skipped ∷ [])
         ∵ enter ! C Λ code.function (before ∷ named_by ∷ []) _ $
         alloc_all ! (λ l. pass_all ! refl ((tt, tt), ((tt, tt), tt)) $
         sets ! (agg ! (no_more !)) refl (tt, tt) $

@@ -3,6 +3,6 @@ use Rattle.std.proofs.Common.{◌∙◌}
 use Rattle.sub_listing.proofs.normal.NormalWorkWork.work.Goals as goal
 
 pub returns-clause-works : goal.returns-clause-works
-returns-clause-works g c = λ bytes told.
+returns-clause-works g c = λ bytes reported.
     c.in-Err-put_normal.ensures.answer bytes
-    (c.as_slice.ensures.value ∙ c.in-Ok.ensures.bytes bytes told)
+    (c.as_slice.ensures.value ∙ c.in-Ok.ensures.bytes bytes reported)

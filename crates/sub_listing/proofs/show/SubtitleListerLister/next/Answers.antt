@@ -20,7 +20,7 @@ returns-in-Ok-clause-gives g c =
     rw (none, c.requires.empty) (λ _.
     gives-opened c.args.self.now.count c.in-Ok.reader _ _ c.in-Ok.ensures.start.0
     c.in-Ok.ensures.start.1 c.in-Ok.ensures.taken.0 c.in-Ok.ensures.taken.1 c.in-Ok.ensures.left
-    (λ bytes told. c.in-Ok.ensures.exact bytes told refl))
+    (λ bytes reported. c.in-Ok.ensures.exact bytes reported refl))
 
 pub returns-in-Err-clause-gives : goal.returns-in-Err-clause-gives
 returns-in-Err-clause-gives g c =
@@ -48,8 +48,8 @@ returns-in-Ok-Some-clause-gives g c =
     (λ o. ap (λ t. followed t (subtitles_listing (count + 1) o)) line)
     (λ o failed end reads.
     (_, rw c.in-Ok-Some.field-0-is at (c.in-Ok-Some.ensures.subtitle ready.0), reads))
-    (λ bytes told.
-    let answers = rw c.in-Ok-Some.field-0-is at (c.in-Ok-Some.ensures.exact bytes told refl) in
+    (λ bytes reported.
+    let answers = rw c.in-Ok-Some.field-0-is at (c.in-Ok-Some.ensures.exact bytes reported refl) in
     (answers.rest, answers.rest_is, answers.outcome))
     ends)
 
@@ -83,8 +83,8 @@ returns-in-Ok-None-clause-gives g c =
     gives-last _ (subtitles_listing c.args.self.now.count) (outcome_left c.in-Some.reader)
     (λ failed. ReadsSubtitles failed c.in-Some.reader.block) _ _ ends _ false
     c.end_at.ensures.line refl
-    (λ bytes told ok.
-    let answers = rw c.in-Ok-None.field-0-is at (c.in-Ok-None.ensures.exact bytes told refl) in
+    (λ bytes reported ok.
+    let answers = rw c.in-Ok-None.field-0-is at (c.in-Ok-None.ensures.exact bytes reported refl) in
     sym answers.outcome)
     (refl, _, rw c.in-Ok-None.field-0-is at (c.in-Ok-None.ensures.none ready.0)))
 
@@ -99,5 +99,5 @@ returns-in-Err-next-clause-gives g c =
     (λ failed. ReadsSubtitles failed c.in-Some.reader.block) _ _
     (fails f c.next.new.self.block) c.end_with-in-Err-next.new.text.items (is_file_read f)
     (search rules) (kind_by-failed (is_file_read f))
-    (λ bytes told ok. sym (c.in-Err-next.ensures.exact bytes told ok).outcome)
+    (λ bytes reported ok. sym (c.in-Err-next.ensures.exact bytes reported ok).outcome)
     (refl, c.in-Err-next.ensures.failed ready.0, c.in-Err-next.ensures.refused ready.0))

@@ -9,25 +9,26 @@ use Rattle.std.proofs.lemmas.List.{length-map, take_all, take_more}
 use Rattle.ttx_pes.specs.DataUnit.{UnitValue}
 use Rattle.ttx_page.specs.PacketKind.{begins_text, is_this_page, kind}
 use Rattle.ttx_page.specs.Span.{holds_beginning}
-use Rattle.sub_io.specs.Telling.{Tells}
-use Rattle.sub_io.proofs.TellingLemmas.{Tells-none}
-use Rattle.sub_rules.specs.Events.{packets_told}
+use Rattle.sub_io.specs.Reporting.{Reports}
+use Rattle.sub_io.proofs.ReportingLemmas.{Reports-none}
+use Rattle.sub_rules.specs.Events.{packets_reported}
 use Rattle.sub_packets.specs.Listener.{BreakNone, Knows, KnowsLast, begins_frame, rule_set}
 use Rattle.sub_packets.proofs.KeptLemmas.{or_assoc}
 use Rattle.sub_rules.specs.PacketRules.{header_count, packets_of_units}
 use Rattle.sub_rules.specs.Events.{packet_fault}
 use Rattle.sub_rules.specs.PacketTests.{breaks, packet_rules}
-use Rattle.sub_rules.specs.declared.event.Event.TheVariants.{Told}
-use Rattle.sub_packets.proofs.PacketEventLemmas.{clean_one, told_one}
+use Rattle.sub_rules.specs.declared.event.Event.TheVariants.{Reported}
+use Rattle.sub_packets.proofs.PacketEventLemmas.{clean_one, reported_one}
 use Rattle.sub_packets.proofs.KeptLemmas.{beginning-more}
-use Rattle.sub_packets.proofs.PassedRunLemmas.{no_beginning_passed, no_headers_passed, passed_run}
-use Rattle.sub_packets.proofs.PassedRunLemmas.{passes_from}
+use Rattle.sub_packets.proofs.SkippedRunLemmas.{no_beginning_skipped, no_headers_skipped}
+use Rattle.sub_packets.proofs.SkippedRunLemmas.{skipped_run}
+use Rattle.sub_packets.proofs.SkippedRunLemmas.{passes_from}
 use Rattle.sub_rules.proofs.PacketLists.{header_count-push}
 use Rattle.sub_packets.proofs.SentAgainLemmas.{kept_last}
 use Rattle.sub_packets.proofs.listener.Listener.hear_all.Goals as goal
 
 pub loop-k-init : goal.loop-k-init
-unfolding packets_told
+unfolding packets_reported
 loop-k-init g c = record {
   same = refl;
   due = refl;
@@ -38,13 +39,13 @@ loop-k-init g c = record {
   begun = grind (arith, nat_tests);
   known = λ heard known. (
     subst (λ xs. Knows xs c.args.self.now) (sym (append-nil heard)) known,
-    Tells-none c.args.taker.now,
+    Reports-none c.args.taker.now,
     λ e k l. absurd (omega arith),
   );
 }
 
-pub loop-k-preserved-then-is_passed : goal.loop-k-preserved-then-is_passed
-loop-k-preserved-then-is_passed g c =
+pub loop-k-preserved-then-is_skipped : goal.loop-k-preserved-then-is_skipped
+loop-k-preserved-then-is_skipped g c =
     let w = c.args.self.now.watched in
     let k : ℕ = c.loop-k.k in
     let i = c.loop-k.invariant in
@@ -56,13 +57,13 @@ loop-k-preserved-then-is_passed g c =
     let high : c.next_heard-k.result ≤ length ps = omega (arith, next.within, long) in
     let passes = passes_from k c.next_heard-k.result ps c.loop-k.self
     (rw (← c.packet-sent.ensures) (record {
-      no_header = c.is_passed.ensures.no_header c.if-is_passed.true;
-      passed = λ heard known. c.is_passed.ensures.passed heard known c.if-is_passed.true;
-    })) next.passed in
+      no_header = c.is_skipped.ensures.no_header c.if-is_skipped.true;
+      skipped = λ heard known. c.is_skipped.ensures.skipped heard known c.if-is_skipped.true;
+    })) next.skipped in
     let none =
-    no_headers_passed w ps c.loop-k.self i.same k c.next_heard-k.result low high passes in
+    no_headers_skipped w ps c.loop-k.self i.same k c.next_heard-k.result low high passes in
     let no_beginning =
-    no_beginning_passed w ps c.loop-k.self i.same k c.next_heard-k.result low high passes in
+    no_beginning_skipped w ps c.loop-k.self i.same k c.next_heard-k.result low high passes in
     record {
       same = i.same;
       due = i.due;
@@ -76,10 +77,10 @@ loop-k-preserved-then-is_passed g c =
           no_beginning);
       known = λ heard known.
           let before = i.known heard known in
-          let run = passed_run w ps c.loop-k.self i.same k c.next_heard-k.result low high passes
+          let run = skipped_run w ps c.loop-k.self i.same k c.next_heard-k.result low high passes
           c.args.frame c.args.from heard before.0 in (
             run.knows,
-            rw run.told before.1,
+            rw run.reported before.1,
             λ e. run.clean (before.2 e),
           );
     }
@@ -124,15 +125,15 @@ loop-k-preserved g c =
           ∙ sym (ap (header_count w.page) more ∙ header_count-push w.page (take k ps) p);
       known = λ heard known.
           let before = i.known heard known in
-          let told =
-          subst (λ v. Tells g.A.Taker.is_told c.loop-k.taker c.judge-heard.new.taker
-          (map (λ r. Told (packet_fault r c.args.frame (c.args.from + k)))
+          let reported =
+          subst (λ v. Reports g.A.Taker.is_reported c.loop-k.taker c.judge-heard.new.taker
+          (map (λ r. Reported (packet_fault r c.args.frame (c.args.from + k)))
           (filter (λ r. breaks r v (heard ++ take k ps) p) packet_rules)))
-          i.same (heard_one.told (heard ++ take k ps) before.0) in
+          i.same (heard_one.reported (heard ++ take k ps) before.0) in
           let new = heard_one.knows (heard ++ take k ps) before.0 in (
             subst (λ xs. Knows xs c.judge-heard.new.self)
                 (append_assoc heard (take k ps) (p ∷ []) ∙ ap (λ xs. heard ++ xs) (sym more)) new,
-            told_one w c.args.frame c.args.from heard ps k p _ _ _ at before.1 told,
+            reported_one w c.args.frame c.args.from heard ps k p _ _ _ at before.1 reported,
             λ e.
                 let parts : (c.loop-k.is_clean && c.judge-heard.result.is_clean) ≡ true =
                 sym c.stays_clean-is_clean.ensures ∙ e in
@@ -173,6 +174,6 @@ returns-clause-knows g c heard known =
       count,
       begun,
       subst
-          (λ n. Tells g.A.Taker.is_told c.args.taker.now c.loop-k.taker
-          (packets_told w c.args.frame c.args.from heard ps n)) k r.1,
+          (λ n. Reports g.A.Taker.is_reported c.args.taker.now c.loop-k.taker
+          (packets_reported w c.args.frame c.args.from heard ps n)) k r.1,
     )

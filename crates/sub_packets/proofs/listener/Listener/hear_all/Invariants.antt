@@ -2,8 +2,8 @@
 use Rattle.std.proofs.Common.{◌≡◌, ◌≤◌, ◌<◌, ℕ, List, [], ◌++◌, take, get_or, length}
 use Rattle.std.proofs.Common.{◌-◌, true}
 use Rattle.ttx_page.specs.PacketKind.{begins_text, kind}
-use Rattle.sub_io.specs.Telling.{Tells}
-use Rattle.sub_rules.specs.Events.{packets_told}
+use Rattle.sub_io.specs.Reporting.{Reports}
+use Rattle.sub_rules.specs.Events.{packets_reported}
 use Rattle.sub_packets.specs.Listener.{BreakNone, Knows, begins_frame}
 use Rattle.sub_rules.specs.PacketRules.{header_count, packets_of_units}
 use Rattle.sub_packets.proofs.listener.Listener.hear_all.Given as goal
@@ -33,8 +33,8 @@ invariant-loop-k g l = record {
       (heard : List (List ℕ))
       → Knows heard l.initial.self
       → Knows (heard ++ take l.k (packets_of_units l.units)) l.self
-      × Tells g.A.Taker.is_told l.initial.taker l.taker
-      (packets_told l.initial.self.watched l.frame l.from heard (packets_of_units l.units) l.k)
+      × Reports g.A.Taker.is_reported l.initial.taker l.taker
+      (packets_reported l.initial.self.watched l.frame l.from heard (packets_of_units l.units) l.k)
       × (l.is_clean ≡ true
       → BreakNone l.initial.self.watched heard (packets_of_units l.units) l.k);
 }

@@ -1,8 +1,8 @@
 -- Packets that broke no rule break none when sent again: SentAgainLemmas.
 use Rattle.std.proofs.Common.{length}
-use Rattle.sub_io.proofs.TellingLemmas.{Tells-none}
+use Rattle.sub_io.proofs.ReportingLemmas.{Reports-none}
 use Rattle.sub_rules.specs.PacketRules.{packets_of_units}
-use Rattle.sub_packets.proofs.PacketEventLemmas.{packets_told-none}
+use Rattle.sub_packets.proofs.PacketEventLemmas.{packets_reported-none}
 use Rattle.sub_packets.proofs.SentAgainLemmas.{heard_again}
 use Rattle.sub_packets.proofs.listener.Listener.hear_sending.Goals as goal
 
@@ -16,8 +16,8 @@ returns-in-Some-clause-knows g c heard last known same =
       again.1,
       again.2,
       again.3 c.args.from,
-      rw (packets_told-none w c.args.frame c.args.from heard ps (length ps) again.0)
-          (Tells-none c.args.taker.now),
+      rw (packets_reported-none w c.args.frame c.args.from heard ps (length ps) again.0)
+          (Reports-none c.args.taker.now),
     )
 
 pub returns-clause-knows : goal.returns-clause-knows

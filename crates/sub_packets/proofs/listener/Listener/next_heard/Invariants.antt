@@ -1,9 +1,9 @@
 -- The packets so far need not be examined.
 use Rattle.std.proofs.Common.{ℕ, ◌≤◌, ◌<◌, [], get_or}
-use Rattle.sub_packets.specs.Listener.{IsAlwaysPassed}
+use Rattle.sub_packets.specs.Listener.{IsAlwaysSkipped}
 use Rattle.sub_rules.specs.PacketRules.{packets_of_units}
 use Rattle.sub_packets.proofs.listener.Listener.next_heard.Given as goal
 
 abbrev pub invariant-loop-k : goal.invariant-loop-k
 invariant-loop-k l =
-    (j : ℕ) → l.from ≤ j → j < l.k → IsAlwaysPassed (get_or (packets_of_units l.units) j []) l.self
+    (j : ℕ) → l.from ≤ j → j < l.k → IsAlwaysSkipped (get_or (packets_of_units l.units) j []) l.self

@@ -1,7 +1,7 @@
 -- One more keeps its PID: map-same.
 use Rattle.std.proofs.Common.{◌<◌, ◌∙◌, length, rules}
-use Rattle.ts_survey.specs.Asked.{pid_followed}
-use Rattle.ts_survey.proofs.AskedLemmas.{map-same}
+use Rattle.ts_survey.specs.Requested.{pid_followed}
+use Rattle.ts_survey.proofs.RequestedLemmas.{map-same}
 use Rattle.ts_survey.proofs.multiplex.Multiplex.note_pcr.Goals as goal
 
 pub loop-carrier-preserved : goal.loop-carrier-preserved

@@ -1,6 +1,6 @@
 -- Each keeps its PID.
 use Rattle.std.proofs.Common.{◌≡◌, map}
-use Rattle.ts_survey.specs.Asked.{pid_followed}
+use Rattle.ts_survey.specs.Requested.{pid_followed}
 use Rattle.ts_survey.proofs.multiplex.Multiplex.note_pcr.Given as goal
 
 abbrev pub invariant-loop-carrier : goal.invariant-loop-carrier

@@ -1,6 +1,6 @@
 -- The requested PID and page stay the same.
-use Rattle.ts_survey.specs.Asked.{KeepsAsked}
+use Rattle.ts_survey.specs.Requested.{KeepsRequested}
 use Rattle.ts_survey.proofs.multiplex.Multiplex.read_pmt.Given as goal
 
 abbrev pub invariant-loop : goal.invariant-loop
-invariant-loop l = KeepsAsked l.fn.self l.self
+invariant-loop l = KeepsRequested l.fn.self l.self

@@ -1,7 +1,7 @@
 -- Nothing at first, then one item after another: found_none, found_packet and found_skips.
 use Rattle.std.proofs.Common.{◌≡◌, ◌≤◌, ◌∙◌, ap, arith, drop, length-drop, rules}
 use Rattle.mpeg_ts.specs.PacketSize.{bytes_of}
-use Rattle.ts_survey.proofs.InStepLemmas.{found_none, found_packet, found_skips, front_end}
+use Rattle.ts_survey.proofs.InStepLemmas.{found_none, found_packet, found_skips, prefix_end}
 use Rattle.ts_survey.proofs.InStepLemmas.{size_near}
 use Rattle.ts_survey.proofs.packets_in_step.PacketsInStep.find.Goals.{in-Yes, in-No}
 use Rattle.ts_survey.specs.declared.packets_in_step.PacketsInStep.{PacketsInStep}
@@ -16,7 +16,7 @@ loop-init g c = record {
 
 pub returns-in_default-clause-all : goal.returns-in_default-clause-all
 returns-in_default-clause-all g c is_end =
-    front_end _ _ (drop c.loop.at c.args.bytes.now) (search (rules, length-drop))
+    prefix_end _ _ (drop c.loop.at c.args.bytes.now) (search (rules, length-drop))
 
 pub loop-preserved : goal.loop-preserved
 loop-preserved g c =
@@ -45,14 +45,14 @@ loop-preserved g c =
                 (size_near c.loop.self.size)
                 (search rules) (search rules) (c.begins.ensures.no w.in-No.is)
                 w.skip-at.ensures.from w.skip-at.ensures.skips w.skip-at.ensures.same
-                w.skip-at.ensures.told);
+                w.skip-at.ensures.reported);
             far = omega (arith, w.at-is, w.skip-at.ensures.from, c.loop.invariant.far);
           }
     ]
 
 pub returns-clause-all : goal.returns-clause-all
 returns-clause-all g c is_end =
-    front_end _ _ (drop c.loop.at c.args.bytes.now)
+    prefix_end _ _ (drop c.loop.at c.args.bytes.now)
     (let size = length-drop c.loop.at c.args.bytes.now in
     let far = c.loop.invariant.far in
     omega (arith, size, far, c.loop-test.false))

@@ -1,9 +1,9 @@
--- The head was printed now, found-behind-head, or before, found-with-head.
+-- The head was printed now, found-following-head, or before, found-with-head.
 use Rattle.std.proofs.Common.{◌≡◌, ◌∙◌, ap, false, rules, subst}
 use Rattle.ts_survey.specs.FirstLines.{kind_words}
 use Rattle.ts_survey.specs.Lines.{AddsWords}
 use Rattle.ts_survey.specs.Stream.{is_unknown}
-use Rattle.ts_survey.proofs.FirstLinesLemmas.{found-behind-head, found-with-head}
+use Rattle.ts_survey.proofs.FirstLinesLemmas.{found-following-head, found-with-head}
 use Rattle.ts_survey.proofs.recording.Recording.find_kind.Goals as goal
 use Rattle.ts_survey.proofs.recording.Recording.find_kind.Goals.{else-not-self}
 use Rattle.ts_survey.proofs.recording.Recording.find_kind.Goals.{then-not-self+else-bytes-lt-HEAD}
@@ -11,18 +11,18 @@ use Rattle.ts_survey.proofs.recording.Recording.find_kind.Goals.{then-not-self+e
 pub returns-in-Unknown-clause-finds : goal.returns-in-Unknown-clause-finds
 returns-in-Unknown-clause-finds c = λ unknown.
     let old = c.args.self.now in
-    let seen = c.look.ensures.told (ap is_unknown c.in-Unknown.is) in
-    let not = c.look.ensures.not_pes (ap is_unknown c.in-Unknown.is) in
+    let seen = c.inspect.ensures.reported (ap is_unknown c.in-Unknown.is) in
+    let not = c.inspect.ensures.not_pes (ap is_unknown c.in-Unknown.is) in
     elim c.if-not-self.branch [
       | then-not-self+else-bytes-lt-HEAD w ↦
-          found-behind-head old c.if-not-self.self c.look.new.self _ _ c.if-not-self.first _
-          w.if-not-self.true (search rules) c.look.ensures.has_head c.in-Unknown.is
-          (search rules) (search rules) c.look.ensures.short seen not
+          found-following-head old c.if-not-self.self c.inspect.new.self _ _ c.if-not-self.first _
+          w.if-not-self.true (search rules) c.inspect.ensures.has_head c.in-Unknown.is
+          (search rules) (search rules) c.inspect.ensures.short seen not
       | else-not-self w ↦
-          found-with-head old c.look.new.self _ _ _ w.if-not-self.false
-          (c.look.ensures.has_head ∙ ap (λ r. r.has_head) w.self-is)
-          (subst (λ text. c.look.new.self.out_of_memory ≡ false
-          → AddsWords text (kind_words c.look.new.self.kind) c.look.new.first)
+          found-with-head old c.inspect.new.self _ _ _ w.if-not-self.false
+          (c.inspect.ensures.has_head ∙ ap (λ r. r.has_head) w.self-is)
+          (subst (λ text. c.inspect.new.self.out_of_memory ≡ false
+          → AddsWords text (kind_words c.inspect.new.self.kind) c.inspect.new.first)
           w.first-is seen)
           not
     ]

@@ -12,9 +12,9 @@ pub loop-i-preserved : goal.loop-i-preserved
 loop-i-preserved c k below =
     let xs = drop 2 c.args.self.now in
     let i = c.loop-i.i in
-    let front : i < length xs / 16 = search rules in
-    let blocks = rw c.data.ensures at c.as_chunks.ensures.front in
-    let mask = c.evens-mask.ensures ∙ ap evens_mask (block_of _ 16 xs i blocks front) in
+    let prefix : i < length xs / 16 = search rules in
+    let blocks = rw c.data.ensures at c.as_chunks.ensures.prefix in
+    let mask = c.evens-mask.ensures ∙ ap evens_mask (block_of _ 16 xs i blocks prefix) in
     not-false _
     (none_so_far is_even xs (16 * i) c.evens-mask.result 0 (omega arith) mask c.if-mask-ne0.false
     (λ k l. ap not (c.loop-i.invariant k l)) k (omega arith))
@@ -23,9 +23,9 @@ pub returns-then-mask-ne0 : goal.returns-then-mask-ne0
 returns-then-mask-ne0 c =
     let xs = drop 2 c.args.self.now in
     let i = c.loop-i.i in
-    let front : i < length xs / 16 = search rules in
-    let blocks = rw c.data.ensures at c.as_chunks.ensures.front in
-    let mask = c.evens-mask.ensures ∙ ap evens_mask (block_of _ 16 xs i blocks front) in
+    let prefix : i < length xs / 16 = search rules in
+    let blocks = rw c.data.ensures at c.as_chunks.ensures.prefix in
+    let mask = c.evens-mask.ensures ∙ ap evens_mask (block_of _ 16 xs i blocks prefix) in
     let found =
     first_so_far is_even xs (16 * i) c.evens-mask.result 0 (omega arith) mask c.if-mask-ne0.true
     (λ k l. ap not (c.loop-i.invariant k l)) in

@@ -1,5 +1,5 @@
 -- The bytes with another PTS are the packet with that PTS: refill-pts.
-use Rattle.ttx_pes.proofs.PesPacketLemmas.{has_room_for_pts, refill-pts}
+use Rattle.ttx_pes.proofs.PesGrammarLemmas.{has_room_for_pts, refill-pts}
 use Rattle.ttx_pes.proofs.repeated_packet.RepeatedPacket.set_pts.Goals as goal
 
 pub put_pts-requires-clause-room : goal.put_pts-requires-clause-room

@@ -1,0 +1,12 @@
+-- All remaining bytes are returned, and nothing follows: rest_taken.
+use Rattle.mpeg_ts.proofs.RecordingLemmas.{rest_taken}
+use Rattle.mpeg_ts.proofs.recording_packets.RecordingPesPacketsPesPackets.read_rest.Goals as goal
+
+pub returns-clause-bytes : goal.returns-clause-bytes
+returns-clause-bytes g c =
+    let i = c.self.inside in
+    let rest =
+    rest_taken (g.S.Source.remaining i.inner) i.stream c.deliver.new.self
+    (c.self.invariant (rw (← c.self.view_is) at c.requires.rest)) c.deliver.ensures in
+    rw (← c.self.view_is, c.put_in_front.ensures, c.bytes-bytes.ensures.bytes)
+    (rest.0, λ none some. rest.1)

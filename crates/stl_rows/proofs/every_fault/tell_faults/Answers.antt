@@ -1,8 +1,0 @@
--- The audience said stop at the subtitle's last fault: stops-last.
-use Rattle.std.proofs.Common.{arith}
-use Rattle.std.proofs.lemmas.Bool.Decides.{nat_tests}
-use Rattle.stl_rows.proofs.LoadingLemmas.{stops-last}
-use Rattle.stl_rows.proofs.every_fault.tell_faults.Goals as goal
-
-pub returns-in_default-clause-stops : goal.returns-in_default-clause-stops
-returns-in_default-clause-stops g c = grind (arith, nat_tests, stops-last)

@@ -1,0 +1,171 @@
+-- The events of the subtitle file, and then of the PES file: by EveryFaultLemmas.
+use Rattle.std.proofs.Common.{◌≡◌, ◌∙◌, refl, sym, subst, arith, ℕ, List, Option, false}
+use Rattle.std.proofs.lemmas.Bool.{true≢false}
+use Rattle.std.specs.Prelude.{◌≤◌}
+use Rattle.stl_rows.specs.EveryFault.{faults}
+use Rattle.stl_rows.specs.Judged.{JudgesBy}
+use Rattle.stl_rows.specs.declared.fault.LoadFault.{LoadFault}
+use Rattle.sub_io.proofs.FlushingLemmas.{when_ok}
+use Rattle.sub_io.specs.Reporting.{Reports}
+use Rattle.sub_listing.specs.EventLines.{subtitle_event}
+use Rattle.sub_listing.specs.Printer.{PrinterValue, PrintsEvent, printer_value}
+use Rattle.sub_listing.specs.declared.printer.Printer.{Printer}
+use Rattle.sub_answer.proofs.EveryFaultLemmas.{after_error, after_faults, after_judged}
+use Rattle.sub_answer.proofs.EveryFaultLemmas.{after_unhanded, buffered_reported, some_reported}
+use Rattle.sub_answer.proofs.EveryFaultLemmas.{stops_failed}
+use Rattle.sub_answer.proofs.EveryFaultLemmas.{when_err}
+use Rattle.sub_answer.proofs.PesEventLemmas.{decided}
+use Rattle.sub_listing.proofs.PrinterLemmas.{cannot_fail, counted-few, prints_all, same_all}
+use Rattle.sub_listing.proofs.PrinterLemmas.{still_goes}
+use Rattle.sub_answer.proofs.answering.check_all.report_every_fault.Goals as goal
+
+-- The printer, from what is known of its sink.
+abbrev value_of : {K : Type 0} → (K → Option (List ℕ)) → (K → ℕ) → Printer K → PrinterValue
+value_of contents count p =
+    printer_value (contents p.out.now) (count p.out.now) p.refused p.failed p.first
+
+-- Its state after a fault.
+abbrev IsReportedFault : {K : Type 0} → (K → Option (List ℕ)) → (K → ℕ) → (K → ℕ)
+    → Printer K → LoadFault → Printer K → Type 0
+IsReportedFault contents count buffered s x t = (t.out.ghost_name ≡ s.out.ghost_name)
+    × PrintsEvent (value_of contents count s) (subtitle_event x) (value_of contents count t)
+    × (t.pending ≡ false → buffered t.out.now ≡ 0)
+
+pub returns-in-Err-clause-same : goal.returns-in-Err-clause-same
+returns-in-Err-clause-same g c =
+    same_all (IsReportedFault g.K.Sink.contents g.K.Sink.failure_count g.K.Flush.buffered)
+    (λ (p : Printer g.row.K.Denot). p.out.ghost_name) (λ s t x h. h.0) _ _
+    c.in-Err.ensures.some_before
+
+pub returns-in-Err-clause-reported : goal.returns-in-Err-clause-reported
+returns-in-Err-clause-reported g c =
+    let e = c.in-Err.ensures in
+    after_error (IsReportedFault g.K.Sink.contents g.K.Sink.failure_count g.K.Flush.buffered)
+    (value_of g.K.Sink.contents g.K.Sink.failure_count) (λ s t x h. h.1)
+    _ _ _ _ _ _ c.args.printer.now c.load_all.new.audience c.requires.goes_on
+    (omega (arith, c.requires.none)) refl (omega arith)
+    c.in-Err.fault.block c.in-Err.fault.kind (cannot_fail _ _ (λ h. let r = e.stopped h in cc))
+    e.kinds e.some_before e.count e.memory e.read
+
+pub returns-in-Ok-None-clause-same : goal.returns-in-Ok-None-clause-same
+returns-in-Ok-None-clause-same g c =
+    let some = c.in-Ok-None.ensures.some (let is = c.in-Ok-None.field-0-is in cc) in
+    same_all (IsReportedFault g.K.Sink.contents g.K.Sink.failure_count g.K.Flush.buffered)
+    (λ (p : Printer g.row.K.Denot). p.out.ghost_name) (λ s t x h. h.0) _ _
+    (record { items = some.faults; reported = some.reported })
+
+pub returns-in-Ok-None-clause-reported : goal.returns-in-Ok-None-clause-reported
+returns-in-Ok-None-clause-reported g c =
+    let e = c.in-Ok-None.ensures in
+    after_faults (IsReportedFault g.K.Sink.contents g.K.Sink.failure_count g.K.Flush.buffered)
+    (value_of g.K.Sink.contents g.K.Sink.failure_count) (λ s t x h. h.1)
+    _ _ _ _ _ _ c.args.printer.now c.load_all.new.audience c.requires.goes_on
+    (omega (arith, c.requires.none)) refl (omega arith) _
+    (λ holds same. still_goes _ _ _ c.requires.out holds same)
+    (e.some (let is = c.in-Ok-None.field-0-is in cc))
+    (λ file reported. e.reported file reported (let is = c.in-Ok-None.field-0-is in cc))
+    (λ file reported. e.not_judged file reported (let is = c.in-Ok-None.field-0-is in cc)) e.count
+
+pub returns-then-is_err-clause-same : goal.returns-then-is_err-clause-same
+returns-then-is_err-clause-same g c =
+    let any = rw c.in-Ok-Some.field-0-is at c.in-Ok-Some.ensures.any in
+    same_all (IsReportedFault g.K.Sink.contents g.K.Sink.failure_count g.K.Flush.buffered)
+    (λ (p : Printer g.row.K.Denot). p.out.ghost_name) (λ s t x h. h.0) _ _
+    (record {
+      items = any.faults;
+      reported = c.flush_reports.ensures.reported.kept _ any.faults c.requires.still any.reported;
+    })
+
+pub returns-then-is_err-clause-reported : goal.returns-then-is_err-clause-reported
+returns-then-is_err-clause-reported g c =
+    let e = c.in-Ok-Some.ensures in
+    let any = rw c.in-Ok-Some.field-0-is at e.any in
+    let IsReported = IsReportedFault g.K.Sink.contents g.K.Sink.failure_count g.K.Flush.buffered in
+    let value = value_of g.K.Sink.contents g.K.Sink.failure_count in
+    let fs =
+    decided (Reports IsReported c.args.printer.now c.load_all.new.audience)
+    (g.S.Source.remaining c.args.stl.now) (faults c.args.drawing) any.faults any.reported
+    (λ file reported. rw c.in-Ok-Some.field-0-is at (e.reported_all file reported)) in
+    let reported = c.flush_reports.ensures.reported.kept c.args.printer.now fs.0 c.requires.still
+    fs.1 in
+    let is_err = sym c.is_err.ensures.value ∙ c.if-is_err.true in
+    let few : (value c.args.printer.now).refused ≤ 0xFFFF_FFFF_FFFF_FFFF =
+    omega (arith, c.requires.none) in
+    let failing =
+    stops_failed _ _ _
+    (prints_all IsReported value subtitle_event (λ s t x h. h.1) _ _ fs.0 c.requires.goes_on few
+    reported)
+    c.requires.out (c.flush_reports.ensures.stopped ∙ is_err) in
+    after_unhanded IsReported value (λ s t x h. h.1)
+    _ c.args.options.now _ _ _ _ c.args.printer.now c.flush_reports.new.audience c.requires.goes_on
+    few refl (omega arith) fs.0 failing reported
+    (some_reported IsReported (λ (p : Printer g.row.K.Denot). p.pending) _ _ fs.0 fs.1
+    c.requires.still
+    (when_err _ is_err c.flush_reports.ensures.waited)) fs.2 e.count
+
+pub report_transmission-requires-clause-few : goal.report_transmission-requires-clause-few
+report_transmission-requires-clause-few g c =
+    let any = rw c.in-Ok-Some.field-0-is at c.in-Ok-Some.ensures.any in
+    let IsReported = IsReportedFault g.K.Sink.contents g.K.Sink.failure_count g.K.Flush.buffered in
+    let value = value_of g.K.Sink.contents g.K.Sink.failure_count in
+    let few : (value c.args.printer.now).refused ≤ 0xFFFF_FFFF_FFFF_FFFF =
+    omega (arith, c.requires.none) in
+    let goes : c.flush_reports.new.audience.failed ≡ false =
+    cannot_fail _ _
+    (λ h. true≢false
+    (sym h ∙ c.flush_reports.ensures.stopped ∙ sym c.is_err.ensures.value ∙ c.if-is_err.false)) in
+    let printed =
+    prints_all IsReported value subtitle_event (λ s t x h. h.1) c.args.printer.now
+    c.flush_reports.new.audience any.faults c.requires.goes_on few
+    (c.flush_reports.ensures.reported.kept _ any.faults c.requires.still any.reported) in
+    rw (printed.put_refused goes) (counted-few _ _)
+
+pub returns-else-is_err-clause-same : goal.returns-else-is_err-clause-same
+returns-else-is_err-clause-same g c =
+    let any = rw c.in-Ok-Some.field-0-is at c.in-Ok-Some.ensures.any in
+    c.report_transmission.ensures.same
+    ∙ same_all (IsReportedFault g.K.Sink.contents g.K.Sink.failure_count g.K.Flush.buffered)
+    (λ (p : Printer g.row.K.Denot). p.out.ghost_name) (λ s t x h. h.0) _ _
+    (record {
+      items = any.faults;
+      reported = c.flush_reports.ensures.reported.kept _ any.faults c.requires.still any.reported;
+    })
+
+pub returns-else-is_err-clause-reported : goal.returns-else-is_err-clause-reported
+returns-else-is_err-clause-reported g c =
+    let e = c.in-Ok-Some.ensures in
+    let any = rw c.in-Ok-Some.field-0-is at e.any in
+    let IsReported = IsReportedFault g.K.Sink.contents g.K.Sink.failure_count g.K.Flush.buffered in
+    let value = value_of g.K.Sink.contents g.K.Sink.failure_count in
+    let fs =
+    decided (Reports IsReported c.args.printer.now c.load_all.new.audience)
+    (g.S.Source.remaining c.args.stl.now) (faults c.args.drawing) any.faults any.reported
+    (λ file reported. rw c.in-Ok-Some.field-0-is at (e.reported_all file reported)) in
+    let reported = c.flush_reports.ensures.reported.kept c.args.printer.now fs.0 c.requires.still
+    fs.1 in
+    let few : (value c.args.printer.now).refused ≤ 0xFFFF_FFFF_FFFF_FFFF =
+    omega (arith, c.requires.none) in
+    let goes =
+    cannot_fail _ _
+    (λ h. true≢false
+    (sym h ∙ c.flush_reports.ensures.stopped ∙ sym c.is_err.ensures.value ∙ c.if-is_err.false)) in
+    after_judged c.args.drawing c.args.options.now _ _ _ _ (value c.args.printer.now)
+    (value c.flush_reports.new.audience) _ c.judging.result fs.0 goes
+    (prints_all IsReported value subtitle_event (λ s t x h. h.1) _ _ fs.0 c.requires.goes_on few
+    reported)
+    e.count
+    (λ file heard.
+    subst (JudgesBy c.args.drawing file) (sym c.judging.ensures)
+    (rw c.in-Ok-Some.field-0-is at (e.exact file heard)))
+    fs.2 _ c.report_transmission.ensures.reported
+
+pub returns-else-is_err-clause-requested : goal.returns-else-is_err-clause-requested
+returns-else-is_err-clause-requested g c = λ none.
+    let any = rw c.in-Ok-Some.field-0-is at c.in-Ok-Some.ensures.any in
+    c.report_transmission.ensures.requested
+    (when_ok _ (sym c.is_err.ensures.value ∙ c.if-is_err.false)
+    (c.flush_reports.ensures.buffered
+    (buffered_reported (IsReportedFault g.K.Sink.contents g.K.Sink.failure_count g.K.Flush.buffered)
+    (λ (p : Printer g.row.K.Denot). p.pending)
+    (λ (p : Printer g.row.K.Denot). g.K.Flush.buffered p.out.now) (λ s t x h. h.2) _ _ any.faults
+    (λ still. none) any.reported.one_by_one)))

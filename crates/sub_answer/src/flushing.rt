@@ -1,0 +1,63 @@
+//! Flushes the lines after the file of a run was closed.
+ghost use Rattle.std.specs.Prelude.{◌≡◌, ℕ, List, true};
+ghost use Rattle.std.proofs.Common.{refl};
+ghost use Rattle.sub_io.specs.Buffered.{BufferState, failures_and_refused};
+ghost use Rattle.sub_io.specs.Device.{CanFail};
+ghost use Rattle.sub_listing.specs.declared.status.Status.{Status};
+ghost use Rattle.sub_answer.specs.Ending.{CountsBuffered, FlushesBufferedLines, lines_in, lines_of};
+
+use sub_io::{BufferedSink, Close, Flush, Sink};
+use sub_listing::Status;
+
+/// Lines that are flushed after a file was closed.
+///
+/// If the system gave the program no standard output, the file may have its number. So lines that
+/// are flushed while the file is open could be written to it.
+pub trait FlushPending<F: Close>: Flush {
+    // The bytes that it still holds back.
+    ghost buffer_state: { Self → List ℕ };
+
+    // Its flushing calls: the lines before, the file then, the status of the answer, the lines
+    // afterwards, the status of the run.
+    ghost is_flushed: { Self → BufferState F → Status → Self → Status → Type 0 };
+
+    /// Flushes the lines for a run whose answer has this status, and returns the status with which
+    /// the run ends.
+    fn flush_pending(&mut self, status: Status, file: &BufferedSink<'_, F>) -> Status
+        requires count { CanFail (Self.failure_count self.old) }
+        requires closed { F.is_closed file.now.device ≡ true }
+        ensures call { is_flushed self.old file.now status self.new result }
+        ensures lines { FlushesBufferedLines
+            (lines_in Self.contents buffer_state Self.failure_count self.old) status
+            (lines_in Self.contents buffer_state Self.failure_count self.new) result };
+
+    // The count of bytes that are held back is correct.
+    ghost buffered_is: { CountsBuffered Self.buffered buffer_state };
+}
+
+impl<F: Close, K: Sink> FlushPending<F> for BufferedSink<'_, K> {
+    ghost buffer_state = { λ k. k.buffered };
+
+    ghost buffered_is = { λ k. refl };
+
+    ghost is_flushed = { λ old file status new result.
+        F.is_closed file.device ≡ true };
+
+    /// Flushes the lines.
+    fn flush_pending(&mut self, status: Status, _file: &BufferedSink<'_, F>) -> Status {
+        flush_all(status, self)
+    }
+}
+
+/// Flushes the lines for a run that ends with this status.
+pub fn flush_all<K: Sink>(status: Status, out: &mut BufferedSink<'_, K>) -> Status
+    requires { CanFail (failures_and_refused
+        (K.failure_count out.old.device) out.old.refused) }
+    ensures { FlushesBufferedLines (lines_of K.contents K.failure_count out.old) status
+        (lines_of K.contents K.failure_count out.new) result }
+{
+    match out.flush() {
+        Ok(()) => status,
+        Err(_) => Status::Fault,
+    }
+}

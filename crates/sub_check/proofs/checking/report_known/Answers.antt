@@ -1,0 +1,12 @@
+-- The criteria are those of the programme: `reports_known`.
+use Rattle.sub_check.proofs.AnsweredLemmas.{programme_known, reports_known}
+use Rattle.sub_check.proofs.checking.report_known.Goals as goal
+
+pub returns-clause-exact : goal.returns-clause-exact
+returns-clause-exact g c = λ bytes reported.
+    reports_known _ c.args.programme.now c.args.options.now bytes _ _ _ c.report_pes_packets.result
+    c.known.ensures (c.report_pes_packets.ensures.exact bytes reported)
+
+pub returns-clause-programme : goal.returns-clause-programme
+returns-clause-programme g c =
+    programme_known _ c.args.programme.now c.known.ensures c.report_pes_packets.ensures.programme

@@ -1,0 +1,257 @@
+-- The state between two PES packets: `BetweenPesPackets-closed`, `BetweenPesPackets-open`,
+-- `pending_none`,
+-- `pending_some`. Whether a packet continues the last frame: `goes_on_is`. The steps of a packet of
+-- another frame: `arrived`, `next_is`. The state after it: `more_keeps`, `next_keeps`.
+use Rattle.std.proofs.lemmas.Bool.Decides.{nat_tests}
+use Rattle.std.proofs.Common.{◌≡◌, ℕ, suc, ◌+◌, ◌-◌, ◌<◌, ◌==◌, Bool, ◌&&◌}
+use Rattle.std.proofs.Common.{true, false, List, [], ◌∷◌, ◌++◌, length, refl, sym, ap}
+use Rattle.std.proofs.Common.{◌∙◌, subst, arith, ap₂, length-append}
+use Rattle.std.proofs.lemmas.List.{append-nil}
+use Rattle.sub_rules.specs.FrameRules.{Criteria, frame_at, packets_before, packets_of_frame}
+use Rattle.sub_rules.specs.PesPacketEvents.{steps_of_arrival, steps_of_ending, steps_of_more}
+use Rattle.sub_rules.specs.PesPacketEvents.{steps_of_packets, steps_of_sent, steps_of_pending_end}
+use Rattle.sub_rules.specs.PesPackets.{goes_on_with, with_packets}
+use Rattle.sub_rules.proofs.JoinedLemmas.{with_packets-length}
+use Rattle.sub_rules.specs.Sendings.{IsSentFrame}
+use Rattle.sub_rules.specs.Transmission.{SentFrame, Transmission}
+use Rattle.sub_rules.specs.Trusted.{CheckStep}
+use Rattle.sub_rules.specs.Trusted.CheckStep.{AtPes, Begins}
+use Rattle.sub_rules.specs.declared.event.Event.{Event}
+use Rattle.sub_checker.specs.Checker.{CheckerValue, HasHeard, after_headers}
+use Rattle.sub_checker.specs.CheckedFrames.{AfterEnd, AfterPackets, BeforePackets}
+use Rattle.sub_checker.specs.CheckedFrames.{BetweenPesPackets}
+use Rattle.sub_checker.specs.CheckedFrames.{StaysOpen, back_reporter, next_steps, reaching_steps}
+use Rattle.sub_checker.proofs.FrameEndLemmas.{back_are}
+use Rattle.sub_checker.specs.Relay.{ReporterRelays, at_step}
+use Rattle.sub_checker.specs.declared.counts.Counts.{Counts}
+use Rattle.sub_checker.specs.declared.reporter.Reporter.{Reporter}
+use Rattle.sub_checker.proofs.AfterPacketsLemmas.{heard_here}
+use Rattle.sub_checker.proofs.MorePacketsLemmas.{opens_more}
+use Rattle.sub_checker.proofs.ReporterLemmas.{relays_begun, relays_two}
+
+-- ---- the state between two PES packets
+
+-- The state after the end of the last frame.
+pub BetweenPesPackets-closed : (g : Criteria) (sent : Transmission) (last : List (List ℕ))
+    (c : CheckerValue)
+    → c.counts.is_open ≡ false
+    → g.within ≡ 0
+    → AfterEnd g sent (length sent) last c
+    → BetweenPesPackets g sent last c
+BetweenPesPackets-closed g sent last c shut each follows = grind (arith, nat_tests)
+
+-- The state before the end of the last frame.
+pub BetweenPesPackets-open : (g : Criteria) (sent : Transmission) (n : ℕ) (last : List (List ℕ))
+    (c : CheckerValue)
+    → c.counts.is_open ≡ true
+    → 0 < g.within
+    → length sent ≡ suc n
+    → StaysOpen g sent n last c
+    → BetweenPesPackets g sent last c
+BetweenPesPackets-open g sent n last c opened within all opens = grind (arith, nat_tests)
+
+-- If the last frame is closed, no end is open.
+pub pending_none : (g : Criteria) (sent : Transmission) (last : List (List ℕ)) (c : CheckerValue)
+    → BetweenPesPackets g sent last c
+    → c.counts.is_open ≡ false
+    → steps_of_pending_end g sent ≡ []
+unfolding steps_of_pending_end
+pending_none g sent last c keeps shut = grind (arith, nat_tests)
+
+-- If it is not, the open end is that of the last frame.
+pub pending_some : (g : Criteria) (sent : Transmission) (last : List (List ℕ)) (c : CheckerValue)
+    → BetweenPesPackets g sent last c
+    → c.counts.is_open ≡ true
+    → steps_of_pending_end g sent ≡ steps_of_ending g sent (length sent - 1)
+unfolding steps_of_pending_end
+pending_some g sent last c keeps opened = grind (arith, nat_tests)
+
+-- Other changes of the counts do not matter.
+heard_counts : (g : Criteria) (sent : Transmission) (n : ℕ) (last : List (List ℕ))
+    (c d : CheckerValue) (m : Counts)
+    → d ≡ record c { counts = m }
+    → m.frames ≡ c.counts.frames
+    → m.headers ≡ c.counts.headers
+    → AfterPackets g sent n last c
+    → AfterPackets g sent n last d
+heard_counts g sent n last c d m is frames headers heard = grind (arith, nat_tests)
+
+-- Closing the frame changes nothing else. For `end_open`.
+pub heard_shut : (g : Criteria) (sent : Transmission) (n : ℕ) (last : List (List ℕ))
+    (c d : CheckerValue)
+    → d ≡ record c { counts = record c.counts { is_open = false } }
+    → AfterPackets g sent n last c
+    → AfterPackets g sent n last d
+heard_shut g sent n last c d is heard =
+    heard_counts g sent n last c d (record c.counts { is_open = false }) is refl refl heard
+
+-- The state after more packets of the last frame. For `take_more`.
+pub more_keeps : (g : Criteria) (sent : Transmission) (last ps : List (List ℕ))
+    (c v e : CheckerValue) (k : ℕ)
+    → BetweenPesPackets g sent last c
+    → c.counts.is_open ≡ true
+    → HasHeard c.counts.packets (packets_before sent (suc (length sent - 1))) ps c v
+    → e ≡ record v { counts = record v.counts { packets = k } }
+    → k ≡ v.counts.packets + length ps
+    → BetweenPesPackets g (with_packets ps sent) ps e
+more_keeps g sent last ps c v e k keeps opened hears is sum =
+    let n : ℕ = length sent - 1 in
+    let some = keeps.some opened in
+    let all : length sent ≡ suc (length sent - 1) = omega (arith, some) in
+    let opens = keeps.opens opened in
+    let new = hears.new_is in
+    let same = is
+    ∙ ap (λ (w : CheckerValue). record w { counts = record w.counts { packets = k } }) new in
+    BetweenPesPackets-open g (with_packets ps sent) (length sent - 1) ps e
+    (ap (λ (w : CheckerValue). w.counts.is_open) same ∙ opened)
+    (keeps.within opened) (with_packets-length ps sent ∙ all)
+    (opens_more g sent (length sent - 1) last ps c v opens.heard all hears e k same opens.before
+    opens.packets (sum ∙ ap (λ (w : CheckerValue). w.counts.packets + length ps) new))
+
+-- ---- the next PES packet
+
+-- The checker decides correctly whether a packet continues the last frame.
+pub goes_on_is : (g : Criteria) (sent : Transmission) (last : List (List ℕ)) (c : CheckerValue)
+    (s : SentFrame) (same : Bool)
+    → BetweenPesPackets g sent last c
+    → same ≡ (c.counts.is_open && s.frame == c.frame)
+    → goes_on_with g.within sent s ≡ same
+goes_on_is g sent last c s same keeps is = grind (arith, nat_tests)
+
+-- The steps of a packet that continues the last frame.
+pub more_is : (g : Criteria) (sent : Transmission) (pes : ℕ) (s : SentFrame)
+    → goes_on_with g.within sent s ≡ true
+    → steps_of_sent g sent pes s ≡ AtPes pes ∷ steps_of_more g sent s.packets
+unfolding steps_of_sent
+more_is g sent pes s same = rw same refl
+
+pub next_is : (g : Criteria) (sent : Transmission) (pes : ℕ) (s : SentFrame)
+    → goes_on_with g.within sent s ≡ false
+    → steps_of_sent g sent pes s
+    ≡ steps_of_pending_end g sent ++ AtPes pes ∷ next_steps g (sent ++ s ∷ []) (length sent)
+unfolding steps_of_sent
+next_is g sent pes s other = rw other refl
+
+-- The new frame is the last one of the list.
+pub is_sent : (sent : Transmission) (s : SentFrame)
+    → IsSentFrame (sent ++ s ∷ []) (length sent) s.frame s.packets
+is_sent sent s = record {
+  there = omega (arith, length-append sent (s ∷ []));
+  frame_is = at sent;
+  packets_are = packets sent;
+}
+  where
+    at : (xs : Transmission) → frame_at (xs ++ s ∷ []) (length xs) ≡ s.frame
+    at [] = refl
+    at (x ∷ xs) = at xs
+
+    packets : (xs : Transmission) → packets_of_frame (xs ++ s ∷ []) (length xs) ≡ s.packets
+    packets [] = refl
+    packets (x ∷ xs) = packets xs
+
+pub one_longer : (sent : Transmission) (s : SentFrame)
+    → length (sent ++ s ∷ []) ≡ suc (length sent)
+one_longer sent s = length-append sent (s ∷ []) ∙ omega arith
+
+-- The steps of reaching its frame, and the step there. For `take_next`.
+pub arrived : {D : Type 0} {d : _} {IsReported : D → Event → D → Type 0} {a s t : Reporter D d}
+    (g : Criteria) (frames : Transmission) (n : ℕ) (last : List (List ℕ)) (c : CheckerValue)
+    → BeforePackets g frames n last c
+    → ReporterRelays IsReported a (reaching_steps g frames n) s
+    → t ≡ back_reporter c (at_step (Begins c.frame) s)
+    → ReporterRelays IsReported a (steps_of_arrival g frames n) t
+arrived {a = a} {s = s} {t = t} g frames n last c arrives reached begins =
+    let back =
+    back_are g frames n n (frame_at frames n) last c arrives.has_pending.known
+    arrives.has_pending.first_unfinished_is in
+    relays_two
+    (ap₂ (λ (f : ℕ) (ms : List CheckStep). reaching_steps g frames n ++ Begins f ∷ ms)
+    (sym arrives.frame_is) (sym back))
+    reached (relays_begun s t c begins)
+
+-- The steps of a frame that ends at once, and of one that does not. For `take_next`.
+pub next_each : (g : Criteria) (frames : Transmission) (n : ℕ) → g.within ≡ 0
+    → next_steps g frames n
+    ≡ steps_of_arrival g frames n ++ steps_of_packets g frames n ++ steps_of_ending g frames n
+next_each g frames n each = grind (arith, nat_tests)
+
+pub next_within : (g : Criteria) (frames : Transmission) (n : ℕ) → 0 < g.within
+    → next_steps g frames n ≡ steps_of_arrival g frames n ++ steps_of_packets g frames n
+next_within g frames n within = grind (arith, nat_tests, append-nil)
+
+-- ---- the packets of another frame
+
+module _ (g : Criteria) (frames : Transmission) (n : ℕ) (last ps : List (List ℕ))
+    (c v : CheckerValue)
+    (arrives : BeforePackets g frames n last c) (there : n < length frames)
+    (are : packets_of_frame frames n ≡ ps) (hears : HasHeard 0 (packets_before frames n) ps c v)
+  where
+    -- The state after the packets. For `take_next`.
+    pub next_heard : (e : CheckerValue)
+        → e ≡ record v { counts = record v.counts { frames = v.counts.frames + 1 } }
+        → AfterPackets g frames n ps e
+    next_heard e is =
+        heard_here g frames n last ps c v arrives there are hears e
+        (is
+        ∙ ap (λ (w : CheckerValue). record w {
+          counts = record w.counts { frames = w.counts.frames + 1 };
+        }) hears.new_is
+        ∙ ap (λ (k : ℕ). let here : CheckerValue =
+        after_headers hears.headers (record c { listener = hears.listener }) in
+        record here { counts = record here.counts { frames = k } })
+        (omega (arith, arrives.has_pending.number)))
+
+    -- The state if more packets of the frame may follow.
+    pub next_keeps : (e : CheckerValue) (before k : ℕ)
+        → 0 < c.within
+        → length frames ≡ suc n
+        → e ≡ record v {
+          counts = record v.counts {
+            frames = v.counts.frames + 1;
+            headers_before = before;
+            packets = k;
+            is_open = true;
+          };
+        }
+        → before ≡ c.counts.headers
+        → k ≡ length ps
+        → BetweenPesPackets g frames ps e
+    next_keeps e before k within long is was size =
+        let d : CheckerValue = record v {
+          counts = record v.counts { frames = v.counts.frames + 1 };
+        } in
+        BetweenPesPackets-open g frames n ps e (ap (λ (w : CheckerValue). w.counts.is_open) is)
+        (rw (ap (λ (t : Criteria). t.within) arrives.has_pending.known.criteria_are) within) long
+        (record {
+          heard =
+              heard_counts g frames n ps d e _ is refl refl (next_heard d refl);
+          before =
+              ap (λ (w : CheckerValue). w.counts.headers_before) is
+              ∙ was
+              ∙ arrives.has_pending.known.count;
+          packets =
+              ap (λ (w : CheckerValue). w.counts.packets) is
+              ∙ size
+              ∙ ap length (sym are);
+        })
+
+    -- Both sides agree that `within` is not 0.
+    pub some_is : (v.within ≡ 0 → ⊥) → 0 < c.within
+    some_is not_each =
+        let same = ap (λ (w : CheckerValue). w.within) hears.new_is in
+        omega (arith, not_each, same)
+
+    -- Both sides agree that `within` is 0.
+    pub each_is : v.within ≡ 0 → g.within ≡ 0
+    each_is e =
+        ap (λ (t : Criteria). t.within) arrives.has_pending.known.criteria_are
+        ∙ sym (ap (λ (w : CheckerValue). w.within) hears.new_is)
+        ∙ e
+
+-- The last end is that of the whole list. For `end_open`.
+pub follows_all : (g : Criteria) (sent : Transmission) (last : List (List ℕ)) (c : CheckerValue)
+    → 0 < length sent
+    → AfterEnd g sent (suc (length sent - 1)) last c
+    → AfterEnd g sent (length sent) last c
+follows_all g sent last c some follows =
+    subst (λ (k : ℕ). AfterEnd g sent k last c) (omega (arith, some)) follows

@@ -1,0 +1,20 @@
+-- The events of the remaining rules are those still to be reported.
+use Rattle.std.proofs.Common.{List, drop, flat_map}
+use Rattle.sub_io.specs.Reporting.{Reports}
+use Rattle.sub_rules.specs.Events.{broken_at, end_rules, rule_events}
+use Rattle.sub_rules.specs.declared.end_rule.EndRule.{EndRule}
+use Rattle.sub_rules.specs.declared.event.Event.{Event}
+use Rattle.sub_checker.proofs.rule_changes.report_change.Given as goal
+
+abbrev pub invariant-loop-rule : goal.invariant-loop-rule
+invariant-loop-rule g l =
+    let report : EndRule → List Event =
+    λ rule. rule_events rule (broken_at rule l.fn.old) l.fn.before (broken_at rule l.fn.new)
+    l.fn.frame in
+    record {
+      reported :
+          (new : g.row.A.Denot)
+          → Reports g.A.Taker.is_reported l.taker new
+          (flat_map report (drop l.rule-index end_rules))
+          → Reports g.A.Taker.is_reported l.fn.taker new (flat_map report end_rules);
+    }

@@ -1,0 +1,19 @@
+//! Passes events to the device behind a latch.
+ghost use Rattle.sub_checker.specs.FusedAudience.{IsFused};
+
+use crate::fused::FusedAudience;
+use sub_io::Audience;
+use sub_packets::Taker;
+use sub_rules::Event;
+
+impl<A: Audience<Event>> Taker for FusedAudience<'_, A> {
+    ghost is_reported = { IsFused A.is_reported };
+
+    /// Tells the device, unless it said stop.
+    fn report(&mut self, event: Event) {
+        if self.stopped {
+            return;
+        }
+        self.stopped = self.device.report(event).is_err();
+    }
+}

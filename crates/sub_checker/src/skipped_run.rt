@@ -1,0 +1,101 @@
+//! Runs of consecutive PES packets that are skipped for faults with the same number.
+ghost use Rattle.std.specs.Prelude.{◌≡◌};
+ghost use Rattle.sub_io.specs.Reporting.{first_alone};
+ghost use Rattle.sub_rules.specs.PesPacketEvents.{ended_run, goes_on, goes_on_after, is_after};
+ghost use Rattle.sub_rules.specs.PesPacketEvents.{joins};
+ghost use Rattle.sub_rules.specs.PesPacketEvents.{no_run, skipped_run_after};
+ghost use Rattle.sub_checker.specs.SkippedPesPackets.{as_run, kept_run};
+
+use sub_rules::{CheckFault, Event, FaultPlace};
+
+/// The current run of consecutive skipped PES packets whose faults have the same number.
+#[derive(Clone, Copy)]
+pub(crate) struct SkippedPesPackets {
+    /// The fault of the last of them; `None` if there is no run, or if another event came after it.
+    pub last: Option<CheckFault>,
+    /// The run has more than one packet.
+    pub many: bool,
+}
+
+impl SkippedPesPackets {
+    /// Returns the state before the first PES packet.
+    pub fn new() -> Self
+        ensures { result ≡ kept_run no_run }
+    {
+        SkippedPesPackets {
+            last: None,
+            many: false,
+        }
+    }
+
+    /// Returns whether the event continues the run.
+    #[tactic(auto, unfolding(sub_rules::specs::PesPacketEvents::joins))]
+    pub fn joins(&self, event: &Event) -> bool
+        ensures { result ≡ joins (as_run self.now) event.now }
+    {
+        match event {
+            Event::Reported(fault) => follows(&self.last, fault),
+            _ => false,
+        }
+    }
+
+    /// Returns the run after the event.
+    #[tactic(auto, unfolding(sub_rules::specs::PesPacketEvents::skipped_run_after))]
+    pub fn after(&self, event: &Event) -> SkippedPesPackets
+        ensures { result ≡ kept_run (skipped_run_after (as_run self.now) event.now) }
+    {
+        match event {
+            Event::Reported(fault) => SkippedPesPackets {
+                last: if (*fault).row().is_skipped {
+                    Some(*fault)
+                } else {
+                    None
+                },
+                many: follows(&self.last, fault),
+            },
+            _ => SkippedPesPackets::new(),
+        }
+    }
+
+    /// Returns the event that says up to which PES packet the run goes, if it has more than one.
+    pub fn ended(&self) -> Option<Event>
+        ensures { first_alone result ≡ ended_run (as_run self.now) }
+    {
+        match self.last {
+            Some(fault) if self.many => Some(Event::SkippedUntil(fault)),
+            _ => None,
+        }
+    }
+}
+
+// Returns whether the fault is that of a PES packet which is skipped directly after the last one,
+// with the same number.
+fn follows(last: &Option<CheckFault>, fault: &CheckFault) -> bool
+    ensures { result ≡ goes_on_after last.now fault.now }
+{
+    match last {
+        Some(last) => goes_on(last, fault),
+        None => false,
+    }
+}
+
+// Returns whether the fault continues the run that ends with `last`.
+#[tactic(auto, unfolding(sub_rules::specs::PesPacketEvents::goes_on))]
+fn goes_on(last: &CheckFault, fault: &CheckFault) -> bool
+    ensures { result ≡ goes_on last.now fault.now }
+{
+    let (before, row) = ((*last).row(), (*fault).row());
+    row.is_skipped && is_after(before.place, row.place) && row.code.number() == before.code.number()
+}
+
+// Returns whether `place` is the PES packet directly after `last`.
+fn is_after(last: FaultPlace, place: FaultPlace) -> bool
+    ensures { result ≡ is_after last place }
+{
+    match (last, place) {
+        (FaultPlace::Pes { pes: last }, FaultPlace::Pes { pes }) => {
+            u64::from(pes) == u64::from(last) + 1
+        }
+        _ => false,
+    }
+}

@@ -1,0 +1,44 @@
+-- The meaning of the arguments `check STL PES` without options.
+use Rattle.std.specs.Prelude.{◌≡◌, ◌≢◌, [], ◌∷◌, Some, None, false, codes, slice_get}
+use Rattle.clap.specs.Words.{Text}
+use Rattle.stl_file.specs.Scope.{whole}
+use Rattle.stl_rows.specs.Layout.{default_layout}
+use Rattle.stl_rows.specs.declared.national.National.TheVariants.{English}
+use Rattle.sub_plan.specs.Examples.{page_888}
+use Rattle.sub_plan.specs.Options.{OptionsValue}
+use Rattle.sub_request.specs.declared.request.Request.{Request}
+use Rattle.sub_words.specs.Arguments.{PesRequested}
+use Rattle.sub_words.specs.Requests.{Requested, IsRequestOf, requested_by}
+
+-- The default options: page 888; a header of it within 250 frames, 10 seconds; frame 0 has the PTS
+-- 0; neither complete pages nor a maximum distance of PES packets is required; the page has to be
+-- right at the end of each frame; and each header of it has to erase it.
+abbrev pub default_options : OptionsValue
+default_options = record {
+  page = page_888;
+  every = 250;
+  origin = 0;
+  asks_complete = false;
+  within = 0;
+  pace = None;
+  keeps = false;
+}
+
+-- An argument that does not begin with `-`, and so is no option.
+abbrev pub IsName : Text → Type 0
+IsName word = slice_get word 0 ≢ Some 0x2D
+
+-- The whole of a PES file.
+abbrev pub entire_pes_file : Text → PesRequested
+entire_pes_file name = record { name = name; stream = None; range = None }
+
+-- The arguments `check STL PES` alone, after the program's name, request a check of these two files
+-- with the default options.
+abbrev pub LawOfPlainArguments : Type 0
+LawOfPlainArguments =
+    (program stl pes : Text) (request : Request)
+    → IsName stl
+    → IsName pes
+    → IsRequestOf (program ∷ codes "check" ∷ stl ∷ pes ∷ []) request
+    → requested_by request
+    ≡ Requested.Check stl (entire_pes_file pes) default_options English default_layout whole false

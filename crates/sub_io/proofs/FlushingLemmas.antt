@@ -1,0 +1,94 @@
+-- Flushing does not change what was reported. Main lemma: keeps-reported.
+use Rattle.std.proofs.Common.{◌≡◌, ◌∙◌, ℕ, Bool, true, false, List, [], ◌∷◌, ap, inl, inr, sym}
+use Rattle.std.proofs.Common.{not, refl, subst, Result, Ok, Err}
+use Rattle.std.specs.Prelude.{OnOk, is_err, is_ok}
+use Rattle.std.proofs.lemmas.Bool.{true≢false}
+use Rattle.sub_io.specs.Flushing.{FlushesIfPending, BuffersOnlyWhilePending, KeepsReported}
+use Rattle.sub_io.specs.Flushing.{StaysReported}
+use Rattle.sub_io.specs.Reporting.{Reports, ReportsInOrder, ReportsSome}
+
+module _
+    {A D : Type 0} (IsReported : D → A → D → Type 0) (has_stopped has_pending_reports : D → Bool)
+    (buffered : D → ℕ)
+    (IsFlushed : D → Bool → D → Type 0)
+    (stays : StaysReported IsReported has_stopped has_pending_reports buffered IsFlushed) where
+  -- Reports stay reported if the last of them is flushed.
+  stays_one_by_one : (a b c : D) (x : A) (items : List A) (ok : Bool)
+      → has_pending_reports b ≡ true
+      → IsFlushed b ok c
+      → ReportsInOrder IsReported a b (x ∷ items)
+      → ReportsInOrder IsReported a c (x ∷ items)
+  stays_one_by_one a b c x [] ok has_pending on (mid, first, same) = (
+    c,
+    stays.reported a b c x ok (subst (λ d. IsReported a x d) (sym same) first) has_pending on,
+    refl,
+  )
+  stays_one_by_one a b c x (y ∷ items) ok has_pending on (mid, first, rest) =
+      (mid, first, stays_one_by_one mid b c y items ok has_pending on rest)
+
+  -- Reports since a state without pending ones stay reported.
+  stays_after : (a b c : D) (items : List A) (ok : Bool)
+      → has_pending_reports a ≡ false
+      → has_pending_reports b ≡ true
+      → IsFlushed b ok c
+      → ReportsInOrder IsReported a b items
+      → ReportsInOrder IsReported a c items
+  stays_after a b c [] ok still has_pending on reported =
+      absurd (true≢false (sym has_pending ∙ ap has_pending_reports reported ∙ still))
+  stays_after a b c (x ∷ items) ok still has_pending on reported =
+      stays_one_by_one a b c x items ok has_pending on reported
+
+  -- For a function that flushes an audience.
+  pub keeps-reported : (old new : D) (ok : Bool)
+      → FlushesIfPending has_pending_reports IsFlushed old ok new
+      → KeepsReported IsReported has_pending_reports old new
+  keeps-reported old new ok (inl same) = record {
+    kept = λ start items still reported.
+        subst (λ d. Reports IsReported start d items) (sym same.1) reported;
+  }
+  keeps-reported old new ok (inr on) = record {
+    kept = λ start items still reported.
+        record {
+          one_by_one = stays_after start old new items ok still on.0 on.1
+              reported.one_by_one;
+        };
+  }
+
+  -- What holds before any report and after each one holds after several.
+  reported-holds : (a b : D) (items : List A)
+      → BuffersOnlyWhilePending has_pending_reports buffered a
+      → ReportsInOrder IsReported a b items
+      → BuffersOnlyWhilePending has_pending_reports buffered b
+  reported-holds a b [] holds reported = subst (BuffersOnlyWhilePending has_pending_reports
+      buffered) (sym reported) holds
+  reported-holds a b (x ∷ items) holds (mid, first, rest) =
+      reported-holds mid b items (stays.has_pending a mid x first) rest
+
+  pub holds-reported : (a b : D)
+      → BuffersOnlyWhilePending has_pending_reports buffered a
+      → ReportsSome IsReported a b
+      → BuffersOnlyWhilePending has_pending_reports buffered b
+  holds-reported a b holds some = reported-holds a b some.items holds some.reported.one_by_one
+
+-- That something was reported stays true.
+pub ReportsSome-kept : {A D : Type 0} (IsReported : D → A → D → Type 0) (has_pending_reports : D →
+    Bool)
+    (start old new : D)
+    → ReportsSome IsReported start old
+    → has_pending_reports start ≡ false
+    → KeepsReported IsReported has_pending_reports old new
+    → ReportsSome IsReported start new
+ReportsSome-kept IsReported has_pending_reports start old new some still keeps = record {
+  items = some.items;
+  reported = keeps.kept start some.items still some.reported;
+}
+
+-- ---- success of flushing
+
+pub not_ok : {X E : Type 0} (r : Result X E) (b : Bool) → is_err r ≡ b → not (is_ok r) ≡ b
+not_ok (Ok x) b is = is
+not_ok (Err e) b is = is
+
+pub when_ok : {X E : Type 0} {Q : Type 0} (r : Result X E) → is_err r ≡ false → OnOk r Q → Q
+when_ok (Ok x) is holds = holds
+when_ok (Err e) is holds = absurd (true≢false is)

@@ -1,6 +1,0 @@
--- A source over memory lends all its bytes, by all_are_next.
-use Rattle.sub_io.proofs.BufferLemmas.{all_are_next}
-use Rattle.sub_io.proofs.memory.MemSourceSource.held.Goals as goal
-
-pub returns-clause-bytes : goal.returns-clause-bytes
-returns-clause-bytes c = rw (← c.self.view_is) (all_are_next c.self.inside.rest.now)

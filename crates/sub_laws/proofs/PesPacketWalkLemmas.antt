@@ -1,0 +1,327 @@
+-- For reports and trusted frames. Follows the steps of PES packets: the frames that they send, each
+-- of which ends, and the skipped ones. The state is any value X; `reported_of` moves it to another
+-- PES packet. Main lemmas: `each_pes_packet`; `waits`. The second one ends the last frame.
+use Rattle.std.proofs.lemmas.Bool.Decides.{nat_tests}
+use Rattle.std.proofs.Common.{◌≡◌, ℕ, suc, ◌-◌, ◌<◌, ◌⊎◌, inl, inr, Bool, true, false, ◌==◌}
+use Rattle.std.proofs.Common.{List, [], ◌∷◌, ◌++◌, length, map, Some, refl, sym, ap, ◌∙◌, subst}
+use Rattle.std.proofs.Common.{arith, append-nil, cond, length-append, if◌then◌else◌}
+use Rattle.std.proofs.lemmas.Bool.{true≢false}
+use Rattle.std.specs.Prelude.{⊤}
+use Rattle.sub_rules.specs.Events.{packets_reported, unread_fault}
+use Rattle.sub_rules.specs.FrameRules.{Criteria, Unread, end_frame, frame_at, packets_before}
+use Rattle.sub_rules.specs.FrameRules.{packets_of_frame}
+use Rattle.sub_rules.specs.PesPacketEvents.{steps_of_arrival, steps_of_each, steps_of_ending}
+use Rattle.sub_rules.specs.PesPacketEvents.{steps_of_more, steps_of_next, steps_of_sent}
+use Rattle.sub_rules.specs.PesPacketEvents.{steps_of_pending_end}
+use Rattle.sub_rules.specs.PesPackets.{PesPacket, frames_of, goes_on_with, joined_after, sent_after}
+use Rattle.sub_rules.specs.PesPackets.{with_packets}
+use Rattle.sub_rules.specs.PesPackets.PesPacket.{Skipped, Sent}
+use Rattle.sub_rules.specs.Transmission.{SentFrame, Transmission}
+use Rattle.sub_rules.specs.Trusted.CheckStep.{AtPes, Emits}
+use Rattle.sub_rules.specs.declared.event.Event.{Event}
+use Rattle.sub_rules.specs.declared.event.Event.TheVariants.{Reported}
+use Rattle.sub_rules.proofs.JoinedLemmas.{with_packets-last, with_packets-length}
+use Rattle.sub_rules.proofs.PrefixEventLemmas.{packets_of_frame-prefix}
+use Rattle.sub_laws.proofs.GrowingFrameLemmas.{Grows, arrival_is, before_is, end_is, ending_is}
+use Rattle.sub_laws.proofs.GrowingFrameLemmas.{frame_is, goes_on_some, grown, grows, grows_before}
+use Rattle.sub_laws.proofs.GrowingFrameLemmas.{long, packets_are, so_far, same_at_once}
+use Rattle.sub_rules.specs.Trusted.{CheckStep}
+
+-- The last frame has these packets in the end, and perhaps more.
+packets_grow : (g : Criteria) (sent frames : Transmission) (is : Grows sent frames) (n : ℕ)
+    → length sent ≡ suc n
+    → packets_of_frame frames n ≡ packets_of_frame sent n ++ is.rest
+packets_grow g sent frames is n size =
+    grind (arith, nat_tests, long, with_packets-length, packets_of_frame-prefix, with_packets-last)
+
+-- Each skipped PES packet comes after frames with the property Q.
+abbrev pub EachSkipped : ℕ → (Transmission → Type 0) → Transmission → List PesPacket → Type 0
+EachSkipped within Q sent [] = ⊤
+EachSkipped within Q sent (Sent s ∷ ahead) = EachSkipped within Q (sent_after within sent s) ahead
+EachSkipped within Q sent (Skipped u ∷ ahead) = Q sent × EachSkipped within Q sent ahead
+
+module _ (X : Type 0) (reported_of : ℕ → X → X) (g : Criteria) (frames : Transmission)
+    (T : (X → Type 0) → X → List CheckStep → Type 0)
+    (C : ℕ → X → Type 0)
+    (O : ℕ → List (List ℕ) → X → Type 0)
+    (Q : Transmission → Type 0)
+  where
+    -- The events of a skipped PES packet.
+    abbrev pub skipped_steps : ℕ → Unread → List CheckStep
+    skipped_steps pes u = map Emits (Reported (unread_fault pes (Some u)) ∷ [])
+
+    -- T relates the state before and after steps: from a state C, in which so many frames have
+    -- ended, to O, in which the next frame is sent and has these packets, and to its end; and at
+    -- skipped PES packets, after frames with the property Q.
+    pub record Steps : Type 0 where
+      pub at_ended : (n pes : ℕ) (t : X) → C n t → C n (reported_of pes t)
+      pub at_open :
+          (n pes : ℕ) (packets : List (List ℕ)) (t : X)
+          → O n packets t
+          → O n packets (reported_of pes t)
+      pub arrival :
+          (n : ℕ) (t : X)
+          → n < length frames
+          → C n t
+          → T (O n []) t (steps_of_arrival g frames n)
+      pub more :
+          (n : ℕ) (packets more rest : List (List ℕ)) (t : X)
+          → n < length frames
+          → packets_of_frame frames n ≡ packets ++ more ++ rest
+          → O n packets t
+          → T (O n (packets ++ more)) t
+          (map Emits
+          (packets_reported g.watched (frame_at frames n) (length packets)
+          (packets_before frames n ++ packets) more (length more)))
+      pub ending :
+          (n : ℕ) (t : X)
+          → n < length frames
+          → O n (packets_of_frame frames n) t
+          → T (C (suc n)) t (steps_of_ending g frames n)
+      pub skipped_ended :
+          (sent : Transmission) (pes : ℕ) (u : Unread) (t : X)
+          → Grows sent frames
+          → Q sent
+          → C (length sent) t
+          → T (C (length sent)) t (skipped_steps pes u)
+      pub skipped_open :
+          (sent : Transmission) (n pes : ℕ) (u : Unread) (t : X)
+          → Grows sent frames
+          → length sent ≡ suc n
+          → Q sent
+          → O n (packets_of_frame sent n) t
+          → T (O n (packets_of_frame sent n)) t (skipped_steps pes u)
+
+    -- The state while these frames are sent: all have ended, as each does at once, or none was
+    -- sent; or the last one may continue.
+    abbrev pub Sends : Transmission → X → Type 0
+    Sends sent t =
+        ((((g.within == 0) ≡ true) ⊎ (length sent ≡ 0)) × C (length sent) t)
+        ⊎ (((g.within == 0) ≡ false)
+        × (n : ℕ)
+        × (length sent ≡ suc n)
+        × O n (packets_of_frame sent n) t)
+
+    module _ (nil : (S : X → Type 0) (t : X) → S t → T S t [])
+        (at_pes : (S : X → Type 0) (t : X) (pes : ℕ) (ms : List CheckStep)
+        → T S (reported_of pes t) ms
+        → T S t (AtPes pes ∷ ms))
+        (append : (S U : X → Type 0) (t : X) (xs ys : List CheckStep)
+        → T S t xs
+        → ((u : X) → S u → T U u ys)
+        → T U t (xs ++ ys))
+        (steps : Steps)
+      where
+        and_so : (S U : X → Type 0) (t : X) (ms : List CheckStep) → T S t ms
+            → ((u : X) → S u → U u)
+            → T U t ms
+        and_so S U t ms is so =
+            subst (T U t) (append-nil ms) (append S U t ms [] is (λ u s. nil U u (so u s)))
+
+        -- ---- a PES packet that is sent
+
+        -- It continues the last frame.
+        on_more : (sent : Transmission) (s : SentFrame) (t : X) (n : ℕ) → length sent ≡ suc n
+            → Grows sent frames
+            → Grows (with_packets s.packets sent) frames
+            → O n (packets_of_frame sent n) t
+            → T (O n (packets_of_frame (with_packets s.packets sent) n)) t
+            (steps_of_more g sent s.packets)
+        on_more sent s t n size is after open_here =
+            let packets : List (List ℕ) = packets_of_frame sent n in
+            let all : Transmission = with_packets s.packets sent in
+            let last : length sent - 1 ≡ n = omega (arith, size) in
+            let at : end_frame sent ≡ frame_at frames n = end_is g sent frames is n size in
+            let before : packets_before sent (length sent) ≡ packets_before frames n ++ packets =
+            so_far g sent frames is n size in
+            let reported :
+            packets_reported g.watched (frame_at frames n) (length packets)
+            (packets_before frames n ++ packets) s.packets (length s.packets)
+            ≡ packets_reported g.watched (end_frame sent)
+            (length (packets_of_frame sent (length sent - 1))) (packets_before sent (length sent))
+            s.packets (length s.packets) =
+            rw (at, before, last) refl in
+            let now : packets_of_frame all n ≡ packets ++ s.packets =
+            with_packets-last s.packets sent n (sym size) in
+            let whole : packets_of_frame frames n ≡ packets ++ s.packets ++ after.rest =
+            packets_grow g all frames after n (with_packets-length s.packets sent ∙ size)
+            ∙ ap (λ (ps : List (List ℕ)). ps ++ after.rest) now in
+            subst (λ (ps : List (List ℕ)). T (O n ps) t (steps_of_more g sent s.packets)) (sym now)
+            (subst (λ (es : List Event). T (O n (packets ++ s.packets)) t (map Emits es)) reported
+            (steps.more n packets s.packets after.rest t (long g sent frames is n size) whole
+            open_here))
+
+        -- The last frame ends.
+        ends : (sent more : Transmission) (t : X) → frames ≡ sent ++ more
+            → (n : ℕ) → length sent ≡ suc n
+            → O n (packets_of_frame sent n) t
+            → T (C (length sent)) t (steps_of_ending g sent n)
+        ends sent more t whole n long_is open_here =
+            let there : n < length frames =
+            let size = ap (λ (l : Transmission). length l) whole in
+            omega (arith, size, length-append sent more) in
+            subst (λ (k : ℕ). T (C k) t (steps_of_ending g sent n)) (sym long_is)
+            (subst (T (C (suc n)) t) (sym (ending_is g sent more frames whole n (omega arith)))
+            (steps.ending n t there
+            (subst (λ (ps : List (List ℕ)). O n ps t)
+            (packets_are g sent more frames whole n (omega arith)) open_here)))
+
+        -- If `within` is not 0, it ends when another frame or the end of the file follows.
+        pub waits : (sent more : Transmission) (t : X) → frames ≡ sent ++ more → Sends sent t
+            → T (C (length sent)) t (steps_of_pending_end g sent)
+        unfolding steps_of_pending_end
+        waits [] more t whole (inl (ended, closed)) = nil (C 0) t closed
+        waits [] more t whole (inr (later, n, size, open_here)) = absurd (omega arith)
+        waits (s ∷ sent) more t whole (inl (inl at_once, closed)) =
+            subst
+            (λ (c : Bool). T (C (suc (length sent))) t
+            (if c then [] else steps_of_ending g (s ∷ sent) (length sent))) (sym at_once)
+            (nil (C (suc (length sent))) t closed)
+        waits (s ∷ sent) more t whole (inl (inr none, closed)) = absurd (omega arith)
+        waits (s ∷ sent) more t whole (inr (later, n, size, open_here)) =
+            let last : n ≡ length sent = omega arith in
+            subst
+            (λ (c : Bool). T (C (suc (length sent))) t
+            (if c then [] else steps_of_ending g (s ∷ sent) (length sent))) (sym later)
+            (subst (λ (k : ℕ). T (C (suc (length sent))) t (steps_of_ending g (s ∷ sent) k)) last
+            (ends (s ∷ sent) more t whole n size open_here))
+
+        -- Another frame begins.
+        on_next : (sent more : Transmission) (s : SentFrame) (t : X)
+            → Grows (sent ++ s ∷ []) frames
+            → ((g.within == 0) ≡ true → frames ≡ (sent ++ s ∷ []) ++ more)
+            → C (length sent) t
+            → T (Sends (sent ++ s ∷ [])) t (steps_of_next g sent s)
+        on_next sent more s t is whole closed =
+            let n : ℕ = length sent in
+            let all : Transmission = sent ++ s ∷ [] in
+            let size : length all ≡ suc n = omega (arith, length-append sent (s ∷ [])) in
+            let packets : List (List ℕ) = packets_of_frame all n in
+            let there = long g all frames is n size in
+            let es : List Event =
+            packets_reported g.watched (frame_at all n) 0 (packets_before all n) packets
+            (length packets) in
+            let reported :
+            packets_reported g.watched (frame_at frames n) 0 (packets_before frames n ++ []) packets
+            (length packets)
+            ≡ es =
+            rw (
+              append-nil (packets_before frames n),
+              frame_is g all frames is n size n (omega arith),
+              before_is g all frames is n size,
+            ) refl in
+            let first : T (O n []) t (steps_of_arrival g all n) =
+            subst (T (O n []) t) (sym (arrival_is g all frames is n size))
+            (steps.arrival n t there closed) in
+            append (O n packets) (Sends all) t (steps_of_arrival g all n ++ map Emits es)
+            (if g.within == 0 then steps_of_ending g all n else [])
+            (append (O n []) (O n packets) t (steps_of_arrival g all n) (map Emits es) first
+            (λ u so.
+            subst (λ (l : List Event). T (O n packets) u (map Emits l)) reported
+            (steps.more n [] packets is.rest u there (packets_grow g all frames is n size) so)))
+            (λ u so. go (g.within == 0) refl u size so)
+          where
+            go : (at_once : Bool) → (g.within == 0) ≡ at_once → (u : X)
+                → length (sent ++ s ∷ []) ≡ suc (length sent)
+                → O (length sent) (packets_of_frame (sent ++ s ∷ []) (length sent)) u
+                → T (Sends (sent ++ s ∷ [])) u
+                (if at_once then steps_of_ending g (sent ++ s ∷ []) (length sent) else [])
+            go true at_once u size so =
+                and_so (C (length (sent ++ s ∷ []))) (Sends (sent ++ s ∷ [])) u
+                (steps_of_ending g (sent ++ s ∷ []) (length sent))
+                (ends (sent ++ s ∷ []) more u (whole at_once) (length sent) size so)
+                (λ v closed. inl (inl at_once, closed))
+            go false later u size so =
+                nil (Sends (sent ++ s ∷ [])) u (inr (later, length sent, size, so))
+
+        sent_step : (sent more : Transmission) (pes : ℕ) (s : SentFrame) (t : X)
+            → joined_after g.within (sent_after g.within sent s) more ≡ frames
+            → Sends sent t
+            → T (Sends (sent_after g.within sent s)) t (steps_of_sent g sent pes s)
+        unfolding steps_of_sent
+        sent_step sent more pes s t all sends =
+            go (goes_on_with g.within sent s) refl
+            (subst (Grows (sent_after g.within sent s)) all
+            (grows g.within (sent_after g.within sent s) more))
+            (λ at_once.
+            same_at_once g.within (sent_after g.within sent s) more frames at_once all) sends
+          where
+            go : (same : Bool)
+                → goes_on_with g.within sent s ≡ same
+                → Grows (cond same (with_packets s.packets sent) (sent ++ s ∷ [])) frames
+                → ((g.within == 0) ≡ true
+                → frames ≡ (cond same (with_packets s.packets sent) (sent ++ s ∷ [])) ++ more)
+                → Sends sent t
+                → T (Sends (cond same (with_packets s.packets sent) (sent ++ s ∷ []))) t
+                (cond same (AtPes pes ∷ steps_of_more g sent s.packets)
+                (steps_of_pending_end g sent ++ AtPes pes ∷ steps_of_next g sent s))
+            go true e is whole (inl (inl at_once, closed)) =
+                let later = (goes_on_some g.within sent s e).0 in
+                absurd (true≢false (sym at_once ∙ later))
+            go true e is whole (inl (inr none, closed)) =
+                let some = (goes_on_some g.within sent s e).1 in absurd (omega arith)
+            go true e is whole (inr (later, n, size, open_here)) =
+                let before : Grows sent frames =
+                grows_before g.within sent s frames
+                (subst
+                (λ (b : Bool). Grows (cond b (with_packets s.packets sent) (sent ++ s ∷ [])) frames)
+                (sym e) is) in
+                let all : Transmission = with_packets s.packets sent in
+                at_pes (Sends all) t pes (steps_of_more g sent s.packets)
+                (and_so (O n (packets_of_frame all n)) (Sends all) (reported_of pes t)
+                (steps_of_more g sent s.packets)
+                (on_more sent s (reported_of pes t) n size before is
+                (steps.at_open n pes (packets_of_frame sent n) t open_here))
+                (λ u so. inr (later, n, with_packets-length s.packets sent ∙ size, so)))
+            go false e is whole sends =
+                let all = grown sent s frames is in
+                append (C (length sent)) (Sends (sent ++ s ∷ [])) t (steps_of_pending_end g sent)
+                (AtPes pes ∷ steps_of_next g sent s) (waits sent all.0 t all.1 sends)
+                (λ u closed.
+                at_pes (Sends (sent ++ s ∷ [])) u pes (steps_of_next g sent s)
+                (on_next sent more s (reported_of pes u) is whole
+                (steps.at_ended (length sent) pes u closed)))
+
+        -- ---- a skipped PES packet
+
+        skipped_step : (sent : Transmission) (pes : ℕ) (u : Unread) (t : X) → Grows sent frames
+            → Q sent
+            → Sends sent t
+            → T (Sends sent) t (AtPes pes ∷ skipped_steps pes u)
+        skipped_step sent pes u t is requested (inl (ended, closed)) =
+            at_pes (Sends sent) t pes (skipped_steps pes u)
+            (and_so (C (length sent)) (Sends sent) (reported_of pes t) (skipped_steps pes u)
+            (steps.skipped_ended sent pes u (reported_of pes t) is requested
+            (steps.at_ended (length sent) pes t closed))
+            (λ v so. inl (ended, so)))
+        skipped_step sent pes u t is requested (inr (later, n, size, open_here)) =
+            at_pes (Sends sent) t pes (skipped_steps pes u)
+            (and_so (O n (packets_of_frame sent n)) (Sends sent) (reported_of pes t)
+            (skipped_steps pes u)
+            (steps.skipped_open sent n pes u (reported_of pes t) is size requested
+            (steps.at_open n pes (packets_of_frame sent n) t open_here))
+            (λ v so. inr (later, n, size, so)))
+
+        -- ---- PES packets
+
+        pub each_pes_packet : (sent : Transmission) (pes : ℕ) (t : X) (pes_packets : List PesPacket)
+            → joined_after g.within sent (frames_of pes_packets) ≡ frames
+            → EachSkipped g.within Q sent pes_packets
+            → Sends sent t
+            → T (Sends frames) t (steps_of_each g sent pes pes_packets)
+        unfolding steps_of_each frames_of joined_after
+        each_pes_packet sent pes t [] all requested sends =
+            nil (Sends frames) t (subst (λ (fs : Transmission). Sends fs t) all sends)
+        each_pes_packet sent pes t (Sent s ∷ pes_packets) all requested sends =
+            let next : Transmission = sent_after g.within sent s in
+            append (Sends next) (Sends frames) t (steps_of_sent g sent pes s)
+            (steps_of_each g next (suc pes) pes_packets)
+            (sent_step sent (frames_of pes_packets) pes s t all sends)
+            (λ u so. each_pes_packet next (suc pes) u pes_packets all requested so)
+        each_pes_packet sent pes t (Skipped u ∷ pes_packets) all requested sends =
+            let is : Grows sent frames =
+            subst (Grows sent) all (grows g.within sent (frames_of pes_packets)) in
+            append (Sends sent) (Sends frames) t (AtPes pes ∷ skipped_steps pes u)
+            (steps_of_each g sent (suc pes) pes_packets) (skipped_step sent pes u t is requested.0
+            sends)
+            (λ v so. each_pes_packet sent (suc pes) v pes_packets all requested.1 so)

@@ -1,0 +1,332 @@
+-- For `law_of_nothing_reported_repeats`. A transmission has no events exactly if it is good by the
+-- options, whether repeats may keep the page or not: `none_reported_repeats`.
+use Rattle.std.proofs.lemmas.Bool.Decides.{nat_tests}
+use Rattle.std.proofs.Common.{◌≡◌, ℕ, ◌+◌, ◌-◌, ◌<◌, ◌≤◌, ◌⊎◌, inl, inr, Bool, true, false, ◌&&◌}
+use Rattle.std.proofs.Common.{◌||◌, ◌==◌, nat_le, nat_lt, Option, Some, None, is_some, length}
+use Rattle.std.proofs.Common.{get_or, refl, sym, ◌∙◌, subst, arith, le_refl, IsFalse}
+use Rattle.std.proofs.lemmas.Bool.{cases_eq, cases_lt, or_parts}
+use Rattle.ttx_packet.specs.PacketAddress.{IsPacket}
+use Rattle.ttx_page.specs.Shown.{kept}
+use Rattle.stl_file.specs.Subtitle.{SubtitleValue}
+use Rattle.stl_rows.specs.Programme.{IsProgramme, ProgrammeValue}
+use Rattle.sub_plan.specs.Options.{OptionsValue}
+use Rattle.sub_rules.specs.Events.{broken_cell, is_gap, is_incomplete, is_late, is_missed}
+use Rattle.sub_rules.specs.Events.{is_overdue, is_pending, is_silent, is_unfinished}
+use Rattle.sub_rules.specs.Events.{unexpected_after}
+use Rattle.sub_rules.specs.Events.{unfinished_since}
+use Rattle.sub_rules.specs.Events.{undecided_within, wrong_cell}
+use Rattle.sub_rules.specs.FrameRules.{Criteria, Unread, criteria_of, end_frame, frame_at}
+use Rattle.sub_rules.specs.FrameRules.{packets_before}
+use Rattle.sub_rules.specs.Repeats.{GoodBy, IsDueWithin, IsFinishedBy, KeepsRulesBy}
+use Rattle.sub_rules.specs.Repeats.{SomeFinishedBy}
+use Rattle.sub_rules.specs.Transmission.{EachPacket, Transmission, first_frame, last_frame}
+use Rattle.sub_laws.specs.CleanStretch.{IsEnd}
+use Rattle.sub_laws.proofs.DueCodeLemmas.{MayShow, ending_at, none_unexpected}
+use Rattle.sub_laws.proofs.ReportedLemmas.{nothing_reported, sizes_of}
+use Rattle.sub_laws.proofs.FrameByFrame.{AllOk}
+use Rattle.sub_laws.proofs.GoodLemmas.{rises_each}
+use Rattle.sub_laws.proofs.GoodByLemmas.{begins_in, ends_in}
+use Rattle.sub_laws.proofs.PlaceLemmas.{Rules-from_holds, holds-from_rules, fault_free_at, rising}
+use Rattle.sub_laws.proofs.PrefixLemmas.{RiseTo, end_high, end_is_on_air, end_low, first-same}
+use Rattle.sub_laws.proofs.PrefixLemmas.{last-same}
+use Rattle.sub_laws.proofs.ActiveFaultsLemmas.{always_known, fault_free_parts, unexpected_is}
+use Rattle.sub_laws.proofs.SufficientDelayLemmas.{HoldsAtEnds, again, calm, codes, subtitle}
+use Rattle.sub_laws.proofs.UnfinishedLemmas.{first_unfinished_after, first_unfinished_some}
+use Rattle.sub_laws.proofs.UnfinishedLemmas.{unfinished_at}
+use Rattle.sub_laws.proofs.FinishedLemmas.{at_finished, finished_of, late_is, no_first_unfinished}
+use Rattle.sub_laws.proofs.FinishedLemmas.{none_is}
+use Rattle.sub_laws.proofs.FinishedLemmas.{of_finished, first_unfinished_is, first_unfinished_no}
+use Rattle.std.proofs.Common.{◌↔◌, []}
+use Rattle.sub_rules.proofs.FrameEvents.{events}
+
+-- At no frame is the due page unknown.
+abbrev never : ℕ → Bool
+never frame = false
+
+-- ---- from the requirements to the rules
+
+module _ (programme : ProgrammeValue) (options : OptionsValue) (unread : Option Unread)
+    (t : Transmission) (every : 0 < options.every)
+    (is : IsProgramme programme.drawing programme.records)
+    (h : AllOk (criteria_of programme options unread) t) where
+  abbrev criteria : Criteria
+  criteria = criteria_of programme options unread
+
+  abbrev up : RiseTo t (length t)
+  up = rising programme options unread t every h
+
+  -- The requirements at each end.
+  parts : (n f : ℕ) → IsEnd t n f
+      → (broken_cell criteria t n f ≡ None)
+      × (is_gap criteria t n f ≡ false)
+      × ((is_late criteria t n f && is_incomplete criteria t n) ≡ false)
+      × (is_silent criteria t n f ≡ false)
+      × (undecided_within criteria t f ≡ false)
+  parts n f end =
+      (fault_free_parts criteria t n f).0 (fault_free_at programme options unread t every h n f end)
+
+  held : HoldsAtEnds criteria t (first_frame t) (last_frame t)
+  held = record {
+    still = record {
+      up = up;
+      some = h.some;
+      from = let first = first-same t in omega arith;
+      to = let last = last-same t in omega arith;
+      parts = λ n f end low high. let all = parts n f end in (all.0, all.4);
+    };
+    shut = λ n f end low high. (parts n f end).2;
+  }
+
+  held_subtitle : KeepsRulesBy options.keeps programme t options
+      → (k : ℕ) (d : SubtitleValue) → k < length programme.records
+      → (s : SubtitleValue)
+      → s ≡ get_or programme.records k d
+      → SomeFinishedBy options.keeps programme t options s.tci (s.tco - 1)
+  held_subtitle keeps k d l s same =
+      let begins : first_frame t ≤ s.tci =
+      subst (λ (x : SubtitleValue). first_frame t ≤ x.tci) (sym same)
+      (begins_in programme t is keeps.starts keeps.lasts k d l) in
+      let ends : s.tco ≤ last_frame t =
+      subst (λ (x : SubtitleValue). x.tco ≤ last_frame t) (sym same)
+      (ends_in programme t is keeps.starts keeps.lasts k d l) in
+      subtitle programme options unread false never t (first_frame t) (last_frame t) held is k d l s
+      same begins (omega arith)
+
+  -- The last frame is finished.
+  ends : IsFinishedBy options.keeps programme t options (last_frame t)
+  unfolding is_pending
+  ends =
+      let end : IsEnd t (length t) (end_frame t) = (h.some, le_refl (length t), inl refl) in
+      subst (IsFinishedBy options.keeps programme t options) (sym (last-same t))
+      (finished_of programme options unread false never t up (length t) (end_frame t) end refl
+      (last end))
+    where
+      last : IsEnd t (length t) (end_frame t)
+          → is_unfinished criteria t (length t) (end_frame t) ≡ false
+      last end = go (is_late criteria t (length t) (end_frame t)) refl
+        where
+          pending_parts : is_late criteria t (length t) (end_frame t) ≡ false
+              → is_some (unfinished_since criteria t (length t) (end_frame t)) ≡ false
+          pending_parts is = let whole = h.whole in grind (arith, nat_tests)
+
+          go : (b : Bool) → is_late criteria t (length t) (end_frame t) ≡ b
+              → is_unfinished criteria t (length t) (end_frame t) ≡ false
+          go true is =
+              let first = first-same t in
+              let last = last-same t in
+              let low = end_high t up (length t) (end_frame t) end in
+              calm programme options unread false never t (first_frame t) (last_frame t) held
+              (length t) (end_frame t) end (omega arith) (omega arith) is
+          go false is =
+              first_unfinished_no programme options unread false never t up (length t) (end_frame t)
+              end
+              (none_is _ (pending_parts is))
+
+  -- The transmission is good by the options.
+  pub Within-from_holds : EachPacket IsPacket t → GoodBy options.keeps programme t options
+  Within-from_holds whole =
+      let keeps = Rules-from_holds programme options unread t every h (sizes_of t whole) in
+      record {
+        rules = keeps;
+        codes =
+            codes programme options unread false never t (first_frame t) (last_frame t) held.still;
+        again = again programme options unread false never t (first_frame t) (last_frame t) held;
+        subtitles = λ k d l. held_subtitle keeps k d l (get_or programme.records k d) refl;
+        ends = ends;
+      }
+
+-- ---- from the rules to the requirements
+
+module _ (programme : ProgrammeValue) (options : OptionsValue) (t : Transmission)
+    (is : IsProgramme programme.drawing programme.records)
+    (good : GoodBy options.keeps programme t options) where
+  abbrev requested : Criteria
+  requested = criteria_of programme options None
+
+  abbrev from : ℕ
+  from = frame_at t 0
+
+  abbrev order : RiseTo t (length t)
+  order = rises_each t good.rules.rising
+
+  -- A finished frame is before the frame since which the ends are unfinished.
+  first_unfinished_later : (n f r e : ℕ) → IsEnd t n f → unfinished_since requested t n f ≡ Some r
+      → from ≤ e
+      → e ≤ f
+      → IsFinishedBy options.keeps programme t options e
+      → e < r
+  first_unfinished_later n f r e end first_unfinished low high finished =
+      let bottom = end_high t order n f end in
+      let top = end_low t order n f end in
+      first_unfinished_after (unfinished_at requested t order) from (f - from) r e
+      (sym (first_unfinished_is programme options None false never t order n f end) ∙
+      first_unfinished)
+      (at_finished programme options None false never t order e good.rules.not_empty low
+      (omega arith) finished)
+      (omega arith)
+
+  -- That frame is not before the first frame.
+  first_unfinished_from : (n f r : ℕ) → IsEnd t n f → unfinished_since requested t n f ≡ Some r →
+      from ≤ r
+  first_unfinished_from n f r end first_unfinished =
+      (first_unfinished_some (unfinished_at requested t order) from (f - from) r
+      (sym (first_unfinished_is programme options None false never t order n f end) ∙
+      first_unfinished)).low
+
+  -- So it is not too long ago,
+  soon : (n f r : ℕ) → IsEnd t n f → unfinished_since requested t n f ≡ Some r
+      → f < r + options.within
+  soon n f r end first_unfinished = elim (cases_lt f (r + options.within)) [
+    | inl before ↦ before
+    | inr after ↦
+        let first = first-same t in
+        let last = last-same t in
+        let top = end_low t order n f end in
+        let begins = first_unfinished_from n f r end first_unfinished in
+        let (e, low, high, finished) =
+        good.again (f - options.within) (omega arith) (omega arith) in
+        let later = first_unfinished_later n f r e end first_unfinished (omega arith) (omega arith)
+        finished in
+        absurd (omega arith)
+  ]
+
+  -- and no subtitle is missed.
+  none_missed : (n f r : ℕ) → IsEnd t n f → unfinished_since requested t n f ≡ Some r
+      → is_missed (requested.ending (f + 1)) from r ≡ false
+  none_missed n f r end first_unfinished = go (requested.ending (f + 1)) refl
+    where
+      not_late : (tci : ℕ) → tci < r → from ≤ tci
+          → (nat_le r tci || ((r == from) && nat_lt tci from)) ≡ false
+      not_late tci l m = grind (arith, nat_tests)
+
+      go : (o : Option ℕ) → requested.ending (f + 1) ≡ o → is_missed o from r ≡ false
+      go None found = refl
+      go (Some tci) found =
+          let (s, member, out, at) =
+          ending_at programme.drawing programme.records is (f + 1) tci found in
+          let same : get_or programme.records member.0 s ≡ s = member.2 in
+          let (e, low, high, finished) =
+          rw same at (good.subtitles member.0 s member.1) in
+          let begins : first_frame t ≤ s.tci =
+          rw same at
+          (begins_in programme t is good.rules.starts good.rules.lasts member.0 s member.1) in
+          let first = first-same t in
+          let later = first_unfinished_later n f r e end first_unfinished (omega arith)
+          (omega arith) finished in
+          not_late tci (omega arith) (omega arith)
+
+  -- So no end is overdue.
+  in_time : (n f : ℕ) → IsEnd t n f
+      → is_overdue requested from (unfinished_since requested t n f) f ≡ false
+  in_time n f end = go (unfinished_since requested t n f) refl
+    where
+      overdue : (r : ℕ) → f < r + options.within → (b : Bool) → b ≡ false
+          → (nat_le (r + options.within) f || b) ≡ false
+      overdue r l b none = grind (arith, nat_tests)
+
+      go : (o : Option ℕ) → unfinished_since requested t n f ≡ o → is_overdue requested from o f ≡
+          false
+      go None first_unfinished = refl
+      go (Some r) first_unfinished =
+          overdue r (soon n f r end first_unfinished) (is_missed (requested.ending (f + 1)) from r)
+          (none_missed n f r end first_unfinished)
+
+  -- If `within` is 0, each frame is finished.
+  at_once : (n f : ℕ) → IsEnd t n f → options.within ≡ 0
+      → is_unfinished requested t n f ≡ false
+  at_once n f end none =
+      let first = first-same t in
+      let last = last-same t in
+      let low = end_high t order n f end in
+      let high = end_low t order n f end in
+      let (e, from, to, finished) = good.again f (omega arith) (omega arith) in
+      let same : e ≡ f = omega arith in
+      of_finished programme options None false never t order n f end
+      (subst (IsFinishedBy options.keeps programme t options) same finished)
+
+  -- The content and the end of the page are as required.
+  still : (n f : ℕ) → IsEnd t n f
+      → (broken_cell requested t n f ≡ None)
+      × IsFalse (is_late requested t n f && is_incomplete requested t n)
+  still n f end = by_within (cases_eq options.within 0)
+    where
+      known : undecided_within requested t f ≡ false
+      known = always_known from f options.within
+
+      late : is_late requested t n f ≡ (options.within == 0)
+      late = late_is programme options None false never t order n f (in_time n f end)
+
+      may_of : (row column : ℕ)
+          → IsDueWithin programme t options f row column
+          (kept options.keeps options.page (packets_before t n) row column)
+          → MayShow options.keeps options.page (packets_before t n) requested.due from f
+          options.within
+          row column
+      may_of row column (inl blank) = inl blank
+      may_of row column (inr (e, low, to, near, same)) =
+          inr (e, inl (omega (arith, first-same t)), to, near, same)
+
+      by_within : (options.within ≡ 0) ⊎ (options.within ≡ 0 → ⊥)
+          → (broken_cell requested t n f ≡ None)
+          × IsFalse (is_late requested t n f && is_incomplete requested t n)
+      by_within (inl none) =
+          let is_zero : (options.within == 0) ≡ true = grind (arith, nat_tests) in
+          let finished = at_once n f end none in
+          let parts =
+          or_parts (is_some (wrong_cell requested t n f)) (is_incomplete requested t n) finished in
+          let wrong = none_is (wrong_cell requested t n f) parts.0 in
+          (rw (late, is_zero) wrong, rw (late, is_zero) parts.1)
+      by_within (inr some) =
+          let is_zero : (options.within == 0) ≡ false = grind (arith, nat_tests) in
+          let first = first-same t in
+          let last = last-same t in
+          let low = end_high t order n f end in
+          let high = end_low t order n f end in
+          let on = end_is_on_air t order n f end in
+          let unexpected :
+          unexpected_after options.keeps options.page (packets_before t n) requested.due from f
+          options.within ≡ None =
+          none_unexpected options.keeps options.page (packets_before t n) requested.due from f
+          options.within
+          (λ row column named.
+          may_of row column
+          (subst
+          (λ ps. IsDueWithin programme t options f row column
+          (kept options.keeps options.page ps row column))
+          on (good.codes f row column (omega arith) (omega arith) named))) in (
+            rw (late, is_zero) (unexpected_is requested t n f known ∙ unexpected),
+            rw (late, is_zero)
+                refl,
+          )
+
+  -- No page still has time at the last end.
+  none_waited : is_pending requested t ≡ false
+  unfolding is_pending
+  none_waited =
+      let end : IsEnd t (length t) (end_frame t) =
+      (good.rules.not_empty, le_refl (length t), inl refl) in
+      let finished =
+      of_finished programme options None false never t order (length t) (end_frame t) end
+      (subst (IsFinishedBy options.keeps programme t options) (last-same t) good.ends) in
+      let none = no_first_unfinished programme options None false never t order (length t)
+      (end_frame t) end
+      finished in
+      rw none refl
+
+  -- All requirements are met.
+  pub holds-from_within : AllOk requested t
+  holds-from_within = holds-from_rules programme options t good.rules still none_waited
+
+-- ---- the law
+
+-- Frames have no events exactly if they are good by the options, whether repeats may keep the page
+-- or not.
+pub none_reported_repeats : (programme : ProgrammeValue) (options : OptionsValue)
+    (unread : Option Unread) (frames : Transmission)
+    → IsProgramme programme.drawing programme.records
+    → 0 < options.every
+    → EachPacket IsPacket frames
+    → (events (criteria_of programme options unread) frames ≡ [])
+    ↔ (GoodBy options.keeps programme frames options × (unread ≡ None))
+none_reported_repeats programme options unread frames is every whole =
+    grind (arith, nat_tests, nothing_reported, Within-from_holds, holds-from_within)

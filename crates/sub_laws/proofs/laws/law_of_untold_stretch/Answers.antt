@@ -1,6 +1,0 @@
--- The law: NoneKeepsLemmas.
-use Rattle.sub_laws.proofs.NoneKeepsLemmas.{law_of_untold_stretch}
-use Rattle.sub_laws.proofs.laws.law_of_untold_stretch.Goals as goal
-
-pub returns : goal.returns
-returns c = law_of_untold_stretch

@@ -1,0 +1,46 @@
+-- What every receiver shows if the content of a transmission is refused.
+use Rattle.std.specs.Prelude.{◌≡◌, ℕ, length, None, IsFalse, IsTrue, false}
+use Rattle.ttx_page.specs.Page.{cell}
+use Rattle.ttx_page.specs.PacketKind.{kind}
+use Rattle.ttx_page.specs.Receiver.{Hears, State}
+use Rattle.ttx_page.specs.Repeats.{IsFresh}
+use Rattle.ttx_page.specs.Shown.{kept}
+use Rattle.ttx_page.specs.Span.{holds_header}
+use Rattle.stl_rows.specs.Programme.{ProgrammeValue}
+use Rattle.sub_plan.specs.Options.{OptionsValue}
+use Rattle.sub_plan.specs.Schedule.{due_in}
+use Rattle.sub_rules.specs.Events.{is_late}
+use Rattle.sub_rules.specs.FrameRules.{criteria_of}
+use Rattle.sub_rules.specs.Kept.{IsRight}
+use Rattle.sub_rules.specs.Repeats.{IsDueWithin}
+use Rattle.sub_rules.specs.Transmission.{Transmission, on_air_until}
+use Rattle.sub_rules.specs.WrongContent.{AreReadUpTo}
+
+-- At the end of frame f the cell is wrong, given the frames read up to it. Every receiver that
+-- keeps its page, and starts at the first packet with no wrong bit, has the kept code there if its
+-- page was blank and closed or a header has erased it; if no repeat may keep the page, every
+-- receiver has. So if the kept code is not the due one, the screen is wrong; if it is, the row was
+-- not sent again.
+pub record IsDifferentEverywhere
+    (programme : ProgrammeValue) (options : OptionsValue) (frames : Transmission)
+    (f row column : ℕ)
+    : Type 0 where
+  pub read : Transmission
+  pub are_read : AreReadUpTo frames f read
+  -- A header of the page was sent.
+  pub header : IsTrue (holds_header (kind options.page) (on_air_until read f))
+  pub differs :
+      IsRight options.keeps options.page (on_air_until read f) (due_in programme f) row column → ⊥
+  pub holds :
+      (old new : State)
+      → Hears options.page old (on_air_until read f) new
+      → IsFresh options.keeps false options.page (on_air_until read f) old
+      → cell new.page row column
+      ≡ kept options.keeps options.page (on_air_until read f) row column
+  -- If the page still has time to become right, the kept code is not a space, and was not due there
+  -- in frame f or in one of the `within` frames before.
+  pub unexpected :
+      IsFalse (is_late (criteria_of programme options None) read (length read) f)
+      → IsDueWithin programme read options f row column
+      (kept options.keeps options.page (on_air_until read f) row column)
+      → ⊥

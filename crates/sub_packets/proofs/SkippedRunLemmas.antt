@@ -1,0 +1,147 @@
+-- A run of packets that need not be examined leaves everything as it is: `skipped_run`,
+-- `no_headers_skipped`, `no_beginning_skipped`.
+use Rattle.std.proofs.lemmas.Bool.Decides.{nat_tests}
+use Rattle.std.proofs.lemmas.Bool.{cases_lt}
+use Rattle.std.proofs.lemmas.List.{take_more}
+use Rattle.std.proofs.Common.{◌≡◌, ℕ, zero, suc, ◌+◌, ◌-◌, ◌<◌, ◌≤◌, List, [], ◌∷◌, ◌++◌}
+use Rattle.std.proofs.Common.{ap, false, length, subst, sym}
+use Rattle.std.proofs.Common.{get_or, take, refl, ◌∙◌, arith, append_assoc, inl, inr}
+use Rattle.ttx_page.specs.PacketKind.{is_this_page, kind}
+use Rattle.ttx_page.specs.Span.{holds_beginning}
+use Rattle.sub_packets.proofs.KeptLemmas.{beginning-more, begins_not}
+use Rattle.sub_packets.specs.Listener.{BreakNone, IsAlwaysSkipped, Knows, rule_set}
+use Rattle.sub_rules.specs.PacketTests.{breaks, packet_rules}
+use Rattle.sub_packets.specs.declared.listener.Listener.{Listener}
+use Rattle.sub_packets.proofs.PacketEventLemmas.{clean_one, packets_reported-skipped}
+use Rattle.sub_rules.specs.Events.{packets_reported}
+use Rattle.sub_rules.specs.PacketRules.{header_count}
+use Rattle.sub_rules.specs.declared.packet_rule.Watched.{Watched}
+use Rattle.sub_rules.proofs.PacketLists.{header_count-push}
+
+-- The state after the first n packets of a frame, sent after these, if packet `start` and the
+-- following ones added no event.
+pub record IsSkippedTo
+    (w : Watched) (frame from : ℕ) (heard ps : List (List ℕ)) (s : Listener) (start n : ℕ) : Type 0
+  where
+    pub knows : Knows (heard ++ take n ps) s
+    pub reported : packets_reported w frame from heard ps n ≡ packets_reported w frame from heard ps
+        start
+    pub clean : BreakNone w heard ps start → BreakNone w heard ps n
+
+-- The first packet and those after it. For `hear_all`.
+pub passes_from : (a b : ℕ) (ps : List (List ℕ)) (s : Listener)
+    → IsAlwaysSkipped (get_or ps a []) s
+    → ((k : ℕ) → a + 1 ≤ k → k < b → IsAlwaysSkipped (get_or ps k []) s)
+    → (k : ℕ) → a ≤ k → k < b → IsAlwaysSkipped (get_or ps k []) s
+passes_from a b ps s first later k low high =
+    elim (cases_lt a k) [
+      | inl after ↦ later k (omega arith) high
+      | inr here ↦ let same : k ≡ a = omega arith in rw same first
+    ]
+
+module _ (w : Watched) (ps : List (List ℕ)) (s : Listener) (same : s.watched ≡ w) (a : ℕ) where
+  -- No header is among them.
+  no_headers : (n : ℕ) → n + a ≤ length ps
+      → ((k : ℕ) → a ≤ k → k < n + a → IsAlwaysSkipped (get_or ps k []) s)
+      → header_count w.page (take (n + a) ps) ≡ header_count w.page (take a ps)
+  no_headers zero l passes =
+      let none : 0 + a ≡ a = omega arith in ap (λ k. header_count w.page (take k ps)) none
+  no_headers (suc n) l passes =
+      let p = get_or ps (n + a) [] in
+      let before = no_headers n (omega arith) (λ k low high. passes k low (omega arith)) in
+      let none : is_this_page (kind w.page p) ≡ false =
+      rw (← same) ((passes (n + a) (omega arith) (omega arith)).no_header) in
+      let next : n + a + 1 ≡ suc n + a = omega arith in
+      let step : header_count w.page (take (n + a + 1) ps) ≡ header_count w.page (take a ps) =
+      rw (
+        take_more ps (n + a) [] (omega arith),
+        header_count-push w.page (take (n + a) ps) p,
+        none,
+      )
+      (grind (arith, nat_tests)) in
+      ap (λ k. header_count w.page (take k ps)) (sym next) ∙ step
+
+  -- So the text begins with none of them.
+  no_beginning : (n : ℕ) → n + a ≤ length ps
+      → ((k : ℕ) → a ≤ k → k < n + a → IsAlwaysSkipped (get_or ps k []) s)
+      → holds_beginning w.keeps (kind w.page) (take (n + a) ps)
+      ≡ holds_beginning w.keeps (kind w.page) (take a ps)
+  no_beginning zero l passes =
+      let none : 0 + a ≡ a = omega arith in
+      ap (λ k. holds_beginning w.keeps (kind w.page) (take k ps)) none
+  no_beginning (suc n) l passes =
+      let p = get_or ps (n + a) [] in
+      let before = no_beginning n (omega arith) (λ k low high. passes k low (omega arith)) in
+      let none : is_this_page (kind w.page p) ≡ false =
+      rw (← same) ((passes (n + a) (omega arith) (omega arith)).no_header) in
+      let next : n + a + 1 ≡ suc n + a = omega arith in
+      let step : holds_beginning w.keeps (kind w.page) (take (n + a + 1) ps)
+      ≡ holds_beginning w.keeps (kind w.page) (take a ps) =
+      rw (
+        take_more ps (n + a) [] (omega arith),
+        beginning-more w (take (n + a) ps) p,
+        begins_not w.keeps (kind w.page p) none,
+      )
+      (grind (arith, nat_tests)) in
+      ap (λ k. holds_beginning w.keeps (kind w.page) (take k ps)) (sym next) ∙ step
+
+  module _ (frame from : ℕ) (heard : List (List ℕ)) where
+    -- One more packet.
+    skipped_one : (k : ℕ) → k < length ps → IsAlwaysSkipped (get_or ps k []) s
+        → IsSkippedTo w frame from heard ps s a k
+        → IsSkippedTo w frame from heard ps s a (k + 1)
+    skipped_one k l passes before =
+        let p = get_or ps k [] in
+        let one = passes.skipped (heard ++ take k ps) before.knows in
+        let breaks_none : rule_set (λ r. breaks r w (heard ++ take k ps) p) packet_rules ≡ 0 =
+        rw (← same) one.breaks_none in
+        record {
+          knows =
+              rw (take_more ps k [] l, ← append_assoc heard (take k ps) (p ∷ [])) one.knows;
+          reported = packets_reported-skipped w frame from heard ps k breaks_none ∙ before.reported;
+          clean =
+              λ clean. clean_one w frame from heard ps k p refl (before.clean clean) breaks_none;
+        }
+
+    skipped_from : (n : ℕ) → n + a ≤ length ps
+        → ((k : ℕ) → a ≤ k → k < n + a → IsAlwaysSkipped (get_or ps k []) s)
+        → Knows (heard ++ take a ps) s
+        → IsSkippedTo w frame from heard ps s a (n + a)
+    skipped_from zero l passes known =
+        let none : a ≡ 0 + a = omega arith in
+        subst (IsSkippedTo w frame from heard ps s a) none
+        (record { knows = known; reported = refl; clean = λ clean. clean })
+    skipped_from (suc n) l passes known =
+        let before =
+        skipped_from n (omega arith) (λ k low high. passes k low (omega arith)) known in
+        let next : n + a + 1 ≡ suc n + a = omega arith in
+        subst (IsSkippedTo w frame from heard ps s a) next
+        (skipped_one (n + a) (omega arith) (passes (n + a) (omega arith) (omega arith)) before)
+
+  module _ (b : ℕ) (low : a ≤ b) (high : b ≤ length ps)
+      (passes : (k : ℕ) → a ≤ k → k < b → IsAlwaysSkipped (get_or ps k []) s) where
+    -- For `hear_all`.
+    pub no_headers_skipped : header_count w.page (take b ps) ≡ header_count w.page (take a ps)
+    no_headers_skipped =
+        let to : b - a + a ≡ b = omega arith in
+        subst (λ k. header_count w.page (take k ps) ≡ header_count w.page (take a ps)) to
+        (no_headers (b - a) (omega arith) (λ k l h. passes k l (omega arith)))
+
+    -- For `hear_all`.
+    pub no_beginning_skipped :
+        holds_beginning w.keeps (kind w.page) (take b ps)
+        ≡ holds_beginning w.keeps (kind w.page) (take a ps)
+    no_beginning_skipped =
+        let to : b - a + a ≡ b = omega arith in
+        subst (λ k. holds_beginning w.keeps (kind w.page) (take k ps)
+        ≡ holds_beginning w.keeps (kind w.page) (take a ps)) to
+        (no_beginning (b - a) (omega arith) (λ k l h. passes k l (omega arith)))
+
+    -- For `hear_all`.
+    pub skipped_run : (frame from : ℕ) (heard : List (List ℕ)) → Knows (heard ++ take a ps) s
+        → IsSkippedTo w frame from heard ps s a b
+    skipped_run frame from heard known =
+        let to : b - a + a ≡ b = omega arith in
+        subst (IsSkippedTo w frame from heard ps s a) to
+        (skipped_from frame from heard (b - a) (omega arith) (λ k l h. passes k l (omega arith))
+        known)

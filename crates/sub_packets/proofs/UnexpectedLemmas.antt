@@ -1,0 +1,142 @@
+-- Frames with the same due page, `due_same`; codes that were due within the last frames,
+-- `left_first`, `left_more` and `left_all`; the first cell that is left, `unexpected_is`.
+use Rattle.std.proofs.lemmas.Bool.Decides.{nat_tests}
+use Rattle.std.proofs.lemmas.List.{get_or-replicate}
+use Rattle.std.proofs.Common.{◌≡◌, ℕ, zero, suc, ◌+◌, ◌-◌, ◌<◌, ◌≤◌}
+use Rattle.std.proofs.Common.{Option, None, MatchOption}
+use Rattle.std.proofs.Common.{sym, ◌∙◌, subst, arith}
+use Rattle.stl_rows.specs.DuePage.{IsEdge}
+use Rattle.stl_rows.specs.Programme.{ProgrammeValue}
+use Rattle.stl_rows.proofs.DuePageLemmas.{due_back}
+use Rattle.ttx_page.proofs.DifferingLemmas.{cells_same, columns_zero}
+use Rattle.ttx_page.specs.Differing.{differing, row_differing}
+use Rattle.ttx_page.specs.Page.{DiffersFirst, IsCell, Rows, blank, blank_row, cell, row_at}
+use Rattle.ttx_page.specs.Page.{space}
+use Rattle.sub_plan.specs.Schedule.{due_in}
+use Rattle.sub_packets.specs.KeptPage.{unexpected_kept}
+use Rattle.sub_packets.specs.Unexpected.{IsLeft, unless_due}
+use Rattle.sub_packets.specs.declared.listener.Listener.{Listener}
+use Rattle.sub_packets.proofs.WrongCellLemmas.{by_cells, cell-blank, first_cell-none}
+use Rattle.sub_packets.proofs.WrongCellLemmas.{first_difference}
+use Rattle.sub_rules.specs.Events.{was_due}
+
+-- ---- frames with the same due page
+
+-- Without a page change between two frames the same page is due. For `frame_before`.
+pub due_same : (programme : ProgrammeValue) (f at : ℕ)
+    → f ≤ at
+    → ((e : ℕ) → IsEdge programme.records e → f < e → e ≤ at → ⊥)
+    → due_in programme f ≡ due_in programme at
+due_same programme f at until none =
+    let back : at - (at - f) ≡ f = omega arith in
+    subst (λ g. due_in programme g ≡ due_in programme at) back
+    (due_back programme.drawing programme.records at (at - f) (omega arith)
+    (λ e edge after low. none e edge (omega arith) low))
+
+-- ---- codes that were due
+
+module _ (page : ℕ → Rows) (first f : ℕ) where
+  -- One more frame, with the same due page as the frame after it.
+  was_due-one : (n row column code : ℕ)
+      → (first + suc n ≤ f → page (f - suc n) ≡ page (f - n))
+      → was_due page first f (suc n) row column code ≡ was_due page first f n row column code
+  unfolding was_due
+  was_due-one zero row column code same =
+      let here : f - 0 ≡ f = omega arith in grind (arith, nat_tests)
+  was_due-one (suc n) row column code same = grind (arith, nat_tests)
+
+  -- More frames, with the same due page as the last of them.
+  was_due-same : (n m row column code : ℕ)
+      → n ≤ m
+      → ((j : ℕ) → n ≤ j → j < m → first + suc j ≤ f → page (f - suc j) ≡ page (f - j))
+      → was_due page first f m row column code ≡ was_due page first f n row column code
+  was_due-same n zero row column code low same = grind (arith, nat_tests)
+  was_due-same n (suc m) row column code low same =
+      grind (arith, nat_tests, was_due-one, (was_due-same n m row column code))
+
+  -- The codes that are due at the frame itself are removed. For `left_of`.
+  pub left_first : (shown left : Rows)
+      → ((row column : ℕ) → IsCell row column
+      → cell left row column ≡ unless_due (cell (page f) row column) (cell shown row column))
+      → IsLeft page first f (f - f) shown left
+  unfolding was_due
+  left_first shown left cells row column is =
+      let none : f - f ≡ 0 = omega arith in rw none (cells row column is)
+
+  -- So are those of an earlier frame, if the same page was due up to the frame examined before. For
+  -- `left_of`.
+  pub left_more : (at before : ℕ) (shown left new : Rows)
+      → before < at
+      → at ≤ f
+      → first ≤ before
+      → ((g : ℕ) → before < g → g ≤ at → page g ≡ page at)
+      → IsLeft page first f (f - at) shown left
+      → ((row column : ℕ) → IsCell row column
+      → cell new row column ≡ unless_due (cell (page before) row column) (cell left row column))
+      → IsLeft page first f (f - before) shown new
+  unfolding was_due
+  left_more at before shown left new less until low same old cells row column is =
+      let m = f - suc before in
+      let next : f - before ≡ suc m = omega arith in
+      let there : f - suc m ≡ before = omega arith in
+      let kept = old row column is in
+      let now = cells row column is in
+      let alike =
+      was_due-same (f - at) m row column (cell shown row column) (omega arith)
+      (λ j after earlier counts.
+      same (f - suc j) (omega arith) (omega arith)
+      ∙ sym (same (f - j) (omega arith) (omega arith))) in
+      rw next (grind (arith, nat_tests))
+
+  -- So are those of all these frames, if the same page was due since the earliest of them. For
+  -- `left_of`.
+  pub left_all : (at n : ℕ) (shown left : Rows)
+      → at ≤ f
+      → f ≤ at + n
+      → ((g : ℕ) → first ≤ g → f ≤ g + n → g ≤ at → page g ≡ page at)
+      → IsLeft page first f (f - at) shown left
+      → IsLeft page first f n shown left
+  left_all at n shown left h1 h2 h3 h4 = grind (arith, nat_tests, was_due-same)
+
+-- ---- the first cell that is left
+
+-- The first cell that is left has a code that was not due. For `first_unexpected`.
+pub unexpected_is :
+    (s : Listener) (page : ℕ → Rows) (first f n : ℕ) (left : Rows) (o : Option (ℕ × ℕ))
+    → IsLeft page first f n s.comparison.page left
+    → MatchOption o (left ≡ blank) (λ place. DiffersFirst left blank place.0 place.1)
+    → o ≡ unexpected_kept s page first f n
+unfolding unexpected_kept
+unexpected_is s page first f n left o is_left found =
+    first_difference _ left blank o
+    (λ row column is.
+    let rest = is_left row column is in
+    let space_is = cell-blank row column is in
+    grind (arith, nat_tests))
+    (by_cells left blank o (λ place. DiffersFirst left blank place.0 place.1) found)
+
+-- Nothing is left of a blank page. For `first_unexpected`.
+pub unexpected_none :
+    (s : Listener) (page : ℕ → Rows) (first f n : ℕ)
+    → differing blank s.comparison.page ≡ 0
+    → unexpected_kept s page first f n ≡ None
+unfolding unexpected_kept
+unexpected_none s page first f n same =
+    first_cell-none _
+    (λ row column is.
+    let space_is = cell-blank row column is in
+    let equal = cells_same blank s.comparison.page same row column is in
+    grind (arith, nat_tests))
+
+-- ---- rows
+
+-- A row of spaces stays as it is. For `excuse_row`.
+pub blank_stays : (left : Rows) (row column due : ℕ)
+    → row_differing (row_at left row) blank_row ≡ 0
+    → column < 40
+    → cell left row column ≡ unless_due due (cell left row column)
+unfolding blank_row
+blank_stays left row column due same l =
+    let is = columns_zero 40 (row_at left row) blank_row same column l in
+    let space_is = get_or-replicate 40 column space 0 l in
+    grind (arith, nat_tests)

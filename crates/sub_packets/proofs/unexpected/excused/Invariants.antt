@@ -1,0 +1,15 @@
+-- The due codes are removed from the columns so far.
+use Rattle.std.proofs.Common.{◌≡◌, ℕ, ◌<◌, length, slice_index}
+use Rattle.ttx_page.specs.Page.{AreCodes}
+use Rattle.sub_packets.specs.Unexpected.{unless_due}
+use Rattle.sub_packets.proofs.unexpected.excused.Given as goal
+
+abbrev pub invariant-loop-column : goal.invariant-loop-column
+invariant-loop-column l = record {
+  size : length l.codes ≡ 40;
+  done :
+      (k : ℕ)
+      → k < l.column
+      → slice_index l.codes k ≡ unless_due (slice_index l.due k) (slice_index l.shown k);
+  codes : AreCodes l.codes;
+}

@@ -1,0 +1,15 @@
+-- What is left, given the frames from the one that was examined last.
+use Rattle.std.proofs.Common.{◌+◌, ◌-◌, ◌≤◌}
+use Rattle.sub_packets.specs.Unexpected.{IsLeft}
+use Rattle.sub_plan.specs.Schedule.{due_in}
+use Rattle.sub_packets.proofs.unexpected.left_of.Given as goal
+
+abbrev pub invariant-loop-before : goal.invariant-loop-before
+invariant-loop-before l = record {
+  until : l.at ≤ l.frame;
+  reach : l.frame ≤ l.at + l.within;
+  left : IsLeft (due_in l.programme) l.first l.frame (l.frame - l.at) l.shown l.left;
+}
+
+abbrev pub decreases-loop-before : goal.decreases-loop-before
+decreases-loop-before l = l.at

@@ -1,0 +1,132 @@
+//! Cells whose code was not due within the last frames.
+ghost use Rattle.std.specs.Prelude.{◌≡◌, ℕ, ◌+◌, ◌-◌, ◌<◌, ◌≤◌, ◌==◌, MatchOption};
+ghost use Rattle.std.specs.Prelude.{if◌then◌else◌, slice_index};
+ghost use Rattle.ttx_page.specs.Page.{AreCodes, IsCell, IsPage, IsRow, blank_row, cell};
+ghost use Rattle.sub_packets.specs.Unexpected.{IsLeft, unless_due};
+ghost use Rattle.sub_plan.specs.Schedule.{due_in};
+
+use crate::listener::Listener;
+use stl_rows::Programme;
+use ttx_page::{Page, differing_columns};
+
+impl Listener {
+    ghost use Rattle.sub_packets.specs.KeptPage.{unexpected_kept};
+
+    /// Returns the first cell whose code is neither a space nor due there at `frame` or at one of
+    /// the `within` frames before it, from the frame `first` on.
+    ///
+    /// This is only needed at the end of a frame if the page is wrong and still has time to become
+    /// right. So nothing is stored for it: the due pages are drawn again, each once, without
+    /// allocating memory.
+    pub fn first_unexpected(
+        &self,
+        programme: &Programme,
+        first: u32,
+        frame: u32,
+        within: u32,
+    ) -> Option<(u8, u8)>
+        ensures { result ≡ unexpected_kept self.now (due_in programme.now) first frame within }
+    {
+        let shown = self.comparison.shown();
+        // Usually a header has erased the page, and its rows come in a later frame.
+        if shown.cells_not_blank() == 0 {
+            return None;
+        }
+        let left = left_of(shown, programme, first, frame, within);
+        left.first_difference(&Page::blank())
+    }
+}
+
+// Returns the page without the codes that were due within the last frames.
+fn left_of(shown: &Page, programme: &Programme, first: u32, frame: u32, within: u32) -> Page
+    ensures { IsLeft (due_in programme.now) first frame within shown.now result }
+{
+    let least = earliest(first, frame, within);
+    let mut left = *shown;
+    excuse(&mut left, &programme.due_page(frame));
+    let mut at = frame;
+    while let Some(before) = frame_before(programme, at, least) {
+        excuse(&mut left, &programme.due_page(before));
+        at = before;
+    }
+    left
+}
+
+// Returns the later of `first` and the frame that is `within` frames before `frame`.
+fn earliest(first: u32, frame: u32, within: u32) -> u32
+    ensures first { first ≤ result }
+    ensures last { frame ≤ result + within }
+    ensures least { (f : ℕ) → first ≤ f → frame ≤ f + within → result ≤ f }
+{
+    let from = frame.saturating_sub(within);
+    if from < first { first } else { from }
+}
+
+// Returns the last frame before `at` at which another page may be due; `None` if that is before
+// `least`.
+fn frame_before(programme: &Programme, at: u32, least: u32) -> Option<u32>
+    ensures { MatchOption result
+        ((f : ℕ) → least ≤ f → f ≤ at → due_in programme.now f ≡ due_in programme.now at)
+        (λ before. (least ≤ before) × (before < at)
+        × ((f : ℕ) → before < f → f ≤ at → due_in programme.now f ≡ due_in programme.now at)) }
+{
+    let Some(edge) = programme.last_edge(at) else {
+        return None;
+    };
+    if edge > least { Some(edge - 1) } else { None }
+}
+
+// Replaces each cell of the page that has the due code by a space.
+fn excuse(left: &mut Page, due: &Page)
+    ensures { (row column : ℕ) → IsCell row column → cell left.new row column
+        ≡ unless_due (cell due.now row column) (cell left.old row column) }
+{
+    for row in 1..25u8 {
+        excuse_row(left, due, row);
+    }
+}
+
+/// Replaces each cell of a row that has the due code by a space. Most rows are blank.
+pub(crate) fn excuse_row(left: &mut Page, due: &Page, row: u8)
+    requires { IsRow row }
+    ensures { (r column : ℕ) → IsCell r column → cell left.new r column
+        ≡ (if r == row
+        then unless_due (cell due.now r column) (cell left.old r column)
+        else cell left.old r column) }
+{
+    let shown = left.row(row);
+    if differing_columns(shown, &spaces()) != 0 {
+        let codes = excused(shown, due.row(row));
+        left.set_row(row, &codes);
+    }
+}
+
+// Returns a row of spaces.
+#[tactic(auto, unfolding(ttx_page::specs::Page::blank_row))]
+fn spaces() -> [u8; 40]
+    ensures { result ≡ blank_row }
+{
+    [0x20; 40]
+}
+
+// Returns the codes of a row, with a space for each code that is due.
+fn excused(shown: &[u8; 40], due: &[u8; 40]) -> [u8; 40]
+    requires { AreCodes shown.now }
+    ensures value { (column : ℕ) → column < 40 → slice_index result column
+        ≡ unless_due (slice_index due.now column) (slice_index shown.now column) }
+    ensures codes { AreCodes result }
+{
+    let mut codes = *shown;
+    for column in 0..40usize {
+        codes[column] = unless_due(due[column], shown[column]);
+    }
+    codes
+}
+
+// Returns the code, or a space if it is the due one.
+#[inline(always)]
+fn unless_due(due: u8, shown: u8) -> u8
+    ensures { result ≡ unless_due due shown }
+{
+    if due == shown { 0x20 } else { shown }
+}

@@ -1,0 +1,68 @@
+//! The rules that are broken at a frame's end.
+ghost use Rattle.std.specs.Prelude.{◌≡◌, ◌↔◌, IsTrue};
+ghost use Rattle.sub_rules.specs.Events.{broken_at, no_active_faults, entire_frame};
+ghost use Rattle.sub_rules.specs.Trusted.{has_no_active_faults};
+
+use crate::end_rule::EndRule;
+
+/// The active faults: the rules that are broken at a frame's end.
+#[derive(Drop)]
+pub struct ActiveFaults {
+    /// The row and column of the first wrong cell.
+    pub content: Option<(u8, u8)>,
+    /// The last header of the page is too long ago.
+    pub gap: bool,
+    /// Complete pages are required, and the page is open.
+    pub incomplete: bool,
+    /// The due page is unknown, since a subtitle was rejected.
+    pub undecided: bool,
+    /// The last PES packet is too long ago.
+    pub silent: bool,
+}
+
+impl ActiveFaults {
+    /// Returns the state without active faults.
+    pub fn none() -> Self
+        ensures { result ≡ no_active_faults }
+    {
+        ActiveFaults {
+            content: None,
+            gap: false,
+            incomplete: false,
+            undecided: false,
+            silent: false,
+        }
+    }
+
+    /// Returns whether there is no active fault.
+    #[inline(always)]
+    #[tactic(auto, unfolding(crate::specs::Events::end_rules))]
+    pub fn has_none(&self) -> bool
+        ensures is_none { IsTrue result ↔ (self.now ≡ no_active_faults) }
+        ensures none { result ≡ has_no_active_faults self.now }
+    {
+        // A single test without branches, since it runs at each end.
+        self.content.is_none() & !self.gap & !self.incomplete & !self.undecided & !self.silent
+    }
+
+    /// Returns the place at which a rule is broken, if it is: the first wrong cell, or row 0 and
+    /// column 0 for a rule about the whole frame.
+    pub fn at(&self, rule: EndRule) -> Option<(u8, u8)>
+        ensures { result ≡ broken_at rule self.now }
+    {
+        match rule {
+            EndRule::Content => self.content,
+            EndRule::Gap => entire_frame(self.gap),
+            EndRule::Incomplete => entire_frame(self.incomplete),
+            EndRule::Undecided => entire_frame(self.undecided),
+            EndRule::Silent => entire_frame(self.silent),
+        }
+    }
+}
+
+// Returns the place of a rule about the whole frame, if it is broken.
+fn entire_frame(is_broken: bool) -> Option<(u8, u8)>
+    ensures { result ≡ entire_frame is_broken }
+{
+    if is_broken { Some((0, 0)) } else { None }
+}

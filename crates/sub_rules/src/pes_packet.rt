@@ -1,0 +1,124 @@
+//! Reads a PES file one PES packet at a time, and skips those that are invalid.
+ghost use Rattle.std.specs.Prelude.{◌≡◌, ◌≢◌, ℕ, ◌+◌, ◌<◌, ◌≤◌, List, IfErr, IfOk, IsSome, Option};
+ghost use Rattle.std.specs.Prelude.{Ok, Some, false, true};
+ghost use Rattle.sub_io.specs.Device.{CanFail, CountsIf, failed};
+ghost use Rattle.sub_io.specs.Reading.{IfKnown};
+ghost use Rattle.ttx_pes.specs.PesGrammar.{PesValue};
+ghost use Rattle.ttx_pes.specs.PesPackets.{rest_after_pes_packet};
+ghost use Rattle.ttx_pes.specs.Reader.{FailsWithin, TakesValidPesPacket};
+ghost use Rattle.ttx_pes.specs.Reading.{answer_at, most_packets};
+ghost use Rattle.ttx_pes.specs.declared.progress.Progress.TheVariants.{Reading};
+ghost use Rattle.stl_file.specs.TimeCode.{day};
+ghost use Rattle.sub_plan.specs.FrameTime.{clock_of};
+ghost use Rattle.sub_rules.specs.Fault.{is_pes_read, is_subtitle_fault};
+ghost use Rattle.sub_rules.specs.FrameRules.{Unread};
+ghost use Rattle.sub_rules.specs.PesPackets.{IfSent, OnPesPacket, PesPacket, ReadsPesPackets};
+ghost use Rattle.sub_rules.specs.PesPackets.{TakesOnePesPacket};
+ghost use Rattle.sub_rules.specs.PesPackets.{ReportsPesPacket};
+
+use crate::fault::CheckFault;
+use crate::sending::Sending;
+use sub_plan::Options;
+use ttx_pes::{Compared, ComparingReader, PesFault, PesPackets};
+
+/// The next PES packet of a file: a start code, and as many bytes as `PES_packet_length` gives (EN
+/// 300 472).
+#[derive(Clone, Copy, Debug, PartialEq, Eq)]
+pub enum NextPesPacket {
+    /// The packet is valid, and its PTS is that of a frame of the day (EN 300 472, PTS).
+    Sent(Sending),
+    /// The packet is skipped: it is invalid (`Pes`), or its PTS is that of no frame (`OffFrame`).
+    Skipped(CheckFault),
+}
+
+/// Reads PES packet number `pes`, counted from 0. Returns `None` at the end of the file.
+///
+/// The contents of the packet stay in `reader`, which lends them. After a skipped packet, ignore
+/// `again`: it may refer to the skipped one.
+///
+/// # Errors
+///
+/// Returns `Pes` with `Truncated`, `Start`, `Length` or `TooMany` if the bytes are no PES packet,
+/// and with `Read` if the source fails.
+#[inline(always)]
+pub fn next_pes_packet<P: PesPackets>(
+    reader: &mut ComparingReader,
+    source: &mut P,
+    options: &Options,
+    pes: u32,
+) -> Result<Option<NextPesPacket>, CheckFault>
+    requires failures { CanFail (P.failure_count source.old) }
+    requires reading { reader.old.progress ≡ Reading pes }
+    requires few { pes ≤ most_packets }
+    ensures exact { (pes_packets : List PesPacket) (unread : Option Unread)
+        → IfKnown (P.remaining source.old) (λ bytes. failed is_pes_read result ≡ false
+        → ReadsPesPackets (clock_of options.now) pes bytes pes_packets unread
+        → ReportsPesPacket (clock_of options.now) pes bytes pes_packets unread reader.new.frame
+        result) }
+    // Consumes exactly the bytes of the packet.
+    ensures taken { OnPesPacket result (TakesOnePesPacket (P.remaining source.old)
+        (P.remaining source.new)) }
+    // The bytes of a valid packet match the grammar.
+    ensures sent { IfSent result (λ _. TakesValidPesPacket (P.remaining source.old)
+        (P.remaining source.new) reader.new.frame) }
+    ensures left { IfKnown (P.remaining source.old) (λ bytes.
+        OnPesPacket result (P.remaining source.new ≡ Some (rest_after_pes_packet bytes))) }
+    ensures progress { OnPesPacket result (reader.new.progress ≡ Reading (pes + 1)) }
+    // Rejects more packets than a day has frames.
+    ensures below { OnPesPacket result (pes < most_packets) }
+    // If `again` is set, the data units are those of the packet before.
+    ensures again { IfSent result (λ sending. sending.again ≡ true
+        → reader.new.frame.units ≡ reader.old.frame.units) }
+    // Otherwise the data field differs from that of the packet before.
+    ensures other { IfSent result (λ sending. sending.again ≡ false
+        → reader.new.data_field ≢ reader.old.data_field) }
+    ensures day { IfSent result (λ sending. sending.frame < day) }
+    ensures own { failed is_subtitle_fault result ≡ false }
+    // A failing source never counts as an invalid packet.
+    ensures skipped { (fault : CheckFault) → result ≡ Ok (Some (NextPesPacket.Skipped fault))
+        → (is_pes_read fault ≡ false) × (is_subtitle_fault fault ≡ false) }
+    // A failure of the source is reported for the packet in which it happened.
+    ensures place { IfErr result (λ f. is_pes_read f ≡ true
+        → f ≡ CheckFault.Pes pes PesFault.Read) }
+    ensures within { IfErr result (λ f. is_pes_read f ≡ true
+        → FailsWithin (P.remaining source.old) (P.left source.new)) }
+    // Reads nothing beyond the packet.
+    ensures settled { OnPesPacket result (P.left source.new ≡ P.remaining source.new) }
+    // Cannot fail if no device has to be called for the packet.
+    ensures ready { P.ready source.old ≡ true → failed is_pes_read result ≡ false }
+    ensures device { P.device source.new ≡ P.device source.old }
+    ensures count { CountsIf P.failure_count source.old (failed is_pes_read result) source.new }
+{
+    match reader.next(source) {
+        Err(fault) => {
+            if !fault.is_of_pes_packet() {
+                return Err(CheckFault::Pes { pes, fault });
+            }
+            reader.skip_packet();
+            Ok(Some(NextPesPacket::Skipped(CheckFault::Pes { pes, fault })))
+        }
+        Ok(Compared::End) => Ok(None),
+        Ok(Compared::Same) => Ok(Some(pes_packet_of(reader.pts(), options, pes, true))),
+        Ok(Compared::Other) => Ok(Some(pes_packet_of(reader.pts(), options, pes, false))),
+    }
+}
+
+// Converts a PTS to a frame; the packet is skipped if there is none.
+fn pes_packet_of(pts: u64, options: &Options, pes: u32, again: bool) -> NextPesPacket
+    ensures exact { (v : PesValue) (bytes : List ℕ) (pes_packets : List PesPacket)
+        (unread : Option Unread)
+        → v.pts ≡ pts → pes ≤ most_packets → answer_at pes bytes ≡ Ok (Some v)
+        → ReadsPesPackets (clock_of options.now) pes bytes pes_packets unread
+        → ReportsPesPacket (clock_of options.now) pes bytes pes_packets unread v
+        (Ok (Some result)) }
+    ensures again { (sending : Sending) → result ≡ NextPesPacket.Sent sending
+        → sending.again ≡ again }
+    ensures day { (sending : Sending) → result ≡ NextPesPacket.Sent sending → sending.frame < day }
+    ensures skipped { (fault : CheckFault) → result ≡ NextPesPacket.Skipped fault
+        → (is_pes_read fault ≡ false) × (is_subtitle_fault fault ≡ false) }
+{
+    match options.frame_of(pts) {
+        Some(frame) => NextPesPacket::Sent(Sending { frame, again }),
+        None => NextPesPacket::Skipped(CheckFault::OffFrame { pes }),
+    }
+}

@@ -1,0 +1,9 @@
+-- None of the items so far is the same, so the others decide.
+use Rattle.std.proofs.Common.{◌≡◌, drop}
+use Rattle.std.specs.List.{list_any}
+use Rattle.sub_words.proofs.lists.is_listed.Given as goal
+
+abbrev pub invariant-loop-other : goal.invariant-loop-other
+invariant-loop-other g l =
+    list_any (g.T.Item.same l.item) l.list
+    ≡ list_any (g.T.Item.same l.item) (drop l.other-index l.list)

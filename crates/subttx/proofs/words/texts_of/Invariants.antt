@@ -1,9 +1,0 @@
--- The texts so far, and those of the remaining arguments, are those of all.
-use Rattle.std.proofs.Common.{◌≡◌, ◌++◌, drop, map, string_bytes}
-use Rattle.sub_words.specs.Commands.{texts_of}
-use Rattle.subttx.proofs.words.texts_of.Given as goal
-
-abbrev pub invariant-loop-word : goal.invariant-loop-word
-invariant-loop-word l =
-    texts_of l.texts.items ++ map (λ word. string_bytes word) (drop l.word-index l.words)
-    ≡ map (λ word. string_bytes word) l.words

@@ -1,0 +1,47 @@
+//! Gets the arguments of the command line from the system.
+ghost use Rattle.std.specs.Prelude.{◌≡◌, IfErr, IfOk, IfSome, Ok, map, string_bytes};
+ghost use Rattle.sub_words.specs.Commands.{texts_of};
+ghost use Rattle.subttx.specs.Words.{IsLost, arguments_given};
+
+use std::alloc::Global;
+use std::env::Args;
+use std::io;
+use std::io::ErrorKind;
+use sub_request::UsageFault;
+
+/// Returns all arguments in order.
+///
+/// # Errors
+///
+/// Returns `Memory` if memory ran out, and `Words` if the system gave none: an argument that is no
+/// text belongs to no command.
+pub fn words_of(alloc: Global, given: io::Result<Args>) -> Result<Vec<String>, UsageFault>
+    ensures arguments { IfOk result (λ arguments.
+        arguments_given given ≡ Ok (map (λ word. string_bytes word) arguments.items)) }
+    ensures lost { IfErr result (IsLost (arguments_given given)) }
+{
+    match given {
+        Ok(arguments) => match arguments.collect(alloc) {
+            Ok(arguments) => Ok(arguments),
+            Err(_) => Err(UsageFault::Memory),
+        },
+        Err(error) => match error.kind() {
+            ErrorKind::OutOfMemory => Err(UsageFault::Memory),
+            _ => Err(UsageFault::Words),
+        },
+    }
+}
+
+/// Returns the arguments as texts; `None` if memory runs out.
+pub fn texts_of(alloc: Global, arguments: &[String]) -> Option<Vec<&str>>
+    ensures { IfSome result (λ texts.
+        texts_of texts.items ≡ map (λ word. string_bytes word) arguments.now) }
+{
+    let mut texts = Vec::new(alloc);
+    for word in arguments {
+        let Ok(()) = texts.push(word.as_str()) else {
+            return None;
+        };
+    }
+    Some(texts)
+}

@@ -1,0 +1,10 @@
+-- New bytes come after those that were kept: holds_more.
+use Rattle.std.proofs.Common.{rules}
+use Rattle.ts_survey.proofs.ReadBufferLemmas.{holds_more}
+use Rattle.ts_survey.proofs.buffer.ReadBuffer.pull.Goals as goal
+
+pub returns-clause-buffered : goal.returns-clause-buffered
+returns-clause-buffered g c =
+    holds_more c.args.self.now.bytes.items c.as_mut_slice-bytes.result.now c.pull.new.to _ _
+    c.args.self.now.bytes.len c.args.self.now.len c.in_ok-count.count _ _
+    c.as_mut_slice-bytes.ensures.value (search rules) (search rules) (search rules) (search rules)

@@ -1,0 +1,14 @@
+-- One more keeps its PID: map-same.
+use Rattle.std.proofs.Common.{◌<◌, ◌∙◌, length, rules}
+use Rattle.ts_survey.specs.Requested.{pid_followed}
+use Rattle.ts_survey.proofs.RequestedLemmas.{map-same}
+use Rattle.ts_survey.proofs.multiplex.MultiplexTakesPackets.note_loss.Goals as goal
+
+pub loop-carrier-preserved : goal.loop-carrier-preserved
+loop-carrier-preserved c =
+    let items = c.loop-carrier.carrier-items in
+    let at = c.loop-carrier.carrier-index in
+    let below : at < length items = search rules in
+    let kept = c.note_loss.ensures in
+    map-same pid_followed items at c.note_loss.new.self c.carrier-item.result below kept
+    ∙ c.loop-carrier.invariant

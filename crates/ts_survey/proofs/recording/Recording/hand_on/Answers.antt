@@ -1,7 +1,0 @@
--- A stream of which packets were processed stays one: goes-on.
-use Rattle.ts_survey.proofs.ListedLemmas.{goes-on}
-use Rattle.ts_survey.proofs.recording.Recording.hand_on.Goals as goal
-
-pub returns-in-Stream-clause-kind : goal.returns-in-Stream-clause-kind
-returns-in-Stream-clause-kind c =
-    rw c.in-Stream.is (goes-on _ _ _ _ _ _ _ c.take-in-Stream.ensures.all)

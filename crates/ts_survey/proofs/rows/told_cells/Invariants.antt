@@ -1,6 +1,0 @@
--- There are forty.
-use Rattle.std.proofs.Common.{◌≡◌, length}
-use Rattle.ts_survey.proofs.rows.told_cells.Given as goal
-
-abbrev pub invariant-loop-column : goal.invariant-loop-column
-invariant-loop-column l = length l.cells ≡ 40

@@ -1,0 +1,106 @@
+//! Room for bytes of a recording that are to be examined.
+ghost use Rattle.std.specs.Prelude.{◌≡◌, ◌≤◌, ◌<◌, ◌-◌, length, vec_len, take, drop, IfOk, IfSome};
+ghost use Rattle.std.specs.Prelude.{true};
+ghost use Rattle.std.specs.Io.KnownBytes.{IsAtEnd};
+ghost use Rattle.sub_io.specs.Device.{CanFail, CountsFailure};
+ghost use Rattle.ts_survey.specs.ReadBuffer.{BuffersMore, buffer_size};
+
+use crate::text::Text;
+use std::alloc::Global;
+use sub_io::{Failed, Source};
+
+/// Room for the longest PES packet of a file, 65,541 bytes, and for what is read at once.
+const BUFFER_SIZE: usize = 135_168;
+
+/// The number of bytes that are read at once; fewer come from a feed. A source that reads ahead at
+/// most as many puts them here directly from its device.
+const AT_ONCE: usize = 65_536;
+
+/// The result of reading.
+#[derive(Clone, Copy)]
+pub struct Received {
+    /// Nothing came: the recording is at its end.
+    pub is_end: bool,
+    /// Less than requested came: no more data is there for now.
+    pub has_no_more: bool,
+}
+
+/// Bytes that were read and are still to be examined.
+#[derive(Drop)]
+pub struct ReadBuffer {
+    bytes: Vec<u8>,
+    len: usize,
+
+    ghost within: { len ≤ vec_len bytes },
+}
+
+impl ReadBuffer {
+    /// Returns an empty room; `None` if memory runs out.
+    pub fn new(alloc: Global) -> Option<ReadBuffer>
+        ensures { IfSome result
+            (λ buffer. (buffer.len ≡ 0) × (vec_len buffer.bytes ≡ buffer_size)) }
+    {
+        match vec![in alloc; 0; BUFFER_SIZE] {
+            Ok(bytes) => Some(ReadBuffer { bytes, len: 0 }),
+            Err(_) => None,
+        }
+    }
+
+    /// Reads once. All lines have been flushed before.
+    ///
+    /// # Errors
+    ///
+    /// Returns `Failed` if the source failed.
+    pub fn pull<S: Source>(
+        &mut self,
+        source: &mut S,
+        _first: &Text,
+        _text: &Text,
+    ) -> Result<Received, Failed>
+        requires count { CanFail (S.failure_count source.old) }
+        requires first { length _first.now.bytes.items ≡ 0 }
+        requires none { length _text.now.bytes.items ≡ 0 }
+        ensures count { CountsFailure (S.failure_count source.old) result
+            (S.failure_count source.new) }
+        // New bytes come after those that were kept.
+        ensures buffered { IfOk result (λ _. BuffersMore
+            (take self.old.len self.old.bytes.items) (take self.new.len self.new.bytes.items)
+            (S.remaining source.old) (S.remaining source.new)) }
+        // It is the end only if nothing is left to be read.
+        ensures end { IfOk result (λ received. received.is_end ≡ true
+            → self.old.len < vec_len self.old.bytes → IsAtEnd (S.remaining source.new)) }
+        ensures size { vec_len self.new.bytes ≡ vec_len self.old.bytes }
+    {
+        let len = self.len;
+        let bytes = self.bytes.as_mut_slice();
+        let end = bytes.len().min(len.saturating_add(AT_ONCE));
+        let count = source.pull(&mut bytes[len..end])?;
+        self.len = len + count;
+        Ok(Received {
+            is_end: count == 0,
+            has_no_more: count < end - len,
+        })
+    }
+
+    /// Returns the bytes.
+    pub fn buffered(&self) -> &[u8]
+        ensures bytes { result.now ≡ take self.now.len self.now.bytes.items }
+        ensures len { length result.now ≡ self.now.len }
+    {
+        let (buffered, _) = self.bytes.as_slice().split_at(self.len);
+        buffered
+    }
+
+    /// Drops the first bytes, which are no longer needed.
+    pub fn skip_bytes(&mut self, count: usize)
+        requires { count ≤ self.old.len }
+        ensures buffered { take self.new.len self.new.bytes.items
+            ≡ drop count (take self.old.len self.old.bytes.items) }
+        ensures len { self.new.len ≡ self.old.len - count }
+        ensures size { vec_len self.new.bytes ≡ vec_len self.old.bytes }
+    {
+        let len = self.len;
+        self.bytes.as_mut_slice().copy_within(count..len, 0);
+        self.len = len - count;
+    }
+}

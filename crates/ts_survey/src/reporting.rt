@@ -1,0 +1,130 @@
+//! `survey`: reads a recording once, and prints a line for each fact.
+ghost use Rattle.std.specs.Prelude.{◌≡◌, ◌++◌, IfErr, OnOk, false, length};
+ghost use Rattle.std.specs.Io.KnownBytes.{Appends, IsAtEnd};
+ghost use Rattle.sub_io.specs.Device.{CanFail, CountsIf, failed};
+ghost use Rattle.ts_survey.specs.Listed.{ReportsSurvey};
+ghost use Rattle.ts_survey.specs.Survey.{Grows, is_survey_read, is_survey_write};
+
+use crate::buffer::ReadBuffer;
+use crate::recording::Recording;
+use crate::text::Text;
+use mpeg_ts::SurveyOptions;
+use std::alloc::Global;
+use sub_io::{Flush, Source, put_all};
+
+/// Why a recording was not read to its end.
+#[derive(Clone, Copy, Debug, PartialEq, Eq)]
+pub enum SurveyFault {
+    /// The recording failed.
+    Read,
+    /// The sink failed.
+    Write,
+    /// Memory ran out.
+    Memory,
+}
+
+/// Reads a recording to its end, and writes a line for each fact (own; `docs/manual/survey.md`).
+///
+/// All output is flushed before more of the recording is read. Memory does not grow with the
+/// recording.
+///
+/// # Errors
+///
+/// Returns `Read` if the recording failed; the lines known until then were written. Returns `Write`
+/// if the sink failed, which has a prefix. Returns `Memory` if memory ran out.
+#[tactic(auto, using(crate::proofs::SurveyLemmas::growing))]
+pub fn survey<S: Source, K: Flush>(
+    alloc: Global,
+    options: SurveyOptions,
+    source: &mut S,
+    out: &mut K,
+) -> Result<(), SurveyFault>
+    requires source { CanFail (S.failure_count source.old) }
+    requires out { CanFail (K.failure_count out.old) }
+    ensures grows { Grows (K.contents out.old) (K.contents out.new) }
+    ensures source_count { CountsIf S.failure_count source.old (failed is_survey_read result)
+        source.new }
+    ensures out_count { CountsIf K.failure_count out.old (failed is_survey_write result) out.new }
+    // Before the source may ask its device, which may fail, all output is flushed.
+    ensures followed { K.buffered out.old ≡ 0
+        → failed is_survey_write result ≡ false
+        → K.buffered out.new ≡ 0 }
+    // It is read to its end, and all of it is examined.
+    ensures ended { OnOk result (IsAtEnd (S.remaining source.new)) }
+    // Then all lines were written: the first ones have its first bytes and its kind, with the
+    // requested packet size and PID, and the last one says that it is over.
+    ensures listed { OnOk result (ReportsSurvey options (S.remaining source.old)
+        (K.contents out.old) (K.contents out.new)) }
+{
+    let Some(mut buffer) = ReadBuffer::new(alloc) else {
+        return Err(SurveyFault::Memory);
+    };
+    let mut first = Text::new(alloc);
+    let mut text = Text::new(alloc);
+    let mut recording = Recording::new(alloc, options);
+    'reads: for _ in 0..u64::MAX {
+        let Ok(received) = buffer.pull(source, &first, &text) else {
+            return Err(SurveyFault::Read);
+        };
+        let used = recording.take(buffer.buffered(), received.is_end, &mut first, &mut text);
+        buffer.skip_bytes(used);
+        recording.pause(received.is_end, received.has_no_more, &mut text);
+        if first.is_lost() || text.is_lost() || recording.out_of_memory() {
+            return Err(SurveyFault::Memory);
+        }
+        flush_pending(&mut first, &mut text, out)?;
+        if received.is_end {
+            return Ok(());
+        }
+    }
+    // No recording is read so often.
+    Err(SurveyFault::Memory)
+}
+
+// Writes all lines, the first ones before the others, and flushes them.
+#[tactic(auto, using(crate::proofs::SurveyLemmas::growing))]
+fn flush_pending<K: Flush>(
+    first: &mut Text,
+    text: &mut Text,
+    out: &mut K,
+) -> Result<(), SurveyFault>
+    requires { CanFail (K.failure_count out.old) }
+    ensures grows { Grows (K.contents out.old) (K.contents out.new) }
+    ensures all { OnOk result (length text.new.bytes.items ≡ 0) }
+    ensures first { OnOk result (length first.new.bytes.items ≡ 0) }
+    ensures reported { OnOk result (Appends (K.contents out.old) (K.contents out.new)
+        (first.old.bytes.items ++ text.old.bytes.items)) }
+    ensures holds { K.buffered out.old ≡ 0
+        → failed is_survey_write result ≡ false
+        → K.buffered out.new ≡ 0 }
+    ensures own { IfErr result (λ fault. fault ≡ SurveyFault.Write) }
+    ensures count { CountsIf K.failure_count out.old (failed is_survey_write result) out.new }
+{
+    if first.is_empty() && text.is_empty() {
+        return Ok(());
+    }
+    put_lines(first, out)?;
+    put_lines(text, out)?;
+    match out.flush() {
+        Ok(()) => Ok(()),
+        Err(_) => Err(SurveyFault::Write),
+    }
+}
+
+// Writes all lines of a text.
+#[tactic(auto, using(crate::proofs::ListedLemmas::all_reported))]
+fn put_lines<K: Flush>(text: &mut Text, out: &mut K) -> Result<(), SurveyFault>
+    requires { CanFail (K.failure_count out.old) }
+    ensures grows { Grows (K.contents out.old) (K.contents out.new) }
+    ensures all { OnOk result (length text.new.bytes.items ≡ 0) }
+    ensures reported { OnOk result (Appends (K.contents out.old) (K.contents out.new)
+        text.old.bytes.items) }
+    ensures own { IfErr result (λ fault. fault ≡ SurveyFault.Write) }
+    ensures count { CountsIf K.failure_count out.old (failed is_survey_write result) out.new }
+{
+    if put_all(out, text.as_slice()).is_err() {
+        return Err(SurveyFault::Write);
+    }
+    text.clear();
+    Ok(())
+}

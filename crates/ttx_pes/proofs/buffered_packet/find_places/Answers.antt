@@ -1,0 +1,19 @@
+-- The units of a data field with the same heads as the stored one: by places_equal.
+use Rattle.std.proofs.Common.{◌≡◌, length, arith, rules}
+use Rattle.ttx_pes.specs.Taking.{AreSameHeads}
+use Rattle.ttx_pes.proofs.HeadLemmas.{places_equal}
+use Rattle.ttx_pes.proofs.buffered_packet.find_places.Goals as goal
+
+pub returns-then-are_same_heads-clause-all : goal.returns-then-are_same_heads-clause-all
+returns-then-are_same_heads-clause-all c =
+    let size : length c.args.kept.now ≡ length c.args.field.now = search rules in
+    let heads : AreSameHeads c.args.kept.now c.args.field.now = search rules in
+    (places_equal c.args.kept.now c.args.field.now c.args.places.now size (omega arith) heads
+    c.requires.all c.requires.units).0
+
+pub returns-then-are_same_heads-clause-ok : goal.returns-then-are_same_heads-clause-ok
+returns-then-are_same_heads-clause-ok c =
+    let size : length c.args.kept.now ≡ length c.args.field.now = search rules in
+    let heads : AreSameHeads c.args.kept.now c.args.field.now = search rules in
+    (places_equal c.args.kept.now c.args.field.now c.args.places.now size (omega arith) heads
+    c.requires.all c.requires.units).1

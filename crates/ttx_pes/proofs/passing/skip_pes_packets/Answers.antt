@@ -1,0 +1,39 @@
+-- One more packet, or none: by LimitedLemmas.
+use Rattle.std.proofs.Common.{◌∙◌, arith}
+use Rattle.sub_io.specs.declared.source.Failed.{Failed}
+use Rattle.ttx_pes.proofs.LimitedLemmas.{skipped_all, skipped_one, skipped_stop}
+use Rattle.ttx_pes.proofs.passing.skip_pes_packets.Goals as goal
+
+pub loop-skipped-preserved : goal.loop-skipped-preserved
+loop-skipped-preserved g c =
+    let i = c.loop-skipped.invariant in
+    let on = rw c.in-PesPacket.is at c.in-Ok.ensures.received in
+    let lt = c.loop-skipped-test.true in
+    let counted = c.in-Ok.ensures.count in
+    let before = i.count in
+    record {
+      low = omega (arith, lt);
+      count = omega (arith, counted, before);
+      same = c.in-Ok.ensures.same ∙ i.same;
+      reported = skipped_one _ _ _ _ _ on.0.bytes lt i.reported on.0.is_pes_packet on.0.consumed;
+    }
+
+pub returns-in_default : goal.returns-in_default
+returns-in_default g c =
+    let i = c.loop-skipped.invariant in
+    let counted = c.in-Ok.ensures.count in
+    let before = i.count in
+    let stop = skipped_stop Failed _ _ _ _ _ _ _ _ _ _ c.in_default.not-PesPacket i.reported
+    c.in-Ok.ensures.received in
+    record {
+      most = i.low;
+      fewer = tt;
+      skipped = stop.0;
+      so_far = stop.1;
+      same = c.in-Ok.ensures.same ∙ i.same;
+      count = omega (arith, counted, before);
+    }
+
+pub returns-clause-skipped : goal.returns-clause-skipped
+returns-clause-skipped g c =
+    skipped_all _ _ _ _ c.loop-skipped-test.false c.loop-skipped.invariant.reported

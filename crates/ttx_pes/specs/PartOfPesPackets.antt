@@ -1,0 +1,30 @@
+-- A range of the PES packets of another reader: after the first ones, and up to a limit.
+use Rattle.std.specs.Prelude.{ℕ, zero, suc, ◌+◌, Bool, false, List, Option, option_map}
+use Rattle.ttx_pes.specs.Advancing.{limited_remaining, limited_known, limited_rest}
+use Rattle.ttx_pes.specs.PesPacketRange.{AheadValue, rest_after_pes_packets, count_pes_packets}
+
+-- The bytes that are left, with so many packets still to be skipped and so many that may come.
+abbrev pub part_known : ℕ → Option ℕ → Option (List ℕ) → Option (List ℕ)
+part_known zero left known_bytes = limited_known left known_bytes
+part_known (suc n) left known_bytes = limited_known left
+    (option_map (rest_after_pes_packets (suc n)) known_bytes)
+
+-- The bytes that the device has left.
+abbrev pub part_left : ℕ → Option ℕ → Option (List ℕ) → Option (List ℕ) → Option (List ℕ)
+part_left zero left known following = limited_remaining left known following
+part_left (suc n) left known following = part_known (suc n) left known
+
+-- The remaining bytes are known to begin no packet; then no packet is left to be skipped.
+abbrev pub part_rest : ℕ → Option ℕ → Bool → Bool
+part_rest zero left rest = limited_rest left rest
+part_rest (suc n) left rest = false
+
+-- The next call uses no device: no packet has to be skipped, and the inner reader uses none.
+abbrev pub part_ready : ℕ → Bool → Bool
+part_ready zero ready = ready
+part_ready (suc n) ready = false
+
+-- The number of the first packet of the range in the file.
+abbrev pub part_number : AheadValue → Option (List ℕ) → Option ℕ
+part_number ahead known_bytes = option_map (λ b. ahead.skipped + count_pes_packets ahead.to_skip b)
+    known_bytes

@@ -1,0 +1,213 @@
+//! Facts about the PES packet in a buffer, so that a repetition is only compared and not parsed.
+ghost use Rattle.std.specs.Prelude.{◌≡◌, ◌+◌, ◌/◌, ◌%◌, ◌≤◌, ◌↔◌, true, Ok, Err, OnOk, IfOk, IfErr};
+ghost use Rattle.std.specs.Prelude.{IfSome, length, drop, take, []};
+ghost use Rattle.ttx_pes.specs.DataUnit.{data_unit_size};
+ghost use Rattle.ttx_pes.specs.PesGrammar.{longest_packet, payload_size};
+ghost use Rattle.ttx_pes.specs.Reading.{units_at, value_at, is_format_fault};
+ghost use Rattle.ttx_pes.specs.SentUnits.{AreWithin, sent_units};
+ghost use Rattle.ttx_pes.specs.Taking.{AreAllPlaces, HasUnits, IsFieldSize, IsInBuffer};
+ghost use Rattle.ttx_pes.specs.Taking.{IsSentAgain};
+ghost use Rattle.ttx_pes.specs.Taking.{field_in, buffered_frame, no_packet};
+
+use crate::fault::PesFault;
+use crate::pes_header::pts_of;
+use crate::pes_packet_buffer::PacketBuffer;
+use crate::same_bytes::{begin_equally, is_same};
+use crate::same_heads::are_same_heads;
+use crate::sent_units::SentUnits;
+use crate::unit_places::{UnitPlaces, take_places};
+use std::marker::Model;
+
+// The offset of the data field in a packet.
+const FIELD: usize = 45;
+
+/// Facts about the PES packet at the front of a buffer: its PTS, the size of its data field (bytes
+/// 45 to the end), and the positions of the Teletext units in it.
+#[derive(Drop)]
+pub(crate) struct BufferedPacket {
+    pts: u64,
+    count: usize,
+    places: UnitPlaces,
+    // The packet was a repetition of the one before. Then the next one may be, too.
+    repeats: bool,
+}
+
+impl Model for BufferedPacket {
+    ghost use Rattle.std.specs.Prelude.{◌≡◌, true};
+    ghost use Rattle.ttx_pes.specs.Taking.{BufferedPacketValue, IsFieldSize};
+
+    ghost Value = { BufferedPacketValue };
+
+    ghost view = { λ h. record { pts = h.pts; count = h.count; places = h.places } };
+
+    ghost invariant = { λ h. h.repeats ≡ true → IsFieldSize h.count };
+}
+
+// Changes the positions, which are those of the data field `kept`, to those of `field`. Usually the
+// data units of both begin in the same way, on the same lines of each frame. Then the positions
+// stay.
+#[inline(always)]
+fn find_places(places: &mut UnitPlaces, kept: &[u8], field: &[u8]) -> Result<(), PesFault>
+    requires within { AreWithin (length kept.now) places.old }
+    requires units { HasUnits kept.now (sent_units kept.now places.old) }
+    requires all { AreAllPlaces kept.now places.old }
+    requires long { 139 ≤ length field.now }
+    requires short { length field.now + 45 ≤ longest_packet }
+    requires whole { (length field.now + 45) % payload_size ≡ 0 }
+    ensures within { OnOk result (AreWithin (length field.now) places.new) }
+    ensures all { OnOk result (AreAllPlaces field.now places.new) }
+    ensures ok { OnOk result (units_at (length (drop 1 field.now) / data_unit_size) []
+        (drop 1 field.now) ≡ Ok (sent_units field.now places.new)) }
+    ensures err { IfErr result (λ fault. units_at (length (drop 1 field.now) / data_unit_size) []
+        (drop 1 field.now) ≡ Err fault) }
+    ensures kind { IfErr result (λ fault. is_format_fault fault ≡ true) }
+{
+    if kept.len() == field.len() && are_same_heads(kept, field) {
+        return Ok(());
+    }
+    places.clear();
+    take_places(places, field)
+}
+
+// Returns whether a data field is the stored one. Different ones usually differ in their first
+// eight bytes, or in those that are compared next.
+#[inline(always)]
+fn is_kept(kept: &[u8], field: &[u8]) -> bool
+    requires { IsFieldSize (length field.now) }
+    ensures { (result ≡ true) ↔ (field.now ≡ kept.now) }
+{
+    kept.len() == field.len() && begin_equally(field, kept) && is_same(field, kept)
+}
+
+impl BufferedPacket {
+    // Creates the facts about no packet.
+    pub(crate) fn new() -> Self
+        ensures { result ≡ no_packet }
+    {
+        BufferedPacket {
+            pts: 0,
+            count: 0,
+            places: UnitPlaces::new(),
+            repeats: false,
+        }
+    }
+
+    // Resets it to the state of `new`.
+    pub(crate) fn clear(&mut self)
+        ensures { self.new ≡ no_packet }
+    {
+        self.pts = 0;
+        self.count = 0;
+        self.places.clear();
+        self.repeats = false;
+    }
+
+    // Returns the PTS.
+    pub(crate) fn pts(&self) -> u64
+        ensures { result ≡ self.now.pts }
+    {
+        self.pts
+    }
+
+    // Returns the size of the packet. Without a packet this is 45, which no packet has.
+    pub(crate) fn size(&self) -> usize
+        requires { self.now.count + 45 ≤ longest_packet }
+        ensures { result ≡ self.now.count + 45 }
+    {
+        FIELD + self.count
+    }
+
+    // Sets the PTS.
+    pub(crate) fn set_pts(&mut self, pts: u64)
+        ensures { self.new ≡ record self.old { pts = pts } }
+    {
+        self.pts = pts;
+    }
+
+    // Returns whether the packet was a repetition, so that the next one may be, too. Only the way
+    // of reading depends on it, not the result.
+    #[inline(always)]
+    pub(crate) fn repeats(&self) -> bool
+        ensures { result ≡ true → IsFieldSize self.now.count }
+    {
+        self.repeats
+    }
+
+    // Returns the PTS of a packet that repeats the one in the buffer: it is valid, and has the same
+    // data field.
+    #[inline(always)]
+    pub(crate) fn pts_again(&self, before: &PacketBuffer, pes_packet: &[u8]) -> Option<u64>
+        requires known { IsInBuffer (field_in self.now.count before.now) self.now }
+        requires size { IsFieldSize self.now.count }
+        ensures again { IfSome result (λ pts.
+            IsSentAgain (field_in self.now.count before.now) self.now pes_packet.now pts) }
+    {
+        if pes_packet.len() != self.size() {
+            return None;
+        }
+        let (_, body) = pes_packet.split_at(6);
+        let (_, field) = body.split_at(39);
+        if !is_same(field, self.field(before)) {
+            return None;
+        }
+        match pts_of(body) {
+            Ok(pts) => Some(pts),
+            Err(_) => None,
+        }
+    }
+
+    // Returns the data field in the packet's buffer.
+    fn field<'a>(&self, room: &'a PacketBuffer) -> &'a [u8]
+        requires { self.now.count + 45 ≤ longest_packet }
+        ensures { result.now ≡ field_in self.now.count room.now }
+    {
+        let (_, following) = room.split_at(FIELD);
+        let (field, _) = following.split_at(self.count);
+        field
+    }
+
+    // Returns the Teletext units in the packet's buffer.
+    pub(crate) fn units<'a>(&'a self, room: &'a PacketBuffer) -> SentUnits<'a>
+        requires { IsInBuffer (field_in self.now.count room.now) self.now }
+        ensures value { result
+            ≡ (buffered_frame (field_in self.now.count room.now) self.now).units }
+    {
+        SentUnits::new(self.field(room), self.places.as_slice())
+    }
+
+    // Takes the facts about a packet from its bytes from byte 6 on. Returns whether its data field
+    // is that of the packet before, which is in the buffer `before`.
+    #[inline(always)]
+    #[tactic(auto, unfolding(crate::specs::Reading::value_at))]
+    pub(crate) fn take(&mut self, before: &PacketBuffer, body: &[u8]) -> Result<bool, PesFault>
+        requires known { IsInBuffer (field_in self.old.count before.now) self.old }
+        requires long { payload_size ≤ length body.now + 6 }
+        requires short { length body.now + 6 ≤ longest_packet }
+        requires whole { (length body.now + 6) % payload_size ≡ 0 }
+        ensures value { OnOk result
+            (value_at body.now ≡ Ok (buffered_frame (drop 39 body.now) self.new)) }
+        ensures known { OnOk result (IsInBuffer (drop 39 body.now) self.new) }
+        ensures count { OnOk result (self.new.count + 39 ≡ length body.now) }
+        ensures same { IfOk result (λ same.
+            (same ≡ true) ↔ (drop 39 body.now ≡ field_in self.old.count before.now)) }
+        ensures kept { result ≡ Ok true → self.new.count ≡ self.old.count }
+        ensures units { result ≡ Ok true → sent_units (drop 39 body.now) self.new.places
+            ≡ sent_units (field_in self.old.count before.now) self.old.places }
+        ensures err { IfErr result (λ fault. value_at body.now ≡ Err fault) }
+        ensures kind { IfErr result (λ fault. is_format_fault fault ≡ true) }
+    {
+        let pts = pts_of(body)?;
+        let (_, field) = body.split_at(39);
+        let kept = self.field(before);
+        if is_kept(kept, field) {
+            self.pts = pts;
+            self.repeats = true;
+            return Ok(true);
+        }
+        find_places(&mut self.places, kept, field)?;
+        self.pts = pts;
+        self.count = field.len();
+        self.repeats = false;
+        Ok(false)
+    }
+}

@@ -1,0 +1,125 @@
+//! The PES packets of a source with the bytes of a PES file.
+ghost use Rattle.std.specs.Prelude.{◌≡◌, ◌≤◌, [], ◌∷◌, IfNone, IfSome, Ok, Some, length, take};
+ghost use Rattle.std.specs.Prelude.{true};
+ghost use Rattle.sub_io.specs.Device.{CanFail};
+ghost use Rattle.ttx_pes.specs.Advancing.{TakesPesPacketBy, buffered_then, lends_pes_packet};
+ghost use Rattle.ttx_pes.specs.PesGrammar.{payload_size};
+ghost use Rattle.ttx_pes.specs.Reading.{size_at};
+
+use crate::borrowed_packet::holds_packet;
+use crate::numbered_pes_packets::{FailedAt, NumberedPesPackets};
+use crate::pes_header::size_of;
+use crate::pes_packet_buffer::{PesPacketBuffer, prefix_of};
+use crate::pes_packets::{PesPackets, REST_BUFFER_SIZE, Received, TakePesPacket};
+use sub_io::{Failed, Source};
+
+/// Reads the PES packets of a PES file. A packet that the source lends completely is not copied.
+#[derive(Drop)]
+pub struct FilePesPackets<'a, S> {
+    source: &'a mut S,
+    // The bytes read so far of a packet that the source did not lend completely.
+    begun: PesPacketBuffer,
+}
+
+impl<'a, S: Source> FilePesPackets<'a, S> {
+    /// Creates a reader of the PES packets that the source has left.
+    pub fn new(source: &'a mut S) -> Self
+        ensures none { result.begun ≡ [] }
+        ensures same { result.source.ghost_name ≡ source.entry.ghost_name }
+        ensures now { result.source.now ≡ source.old }
+    {
+        FilePesPackets {
+            source,
+            begun: PesPacketBuffer::new(),
+        }
+    }
+}
+
+// Returns the size of the PES packet at the front of `bytes`, if it is complete.
+#[inline(always)]
+fn complete_size(bytes: &[u8]) -> Option<usize>
+    ensures reported { IfSome result (λ size. size_at (take 6 bytes.now) ≡ Ok size) }
+    ensures long { IfSome result (λ size. payload_size ≤ size) }
+    ensures whole { IfSome result (λ size. size ≤ length bytes.now) }
+{
+    let Some(head) = bytes.first_chunk() else {
+        return None;
+    };
+    match size_of(head) {
+        Ok(size) => {
+            if size <= bytes.len() {
+                Some(size)
+            } else {
+                None
+            }
+        }
+        Err(_) => None,
+    }
+}
+
+// Lets `taker` process the next packet if the source lends it completely, and skips it. Otherwise
+// does nothing and returns `None`.
+#[inline(always)]
+fn take_borrowed<S: Source, T: TakePesPacket>(source: &mut S, taker: &mut T) -> Option<T::Answer>
+    requires count { CanFail (S.failure_count source.old) }
+    ensures some { IfSome result (λ answer. TakesPesPacketBy T.is_take
+        (S.remaining source.old) (S.remaining source.new) taker.old answer taker.new) }
+    ensures none { IfNone result ((source.new ≡ source.old) × (taker.new ≡ taker.old)) }
+    ensures count { S.failure_count source.new ≡ S.failure_count source.old }
+{
+    let buffered = source.buffered();
+    let Some(size) = complete_size(buffered) else {
+        return None;
+    };
+    let pes_packet = prefix_of(buffered, size);
+    let answer = taker.take(pes_packet);
+    let _is_skipped = source.skip_bytes(size);
+    Some(answer)
+}
+
+impl<S: Source> PesPackets for FilePesPackets<'_, S> {
+    ghost remaining = { λ f. buffered_then f.begun (S.remaining f.source.now) };
+
+    ghost left = { λ f. S.remaining f.source.now };
+
+    ghost failure_count = { λ f. S.failure_count f.source.now };
+
+    ghost is_rest = { λ f. true };
+
+    ghost ready = { λ f. lends_pes_packet f.begun (S.borrowed f.source.now) };
+
+    ghost device = { λ f. f.source.ghost_name ∷ [] };
+
+    #[inline(always)]
+    fn next<T: TakePesPacket>(&mut self, taker: &mut T) -> Result<Received<T::Answer>, Failed> {
+        if self.begun.is_empty() {
+            if let Some(answer) = take_borrowed(self.source, taker) {
+                return Ok(Received::PesPacket(answer));
+            }
+        }
+        self.begun.next(self.source, taker)
+    }
+
+    fn read_rest(&mut self, room: &mut [u8; REST_BUFFER_SIZE]) -> Result<usize, Failed> {
+        let buffered = self.begun.move_buffered(room);
+        if buffered > 0 {
+            return Ok(buffered);
+        }
+        self.source.pull(room)
+    }
+
+    fn is_ready(&self) -> bool {
+        self.begun.is_empty() && holds_packet(self.source.buffered())
+    }
+}
+
+impl<S: Source> NumberedPesPackets for FilePesPackets<'_, S> {
+    ghost first = { λ f. Some 0 };
+
+    ghost skipped = { λ f. 0 };
+
+    /// Returns 0, since no packet is skipped.
+    fn find_first(&mut self) -> Result<u64, FailedAt> {
+        Ok(0)
+    }
+}

@@ -1,0 +1,124 @@
+//! A limited number of PES packets.
+ghost use Rattle.std.specs.Prelude.{◌≡◌, ◌∷◌, ◌<◌, ◌≤◌, OnErr, OnOk, false, is_ok, true};
+ghost use Rattle.sub_io.specs.Device.{CanFail, CountsFailure};
+ghost use Rattle.ttx_pes.specs.Advancing.{Advances, HasSkipped, Passes, is_over, limited_remaining};
+ghost use Rattle.ttx_pes.specs.Advancing.{limited_known, limited_rest, reports_rest};
+ghost use Rattle.ttx_pes.specs.Advancing as specs;
+
+use crate::passing::skip_pes_packets;
+use crate::pes_packets::{PesPackets, REST_BUFFER_SIZE, Received, TakePesPacket};
+use sub_io::Failed;
+
+/// Reads at most a given number of the PES packets of another reader, and then ends.
+#[derive(Drop)]
+pub struct LimitedPesPackets<'a, P> {
+    inner: &'a mut P,
+    // How many packets may still come; `None` for no limit.
+    left: Option<u64>,
+}
+
+impl<'a, P: PesPackets> LimitedPesPackets<'a, P> {
+    /// Limits `inner` to `left` packets, or to none if `left` is `None`.
+    pub fn new(inner: &'a mut P, left: Option<u64>) -> Self
+        ensures same { result.inner.ghost_name ≡ inner.entry.ghost_name }
+        ensures now { result.inner.now ≡ inner.old }
+        ensures left { result.left ≡ left }
+    {
+        LimitedPesPackets { inner, left }
+    }
+
+    /// Skips the first `n` packets, or all if there are fewer, without counting them towards the
+    /// limit. Returns how many it skipped, and whether the device failed.
+    pub(crate) fn skip_first(&mut self, n: u64) -> (u64, Result<(), Failed>)
+        requires failures { CanFail (P.failure_count self.old.inner.now) }
+        ensures most { result.0 ≤ n }
+        ensures fewer { OnErr result.1 (result.0 < n) }
+        ensures skipped { OnOk result.1
+            (Passes n (P.remaining self.old.inner.now) (P.remaining self.new.inner.now) result.0) }
+        ensures so_far { HasSkipped n result.0
+            (P.remaining self.old.inner.now) (P.remaining self.new.inner.now) }
+        ensures limit { self.new.left ≡ self.old.left }
+        ensures same { self.new.inner.ghost_name ∷ P.device self.new.inner.now
+            ≡ self.old.inner.ghost_name ∷ P.device self.old.inner.now }
+        ensures count { CountsFailure (P.failure_count self.old.inner.now) result.1
+            (P.failure_count self.new.inner.now) }
+    {
+        skip_pes_packets(n, self.inner)
+    }
+}
+
+impl<P: PesPackets> PesPackets for LimitedPesPackets<'_, P> {
+    ghost remaining = { λ l. limited_known l.left (P.remaining l.inner.now) };
+
+    ghost left = { λ l. limited_remaining l.left (P.remaining l.inner.now) (P.left l.inner.now) };
+
+    ghost failure_count = { λ l. P.failure_count l.inner.now };
+
+    ghost is_rest = { λ l. limited_rest l.left (P.is_rest l.inner.now) };
+
+    ghost ready = { λ l. P.ready l.inner.now };
+
+    ghost device = { λ l. l.inner.ghost_name ∷ P.device l.inner.now };
+
+    #[inline(always)]
+    fn next<T: TakePesPacket>(&mut self, taker: &mut T) -> Result<Received<T::Answer>, Failed>
+        requires failures { CanFail (P.failure_count self.old.inner.now) }
+        // Reads nothing once the limit is reached.
+        ensures over { is_over self.old.left ≡ true → self.new ≡ self.old }
+        ensures received { Advances (limited_known self.old.left (P.remaining self.old.inner.now))
+            (limited_known self.new.left (P.remaining self.new.inner.now))
+            (limited_remaining self.new.left (P.remaining self.new.inner.now)
+            (P.left self.new.inner.now))
+            T.is_take taker.old taker.new result }
+        ensures rest { reports_rest result ≡ true
+            → limited_rest self.new.left (P.is_rest self.new.inner.now) ≡ true }
+        ensures ready { P.ready self.old.inner.now ≡ true → is_ok result ≡ true }
+        ensures same { self.new.inner.ghost_name ∷ P.device self.new.inner.now
+            ≡ self.old.inner.ghost_name ∷ P.device self.old.inner.now }
+        ensures count { CountsFailure (P.failure_count self.old.inner.now) result
+            (P.failure_count self.new.inner.now) }
+    {
+        if is_over(self.left) {
+            return Ok(Received::End);
+        }
+        let received = self.inner.next(taker)?;
+        self.left = left_after(self.left, &received);
+        Ok(received)
+    }
+
+    fn read_rest(&mut self, room: &mut [u8; REST_BUFFER_SIZE]) -> Result<usize, Failed> {
+        self.inner.read_rest(room)
+    }
+
+    fn is_ready(&self) -> bool {
+        self.inner.is_ready()
+    }
+}
+
+// Returns whether no more packets may come.
+#[inline(always)]
+fn is_over(left: Option<u64>) -> bool
+    ensures { result ≡ is_over left }
+{
+    match left {
+        Some(left) => left == 0,
+        None => false,
+    }
+}
+
+// Returns how many packets may come after this one. After bytes that begin no packet there is no
+// limit, since all of them belong to the range.
+#[inline(always)]
+fn left_after<A>(left: Option<u64>, received: &Received<A>) -> Option<u64>
+    requires { is_over left ≡ false }
+    ensures { result ≡ specs.left_after left received.now }
+{
+    match received {
+        Received::End => left,
+        Received::PesPacket(_) => match left {
+            Some(left) => Some(left - 1),
+            None => None,
+        },
+        Received::Rest(_) => None,
+    }
+}

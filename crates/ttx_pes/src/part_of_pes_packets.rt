@@ -1,0 +1,117 @@
+//! Some of the PES packets of a file or recording.
+ghost use Rattle.std.specs.Prelude.{◌≡◌, ◌∷◌, ◌≤◌, ℕ, IfErr, IfOk, OnErr, OnOk, Ok, Some};
+ghost use Rattle.std.specs.Io.KnownBytes.{Keeps};
+ghost use Rattle.sub_io.specs.Device.{CanFail, CountsFailure};
+ghost use Rattle.ttx_pes.specs.PartOfPesPackets.{part_known, part_left, part_number, part_ready};
+ghost use Rattle.ttx_pes.specs.PartOfPesPackets.{part_rest};
+
+use crate::limited_pes_packets::LimitedPesPackets;
+use crate::numbered_pes_packets::{FailedAt, NumberedPesPackets};
+use crate::pes_packets::{PesPackets, REST_BUFFER_SIZE, Received, TakePesPacket};
+use crate::pes_packets_ahead::PesPacketsAhead;
+use sub_io::Failed;
+
+/// Reads a range of the PES packets of another reader. If that has no packet of the range's last
+/// number, this one ends in the same way. Nothing after the last packet is read.
+///
+/// Callers construct it in place: if a function returned it, the prover would not know what was
+/// borrowed two structs deep.
+#[derive(Drop)]
+pub struct PartOfPesPackets<'a, P> {
+    /// All packets up to the last one of the range.
+    pub inner: LimitedPesPackets<'a, P>,
+    /// The packets before the range.
+    pub ahead: PesPacketsAhead,
+}
+
+impl<P: PesPackets> PartOfPesPackets<'_, P> {
+    // Skips the packets before the range.
+    fn skip_others(&mut self) -> Result<u64, FailedAt>
+        requires failures { CanFail (P.failure_count self.old.inner.inner.now) }
+        ensures kept { Keeps
+            (part_known self.old.ahead.to_skip self.old.inner.left
+            (P.remaining self.old.inner.inner.now))
+            (part_known self.new.ahead.to_skip self.new.inner.left
+            (P.remaining self.new.inner.inner.now)) }
+        ensures first { (n : ℕ)
+            → part_number self.old.ahead (P.remaining self.old.inner.inner.now) ≡ Some n
+            → IfOk result (λ found. found ≡ n) }
+        ensures before { (n : ℕ)
+            → part_number self.old.ahead (P.remaining self.old.inner.inner.now) ≡ Some n
+            → IfErr result (λ at. at.pes ≤ n) }
+        ensures failed { IfErr result (λ at. at.pes ≡ self.new.ahead.skipped) }
+        ensures left { (n : ℕ)
+            → part_number self.old.ahead (P.remaining self.old.inner.inner.now) ≡ Some n
+            → IfErr result (λ _.
+            part_number self.new.ahead (P.remaining self.new.inner.inner.now) ≡ Some n) }
+        ensures found { OnOk result (self.new.ahead.to_skip ≡ 0) }
+        ensures unread { OnErr result (Keeps
+            (part_known self.old.ahead.to_skip self.old.inner.left
+            (P.remaining self.old.inner.inner.now))
+            (part_left self.new.ahead.to_skip self.new.inner.left
+            (P.remaining self.new.inner.inner.now) (P.left self.new.inner.inner.now))) }
+        ensures none { self.old.ahead.to_skip ≡ 0
+            → (self.new ≡ self.old) × (result ≡ Ok self.old.ahead.skipped) }
+        ensures same { self.new.inner.inner.ghost_name ∷ P.device self.new.inner.inner.now
+            ≡ self.old.inner.inner.ghost_name ∷ P.device self.old.inner.inner.now }
+        ensures count { CountsFailure (P.failure_count self.old.inner.inner.now) result
+            (P.failure_count self.new.inner.inner.now) }
+    {
+        if self.ahead.to_skip() == 0 {
+            return Ok(self.ahead.skipped());
+        }
+        let (skipped, ended) = self.inner.skip_first(self.ahead.to_skip());
+        self.ahead.count(skipped);
+        match ended {
+            Ok(()) => {
+                self.ahead.end();
+                Ok(self.ahead.skipped())
+            }
+            Err(_) => Err(FailedAt {
+                pes: self.ahead.skipped(),
+            }),
+        }
+    }
+}
+
+impl<P: PesPackets> PesPackets for PartOfPesPackets<'_, P> {
+    ghost remaining = { λ p.
+        part_known p.ahead.to_skip p.inner.left (P.remaining p.inner.inner.now) };
+
+    ghost left = { λ p. part_left p.ahead.to_skip p.inner.left
+        (P.remaining p.inner.inner.now) (P.left p.inner.inner.now) };
+
+    ghost failure_count = { λ p. P.failure_count p.inner.inner.now };
+
+    ghost is_rest = { λ p. part_rest p.ahead.to_skip p.inner.left (P.is_rest p.inner.inner.now) };
+
+    ghost ready = { λ p. part_ready p.ahead.to_skip (P.ready p.inner.inner.now) };
+
+    ghost device = { λ p. p.inner.inner.ghost_name ∷ P.device p.inner.inner.now };
+
+    #[inline(always)]
+    fn next<T: TakePesPacket>(&mut self, taker: &mut T) -> Result<Received<T::Answer>, Failed> {
+        if self.skip_others().is_err() {
+            return Err(Failed);
+        }
+        self.inner.next(taker)
+    }
+
+    fn read_rest(&mut self, room: &mut [u8; REST_BUFFER_SIZE]) -> Result<usize, Failed> {
+        self.inner.read_rest(room)
+    }
+
+    fn is_ready(&self) -> bool {
+        self.ahead.to_skip() == 0 && self.inner.is_ready()
+    }
+}
+
+impl<P: PesPackets> NumberedPesPackets for PartOfPesPackets<'_, P> {
+    ghost first = { λ p. part_number p.ahead (P.remaining p.inner.inner.now) };
+
+    ghost skipped = { λ p. p.ahead.skipped };
+
+    fn find_first(&mut self) -> Result<u64, FailedAt> {
+        self.skip_others()
+    }
+}

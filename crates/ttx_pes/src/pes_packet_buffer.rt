@@ -1,0 +1,202 @@
+//! A buffer for a PES packet that its source does not lend completely.
+ghost use Rattle.std.specs.Prelude.{◌≡◌, ◌+◌, ◌<◌, ◌≤◌, ◌++◌, [], IsSome, false, is_ok, length};
+ghost use Rattle.std.specs.Prelude.{take, true};
+ghost use Rattle.std.specs.Io.KnownBytes.{Consumes, IsAtEnd, prepend_known};
+ghost use Rattle.sub_io.specs.Device.{CanFail, CountsFailure, RisesIf};
+ghost use Rattle.sub_io.specs.Reading.{AreBytes};
+ghost use Rattle.ttx_pes.specs.Advancing.{Advances, ReadsForPesPacket, buffered_then, rest_fault};
+ghost use Rattle.ttx_pes.specs.BorrowedPacket.{holds_packet};
+ghost use Rattle.ttx_pes.specs.PesGrammar.{longest_packet};
+
+use crate::fault::PesFault;
+use crate::pes_header::{LONGEST_PACKET, PAYLOAD, size_of};
+use crate::pes_packets::{REST_BUFFER_SIZE, Received, TakePesPacket};
+use std::marker::Model;
+use sub_io::{Failed, Source};
+
+/// A buffer for one PES packet.
+pub(crate) type PacketBuffer = [u8; LONGEST_PACKET];
+
+// The bytes that contain the packet's size.
+const HEAD: usize = 6;
+
+/// The first bytes of a packet that is not complete yet, or bytes that begin no packet.
+///
+/// Its model is the list of bytes.
+#[derive(Drop)]
+pub(crate) struct PesPacketBuffer {
+    room: PacketBuffer,
+    len: usize,
+}
+
+impl Model for PesPacketBuffer {
+    ghost use Rattle.std.specs.Prelude.{ℕ, ◌≤◌, IsSome, List, take};
+    ghost use Rattle.ttx_pes.specs.Advancing.{rest_fault};
+    ghost use Rattle.ttx_pes.specs.PesGrammar.{longest_packet};
+
+    ghost Value = { List ℕ };
+
+    ghost view = { λ h. take h.len h.room };
+
+    ghost invariant = { λ h. (h.len ≤ longest_packet) × IsSome (rest_fault (take h.len h.room)) };
+}
+
+// Pulls into `room`, which already has `buffered` bytes, until it has at least `least` bytes, or
+// the source ends or fails. Requests at most `most` bytes in total. Returns how many bytes it has,
+// and whether the source failed.
+fn fill_on<S: Source>(
+    source: &mut S,
+    room: &mut [u8],
+    buffered: usize,
+    least: usize,
+    most: usize,
+) -> (usize, bool)
+    requires count { CanFail (S.failure_count source.old) }
+    requires buffered { buffered ≤ length room.old }
+    requires least { least ≤ most }
+    requires most { most ≤ length room.old }
+    ensures from { buffered ≤ result.0 }
+    ensures bound { buffered ≤ most → result.0 ≤ most }
+    ensures none { least ≤ buffered → result.0 ≡ buffered }
+    ensures room { result.0 ≤ length room.new }
+    ensures kept { take buffered room.new ≡ take buffered room.old }
+    ensures bytes { Consumes (prepend_known (take buffered room.old) (S.remaining source.old))
+        (S.remaining source.new) (take result.0 room.new) }
+    ensures end { result.1 ≡ false → result.0 < least → IsAtEnd (S.remaining source.new) }
+    ensures few { result.1 ≡ true → result.0 < least }
+    ensures borrowed { least ≤ buffered + length (S.borrowed source.old) → (result.1 ≡ false)
+        × (take buffered room.old ++ S.borrowed source.old
+        ≡ take result.0 room.new ++ S.borrowed source.new) }
+    ensures count { RisesIf (S.failure_count source.old) result.1 (S.failure_count source.new) }
+{
+    let mut at = buffered;
+    while at < least {
+        match source.pull(&mut room[at..most]) {
+            Ok(0) => break,
+            Ok(n) => at += n,
+            Err(_) => return (at, true),
+        }
+    }
+    (at, false)
+}
+
+// Reads the packet whose first bytes are in the buffer, and returns how many bytes are in it then.
+// Checks the bytes for faults before each pull.
+fn read_pes_packet<S: Source>(
+    source: &mut S,
+    room: &mut PacketBuffer,
+    buffered: usize,
+) -> (usize, Result<Received<()>, Failed>)
+    requires count { CanFail (S.failure_count source.old) }
+    requires buffered { buffered ≤ longest_packet }
+    requires begun { IsSome (rest_fault (take buffered room.old)) }
+    ensures most { result.0 ≤ longest_packet }
+    ensures reads { ReadsForPesPacket
+        (prepend_known (take buffered room.old) (S.remaining source.old))
+        (S.remaining source.new) (take result.0 room.new) result.1 }
+    ensures borrowed { buffered ≡ 0 → holds_packet (S.borrowed source.old) ≡ true → is_ok result.1 ≡
+        true }
+    ensures count { CountsFailure (S.failure_count source.old) result.1
+        (S.failure_count source.new) }
+{
+    let (got, is_failed) = fill_on(source, room, buffered, HEAD, PAYLOAD);
+    if is_failed {
+        return (got, Err(Failed));
+    }
+    if got == 0 {
+        return (got, Ok(Received::End));
+    }
+    if got < HEAD {
+        return (got, Ok(Received::Rest(PesFault::Truncated)));
+    }
+    let size = match size_of(room.first_chunk().unwrap()) {
+        Ok(size) => size,
+        Err(fault) => return (got, Ok(Received::Rest(fault))),
+    };
+    let (all, has_failed) = fill_on(source, room, got, size, size);
+    if has_failed {
+        return (all, Err(Failed));
+    }
+    if all < size {
+        return (all, Ok(Received::Rest(PesFault::Truncated)));
+    }
+    (all, Ok(Received::PesPacket(())))
+}
+
+// Returns the first `size` bytes.
+#[inline(always)]
+pub(crate) fn prefix_of(bytes: &[u8], size: usize) -> &[u8]
+    requires { size ≤ length bytes.now }
+    ensures value { result.now ≡ take size bytes.now }
+    ensures bytes { AreBytes bytes.now }
+{
+    let (prefix, _) = bytes.split_at(size);
+    prefix
+}
+
+impl PesPacketBuffer {
+    // Creates an empty buffer.
+    #[tactic(auto, unfolding(crate::specs::Advancing::rest_fault))]
+    pub(crate) fn new() -> Self
+        ensures { result ≡ [] }
+    {
+        PesPacketBuffer {
+            room: [0; LONGEST_PACKET],
+            len: 0,
+        }
+    }
+
+    // Returns whether the buffer is empty.
+    #[inline(always)]
+    pub(crate) fn is_empty(&self) -> bool
+        ensures { result ≡ true → self.now ≡ [] }
+    {
+        self.len == 0
+    }
+
+    // Copies the bytes to `to`, and empties the buffer.
+    #[tactic(auto, unfolding(crate::specs::Advancing::rest_fault))]
+    pub(crate) fn move_buffered(&mut self, to: &mut [u8; REST_BUFFER_SIZE]) -> usize
+        ensures bound { result ≤ length to.new }
+        ensures bytes { take result to.new ≡ self.old }
+        ensures none { self.new ≡ [] }
+    {
+        let buffered = self.len;
+        let prefix = prefix_of(&self.room, buffered);
+        to[..buffered].copy_from_slice(prefix);
+        self.len = 0;
+        buffered
+    }
+
+    // Reads the rest of the packet in the buffer, and lets `taker` process it. Few packets are not
+    // lent completely, so this is a function of its own, which makes the others faster.
+    #[inline(never)]
+    pub(crate) fn next<S: Source, T: TakePesPacket>(
+        &mut self,
+        source: &mut S,
+        taker: &mut T,
+    ) -> Result<Received<T::Answer>, Failed>
+        requires count { CanFail (S.failure_count source.old) }
+        ensures received { Advances (buffered_then self.old (S.remaining source.old))
+            (buffered_then self.new (S.remaining source.new)) (S.remaining source.new)
+            T.is_take taker.old taker.new result }
+        ensures borrowed { self.old ≡ [] → holds_packet (S.borrowed source.old) ≡ true
+            → is_ok result ≡ true }
+        ensures count { CountsFailure (S.failure_count source.old) result
+            (S.failure_count source.new) }
+    {
+        let (len, read) = read_pes_packet(source, &mut self.room, self.len);
+        self.len = len;
+        match read {
+            Ok(Received::End) => Ok(Received::End),
+            Ok(Received::Rest(fault)) => Ok(Received::Rest(fault)),
+            Ok(Received::PesPacket(())) => {
+                let pes_packet = prefix_of(&self.room, len);
+                let answer = taker.take(pes_packet);
+                self.len = 0;
+                Ok(Received::PesPacket(answer))
+            }
+            Err(failed) => Err(failed),
+        }
+    }
+}
