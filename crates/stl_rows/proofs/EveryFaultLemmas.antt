@@ -17,7 +17,7 @@ use Rattle.stl_rows.specs.EveryFault.{is_of_file}
 use Rattle.stl_rows.specs.EveryFault.{EndsSubtitleAfter, WantsMemory, is_reported_before}
 use Rattle.stl_rows.specs.EveryFault.{load_fault}
 use Rattle.stl_rows.specs.Judged.{JudgedValue, JudgesBy}
-use Rattle.stl_rows.specs.Loading.{EndsAfter, EndsRecord, FailsLoading, ReportsFault, loaded}
+use Rattle.stl_rows.specs.Loading.{EndsAfterTimes, EndsRecord, FailsLoading, ReportsFault, loaded}
 use Rattle.stl_rows.specs.Loading.{unless_reported}
 use Rattle.stl_rows.specs.Fault.{is_load_read, is_read_kind}
 use Rattle.stl_rows.specs.Programme.{ProgrammeValue, follow_faults, times_of}
@@ -128,7 +128,7 @@ loads-all drawing file j judged reported =
 -- If no fault is reported before an accepted subtitle, there is none up to it.
 ends_after_times : (drawing : Drawing) (before : Option Times) (at : ℕ) (left : Findings)
     → EndsSubtitleAfter drawing before [] at left
-    → EndsAfter drawing before at left
+    → EndsAfterTimes drawing before at left
 ends_after_times drawing before at no_more e = e
 ends_after_times drawing before at (breaks f block) e = e
 ends_after_times drawing before at (refuses f block left) e = absurd (let none = e.1 in cc)

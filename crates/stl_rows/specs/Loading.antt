@@ -40,17 +40,17 @@ loaded drawing file =
     (record { drawing = drawing; records = records_of (findings_for drawing.scope file) })
 
 -- A subtitle ends at this block, after one with the times `before`, and there is no fault up to it.
-abbrev pub EndsAfter : Drawing → Option Times → ℕ → Findings → Type 0
-EndsAfter drawing before at no_more = ⊥
-EndsAfter drawing before at (breaks fault block) = ⊥
-EndsAfter drawing before at (refuses fault block more) = ⊥
-EndsAfter drawing before at (finds t block more) =
+abbrev pub EndsAfterTimes : Drawing → Option Times → ℕ → Findings → Type 0
+EndsAfterTimes drawing before at no_more = ⊥
+EndsAfterTimes drawing before at (breaks fault block) = ⊥
+EndsAfterTimes drawing before at (refuses fault block more) = ⊥
+EndsAfterTimes drawing before at (finds t block more) =
     (follow_faults drawing before t ≡ [])
-    × ((at ≡ block) ⊎ EndsAfter drawing (Some (times_of t)) at more)
+    × ((at ≡ block) ⊎ EndsAfterTimes drawing (Some (times_of t)) at more)
 
 -- A subtitle of the file ends at this block, and there is no fault up to it.
 abbrev pub EndsRecord : Drawing → List ℕ → ℕ → Type 0
-EndsRecord drawing file at = EndsAfter drawing None at (findings_for drawing.scope file)
+EndsRecord drawing file at = EndsAfterTimes drawing None at (findings_for drawing.scope file)
 
 -- An error of loading. `Memory` occurs only at the last block of a subtitle with no fault before. A
 -- failure of the source says nothing about the file.

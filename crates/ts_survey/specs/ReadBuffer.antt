@@ -3,8 +3,8 @@ use Rattle.std.specs.Prelude.{◌≡◌, ℕ, List, ◌++◌, Option}
 use Rattle.std.specs.Io.KnownBytes.{Consumes}
 
 -- For the longest PES packet of a file, 65,541 bytes, and for what is read at once.
-abbrev pub buffer_size : ℕ
-buffer_size = 135168
+abbrev pub read_buffer_size : ℕ
+read_buffer_size = 135168
 
 -- At most so many bytes are kept of those that were examined: the longest PES packet of a file
 -- without its last byte, or more.

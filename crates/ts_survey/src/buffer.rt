@@ -3,7 +3,7 @@ ghost use Rattle.std.specs.Prelude.{◌≡◌, ◌≤◌, ◌<◌, ◌-◌, leng
 ghost use Rattle.std.specs.Prelude.{true};
 ghost use Rattle.std.specs.Io.KnownBytes.{IsAtEnd};
 ghost use Rattle.sub_io.specs.Device.{CanFail, CountsFailure};
-ghost use Rattle.ts_survey.specs.ReadBuffer.{BuffersMore, buffer_size};
+ghost use Rattle.ts_survey.specs.ReadBuffer.{BuffersMore, read_buffer_size};
 
 use crate::text::Text;
 use std::alloc::Global;
@@ -38,7 +38,7 @@ impl ReadBuffer {
     /// Returns an empty room; `None` if memory runs out.
     pub fn new(alloc: Global) -> Option<ReadBuffer>
         ensures { IfSome result
-            (λ buffer. (buffer.len ≡ 0) × (vec_len buffer.bytes ≡ buffer_size)) }
+            (λ buffer. (buffer.len ≡ 0) × (vec_len buffer.bytes ≡ read_buffer_size)) }
     {
         match vec![in alloc; 0; BUFFER_SIZE] {
             Ok(bytes) => Some(ReadBuffer { bytes, len: 0 }),
