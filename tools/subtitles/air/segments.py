@@ -143,8 +143,9 @@ def is_continued(before: Segment, after: Segment) -> bool | None:
             pcr = int.from_bytes(packet[6:11], "big") >> 7
             clocks.setdefault(pid, ([], []))[number >= count].append(pcr)
     out = sum(packet[0] != SYNC for packet in packets[count:count + LEAST_PACKETS])
-    lost = [(new[0] - old[-1]) % 16 != 1 for old, new in counters.values()
-            if len(old) > 1 < len(new) and (old[-1] - old[-2]) % 16 == (new[1] - new[0]) % 16 == 1]
+    lost = [(new[0] - old[-1]) % 16 != 1 for old, new in counters.values() if old and new and all(
+        (after - before) % 16 == 1 for before, after in (
+            *zip(old[-2:-1], old[-1:]), *zip(new, new[1:2])))]
     usual = [is_usual(*pcrs) for pcrs in clocks.values() if all(pcrs) and sum(map(len, pcrs)) > 2]
     is_cut = 2 * out > LEAST_PACKETS or 2 * sum(lost) > len(lost) or not all(usual)
     if out or any(lost):
@@ -167,10 +168,9 @@ def stretches_in(segments: Iterable[Segment], longest_pause: float) -> Iterator[
     for one in segments:
         is_next = is_continued(stretch[-1], one) if stretch else None
         is_expected = bool(stretch) and (one.is_new or one.begin - stretch[-1].end > longest_pause)
-        if is_next is False and not is_expected:
-            stretch.pop()
-        if stretch and not is_next and (is_expected or is_next is False):
-            yield Unbroken(tuple(stretch))
+        if is_next is False or is_expected and not is_next:
+            if whole := stretch if is_expected else stretch[:-1]:
+                yield Unbroken(tuple(whole))
             stretch = []
         stretch.append(one)
     if stretch:
