@@ -21,6 +21,7 @@ from .muxed import (
     AHEAD, MPEG_2, PMT_PID, PRIVATE, TELETEXT_PID, VIDEO_PID, Maker, program_association,
     program_map, teletext_descriptor)
 from .sent import CLOSING, HEADER, Sent, joined, programme, sendings
+from .test_judging_paced import WRONG, large
 
 FIRST, EACH, LASTS = 900_000, 100, 60  # frames: of the first TCI, from one to the next, of each
 SILENT_PID, OTHER_PID, LATER_PMT = 0x121, 0x111, 0x110
@@ -39,9 +40,9 @@ class Bound(NamedTuple):
 
 
 # Late inserters whose clock is not known, silences that are no loss, breaks under five seconds, and
-# a page that two programmes announce.
+# a page that two programmes announce. Nobody can tell the refused ones from wrong ones: `Twins`.
 LOST = {
-    INSERTERS: Bound(66, 2, 13), ONE_A_FRAME: Bound(30, 8, 0), TWO_A_FRAME: Bound(28, 8, 0),
+    INSERTERS: Bound(66, 2, 12), ONE_A_FRAME: Bound(30, 7, 0), TWO_A_FRAME: Bound(28, 6, 0),
     BREAKS: Bound(9, 0, 5), PROGRAMMES: Bound(8, 0, 2), AIRINGS: Bound(11, 0, 0)}
 
 
@@ -146,19 +147,24 @@ DISTANCES: dict[str, Callable[[random.Random, int], list[int]]] = {
     "beside filler": all_but(lambda at: at % 6 == 5)}
 
 
+def paced_sent(case: Case, name: str, count: int, each: int) -> tuple[str, Sent]:
+    """A programme whose PES packets come so, so many in each of these frames."""
+    chance, times = random.Random(f"{name} {count}"), evenly(count)
+    stl = programme(case, times)
+    known = dict(sendings(case, stl))
+    frames = {*(pts // TICKS for pts in known), *(FIRST + at for at in DISTANCES[name](
+        chance, times[-1][1] - FIRST))} if name in DISTANCES else {
+            *(pts // TICKS for pts in known), *(range(FIRST, times[-1][1], 3)
+                                                if name == "each third" else ())}
+    return stl, [(frame * TICKS + TICKS // each * at,
+                  known.get(frame * TICKS, []) if not at else [])
+                 for frame in sorted(frames) for at in range(each)]
+
+
 def paced(name: str, count: int, each: int) -> Callable[[Case], tuple[str, str]]:
-    """A stream of a programme whose PES packets come so, so many in each of these frames."""
+    """The same as a stream."""
     def made(case: Case) -> tuple[str, str]:
-        chance, times = random.Random(f"{name} {count}"), evenly(count)
-        stl = programme(case, times)
-        known = dict(sendings(case, stl))
-        frames = {*(pts // TICKS for pts in known), *(FIRST + at for at in DISTANCES[name](
-            chance, times[-1][1] - FIRST))} if name in DISTANCES else {
-                *(pts // TICKS for pts in known), *(range(FIRST, times[-1][1], 3)
-                                                    if name == "each third" else ())}
-        sent = [(frame * TICKS + TICKS // each * at,
-                 known.get(frame * TICKS, []) if not at else [])
-                for frame in sorted(frames) for at in range(each)]
+        stl, sent = paced_sent(case, name, count, each)
         return stl, case.write("paced.ts", in_stream(sent))
 
     return made
@@ -336,6 +342,56 @@ class Right(Case):
             several = [one for one in recordings() if one.kind == kind][::GATE]
             words = [one.judge(self).word for one in several]
             self.must(kind, is_bounded(kind, words) and "accepted" in words, words)
+
+
+class Twins(Case):
+    """A right recording that is refused has the bytes of a wrong one, too: whoever accepts it
+    accepts that one."""
+
+    def test_a_silence_is_what_a_loss_leaves(self) -> None:
+        """16 TS packets that were lost, or 32, in which there were as many PES packets, one with a
+        wrong page: the counter goes on, and all that is left has the same bytes."""
+        for each, names in ((1, [*SILENT, "1 in 20 left out"]), (2, SILENT)):
+            for name in names:
+                _, sent = paced_sent(self, name, 12, each)
+                self.check(f"{name}, {each} a frame", lossy(sent, each) == in_stream(sent), True)
+
+    def test_rare_delays_are_what_early_subtitles_leave(self) -> None:
+        """The clock alone tells which of two are right: the many that are late, or the few that
+        come before them."""
+        for one in inserters():
+            if one.name in ("rare 80 False", "rare 80 True"):
+                stl, path = one.made(self)
+                self.check(one.name, [judged(self, stl, path, *one.words, "--origin", origin).word
+                                      for origin in ("0", f"{TICKS}")], ["accepted", "refused"])
+
+
+SILENT = ("one silence", "two silences", "three silences")
+LARGEST = 9  # TS packets of a PES packet
+
+
+def lossy(sent: Sent, each: int) -> bytes:
+    """Return what is left of a stream with PES packets in each frame, if all are lost with which
+    two frames in a row or more have none in what was sent."""
+    maker = Maker([])
+    maker.tables = tables_of((OWN,))
+    for number, (pts, some) in enumerate(sent):
+        before = len(maker.packets)
+        missing = (pts - sent[number - 1][0]) * each // TICKS - 1 if number else 0
+        if missing >= 2 * each:
+            sizes = [1] * missing
+            while sum(sizes) % 16:
+                sizes[sizes.index(min(sizes))] += 1
+            assert max(sizes) <= LARGEST
+            for at, size in enumerate(sizes, 1):
+                maker.put(TELETEXT_PID, large(pes_packet(
+                    pts - TICKS // each * at, WRONG * (at == 1)), size))
+            del maker.packets[before:]
+        if not number:
+            maker.put_tables()
+        maker.put_pcr(pts - AHEAD)
+        maker.put(TELETEXT_PID, pes_packet(pts, some))
+    return maker.data
 
 
 def is_bounded(kind: str, words: Sequence[str]) -> bool:
