@@ -73,9 +73,13 @@ class Clocks(unittest.TestCase):
             frozenset({4}), asked.late))
         recording: Any = SimpleNamespace(packets="packets")
         with mock.patch.object(timing, "cut_of") as cut:
-            for packets, inside in ((None, (2, 8)), ((4, 5), (4, 5))):
-                cut_within(programme, recording, programme.whole._replace(packets=packets), 6)
-                self.assertEqual(cut.call_args.args, ("packets", 3, 9, 7, 30, 6, inside))
+            for packets, inside, begin, is_continued in (
+                    (None, (2, 8), 3, False), ((4, 5), (4, 5), 3, False), (None, (2, 8), 3, True),
+                    (None, (2, 8), 5, True)):  # of which the first subtitle is not that of the file
+                part = programme.whole._replace(packets=packets, begin=begin)
+                cut_within(programme._replace(is_continued=is_continued), recording, part, 6)
+                self.assertEqual(cut.call_args.args, (
+                    "packets", begin, 9, 7, 30, 6, inside, is_continued and begin == 3))
 
     def test_pictures(self) -> None:
         """Each video of each programme with the Teletext leaves it, and no other one: what is wrong
