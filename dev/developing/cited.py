@@ -11,7 +11,7 @@ import re
 from typing import Iterator, Mapping, Optional
 
 from subtitles.common.program import read
-from .definitions import Library, counts
+from .definitions import Library, count_reading
 from .promises import ROW as INDEX, index_of
 from .proved import parsed
 
@@ -115,7 +115,7 @@ def rows_of_counts(top: str) -> Iterator[tuple[str, str]]:
     with open(os.path.join(top, "docs", "ASSURANCE.md"), encoding="utf-8") as file:
         rows, library = list(ROW.finditer(file.read())), Library(top)
     for row in rows:
-        found = counts(*library.reading(row[2]))
+        found = count_reading(*library.reading_list(row[2]))
         yield row[0], f"| {row[1]} | `{row[2]}` | {found[0]} | {found[1]} |"
 
 
@@ -125,14 +125,14 @@ def counts_of_readme(top: str) -> Iterator[tuple[str, str]]:
     for name, form in IN_README.items():
         shown = form.search(text)
         yield (f"README: {name} {shown[1] if shown else 'is missing'}",
-               f"README: {name} {counts(*library.reading(name))[1]}")
+               f"README: {name} {count_reading(*library.reading_list(name))[1]}")
 
 
 def too_long(top: str, most_lines: Mapping[str, int]) -> Iterator[Optional[str]]:
     """Yield for each promise `None`, or a message if too many lines have to be read."""
     library = Library(top)
     for name, most in most_lines.items():
-        lines = counts(*library.reading(name))[1]
+        lines = count_reading(*library.reading_list(name))[1]
         yield f"{name} needs {lines} lines to be read, at most {most} are allowed" \
             if lines > most else None
 

@@ -1,8 +1,8 @@
-"""The definitions of crates/*/specs, and which of them a name or a clause rests on.
+"""Find the definitions of crates/*/specs that a name or a clause depends on.
 
-They are read by text. A name in a definition is what the `use` lines of its file say, or what the
-file itself defines. Where it is bound, as a parameter, a field's label, a variable of a pattern, it
-is none of these; what one equation binds is not bound in the next.
+Files are read as text. A name in a definition means what the file's `use` lines import, or what the
+file defines, unless it is bound: as a parameter, a field's label or a variable of a pattern. What
+one equation binds is not bound in the next.
 """
 from __future__ import annotations
 
@@ -20,7 +20,7 @@ BETWEEN = ("use ", "pub use ", "mod ", "pub mod ", "infix")
 HEAD = re.compile(r"(?:(?:pub|abbrev|unfoldable|record|data) )+([^\s:(]+)")
 USE = re.compile(r"^ *(pub |ghost )?use (\S+?)(?:\.\{([^}]*)\}| as (\w+))?;?$", re.M)
 TOKEN = re.compile(r"[^\s()\[\]{},;]+")
-# What binds names: (x y : A), λ x y. e, let x = e in, and x ← e.
+# Forms that bind names: (x y : A), λ x y. e, let x = e in, and x ← e.
 BINDS = [re.compile(form) for form in (r"[({]([^(){}:]*) : ", r"λ ([^.]*)\.", r"\blet (\S+) =",
                                        r"(\S+) ←")]
 CONSTRUCTOR = re.compile(r"^  (\S+) :", re.M)
@@ -29,7 +29,7 @@ CLAUSE = re.compile(r"^ *ensures (\w+)? ?\{", re.M)
 
 
 class Definition:
-    """A definition: its comment, and from `line` on its text with the comments in it."""
+    """A definition: its comment, and its text from `line` on, with the comments in it."""
 
     def __init__(self, file: Specs, line: int, comment: list[str], first: str) -> None:
         self.file, self.line, self.comment, self.text = file, line, comment, [first]
@@ -43,7 +43,8 @@ class Definition:
         return [line for line in self.text if not line.lstrip().startswith("--")]
 
     def parts(self) -> list[str]:
-        """Its type and its equations, or all of a record; each with the names that it binds."""
+        """Return its type and its equations, or a record as a whole: each is a scope of bound
+        names."""
         chunks: list[str] = []
         for line in self.code():
             if chunks and not (self.is_function and re.match(r"[^\s})]", line)):
@@ -57,19 +58,21 @@ class Definition:
 
 
 class Outside(NamedTuple):
-    """What is no definition of specs/: of a library from elsewhere, as std, or, with its module, a
-    type that the code of a crate declares."""
+    """Anything that specs/ does not define.
+
+    It is a name of another library, as std, or a type that a module of a crate's code declares.
+    """
 
     crate: str
     module: str | None
     name: str
 
 
-Meant = Union[Definition, Outside]
+Meaning = Union[Definition, Outside]
 
 
 class File:
-    """A file of a crate, and what its `use` lines bring."""
+    """A file of a crate, and the names that its `use` lines import."""
 
     def __init__(self, crate: str, path: str, module: str) -> None:
         self.crate, self.path, self.module = crate, path, module
@@ -79,30 +82,30 @@ class File:
         self.constructors: dict[str, Definition] = {}
         self.names: dict[str, tuple[str, str]] = {}
         self.aliases: dict[str, str] = {}
-        self.passed_on: list[str] = []
-        for how, source, names, alias in USE.findall(self.text):
-            if path.endswith(".rt") and how != "ghost ":
+        self.reexported: list[str] = []
+        for keyword, source, names, alias in USE.findall(self.text):
+            if path.endswith(".rt") and keyword != "ghost ":
                 continue
             for name in filter(None, map(str.strip, names.split(","))):
-                theirs, _, ours = name.partition(" as ")
-                self.names[ours or theirs] = source, theirs
+                original, _, alias_name = name.partition(" as ")
+                self.names[alias_name or original] = source, original
             if alias:
                 self.aliases[alias] = source
-            elif how == "pub " and not names:
-                self.passed_on.append(source)
+            elif keyword == "pub " and not names:
+                self.reexported.append(source)
 
 
 class Specs(File):
-    """A file of specs/, which has definitions."""
+    """A file of specs/, with definitions."""
 
     def __init__(self, crate: str, path: str, module: str) -> None:
         super().__init__(crate, path, module)
         self.definitions = self.read_definitions()
-        self.constructors = {name: one for one in self.definitions.values()
-                             for name in one.constructors()}
+        self.constructors = {name: definition for definition in self.definitions.values()
+                             for name in definition.constructors()}
 
     def read_definitions(self) -> dict[str, Definition]:
-        """By name. The comment of a definition ends on the line above it."""
+        """Return the definitions by name. A definition's comment ends on the line above it."""
         found: dict[str, Definition] = {}
         comment: list[str] = []
         now: Definition | None = None
@@ -119,8 +122,8 @@ class Specs(File):
         return found
 
 
-def paths(top: str, crate: str, part: str, ending: str) -> Iterator[tuple[str, str]]:
-    """The files of a part of a crate below a folder, each with its module."""
+def list_files(top: str, crate: str, part: str, ending: str) -> Iterator[tuple[str, str]]:
+    """Yield the files of one part of a crate, each with its module."""
     start = os.path.join(top, "crates", crate, part)
     for folder, _, names in sorted(os.walk(start)):
         for path in (os.path.join(folder, name) for name in sorted(names)):
@@ -137,12 +140,12 @@ class Library:
         self.files: dict[str, Specs] = {}
         self.crates = list(read_lines(os.path.join(top, "crates.txt")))
         for crate in self.crates:
-            for path, module in paths(top, crate, "specs", ".antt"):
+            for path, module in list_files(top, crate, "specs", ".antt"):
                 if not path.endswith("/Lib.antt"):
                     self.files[module] = Specs(crate, path, module)
 
-    def meant(self, module: str, name: str) -> Meant:
-        """What a module means by a name: a `Definition`, or what is `Outside`."""
+    def resolve(self, module: str, name: str) -> Meaning:
+        """Return the meaning of a name in a module."""
         crate, _, inner = module.removeprefix("Rattle.").partition(".")
         if crate not in self.crates:
             return Outside(crate, None, name)
@@ -152,167 +155,179 @@ class Library:
             return Outside(crate, where, kind)
         file = self.files.get(module)
         if not file:
-            above, _, kind = module.rpartition(".")  # a constructor stands in its type
+            above, _, kind = module.rpartition(".")  # a constructor belongs to its type
             if above in self.files and kind in self.files[above].definitions:
                 return self.files[above].definitions[kind]
-            raise Stop(f"{module} is no file of specs/")
-        found = self.named(file, name)
-        for source in file.passed_on if not found else ():
-            found = found or self.meant(source, name)
+            raise Stop(f"{module} is not a file of specs/")
+        found = self.resolve_in(file, name)
+        for source in file.reexported if not found else ():
+            found = found or self.resolve(source, name)
         if not found:
             raise Stop(f"{module} has no {name}")
         return found
 
-    def named(self, file: File, name: str) -> Meant | None:
-        """What a name stands for in a file, `None` for one that it neither defines nor takes."""
+    def resolve_in(self, file: File, name: str) -> Meaning | None:
+        """Return the meaning of a name in a file, `None` if the file neither defines nor imports
+        it."""
         if name in file.definitions:
             return file.definitions[name]
         if name in file.constructors:
             return file.constructors[name]
-        return self.meant(*file.names[name]) if name in file.names else None
+        return self.resolve(*file.names[name]) if name in file.names else None
 
-    def used(self, file: File, text: str, bound: set[str]) -> list[Meant]:
-        """What a text of a file names, in its order, but what is bound."""
-        found = (self.meant(source, name) if source else self.named(file, name)
-                 for source, name in named_in(file, file.definitions, text, bound))
-        return [it for it in found if it]
+    def list_uses(self, file: File, text: str, bound: set[str]) -> list[Meaning]:
+        """Return the meanings of the names in a text of a file, in order, without bound names."""
+        found = (self.resolve(source, name) if source else self.resolve_in(file, name)
+                 for source, name in list_names(file, file.definitions, text, bound))
+        return [meaning for meaning in found if meaning]
 
     @functools.lru_cache(None)
-    def used_by(self, one: Definition) -> list[Meant]:
-        """What a definition names."""
-        first, *equations = one.parts()
-        found = self.used(one.file, first, binders(first))
+    def uses_of(self, definition: Definition) -> list[Meaning]:
+        """Return what a definition names."""
+        first, *equations = definition.parts()
+        found = self.list_uses(definition.file, first, bound_names(first))
         for text in equations:
             left, *right = re.split(r" =(?=\s)", text, maxsplit=1)
-            bound = binders(text) | {token for token in TOKEN.findall(left)
-                                     if not self.is_constructor(one.file, token)}
-            found += self.used(one.file, " ".join([left, *right]), bound)
-        return [it for it in dict.fromkeys(found) if it is not one]
+            bound = bound_names(text) | {token for token in TOKEN.findall(left)
+                                         if not self.is_constructor(definition.file, token)}
+            found += self.list_uses(definition.file, " ".join([left, *right]), bound)
+        return [other for other in dict.fromkeys(found) if other is not definition]
 
     def is_constructor(self, file: File, name: str) -> bool:
-        """Whether a name in a pattern is one of a form, and no variable."""
+        """Return whether a name in a pattern is a constructor, not a variable."""
         if "." in name:
             return True
-        it = self.named(file, name)
-        return bool(it) and not (isinstance(it, Definition) and it.is_function)
+        meaning = self.resolve_in(file, name)
+        return bool(meaning) and not (isinstance(meaning, Definition) and meaning.is_function)
 
-    def clause(self, name: str) -> list[Meant]:
-        """What a clause FUNCTION.CLAUSE names, or all clauses of FUNCTION."""
-        return [it for file, _, text in self.texts(name)
-                for it in self.used(file, text, binders(text))]
+    def resolve_clauses(self, name: str) -> list[Meaning]:
+        """Return what the clause FUNCTION.CLAUSE, or all clauses of FUNCTION, name."""
+        return [meaning for file, _, text in self.find_clauses(name)
+                for meaning in self.list_uses(file, text, bound_names(text))]
 
-    def texts(self, name: str) -> list[tuple[File, str, str]]:
-        """A clause, or all clauses of a function: the file, the name of each, its text."""
+    def find_clauses(self, name: str) -> list[tuple[File, str, str]]:
+        """Return the file, name and text of a clause, or of all clauses of a function."""
         function, _, clause = name.partition(".")
         crate, slash, function = function.rpartition("/")
         found: list[tuple[File, str, str]] = []
-        for one in [crate] if slash else self.crates:
-            for path, module in paths(self.top, one, "src", ".rt"):
-                file = File(one, path, module)
-                found += [(file, *it) for it in clauses(file.text, function, clause)]
+        for crate_name in [crate] if slash else self.crates:
+            for path, module in list_files(self.top, crate_name, "src", ".rt"):
+                file = File(crate_name, path, module)
+                found += [(file, *part) for part in clauses(file.text, function, clause)]
         if not slash and len({file.path for file, *_ in found}) > 1:
             places = ", ".join(sorted({file.crate for file, *_ in found}))
             raise Stop(f"{name} is a function of {places}: put the crate before it, as CRATE/NAME")
         return found
 
-    def defined(self, name: str) -> list[Definition]:
-        """The definitions of a name, NAME or CRATE/FILE.NAME."""
+    def find_definitions(self, name: str) -> list[Definition]:
+        """Return the definitions named NAME or CRATE/FILE.NAME."""
         place, _, last = name.rpartition(".")
         return [file.definitions[last] for file in self.files.values()
                 if last in file.definitions
                 and place in ("", f"{file.crate}/{file.module.split('.specs.')[1]}")]
 
-    def roots(self, name: str) -> list[Meant]:
-        """What a name of the command line names: a definition, or a clause."""
-        found = self.defined(name)
+    def find_roots(self, name: str) -> list[Meaning]:
+        """Return the definition, or the meanings in the clauses, that an argument of the command
+        names."""
+        found = self.find_definitions(name)
         if len(found) > 1:
-            places = ", ".join(f"{one.file.crate}/{one.file.module.split('.specs.')[1]}.{one.name}"
-                               for one in found)
-            raise Stop(f"{name} is one of {places}")
-        roots: list[Meant] = list(found)
-        roots = roots or self.clause(name)
+            places = ", ".join(f"{definition.file.crate}/"
+                               f"{definition.file.module.split('.specs.')[1]}.{definition.name}"
+                               for definition in found)
+            raise Stop(f"{name} is ambiguous: give one of {places}")
+        roots: list[Meaning] = list(found)
+        roots = roots or self.resolve_clauses(name)
         if not roots:
-            raise Stop(f"{name} is no definition of specs/, and no function or clause of src/")
+            raise Stop(f"{name} is no definition of specs/ and no function or clause of src/")
         return roots
 
-    def place(self, outside: Outside) -> tuple[str, int]:
-        """The file and the line in which the code declares a type."""
+    def find_type(self, outside: Outside) -> tuple[str, int]:
+        """Return the file and line where the code declares a type."""
         form = re.compile(rf"^ *(?:pub(?:\(\w+\))? )?(?:struct|enum|trait) {outside.name}\b", re.M)
-        for path, _ in paths(self.top, outside.crate, "src", ".rt"):
+        for path, _ in list_files(self.top, outside.crate, "src", ".rt"):
             with open(path, encoding="utf-8") as file:
                 text = file.read()
             if found := form.search(text):
                 return path, text.count("\n", 0, found.start()) + 1
         raise Stop(f"{outside.crate} declares no {outside.name}")
 
-    def rests_on(self, name: str) -> dict[Meant, list[Meant]]:
-        """All that a name rests on, each with what it names."""
-        used: dict[Meant, list[Meant]] = {}
-        left = collections.deque(self.roots(name))
+    def dependencies(self, name: str) -> dict[Meaning, list[Meaning]]:
+        """Return all that a name depends on, each with what it names."""
+        used: dict[Meaning, list[Meaning]] = {}
+        left = collections.deque(self.find_roots(name))
         while left:
-            one = left.popleft()
-            if one not in used:
-                used[one] = self.used_by(one) if isinstance(one, Definition) else []
-                left += used[one]
+            meaning = left.popleft()
+            if meaning not in used:
+                used[meaning] = self.uses_of(meaning) if isinstance(meaning, Definition) else []
+                left += used[meaning]
         return used
 
-    def from_the_top(self, name: str) -> list[Definition]:
-        """What a name rests on, what names something before it: crate by crate, the highest first,
-        and there in the order in which one comes to it."""
-        used, seen, last_first = self.rests_on(name), set[Meant](), list[Definition]()
+    def highest_first(self, name: str) -> list[Definition]:
+        """Return the definitions that a name depends on, each before those that it names.
 
-        def visit(one: Meant) -> None:
-            if isinstance(one, Definition) and one not in seen:
-                seen.add(one)
-                for other in reversed(used[one]):
+        The highest crate comes first.
+        """
+        used, seen, last_first = self.dependencies(name), set[Meaning](), list[Definition]()
+
+        def visit(meaning: Meaning) -> None:
+            if isinstance(meaning, Definition) and meaning not in seen:
+                seen.add(meaning)
+                for other in reversed(used[meaning]):
                     visit(other)
-                last_first.append(one)
+                last_first.append(meaning)
 
-        for root in reversed(self.roots(name)):
+        for root in reversed(self.find_roots(name)):
             visit(root)
         lines = read_lines(os.path.join(self.top, "crates.txt"))
         ranks = {crate: (-len(below(crate, lines)), at) for at, crate in enumerate(lines)}
-        return sorted(reversed(last_first), key=lambda it: ranks[it.file.crate])
+        return sorted(reversed(last_first), key=lambda definition: ranks[definition.file.crate])
 
-    def reading(self, name: str) -> tuple[list[Definition], list[Outside]]:
-        """What a name rests on: the definitions, in the order in which they are read, and what is
-        outside, sorted."""
-        used = self.rests_on(name)
-        needs = {one: {it for it in names if isinstance(it, Definition)}
-                 for one, names in used.items() if isinstance(one, Definition)}
-        return self.in_order(needs), sorted(it for it in used if isinstance(it, Outside))
+    def reading_list(self, name: str) -> tuple[list[Definition], list[Outside]]:
+        """Return the definitions that a name depends on, lowest first, and what is outside, sorted.
+        """
+        used = self.dependencies(name)
+        needs = {definition: {meaning for meaning in names if isinstance(meaning, Definition)}
+                 for definition, names in used.items() if isinstance(definition, Definition)}
+        outside = sorted(meaning for meaning in used if isinstance(meaning, Outside))
+        return self.lowest_first(needs), outside
 
-    def in_order(self, needs: dict[Definition, set[Definition]]) -> list[Definition]:
-        """Definitions, what is needed before what needs it: crate by crate, and as long as one can
-        in one file."""
+    def lowest_first(self, needs: dict[Definition, set[Definition]]) -> list[Definition]:
+        """Sort definitions so that each comes after those that it needs.
+
+        Crates are kept together, and files if possible.
+        """
         ranks = {module: (self.crates.index(file.crate), at)
                  for at, (module, file) in enumerate(self.files.items())}
         left, done = dict(needs), list[Definition]()
-        lacking = {one: len(names & needs.keys() - {one}) for one, names in needs.items()}
+        lacking = {definition: len(names & needs.keys() - {definition})
+                   for definition, names in needs.items()}
         needed_by = collections.defaultdict[Definition, list[Definition]](list)
-        for one, names in needs.items():
-            for other in names - {one}:
-                needed_by[other].append(one)
-        ready = {one for one, count in lacking.items() if not count}
+        for definition, names in needs.items():
+            for other in names - {definition}:
+                needed_by[other].append(definition)
+        ready = {definition for definition, count in lacking.items() if not count}
         while left:
             now = done[-1].file if done else None
-            # Definitions that need each other stand in one file, and are read as they stand there.
-            one = min(ready or left, key=lambda it: (
-                ranks[it.file.module][0], it.file is not now, ranks[it.file.module], it.line))
-            del left[one]
-            ready.discard(one)
-            done.append(one)
-            for other in needed_by[one]:
+            # Definitions that need each other are in one file, and keep its order.
+            definition = min(ready or left, key=lambda candidate: (
+                ranks[candidate.file.module][0], candidate.file is not now,
+                ranks[candidate.file.module], candidate.line))
+            del left[definition]
+            ready.discard(definition)
+            done.append(definition)
+            for other in needed_by[definition]:
                 lacking[other] -= 1
                 if other in left and not lacking[other]:
                     ready.add(other)
         return done
 
 
-def named_in(file: File, own: Iterable[str], text: str, bound: Iterable[str] = ()
+def list_names(file: File, own: Iterable[str], text: str, bound: Iterable[str] = ()
              ) -> Iterator[tuple[str | None, str]]:
-    """The names in a text of a file that has some of its own, but what is bound; those that stand
-    behind an alias each with its module."""
+    """Yield the names in a text of a file that are not bound, each with its module after an alias.
+
+    `own` are the names that the file defines.
+    """
     tokens = [token.lstrip("λ") for token in TOKEN.findall(text)]
     for before, token, after in zip(["", *tokens], tokens, [*tokens[1:], ""]):
         base, _, rest = token.partition(".")
@@ -326,14 +341,14 @@ def named_in(file: File, own: Iterable[str], text: str, bound: Iterable[str] = (
             yield None, name
 
 
-def binders(text: str) -> set[str]:
-    """The names that a text binds."""
+def bound_names(text: str) -> set[str]:
+    """Return the names that a text binds."""
     groups = [found for form in BINDS for found in form.findall(text)]
     return {name for group in groups for name in group.split()}
 
 
 def clauses(text: str, function: str, clause: str) -> Iterator[tuple[str, str]]:
-    """The names and texts of a function's clauses, or of the one of that name."""
+    """Yield the name and text of each clause of a function, or of the clause of that name."""
     for found in FUNCTION.finditer(text):
         if found[2] != function:
             continue
@@ -345,7 +360,7 @@ def clauses(text: str, function: str, clause: str) -> Iterator[tuple[str, str]]:
 
 
 def braced(text: str, start: int) -> str:
-    """The text from `start` up to the brace that closes the one before it."""
+    """Return the text from `start` up to the brace that closes the one before it."""
     depth = 1
     for at in range(start, len(text)):
         depth += {"{": 1, "}": -1}.get(text[at], 0)
@@ -354,7 +369,8 @@ def braced(text: str, start: int) -> str:
     return text[start:]
 
 
-def counts(definitions: list[Definition], outside: Iterable[Outside]) -> tuple[int, int, int]:
-    """How many definitions, lines of them, and names of std a reading has."""
-    lines = sum(len(one.code()) for one in definitions)
-    return len(definitions), lines, sum(one.module is None for one in outside)
+def count_reading(definitions: list[Definition], outside: Iterable[Outside]
+                  ) -> tuple[int, int, int]:
+    """Count the definitions, their lines, and the names of std."""
+    lines = sum(len(item.code()) for item in definitions)
+    return len(definitions), lines, sum(item.module is None for item in outside)

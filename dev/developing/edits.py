@@ -1,8 +1,8 @@
-"""The wrong programs of crates/*/must-fail/, release-edits/ and test-edits/: each is an edit.
+"""Read and apply the faulty programs of crates/*/must-fail/, release-edits/ and test-edits/.
 
 A file NAME.edit has lines `file: PATH` and, below each, pairs of lines `old: TEXT` and `new: TEXT`:
-in that file of its crate the old text, which stands there once, gives way to the new one. A line
-`test: NAME` names a stored test that fails on the wrong program; the prover does not read it.
+in that file of the crate, the old text, which must occur exactly once, is replaced by the new one.
+A line `test: NAME` names a stored test that fails on the faulty program; the prover ignores it.
 """
 from __future__ import annotations
 
@@ -18,11 +18,11 @@ from .crates import CRATES
 
 TRIED_BY_GATE = "must-fail"
 TRIED_BEFORE_RELEASE = "release-edits"
-TRIED_BY_TESTS = "test-edits"  # no clause refuses them
+TRIED_BY_TESTS = "test-edits"  # the contracts accept these
 FOLDERS = (TRIED_BY_GATE, TRIED_BEFORE_RELEASE, TRIED_BY_TESTS)
 NAME = re.compile(r"[A-Za-z0-9_-]+\.edit")
-PARTS = ("src/", "specs/", "proofs/")  # of a crate, in which an edit may change a file
-# A test with its body, which ends where a brace begins a line.
+PARTS = ("src/", "specs/", "proofs/")  # folders of a crate that an edit may change
+# A test with its body, which ends with a brace at the start of a line.
 TEST = re.compile(r"(?:#\[rattlefmt::skip\]\n)?#\[test\]\nfn (\w+)\(.*?\n}\n", re.S)
 
 
@@ -39,75 +39,78 @@ class Edit(NamedTuple):
     def path(self) -> str:
         return os.path.join(CRATES, self.crate, self.folder, self.name + ".edit")
 
-    def is_named(self, word: str) -> bool:
-        """Whether a word means it: its name, its crate, or both, with or without the folder."""
+    def matches(self, word: str) -> bool:
+        """Return whether a word names the edit: by name, crate or both, with or without the folder.
+        """
         word = word.removesuffix(".edit").removeprefix("crates/")
         return word in (self.name, self.crate, f"{self.crate}/{self.name}", str(self))
 
 
-def edits_in(folder: str) -> list[Edit]:
-    """The edits of all crates in their folders of that name."""
+def list_edits(folder: str) -> list[Edit]:
+    """Return the edits of all crates in folders of this name."""
     found = []
     for crate in sorted(os.listdir(CRATES)):
         place = os.path.join(CRATES, crate, folder)
         for file in sorted(os.listdir(place)) if os.path.isdir(place) else ():
             if not NAME.fullmatch(file):
-                raise Stop(f"crates/{crate}/{folder}/{file} is no edit: none is named so")
+                raise Stop(f"crates/{crate}/{folder}/{file} is not named as an edit: NAME.edit")
             found.append(Edit(crate, folder, file.removesuffix(".edit")))
     return found
 
 
-Lines = list[tuple[str, str]]  # of the file of an edit: the word before the colon, what follows
+Lines = list[tuple[str, str]]  # key before the colon, text after it
 
 
-def lines_in(path: str) -> Lines:
-    """The lines of a file, but for those that are empty."""
+def read_edit(path: str) -> Lines:
+    """Return the lines of an edit's file that are not empty."""
     with open(path, encoding="utf-8") as file:
         lines = [line.partition(":") for line in file.read().split("\n") if line.strip()]
     return [(kind, rest.removeprefix(" ")) for kind, _, rest in lines]
 
 
-def test_in(name: str, lines: Lines) -> str | None:
-    """The test that an edit with a name names, if any."""
+def find_test(name: str, lines: Lines) -> str | None:
+    """Return the test that the edit `name` names, if any."""
     names = [rest.strip() for kind, rest in lines if kind == "test"]
     if len(names) > 1:
-        raise Stop(f"{name}: it names more than one test")
+        raise Stop(f"{name}: more than one line `test:`")
     return names[0] if names else None
 
 
-def test_of(edit: Edit) -> str | None:
-    """The stored test that it names, if any."""
-    return test_in(str(edit), lines_in(edit.path()))
+def read_test(edit: Edit) -> str | None:
+    """Return the stored test that the edit names, if any."""
+    return find_test(str(edit), read_edit(edit.path()))
 
 
-def edited(edit: Edit) -> dict[str, str]:
-    """The files of the crate that the edit changes, by their path in it, with their new text."""
-    return texts_of(str(edit), lines_in(edit.path()), os.path.join(CRATES, edit.crate), PARTS)
+def apply_edit(edit: Edit) -> dict[str, str]:
+    """Return the crate's files that the edit changes, with their new text, by path in the crate."""
+    return edit_texts(str(edit), read_edit(edit.path()), os.path.join(CRATES, edit.crate), PARTS)
 
 
 @contextlib.contextmanager
-def changed(top: str, texts: dict[str, str]) -> Iterator[None]:
-    """While this holds files below a folder have these texts; then they are as they were."""
-    kept = {}
+def replace_files(top: str, texts: dict[str, str]) -> Iterator[None]:
+    """Give files below a folder these texts inside the context, then restore them."""
+    originals = {}
     for path, text in texts.items():
         file_name = os.path.join(top, path)
         with open(file_name, "r+b") as file:
-            kept[file_name] = file.read(), os.stat(file_name).st_mtime_ns
+            originals[file_name] = file.read(), os.stat(file_name).st_mtime_ns
             file.seek(0)
             file.truncate()
             file.write(text.encode())
     try:
         yield
     finally:
-        for file_name, (data, time) in kept.items():
+        for file_name, (data, mtime) in originals.items():
             with open(file_name, "wb") as file:
                 file.write(data)
-            os.utime(file_name, ns=(time, time))
+            os.utime(file_name, ns=(mtime, mtime))
 
 
-def texts_of(name: str, lines: Lines, top: str, parts: tuple[str, ...]) -> dict[str, str]:
-    """The files below a folder that an edit with a name changes, by their path from there, which
-    begins with one of some parts; with their new text."""
+def edit_texts(name: str, lines: Lines, top: str, parts: tuple[str, ...]) -> dict[str, str]:
+    """Return the files that an edit changes, with their new text, by path below `top`.
+
+    Each path must begin with one of `parts`.
+    """
     path: str | None = None
     old: str | None = None
     texts: dict[str, str] = {}
@@ -115,36 +118,35 @@ def texts_of(name: str, lines: Lines, top: str, parts: tuple[str, ...]) -> dict[
         if kind == "file":
             path = rest.strip()
             if not path.startswith(parts) or os.path.normpath(path) != path:
-                raise Stop(f"{name}: {path} is no file of {', '.join(parts)}")
+                raise Stop(f"{name}: {path} is not a path in {', '.join(parts)}")
         elif kind == "old":
             old = rest
         elif kind == "new":
             if path is None or not old:
-                raise Stop(f"{name}: a line `new:` stands before its `file:` or its `old:`")
+                raise Stop(f"{name}: a line `new:` needs `file:` and `old:` before it")
             text = texts.get(path) or read(os.path.join(top, path))
             if text is None:
                 raise Stop(f"{name}: there is no {path}")
-            texts[path] = replaced(f"{name}: {path}", text, old, rest)
+            texts[path] = replace_once(f"{name}: {path}", text, old, rest)
             old = None
         elif kind != "test":
-            raise Stop(f"{name}: a line is none of `file:`, `old:`, `new:` and `test:`: {kind}")
+            raise Stop(f"{name}: a line begins with {kind}, not `file:`, `old:`, `new:` or `test:`")
     if old is not None or not texts:
         raise Stop(f"{name}: a line `new:` is missing")
     return texts
 
 
-def replaced(name: str, text: str, old: str, new: str) -> str:
-    """A text in which a part of it, that stands there once, gives way to another one."""
+def replace_once(name: str, text: str, old: str, new: str) -> str:
+    """Replace a part of the text that occurs exactly once."""
     if old == new:
-        raise Stop(f"{name}: it changes nothing: {old}")
+        raise Stop(f"{name}: `old` and `new` are the same: {old}")
     if text.count(old) != 1:
-        raise Stop(f"{name}: its text stands there {text.count(old)} times: {old}")
+        raise Stop(f"{name}: `old` must occur once, not {text.count(old)} times: {old}")
     return text.replace(old, new)
 
 
-def stored_tests() -> dict[str, tuple[str, str]]:
-    """The tests of all crates, of which no two have one name: the crate, and the path in its src/.
-    """
+def find_stored_tests() -> dict[str, tuple[str, str]]:
+    """Return the crate and the path in src/ of each test whose name no other test has."""
     found: dict[str, list[tuple[str, str]]] = {}
     for crate in sorted(os.listdir(CRATES)):
         top = os.path.join(CRATES, crate, "src")
@@ -156,20 +158,20 @@ def stored_tests() -> dict[str, tuple[str, str]]:
 
 
 def count_applying() -> tuple[int, int]:
-    """Tells each edit that can't be made, and answers how many can and how many can't."""
-    edits = [edit for folder in FOLDERS for edit in edits_in(folder)]
-    tests = stored_tests()
+    """Print each edit that can't be applied; return how many can be and how many can't."""
+    edits = [edit for folder in FOLDERS for edit in list_edits(folder)]
+    tests = find_stored_tests()
     failed = 0
-    for (crate, name), number in Counter((one.crate, one.name) for one in edits).items():
+    for (crate, name), number in Counter((edit.crate, edit.name) for edit in edits).items():
         if number > 1:
             print(f"{crate}: two edits have the name {name}")
             failed += 1
     for edit in edits:
         try:
-            edited(edit)
-            test = test_of(edit)
+            apply_edit(edit)
+            test = read_test(edit)
             if test is not None and test not in tests:
-                raise Stop(f"{edit}: there is not one stored test {test}")
+                raise Stop(f"{edit}: no stored test, or more than one, is named {test}")
         except Stop as stop:
             print(stop)
             failed += 1

@@ -119,7 +119,7 @@ def weak_contrasts() -> list[str]:
             if contrast(scheme[text], scheme[ground]) < LEAST_CONTRAST]
 
 
-def browser() -> str | None:
+def find_browser() -> str | None:
     """The path of a browser, `None` where there is none."""
     return next(filter(None, map(shutil.which, BROWSERS)), None)
 
@@ -141,7 +141,7 @@ def measured(looks: Sequence[Look], folder: str) -> list[list[str]]:
     around = os.path.join(folder, "around.html")
     with open(around, "w", encoding="utf-8") as file:
         file.write(WRAPPER.format(frames=frames))
-    command = [browser() or BROWSERS[0], "--headless", "--no-sandbox", "--disable-gpu",
+    command = [find_browser() or BROWSERS[0], "--headless", "--no-sandbox", "--disable-gpu",
                "--hide-scrollbars", f"--user-data-dir={os.path.join(folder, 'profile')}",
                "--virtual-time-budget=10000", "--dump-dom", f"file://{around}"]
     done = subprocess.run(command, stdin=subprocess.DEVNULL, stdout=subprocess.PIPE,

@@ -23,7 +23,7 @@ from typing import Any, Callable, Sequence
 from subtitles.common.command_line import Stop
 from subtitles.common.program import TOP, read
 from .bugs import codes
-from .edits import changed
+from .edits import replace_files
 from .tests import bench, runner
 
 COPIED = ("tools", "dev")
@@ -150,7 +150,7 @@ class Copy:
                 self.load_anew()
             return self.run(names)
 
-        with changed(self.top, texts):
+        with replace_files(self.top, texts):
             return apart(planted, seconds)
 
     def watched(self, name: str, seconds: float) -> Answer:

@@ -27,7 +27,7 @@ def unknown_clauses(text: str, library: Library) -> list[str]:
     found: list[str] = []
     for clause in clauses_in(text):
         try:
-            library.roots(clause)
+            library.find_roots(clause)
         except Stop as reason:
             found.append(str(reason))
     return found

@@ -55,9 +55,9 @@ def total(sizes: dict[str, collections.Counter[str]]) -> collections.Counter[str
     return sum(sizes.values(), collections.Counter())
 
 
-def promised(graph: Graph) -> collections.Counter[str]:
+def promised_definitions(graph: Graph) -> collections.Counter[str]:
     """Count the lines of each crate's definitions that public contracts and laws depend on."""
     lines: collections.Counter[str] = collections.Counter()
-    for definition in graph.promised():
+    for definition in graph.promised_definitions():
         lines[definition.file.crate] += definition.lines
     return lines

@@ -1,4 +1,5 @@
-"""What a file of specs/, proofs/ or src/ defines, for dev/graph: read by text, a node for each."""
+"""Parse the definitions, lemmas and functions of a file of specs/, proofs/ or src/, for dev/graph.
+"""
 from __future__ import annotations
 
 import itertools
@@ -15,15 +16,17 @@ FUNCTION = re.compile(r"^( *)(pub(?:\([^)]*\))? )?(?:(?:const|final|unsafe) )*fn
 CLAUSE = re.compile(r"\b(requires|ensures)\*? *(\w*) *\{")
 BLOCK = re.compile(r" *(?:pub )?(?:unsafe )?(?:impl|trait)\b(?:<.*?>)? ?(?:.* for )?"
                    r"(?:\w+::)*(\w+)")
-NO_TEXT = ("//", "use ", "pub use ", "ghost use ", "mod ", "#[")  # of a file of src/
+NO_TEXT = ("//", "use ", "pub use ", "ghost use ", "mod ", "#[")  # lines of src/ without names
 QUOTED = re.compile(r"`([\w'-]+)`")
 MAIN = re.compile(r"[Mm]ain lemmas?: ([^.:]*)")
 
 
 @dataclass(eq=False)
 class Node:
-    """A definition, a lemma, a function, one of its clauses, or the body that it has beside these.
-    The owner of a function is the type or trait in whose block it stands."""
+    """A definition, a lemma, a function, one of its clauses, or its body.
+
+    The owner of a function is the type or trait of its block.
+    """
 
     kind: str
     file: Source
@@ -35,13 +38,13 @@ class Node:
     is_public: bool = False
     owner: str = ""
     function: Node | None = None  # of a clause
-    names: dict[Node, None] = field(default_factory=dict)
-    named_by: dict[Node, None] = field(default_factory=dict)
+    uses: dict[Node, None] = field(default_factory=dict)
+    used_by: dict[Node, None] = field(default_factory=dict)
 
     def add(self, other: Node | None) -> None:
         if other is not None and other is not self:
-            self.names[other] = None
-            other.named_by[self] = None
+            self.uses[other] = None
+            other.used_by[self] = None
 
     def place(self) -> str:
         return f"{os.path.relpath(self.file.path, self.file.top)}:{self.line}"
@@ -63,16 +66,17 @@ class Source(File):
 # Definitions and lemmas
 
 def read_definitions(file: Source, kind: str) -> Iterator[Node]:
-    """The definitions of a file of specs/ or proofs/, also those inside of `module _ .. where`.
+    """Yield the definitions of a file of specs/ or proofs/, with those inside of
+    `module _ .. where`.
 
-    One begins where a line, as far in as its neighbours, gives a type or has a word as `pub`; what
-    follows of its equations, and what stands further in, belongs to it. The parameters of a module
-    belong to each definition inside.
+    A definition begins at a line with a type, or with a keyword as `pub`, at the indentation of its
+    neighbours. Its equations and all lines with more indentation belong to it, and so do the
+    parameters of the modules around it.
     """
     now: Node | None = None
-    # Of each module around a line how far in it stands, its parameters, and how far in what it has.
+    # Of each module around a line: its indentation, its parameters, the indentation inside.
     modules: list[tuple[int, list[str], int]] = []
-    is_head = False  # within the parameters of a module
+    is_head = False  # the line is within the parameters of a module
     for number, line in enumerate(file.text.split("\n"), 1):
         bare = line.strip()
         if not bare or bare.startswith(("--", "pub mod ")) or USE.match(line):
@@ -90,7 +94,7 @@ def read_definitions(file: Source, kind: str) -> Iterator[Node]:
         if is_level and bare.startswith("module "):
             modules.append((depth, [bare], 0))
             is_head, now = not ends_head(bare), None
-        elif is_level and (name := name_begun(bare)):
+        elif is_level and (name := defined_name(bare)):
             around = [part for _, parts, _ in modules for part in parts]
             now = Node(kind, file, name, number, [*around, bare])
             yield now
@@ -100,30 +104,30 @@ def read_definitions(file: Source, kind: str) -> Iterator[Node]:
 
 
 def ends_head(bare: str) -> bool:
-    """Whether a line ends the parameters of a module."""
+    """Return whether a line ends the parameters of a module."""
     return bare == "where" or bare.endswith(" where")
 
 
-def name_begun(bare: str) -> str | None:
-    """The name of the definition that a line begins; `None` for an equation of the last one."""
+def defined_name(bare: str) -> str | None:
+    """Return the name of the definition that a line begins, `None` for an equation."""
     head = HEAD.match(bare)
     return head[2] if head and (head[1] or re.match(r" *:(?:\s|$)", bare[head.end():])) else None
 
 
-def named_at_head(text: str) -> set[str]:
-    """The words in backquotes of a file's first comment, and the main lemmas that it lists."""
+def names_at_head(text: str) -> set[str]:
+    """Return the names in backquotes in a file's first comment, and its list of main lemmas."""
     lines = itertools.takewhile(lambda line: line.startswith("--"), text.split("\n"))
     head = " ".join(line[2:].strip() for line in lines)
-    listed_there = (re.split(r"[`,;\s]+", one) for one in MAIN.findall(head))
+    listed_there = (re.split(r"[`,;\s]+", names) for names in MAIN.findall(head))
     return {*QUOTED.findall(head), *itertools.chain(*listed_there)} - {"", "and"}
 
 
 # Functions
 
 def read_functions(file: Source) -> list[str]:
-    """Reads the functions of a file of src/; answers the lines that belong to none."""
-    rest: list[str] = []
-    attributes: list[str] = []  # of the function below them
+    """Read the functions of a file of src/ into `file`; return the lines outside of them."""
+    other_lines: list[str] = []
+    attributes: list[str] = []  # of the next function
     owner, at = "", 0
     lines = file.text.split("\n")
     while at < len(lines):
@@ -133,7 +137,7 @@ def read_functions(file: Source) -> list[str]:
             text = [*attributes, *map(str.strip, lines[at:last + 1])]
             file.functions.append(Node(
                 "function", file, head[3], at + 1, text, owner=owner,
-                lines=sum(bool(one) and not one.startswith("//") for one in text),
+                lines=sum(bool(text_line) and not text_line.startswith("//") for text_line in text),
                 is_public=bool(head[2]) and "(" not in head[2]))
             at, attributes = last + 1, []
             continue
@@ -146,13 +150,13 @@ def read_functions(file: Source) -> list[str]:
         elif block := BLOCK.match(line):
             owner = block[1]
         if not bare.startswith(NO_TEXT):
-            rest.append(bare)
+            other_lines.append(bare)
         at += 1
-    return rest
+    return other_lines
 
 
 def end_of_function(lines: list[str], at: int, indent: str) -> int:
-    """The last line of the function that begins at line `at`, as far in as `indent`."""
+    """Return the last line of the function that begins at line `at` with this indentation."""
     depth = 0  # of braces in its contract
     for number in range(at, len(lines)):
         line = lines[number].rstrip()
@@ -163,12 +167,12 @@ def end_of_function(lines: list[str], at: int, indent: str) -> int:
             return next((k for k in range(number, len(lines)) if lines[k] == indent + "}"), number)
         depth += line.count("{") - line.count("}")
         if not depth and line.endswith(";"):
-            return number  # of a trait, with no body
+            return number  # declared by a trait: no body
     return len(lines) - 1
 
 
 def clauses(text: str) -> Iterator[tuple[str, str, str, int]]:
-    """Of each clause of a contract the word, the name, the text, and where it ends."""
+    """Yield the keyword, name, text and end of each clause of a contract."""
     at = 0
     while found := CLAUSE.search(text, at):
         inner = braced(text, found.end())

@@ -201,7 +201,7 @@ class Installed(Case):
                   self.read(done.out.decode().strip()) == before, done)
         done = self.tool("dist", self.write("file", b""))
         self.must("no folder", done.status == 2 and done.told == [
-            f"dist: {self.path('file')} is no folder"], done)
+            f"dist: {self.path('file')} is not a folder"], done)
         with tarfile.open(path) as archive:
             archive.extractall(self.folder)
             folder = self.path(archive.getnames()[0])

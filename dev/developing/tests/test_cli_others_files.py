@@ -15,7 +15,7 @@ import time
 from typing import Callable
 from xml.etree import ElementTree as tree
 
-from developing.looks import browser
+from developing.looks import find_browser
 from subtitles.cli.collection import index_page
 from subtitles.common.markup import POLICY
 from subtitles.results.files import Row
@@ -219,7 +219,7 @@ class Pages(Case):
     def test_browser(self) -> None:
         """Nothing is loaded, run or logged: each in a frame of one page, beside one that does all
         of it."""
-        command = browser()
+        command = find_browser()
         if command is None:
             self.skipTest("30 pages in a browser, since there is none")
         self.write("wrong.html", b"<title>a</title><table></table><script>document.title = 'run';"

@@ -14,7 +14,7 @@ from subtitles.common.program import TOP, read
 from subtitles.judging.status import Severity
 from .. import pages
 from ..definitions import Library
-from ..looks import browser
+from ..looks import find_browser
 from ..promises import clauses_in, unknown_clauses
 from ..sizes import KINDS, count_lines, total
 from .bench import Case, script
@@ -93,7 +93,7 @@ class Documents(Case):
         made = self.write("old.png", b"\x89PNG\r\n\x1a\n")
         done = self.call([*tool, "--compare", made])
         self.must("an old one", done.status == 1 and b"is not of today's report" in done.out, done)
-        if not browser():
+        if not find_browser():
             self.skipTest("the picture of README, since there is no browser")
         done = self.call([*tool, made])
         self.must("made", done.status == 0, done)
@@ -278,7 +278,7 @@ class Lists(Case):
 
     def test_say_what_a_crate_is(self) -> None:
         """A reading list has a sentence of each crate: of its library, else of its program."""
-        about = script("reading-list").about
+        about = script("reading-list").first_paragraph
         for crate in Library(TOP).crates:
             self.must(crate, about(crate).endswith("."), about(crate))
         self.must("none", about("nowhere") == "")

@@ -16,7 +16,7 @@ from subtitles.common.command_line import Stop
 from subtitles.common.program import TOP
 from subtitles.common.times import CLOCK, ticks_between, wrapped
 from ..graph import Graph
-from ..sources import named_at_head
+from ..sources import names_at_head
 from .bench import Case, SECONDS, script
 
 
@@ -428,15 +428,15 @@ class GraphTest(unittest.TestCase):
         cls.graph = Graph(cls.folder.name)
 
     def one(self, name: str) -> Any:
-        found = self.graph.matching(name)
+        found = self.graph.find(name)
         self.assertEqual(len(found), 1, name)
         return found[0]
 
     def names(self, name: str) -> set[str]:
-        return {it.name for it in self.one(name).names if it.kind in ("definition", "lemma")}
+        return {it.name for it in self.one(name).uses if it.kind in ("definition", "lemma")}
 
     def serves(self, name: str) -> set[str]:
-        return {it.name for it in self.graph.serves(self.one(name))}
+        return {it.name for it in self.graph.find_promises(self.one(name))}
 
     def test_what_names_what(self) -> None:
         for name, wanted in {
@@ -449,8 +449,8 @@ class GraphTest(unittest.TestCase):
             "law_of_words": {"size_is"},  # by another name
             "LawOfWords": {"size"},  # by the name of the module
         }.items():
-            lemmas = [it for it in self.graph.matching(name) if it.kind in ("definition", "lemma")]
-            found = {it.name for it in lemmas[0].names}
+            lemmas = [it for it in self.graph.find(name) if it.kind in ("definition", "lemma")]
+            found = {it.name for it in lemmas[0].uses}
             self.assertEqual(found, wanted, name)
 
     def test_what_serves_what(self) -> None:
@@ -466,11 +466,11 @@ class GraphTest(unittest.TestCase):
             self.assertEqual(self.serves(name), wanted, name)
 
     def test_promised_definitions_are_those_of_public_clauses_and_laws(self) -> None:
-        self.assertEqual({it.name for it in self.graph.promised()},
+        self.assertEqual({it.name for it in self.graph.promised_definitions()},
                          {"Word", "size", "LawOfWords", "◌>>=◌"})
 
     def test_what_nothing_reaches(self) -> None:
-        self.assertEqual({it.name for it in self.graph.unreached()}, {"unused", "dead"})
+        self.assertEqual({it.name for it in self.graph.find_unreached()}, {"unused", "dead"})
 
     def test_a_function_ends_where_its_body_does(self) -> None:
         self.assertEqual(self.one("helper").lines, 5)
@@ -484,20 +484,20 @@ class GraphTest(unittest.TestCase):
             ("-- What `check --all` tells.\n\n-- `later`", set()),
             ("use A\n-- `later`", set()),
         ):
-            self.assertEqual(named_at_head(text), wanted, text)
-        wrong = self.graph.wrong_heads()
+            self.assertEqual(names_at_head(text), wanted, text)
+        wrong = self.graph.unknown_head_names()
         self.assertEqual({name for names in wrong.values() for name in names}, {"renamed"})
 
     def test_crates_below(self) -> None:
         self.assertEqual(self.graph.below, {"low": [], "app": ["low"]})
 
     def test_tables(self) -> None:
-        self.assertEqual([graph.listed(self.graph.unreached(crate)).split("\n")[-1]
+        self.assertEqual([graph.node_table(self.graph.find_unreached(crate)).split("\n")[-1]
                           for crate in ("", "low", "app")],
                          ["2 with 4 lines", "2 with 4 lines", "0 with 0 lines"])
-        rows = [row.split() for row in graph.by_promise(self.graph, "").split("\n")]
+        rows = [row.split() for row in graph.promise_table(self.graph, "").split("\n")]
         self.assertIn(["app/law_of_words", "2", "2"], rows)
-        self.assertEqual(graph.by_promise(self.graph, "app").split("\n")[0].split(),
+        self.assertEqual(graph.promise_table(self.graph, "app").split("\n")[0].split(),
                          ["promise", "alone", "shared"])
 
     def test_what_is_promised(self) -> None:
@@ -507,11 +507,11 @@ class GraphTest(unittest.TestCase):
                 ("low", ["low/Reader::read  crates/low/src/reading.rt:11  one  kept",
                          "low/helper  crates/low/src/reading.rt:22",
                          "low/Other::declared  crates/low/src/reading.rt:29", "3 functions"])):
-            self.assertEqual(graph.promised(self.graph, crate).split("\n"), wanted)
-        self.assertTrue(graph.promised(self.graph, "").endswith("\n4 functions"))
+            self.assertEqual(graph.clause_table(self.graph, crate).split("\n"), wanted)
+        self.assertTrue(graph.clause_table(self.graph, "").endswith("\n4 functions"))
 
     def test_about_a_name(self) -> None:
-        text = graph.about(self.graph, self.one("outer"))
+        text = graph.describe(self.graph, self.one("outer"))
         self.assertIn("serves:\n    low/Reader::read  crates/low/src/reading.rt:11  one", text)
 
     def test_wrong_words(self) -> None:

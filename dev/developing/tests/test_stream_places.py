@@ -23,7 +23,7 @@ from subtitles.stream.gaps import (
 from subtitles.stream.packets import Clocked, Mark, Packets, Run
 from subtitles.stream.survey import ProgramMap, Survey, survey
 from ..cited import too_long
-from ..definitions import Library, counts
+from ..definitions import Library, count_reading
 from ..promises import clauses_in, unknown_clauses
 from .bench import Case
 from .judged import judged
@@ -341,10 +341,10 @@ class ReadingLists(Case):
                 "high/count.other": "low.size high.size high.IsSize",
                 "law": "low.size high.size high.IsSize",
                 "count": "low.size low.pair high.size high.total high.IsSize"}.items():
-            found = " ".join(f"{one.file.crate}.{one.name}" for one in them.reading(name)[0])
+            found = " ".join(f"{one.file.crate}.{one.name}" for one in them.reading_list(name)[0])
             self.must(name, found == want, found)
-        self.must("counts, with no comment", counts(*them.reading("total")) == (3, 6, 2),
-                  counts(*them.reading("total")))
+        total = count_reading(*them.reading_list("total"))
+        self.must("counts, with no comment", total == (3, 6, 2), total)
 
     def test_reads_from_the_top(self) -> None:
         """What names something comes before it, in the order of the text: the higher crate
@@ -353,15 +353,15 @@ class ReadingLists(Case):
         for name, want in {
                 "total": "high.total low.pair low.size", "law": "high.IsSize high.size low.size",
                 "count": "high.total high.IsSize high.size low.pair low.size"}.items():
-            found = " ".join(f"{one.file.crate}.{one.name}" for one in them.from_the_top(name))
+            found = " ".join(f"{one.file.crate}.{one.name}" for one in them.highest_first(name))
             self.must(name, found == want, found)
 
     def test_holds_how_much_is_to_be_read(self) -> None:
         """As many lines as there may be, and one more."""
         library(self)
         told = list(too_long(self.folder, {"total": 6, "high/count.other": 2}))
-        self.must("lines", told == [None, "high/count.other has 6 lines to be read, 2 at most"],
-                  told)
+        self.must("lines", told == [
+            None, "high/count.other needs 6 lines to be read, at most 2 are allowed"], told)
 
     def test_refuses_what_is_unclear(self) -> None:
         """A name of two files, and names of none."""
@@ -369,7 +369,7 @@ class ReadingLists(Case):
         for name, why in (("size", "high/Things.size"), ("none", "no definition"),
                           ("count.none", "clause")):
             try:
-                told = str(them.reading(name))
+                told = str(them.reading_list(name))
             except Stop as reason:
                 told = str(reason)
             self.must(name, why in told, told)

@@ -152,9 +152,9 @@ class Carried(Case):
                 ("another start", data[:368] + b"\1" + data, 1,
                  "PES packet 1 does not begin with 00 00 01 BD"),
                 ("no PTS", first + data[:7] + b"\0" + data[8:], 1,
-                 "PES packet 1 is none of Teletext"),
+                 "PES packet 1 is not a Teletext packet"),
                 ("another length", data[:4] + b"\0\xb3" + data[6:184] + b"x", 0,
-                 "PES packet 0 is none of Teletext")):
+                 "PES packet 0 is not a Teletext packet")):
             path = self.write("wrong.pes", pes)
             done = self.tool("pes2ts", path, "0x101")
             self.check(name, (done.status, done.told), (1, [
