@@ -12,11 +12,11 @@ returns-clause-items g c =
     digits_by_blocks lower_digits xs c.args.line.now.items c.push_text.new.line.items
     c.push_text-2.new.line.items c.push_text-3.new.line.items long
     (c.push_text.ensures.items ∙ ap (λ l. c.args.line.now.items ++ l) (c.digits_of_block.ensures
-    ∙ ap encode_lower (ap (λ l. get_or l 0 []) c.as_chunks.ensures.prefix
+    ∙ ap encode_lower (ap (λ l. get_or l 0 []) c.as_chunks.ensures.front
     ∙ block_at 16 (length xs / 16) xs 0 (omega arith))))
     (c.push_text-2.ensures.items
     ∙ ap (λ l. c.push_text.new.line.items ++ l) (c.digits_of_block-2.ensures
-    ∙ ap encode_lower (ap (λ l. get_or l 1 []) c.as_chunks.ensures.prefix
+    ∙ ap encode_lower (ap (λ l. get_or l 1 []) c.as_chunks.ensures.front
     ∙ block_at 16 (length xs / 16) xs 1 (omega arith))))
     (c.push_text-3.ensures.items
     ∙ ap (λ l. c.push_text-2.new.line.items ++ take 20 (drop 12 l))

@@ -14,7 +14,7 @@ loop-i-preserved c =
     let block =
     c.copy_from_slice.ensures.after
     ∙ c.mirrored_block.ensures
-    ∙ ap (map mirror) (block_of _ 16 xs i c.as_chunks.ensures.prefix prefix) in
+    ∙ ap (map mirror) (block_of _ 16 xs i c.as_chunks.ensures.front prefix) in
     block_more mirror xs c.loop-i.other _ 42 (16 * i) 16 _ (16 * (i + 1)) (omega arith)
     (omega arith) (omega arith) (omega arith) block c.loop-i.invariant
 

@@ -9,7 +9,7 @@ odd_block-requires c k =
     let xs = c.args.codes.now in
     let i = c.loop-i.i in
     let prefix : i < length xs / 16 = search rules in
-    rw (block_of _ 16 xs i c.as_chunks.ensures.prefix prefix)
+    rw (block_of _ 16 xs i c.as_chunks.ensures.front prefix)
     (below_in_chunk 0x80 (16 * i) 16 xs (omega arith) c.requires k)
 
 pub loop-i-preserved : goal.loop-i-preserved
@@ -20,6 +20,6 @@ loop-i-preserved c =
     let block =
     c.copy_from_slice.ensures.after
     ∙ c.odd_block.ensures
-    ∙ ap (map odd_byte) (block_of _ 16 xs i c.as_chunks.ensures.prefix prefix) in
+    ∙ ap (map odd_byte) (block_of _ 16 xs i c.as_chunks.ensures.front prefix) in
     block_more odd_byte xs c.loop-i.bytes _ 40 (16 * i) 16 _ (16 * (i + 1)) (omega arith)
     (omega arith) (omega arith) (omega arith) block c.loop-i.invariant

@@ -19,8 +19,8 @@ loop-i-preserved c =
     let block : c.differing_of_16-count.result
     ≡ columns_differing 16 (chunk (16 * i) 16 xs) (chunk (16 * i) 16 ys) =
     c.differing_of_16-count.ensures.value
-    ∙ ap₂ (columns_differing 16) (block_of _ 16 xs i c.as_chunks.ensures.prefix (omega arith))
-    (block_of _ 16 ys i c.as_chunks-2.ensures.prefix (omega arith)) in
+    ∙ ap₂ (columns_differing 16) (block_of _ 16 xs i c.as_chunks.ensures.front (omega arith))
+    (block_of _ 16 ys i c.as_chunks-2.ensures.front (omega arith)) in
     let next : 16 * i + 16 ≡ 16 * (i + 1) = omega arith in
     let more = columns_in_chunk xs ys (16 * i) 16 16 (omega arith) in
     grind (arith, nat_tests)

@@ -17,13 +17,13 @@ returns c is_equal =
     let long = length-zip2 differ xs ys (omega arith) in
     let prefix =
     c.differing-prefix.ensures
-    ∙ ap₂ differing_mask (block_of _ 16 xs 0 c.as_chunks.ensures.prefix (omega arith))
-    (block_of _ 16 ys 0 c.as_chunks-2.ensures.prefix (omega arith))
+    ∙ ap₂ differing_mask (block_of _ 16 xs 0 c.as_chunks.ensures.front (omega arith))
+    (block_of _ 16 ys 0 c.as_chunks-2.ensures.front (omega arith))
     ∙ mask_of_block xs ys 0 (omega arith) (omega arith) in
     let middle =
     c.differing-middle.ensures
-    ∙ ap₂ differing_mask (block_of _ 16 xs 1 c.as_chunks.ensures.prefix (omega arith))
-    (block_of _ 16 ys 1 c.as_chunks-2.ensures.prefix (omega arith))
+    ∙ ap₂ differing_mask (block_of _ 16 xs 1 c.as_chunks.ensures.front (omega arith))
+    (block_of _ 16 ys 1 c.as_chunks-2.ensures.front (omega arith))
     ∙ mask_of_block xs ys 16 (omega arith) (omega arith) in
     let last =
     c.differing-last.ensures

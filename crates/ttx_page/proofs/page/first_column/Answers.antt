@@ -14,8 +14,8 @@ loop-i-preserved c k l =
     let i = c.loop-i.i in
     let mask =
     c.differing-mask.ensures
-    ∙ ap₂ differing_mask (block_of _ 16 xs i c.as_chunks.ensures.prefix (omega arith))
-    (block_of _ 16 ys i c.as_chunks-2.ensures.prefix (omega arith))
+    ∙ ap₂ differing_mask (block_of _ 16 xs i c.as_chunks.ensures.front (omega arith))
+    (block_of _ 16 ys i c.as_chunks-2.ensures.front (omega arith))
     ∙ mask_of_block xs ys (16 * i) (omega arith) (omega arith) in
     none_so_far (λ x. x) (zip2 differ xs ys) (16 * i) c.differing-mask.result false
     (omega (arith, length-zip2 differ xs ys (omega arith))) mask c.if-mask-ne0.false
@@ -28,8 +28,8 @@ returns-then-mask-ne0 c =
     let i = c.loop-i.i in
     let mask =
     c.differing-mask.ensures
-    ∙ ap₂ differing_mask (block_of _ 16 xs i c.as_chunks.ensures.prefix (omega arith))
-    (block_of _ 16 ys i c.as_chunks-2.ensures.prefix (omega arith))
+    ∙ ap₂ differing_mask (block_of _ 16 xs i c.as_chunks.ensures.front (omega arith))
+    (block_of _ 16 ys i c.as_chunks-2.ensures.front (omega arith))
     ∙ mask_of_block xs ys (16 * i) (omega arith) (omega arith) in
     let found =
     first_so_far (λ x. x) (zip2 differ xs ys) (16 * i) c.differing-mask.result false

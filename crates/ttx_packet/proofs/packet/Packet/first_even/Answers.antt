@@ -13,7 +13,7 @@ loop-i-preserved c k below =
     let xs = drop 2 c.args.self.now in
     let i = c.loop-i.i in
     let prefix : i < length xs / 16 = search rules in
-    let blocks = rw c.data.ensures at c.as_chunks.ensures.prefix in
+    let blocks = rw c.data.ensures at c.as_chunks.ensures.front in
     let mask = c.evens-mask.ensures ∙ ap evens_mask (block_of _ 16 xs i blocks prefix) in
     not-false _
     (none_so_far is_even xs (16 * i) c.evens-mask.result 0 (omega arith) mask c.if-mask-ne0.false
@@ -24,7 +24,7 @@ returns-then-mask-ne0 c =
     let xs = drop 2 c.args.self.now in
     let i = c.loop-i.i in
     let prefix : i < length xs / 16 = search rules in
-    let blocks = rw c.data.ensures at c.as_chunks.ensures.prefix in
+    let blocks = rw c.data.ensures at c.as_chunks.ensures.front in
     let mask = c.evens-mask.ensures ∙ ap evens_mask (block_of _ 16 xs i blocks prefix) in
     let found =
     first_so_far is_even xs (16 * i) c.evens-mask.result 0 (omega arith) mask c.if-mask-ne0.true
