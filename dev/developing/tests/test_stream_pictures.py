@@ -71,6 +71,10 @@ class Departures(Case):
         self.check("three steps", departures_of(leads), [
             Departure(leads[20].pts, leads[19].pts, 3 * TICKS),
             Departure(leads[40].pts, leads[39].pts, -3 * TICKS)])
+        for after, ticks in ((0.0, 6 * TICKS), (4.0, None)):
+            near = leads_of([6.0] * 20 + [3.0] + [after] * 20, {20: 3, 21: 3})
+            self.check(f"two steps with one line between, then {after}", departures_of(near), [
+                Departure(near[21].pts, near[19].pts, ticks)])
         for count in (0, 1):
             self.check(f"{count} lines", departures_of(leads[:count]), [])
 

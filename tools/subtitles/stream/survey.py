@@ -73,7 +73,7 @@ def departures_of(leads: Sequence[VideoLead]) -> list[Departure] | None:
             left = None  # they left and came back, or one time is damaged
         if left != 0:
             at = end - len(between)
-            departures.append(Departure(leads[at].pts, leads[at - 1].pts, left))
+            departures.append(Departure(leads[end].pts, leads[at - 1].pts, left))
         before, between, ticks = row, [], 0
     return departures
 
