@@ -13,7 +13,7 @@ from subtitles.air.check import Outcome
 from subtitles.air.segments import Segment, segment_name, segments_between
 from subtitles.air.state import Monitor
 from subtitles.common.files import result_file
-from .air import Air, DAY, FakeChecker, Sent, outcome
+from .air import Air, DAY, FakeChecker, MARGIN, Sent, outcome
 from .bench import example_bytes
 from .sent import subtitle_file
 
@@ -121,7 +121,7 @@ class Judged(Air):
         self.put_segments(0, 900)
         self.lag = 9
         with mock.patch.object(judging, "segments_between", self.recorded_so_far):
-            self.run_judge(FakeChecker({}), 1500)
+            self.run_judge(FakeChecker({}), 1500, END + MARGIN)
         self.check("reason", self.result(NAME)["reason"], "no cue agrees")
 
     def test_is_not_tried_too_often(self) -> None:

@@ -38,7 +38,7 @@ NAMES = {
 STRETCHES = {
     "none": ("", 2, ""),
     "one": ("0-10", 2, "0-10"),
-    "three": ("0-10 10-20 20-30", 2, "0-30"),
+    "the clock was set back in one": ("10-5 12-20 20-30", 2, "10-30"),
     "the longest pause": ("0-10 12-20", 2, "0-20"),
     "a longer pause": ("0-10 13-20", 2, "0-10 13-20"),
     "the same with more patience": ("0-10 13-20", 3, "0-20"),
@@ -50,7 +50,7 @@ STRETCHES = {
 # The last two segments are of one feed: before which of its TS packets the first one ends and the
 # second one begins; the seconds of all, as above; and the stretches.
 JOINTS = {
-    "the feed goes on": (900.5, 900.5, "0-10 10-20", "0-20"),
+    "it goes on, without a PCR": (900.5, 900.5, "0-10 10-20", "0-20"),
     "the recorder stalled": (900.5, 900.5, "0-10 18-20", "0-20"),
     "it started again, and lost nothing": (900.5, 900.5, "0-10 !11-20", "0-20"),
     "it started again, and lost a packet": (900, 901, "0-10 !11-20", "0-10 11-20"),
@@ -89,6 +89,7 @@ class Segments(Air):
         for name, (text, pause, expected) in STRETCHES.items():
             self.check(name, self.divided(text, pause), expected)
 
+    @mock.patch.object(segments, "BLOCK", 100_000)
     def test_follows_the_packets_from_one_segment_to_the_next(self) -> None:
         feed = b"".join(in_frames([], BEGIN, 110, 1))
         packets = [feed[at:at + 188] for at in range(0, len(feed), 188)]

@@ -50,7 +50,6 @@ class Units(Case):
         self.must("the same folder", words[RECORD][-1] in words[JUDGE], words)
 
     def test_a_signal_ends_what_judges(self) -> None:
-        """With status 2, so a stop is no failure."""
         for name in (JUDGE, "subttx-watch.service"):
             service = read_unit(name)["Service"]
             self.check(name, service["SuccessExitStatus"], "2")

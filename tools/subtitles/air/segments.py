@@ -18,7 +18,7 @@ NAME = re.compile(r"(?:.*\D)?(\d{4})-?(\d\d)-?(\d\d)[T_-]?(\d\d)[-.:]?(\d\d)[-.:
                   r"(\.\d{1,6})?Z?(?:-new)?\.(?:ts|m2ts|mts|trp)", re.ASCII | re.DOTALL)
 NEW = "-new.ts"  # ends the name of a segment if something may be missing before it
 BLOCK = 1 << 19  # bytes that are read at a time, and compared where segments meet
-PACKET_SIZES, SYNC, NULL_PID = (188, 192, 204), 0x47, 0x1FFF
+PACKET_SIZES, SYNC = (188, 192, 204), 0x47
 LEAST_PACKETS = 5  # whose sync bytes tell where the TS packets begin
 Sides = tuple[list[int], list[int]]  # numbers before and after the middle
 
@@ -136,8 +136,8 @@ def is_continued(before: Segment, after: Segment) -> bool | None:
         return None
     counters, clocks = dict[int, Sides](), dict[int, Sides]()
     for number, packet in enumerate(packets):
-        pid = int.from_bytes(packet[1:3], "big") & NULL_PID
-        if packet[3] & 0x10 and pid != NULL_PID:  # with a payload, so its counter goes on
+        pid = int.from_bytes(packet[1:3], "big") & 0x1FFF
+        if packet[3] & 0x10:  # it has a payload, so its counter goes on
             counters.setdefault(pid, ([], []))[number >= count].append(packet[3] & 15)
         if packet[3] & 0x20 and packet[4] > 6 and packet[5] & 0x10:
             pcr = int.from_bytes(packet[6:11], "big") >> 7
