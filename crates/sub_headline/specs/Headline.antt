@@ -1,4 +1,4 @@
--- What the exit status of `check` says about the bytes of both files.
+-- What the exit code of `check` says about the contents of the subtitle file and the recording.
 use Rattle.std.specs.Prelude.{◌≡◌, ◌≢◌, ◌↔◌, ℕ, List, [], ◌∷◌, Option, Some, Ok, Result, codes}
 use Rattle.std.specs.Prelude.{IsTrue}
 use Rattle.std.specs.List.{flat_map}
@@ -31,8 +31,8 @@ use Rattle.sub_headline.specs.PlainReading.{frames_by_place, subtitles_by_place,
 use Rattle.sub_headline.specs.PlainArguments.{IsName}
 use Rattle.sub_headline.specs.Run.{RunsProgram}
 
--- If the program was called with the arguments `check STL PES`, `IsSo` holds for the contents of
--- these two files.
+-- If the program was called with the arguments `check STL PES`, which do not begin with `-`, `IsSo`
+-- holds for the contents of these two files.
 abbrev pub OfCheck :
     Result (List Text) UsageFault → MemFilesValue → (List ℕ → List ℕ → Type 0) → Type 0
 OfCheck given files IsSo =
@@ -44,8 +44,8 @@ OfCheck given files IsSo =
     → bytes_at pes files ≡ Some bytes
     → IsSo file bytes
 
--- If the exit code is 0, the headline holds for page 888: every receiver gets a header of it within
--- 250 frames, 10 seconds, and then has the due page. Frame 0 has the PTS 0.
+-- If the exit code is 0, the headline holds for page 888 with a repeat bound of 250 frames (10
+-- seconds). Frame 0 has the PTS 0.
 abbrev pub ImpliesHeadline : Result (List Text) UsageFault → MemFilesValue → ℕ → Type 0
 ImpliesHeadline given files code =
     OfCheck given files
@@ -53,8 +53,8 @@ ImpliesHeadline given files code =
     code ≡ 0
     → Headline page_888 250 english_due (subtitles_by_place file) (frames_by_place 0 bytes))
 
--- If the program was called with `check STL PES` and these options, in any order, `IsSo` holds for
--- the chosen options and the contents of these two files.
+-- If the program was called with `check STL PES`, followed by these options in any order, `IsSo`
+-- holds for the chosen options and the contents of these two files.
 abbrev pub OfChosen :
     Result (List Text) UsageFault → MemFilesValue
     → (OptionsValue → List ℕ → List ℕ → Type 0) → Type 0
@@ -67,8 +67,8 @@ OfChosen given files IsSo =
     → bytes_at pes files ≡ Some bytes
     → IsSo (options_by choices) file bytes
 
--- If the exit code is 0, `IsSo` holds for the options, and for the subtitles and frames in both
--- files.
+-- If the exit code is 0, `IsSo` holds for the options, the subtitles of the subtitle file and the
+-- frames of the PES file.
 abbrev pub OfAccepted :
     Result (List Text) UsageFault → MemFilesValue → ℕ
     → (OptionsValue → List SubtitleValue → Transmission → Type 0) → Type 0
@@ -76,22 +76,23 @@ OfAccepted given files code IsSo =
     OfChosen given files
     (λ o file bytes. code ≡ 0 → IsSo o (subtitles_by_place file) (frames_by_place o.origin bytes))
 
--- If the exit code is 0, the headline holds for every receiver of the chosen page.
+-- If the exit code is 0, the headline holds with the chosen page and repeat bound.
 abbrev pub ImpliesChosen : Result (List Text) UsageFault → MemFilesValue → ℕ → Type 0
 ImpliesChosen given files code =
     OfAccepted given files code (λ o. Headline o.page o.every english_due)
 
--- If the exit code is 0, the headline also holds for receivers that drop a row with a wrong byte.
+-- If the exit code is 0, receivers that ignore each row with a byte of even parity get the due page
+-- too; a cell is excused if any byte of its row was hit.
 abbrev pub ImpliesDropping : Result (List Text) UsageFault → MemFilesValue → ℕ → Type 0
 ImpliesDropping given files code =
     OfAccepted given files code (λ o. EachOfClassGets Dropping o.page o.every)
 
--- If the exit code is 0, the screens of all these receivers show what is due.
+-- If the exit code is 0, each receiver of either class shows the characters of the due page.
 abbrev pub ImpliesScreens : Result (List Text) UsageFault → MemFilesValue → ℕ → Type 0
 ImpliesScreens given files code = OfAccepted given files code (λ o. EachScreenShows o.page)
 
--- If the exit code is 0, the bytes of both files match their formats, and contain these subtitles
--- and frames and nothing else.
+-- If the exit code is 0, both files match their formats: the subtitle file contains these subtitles
+-- and the PES file these frames, and nothing else.
 abbrev pub ImpliesFiles : Result (List Text) UsageFault → MemFilesValue → ℕ → Type 0
 ImpliesFiles given files code =
     OfChosen given files
@@ -100,16 +101,17 @@ ImpliesFiles given files code =
     → AreFilesOf whole o.origin file bytes (subtitles_by_place file)
     (frames_by_place o.origin bytes))
 
--- If the exit code is 0 and complete pages were required, displays that wait for complete pages
--- show the due page, too.
+-- If the exit code is 0 and complete pages were required, receivers that show a page only when a
+-- later header has ended it show the due page too.
 abbrev pub ImpliesComplete : Result (List Text) UsageFault → MemFilesValue → ℕ → Type 0
 ImpliesComplete given files code =
     OfAccepted given files code
     (λ o subtitles transmission.
     IsTrue o.asks_complete → EachDisplayShows o.page subtitles transmission)
 
--- If the program was called with `check STL RECORDING` and these options, in any order, `IsSo`
--- holds for how the recording is read and for the contents of these two files.
+-- If the program was called with `check STL RECORDING`, followed by these options in any order,
+-- `IsSo` holds for how both files are read and for their contents. RECORDING is a PES file or, with
+-- `--pid`, a transport stream.
 abbrev pub OfRecording :
     Result (List Text) UsageFault → MemFilesValue → (Reading → List ℕ → List ℕ → Type 0) → Type 0
 OfRecording given files IsSo =
@@ -131,7 +133,8 @@ ImpliesRecording given files code =
     → Headline r.options.page r.options.every english_due (subtitles_within r.scope file)
     (frames_by_place r.options.origin (bytes_read r bytes)))
 
--- The promises to other receivers and for screens.
+-- The promises to receivers that ignore damaged rows, for what receivers show, and for receivers
+-- that wait for complete pages.
 pub record ServesOthers
     (o : OptionsValue) (subtitles : List SubtitleValue) (transmission : Transmission)
     : Type 0 where
@@ -139,7 +142,8 @@ pub record ServesOthers
   pub screens : EachScreenShows o.page subtitles transmission
   pub complete : IsTrue o.asks_complete → EachDisplayShows o.page subtitles transmission
 
--- If the exit code is 0, they hold for the same subtitles and frames.
+-- If the exit code is 0, the promises of `ServesOthers` hold for the subtitles and frames in the
+-- selected parts of both files.
 abbrev pub ImpliesRecordingToo : Result (List Text) UsageFault → MemFilesValue → ℕ → Type 0
 ImpliesRecordingToo given files code =
     OfRecording given files
@@ -158,9 +162,9 @@ ImpliesRecordingFiles given files code =
     → AreFilesOf r.scope r.options.origin file (bytes_read r bytes) (subtitles_within r.scope file)
     (frames_by_place r.options.origin (bytes_read r bytes)))
 
--- If the program was called with `check STL RECORDING` and any of these options, in any order,
--- `IsSo` holds for how the recording is read and subtitles are drawn, and for the contents of these
--- two files.
+-- If the program was called with `check STL RECORDING`, followed by any of these options in any
+-- order, `IsSo` holds for how both files are read, how subtitles are drawn, and for the contents of
+-- the files.
 abbrev pub OfDisplay :
     Result (List Text) UsageFault → MemFilesValue → (DisplayOptions → List ℕ → List ℕ → Type 0) →
     Type 0
@@ -185,15 +189,16 @@ ImpliesDrawn given files code =
     → Headline o.page o.every (due (drawing_by l.national l.layout))
     (subtitles_within l.reading.scope file) (frames_by_place o.origin (bytes_read l.reading bytes)))
 
--- Unless the exit code is 2, which means that a device failed or memory ran out, it is 0 exactly if
--- the files are accepted: they contain some subtitles and a good transmission of these, by the
--- chosen options.
+-- Unless the exit code is 2 (a device failed or memory ran out), it is 0 exactly if the files are
+-- acceptable by the chosen options: they contain at least one subtitle, and a good transmission of
+-- the subtitles.
 abbrev pub DecidesAcceptance : Result (List Text) UsageFault → MemFilesValue → ℕ → Type 0
 DecidesAcceptance given files code =
     OfChosen given files (λ o file bytes. code ≢ 2 → (code ≡ 0) ↔ IsPlainlyAccepted o file bytes)
 
--- The exit code of a run of the program on files in memory says all this, whatever standard output
--- is.
+-- The exit code of each run of the program says all this. The files are modelled in memory, and
+-- `before` has their contents when the program starts. Standard output is any device, described by
+-- its contents, its failure count and its calls. `given` is the command line, `code` the exit code.
 abbrev pub LawOfHeadline :
     {K : Type 0}
     → (K → Option (List ℕ)) → (K → ℕ) → (K → List ℕ → Option ℕ → K → Type 0) → Type 0

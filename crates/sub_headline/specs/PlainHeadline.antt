@@ -1,5 +1,5 @@
--- The headline of `check`, in as few words as possible: the page that every receiver has, given a
--- transmission.
+-- The headline, in as few definitions as possible: which page every receiver has, if `check`
+-- accepts the transmission.
 use Rattle.std.specs.Prelude.{◌≡◌, ◌⊎◌, ◌||◌, ℕ, ◌+◌, ◌≤◌, All, Bool, IsTrue, List}
 use Rattle.ttx_packet.specs.PageId.{PageIdValue}
 use Rattle.ttx_page.specs.LostRows.{IsHitOrLost, arrivals_of}
@@ -11,10 +11,11 @@ use Rattle.stl_file.specs.Subtitle.{SubtitleValue}
 use Rattle.sub_rules.specs.Transmission.{Transmission, first_frame, last_frame, on_air}
 use Rattle.sub_laws.specs.LostRows.{IsGot}
 
--- What a receiver has at the end of frame f, if it was switched on in frame g and `sent` was
--- transmitted since: a header of the page was sent if `every` frames have passed; the receiver has
--- received a header of the page exactly if it had before or one was sent since; and after one was
--- sent, each cell has the code of the due page or, if the cell is excused, a space.
+-- What a receiver has at the end of frame f, if it was switched on in frame g and the packets
+-- `sent` were transmitted since. The repeat bound `every` is a number of frames: so many frames
+-- after g, at the latest, a header of the page has been sent. The receiver has received a header of
+-- the page exactly if it had before or one was sent since. After one was sent, each cell has the
+-- code of the due page or, if the cell is excused, a space.
 pub record Gets
     (page : PageIdValue) (every : ℕ) (due : Rows) (g f : ℕ)
     (sent : List (List ℕ)) (IsExcused : ℕ → ℕ → Type 0) (old new : State)
@@ -30,9 +31,10 @@ pub record Gets
 
 -- Every receiver gets this: wherever it is switched on (at packet j of frame g) and observed (at
 -- the end of frame f) within the transmission; whichever packets arrive, as long as all page
--- headers do, each with at most one wrong bit per byte; whatever it had before, any page, open or
--- not, with or without a header; and whatever it chooses at bytes of even parity. A cell is excused
--- if its byte was received with a wrong bit, or its row was lost.
+-- headers do, and each packet that arrives has at most one wrong bit in each byte; whatever the
+-- receiver had before, any page, open or not, with or without a header; and whatever it chooses at
+-- bytes of even parity. A cell is excused if, since the last header of the page, a packet of its
+-- row was lost, or received with another byte in its column.
 abbrev pub EachReceiverGets : PageIdValue → ℕ → (ℕ → Rows) → Transmission → Type 0
 EachReceiverGets page every due transmission =
     (g j f : ℕ) (arrived : List Bool) (got : List (List ℕ)) (old new : State)
@@ -41,14 +43,14 @@ EachReceiverGets page every due transmission =
     → Gets page every (due f) g f (on_air transmission g j f)
     (IsHitOrLost page (on_air transmission g j f) (arrivals_of arrived got)) old new
 
--- The headline for subtitles and a transmission, on a page whose header is repeated within `every`
--- frames. `due` gives the page that is due at a frame.
+-- The headline for subtitles and a transmission. `every` is the repeat bound of the page's header
+-- in frames, and `due` gives the page that is due at a frame.
 pub record Headline
     (page : PageIdValue) (every : ℕ) (due : List SubtitleValue → ℕ → Rows)
     (subtitles : List SubtitleValue) (transmission : Transmission)
     : Type 0 where
-  -- The transmission lasts from the first TCI to the last TCO.
+  -- The transmission has all frames from the first TCI to the last TCO, and may have more.
   pub covers :
       All (λ t. (first_frame transmission ≤ t.tci) × (t.tco ≤ last_frame transmission)) subtitles
-  -- While it lasts, every receiver gets the due page.
+  -- From its first frame to its last, every receiver gets the due page in the sense of `Gets`.
   pub receivers : EachReceiverGets page every (due subtitles) transmission

@@ -77,7 +77,7 @@ pub record RunsProgram
   pub left_is : left ≡ new.device
   pub status : Status
   pub code_is : code ≡ exit_code status
-  -- It ends in this way, or memory ran out before the arguments were read.
+  -- The program answers its arguments, or memory ran out before they were read.
   pub ends :
       (let old : BufferState K =
       record { device = output; buffered = []; room = room; failed = false; refused = 0 } in
