@@ -9,6 +9,7 @@ from __future__ import annotations
 import collections
 import sys
 
+from subtitles.common.times import TICKS
 from subtitles.judging.sentence import WORDS
 from .bench import BENCH, Case
 from .judged import OfProgramme, judged
@@ -56,6 +57,29 @@ class OffGrid(OfProgramme):
         found = self.judge(off_grid(sent, 1000, 2, 9), "--every", "25")
         self.check("sentence", "subtitle 7" in found.verdict.sentence and
                    "was never sent" in found.verdict.sentence, True)
+
+
+class FirstEarly(OfProgramme):
+    """A first subtitle that is early by exactly the distance of the repeats."""
+
+    due = [(FIRST + 100 * at, FIRST + 100 * at + 60) for at in range(10)]
+
+    def test_is_refused(self) -> None:
+        """Also if the rows come in a PES packet of their own, in the same frame or the next one,
+        and whether a blank page comes before it or not. The sentence names it, but for rows a frame
+        later, by which each repeat blanks the page."""
+        pts, page = self.sent[0]
+        early, blank = (pts - 25 * TICKS, page), (pts - 26 * TICKS, [page[0], page[-1]])
+        several: list[Sent] = [[], [blank]]
+        for ticks in (0, TICKS // 2, TICKS):
+            for before in several:
+                sent = [part for at, some in [*before, early, *self.sent] for part in (
+                    [(at, some[:1]), (at + ticks, some[1:])] if ticks and len(some) > 2
+                    else [(at, some)])]
+                found = self.judge(sent, "--every", "27", "--within", "1")
+                sentence = 'Refused: at 10:00:00:00 subtitle 1, "Number 1", is 25 frames early.'
+                self.check(f"rows {ticks} ticks later, {len(before)} blank", (
+                    found.word, found.verdict.sentence == sentence), ("refused", ticks < TICKS))
 
 
 class Blocks(Case):
