@@ -62,8 +62,7 @@ class Outcome(NamedTuple):
 
 class BeginCheck(NamedTuple):
     """Checks when a programme began: within `margin` seconds of its time of air. `first` is when
-    the recording begins; `packets_by` returns how many PES packets of each PID had come by a time.
-    """
+    the recording begins; `packets_by` returns how many PES packets of a PID had come by a time."""
 
     air_time: float
     margin: float
@@ -99,8 +98,7 @@ def begin_number(part: Part) -> int:
 
 
 def seconds_before_first(part: Part) -> float:
-    """Return how long before the page's first PES packet the first subtitle was due; 0 or less if
-    it was not."""
+    """Return how long the first subtitle was due before the page's first PES packet, or below 0."""
     recording, alignment = part.recorded
     begin = pts_of(alignment.begin, alignment.origin)
     first = next(recording.packets.pts(alignment.packets), begin)

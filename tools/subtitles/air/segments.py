@@ -101,11 +101,13 @@ class Unbroken(NamedTuple):
                    for segment in self.segments)
 
     def read(self, begin: float, end: float) -> Iterator[bytes]:
-        """Yield the bytes that came from one time to another."""
-        for segment in self.segments:
-            if segment.begin < end and segment.end > begin:
-                yield from read_range(segment.path, segment.offset_at(begin),
-                                      segment.offset_at(end))
+        """Yield the bytes that came from one time to another, but one if they begin in a TS packet
+        as PES packets do: they would be taken for these."""
+        data = (block for one in self.segments if one.begin < end and one.end > begin
+                for block in read_range(one.path, one.offset_at(begin), one.offset_at(end)))
+        block = next(data, b"")
+        yield block[block.startswith(b"\0\0\1"):]
+        yield from data
 
 
 def read_range(path: str, first: int, end: int) -> Iterator[bytes]:
