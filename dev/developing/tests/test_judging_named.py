@@ -13,9 +13,11 @@ from subtitles.common.times import TICKS
 from subtitles.judging.sentence import WORDS
 from .bench import BENCH, Case
 from .judged import OfProgramme, judged
+from .muxed import mpeg_2_picture, with_pictures
 from .planted import FIRST, Programme, planted
 from .sent import Sent, joined, subtitle_file
 
+JPEG_2000 = 0x21  # stream_type of video whose pictures are not read
 ADVICE = ("--within", "--keeping", "--no-complete", "--allow-lost", "--severity", "--pace")
 
 
@@ -80,6 +82,24 @@ class FirstEarly(OfProgramme):
                 sentence = 'Refused: at 10:00:00:00 subtitle 1, "Number 1", is 25 frames early.'
                 self.check(f"rows {ticks} ticks later, {len(before)} blank", (
                     found.word, found.verdict.sentence == sentence), ("refused", ticks < TICKS))
+
+
+class NoClock(OfProgramme):
+    """What the sentence advises if no clock was given."""
+
+    words = ("--every", "25")
+
+    def test_names_what_works_for_the_recording(self) -> None:
+        """`--start` only if a picture can be found that it is the time code of."""
+        first, pes = TICKS * 40, joined(self.sent)
+        pictures = with_pictures(pes, first).data
+        of_other = with_pictures(pes, first, JPEG_2000, mpeg_2_picture()).data
+        for name, data, is_start in (("PES packets", pes, False), ("MPEG-2", pictures, True),
+                                     ("JPEG 2000", of_other, False)):
+            found = judged(self, self.stl, self.write("one", data), *self.words)
+            advice = found.verdict.sentence.partition(" was not checked: ")[2]
+            self.check(name, (found.verdict.word, "--start" in advice, "--origin" in advice),
+                       ("relative", is_start, True))
 
 
 class Blocks(Case):
