@@ -2,6 +2,7 @@
 from __future__ import annotations
 
 import gzip
+import hashlib
 import os
 import re
 import shutil
@@ -9,8 +10,7 @@ import subprocess
 
 from subtitles.common.command_line import Stop
 from subtitles.common.files import naming
-from subtitles.common.program import (
-    PAGES, copy, documents, files_below, install, link, sums_of, write)
+from subtitles.common.program import PAGES, copy, documents, install, link, write
 
 NAME = "subttx"
 MACHINE = "amd64"
@@ -129,3 +129,21 @@ def make_package(program: str, proved: str, version: str, work: str, path: str, 
     with naming(path):
         shutil.copyfile(made, path + ".new")
         os.replace(path + ".new", path)
+
+
+def files_below(folder: str) -> list[str]:
+    """The files of a folder, links left out, by their names from there."""
+    files = []
+    for place, _, names in os.walk(folder):
+        paths = [os.path.join(place, name) for name in names]
+        files += [os.path.relpath(path, folder) for path in paths if not os.path.islink(path)]
+    return sorted(files)
+
+
+def sums_of(folder: str, kind: str) -> str:
+    """A line for each file of a folder: its sum, as md5 or sha256, and its name."""
+    lines = []
+    for name in files_below(folder):
+        with open(os.path.join(folder, name), "rb") as file:
+            lines.append(f"{hashlib.new(kind, file.read()).hexdigest()}  {name}\n")
+    return "".join(lines)

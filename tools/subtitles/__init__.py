@@ -19,7 +19,7 @@ the PID chosen                         recording/recording.py `Recording.chosen`
 the origin found                       clock/origin.py `find`
 a part made, step by step              judging/pair.py `judge_part`, its values judging/part.py
 the PES packets taken                  stream/ranges.py `cut_of`
-a hole of 16 TS packets found          stream/gaps.py `pace_of`, for a part judging/timing.py
+a hole of 16 TS packets found          stream/pace.py `pace_of`, for a part judging/timing.py
 the verdict decided                    judging/status.py `decide`
 the sentence of the last line made     judging/sentence.py `sentence_of`
 an option added                        request/request.py `OPTIONS`

@@ -11,7 +11,6 @@ results    JSON results, and what is wrong in one by the schema
 programmes programmes made for tests, and what is sent of them
 air        segments and schedules for the tests of tools/air
 scenario   pairs at random, by numbers: at_random calls qc with them
-strangers  folders at random that others have filled, and calls there
 at_random  all output of a random call, or of a named one; many_at_random of a folder of pairs
 snapshots  outputs that are stored in dev/snapshots/, and what differs from them
 runner     finds tests and runs them side by side

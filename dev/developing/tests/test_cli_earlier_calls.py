@@ -132,7 +132,7 @@ class Objects(Case):
             self.must(f"{data[:9]!r}", known is not None and (words or "loaded") in
                       known["reason"], known)
 
-    def test_rows(self) -> None:
+    def test_takes_a_row_of_the_table_from_each_object(self) -> None:
         """All that a table takes of an object, and what stands there where it has none of it."""
         faults = [{**FAULT, "line": f"refused {number}", "number": 5, "name": "X"}
                   for number in range(120)]
@@ -156,7 +156,7 @@ class Objects(Case):
         self.must("judged", row_of_object(result(), "x").is_judged and not row_of_object(
             unjudged("x", "why"), "x").is_judged)
 
-    def test_shape(self) -> None:
+    def test_does_not_judge_by_an_object_of_another_format_or_shape(self) -> None:
         """An object of another format or shape is not judged, by its name and with where it is so;
         something else is no object."""
         path = self.path("one.json")
@@ -254,7 +254,7 @@ class Watched(Case):
         for name in ("in/a.stl", "in/a.ts"):
             self.write(name, b"1")
 
-    def test_folders(self) -> None:
+    def test_watches_two_folders_that_are_there(self) -> None:
         """Both are there, and two; that for objects is made."""
         self.assertRaises(Stop, refuse_folders, self.words(out=None))
         self.assertRaises(Stop, refuse_folders, self.words())
@@ -268,25 +268,7 @@ class Watched(Case):
             self.assertRaises(Stop, refuse_folders, self.words(name=self.write(name, b"theirs")))
             os.unlink(self.path(name))
 
-    def test_whole(self) -> None:
-        """A pair is due once when its files have stayed for so long; what changes meanwhile, or
-        afterwards, begins anew; who says that both are whole waits for nothing."""
-        os.mkdir(self.path("in"))
-        watching = Watch(self.path("in"), 5)
-        for at, size, is_due in ((0, 1, False), (5, 1, False), (6, 1, True), (9, 1, False),
-                                 (10, 2, False), (14, 3, False), (19, 3, False), (20, 3, True),
-                                 (21, 3, False), (30, 1, False), (36, 1, True)):
-            paths = [self.write(f"in/a.{ending}", b"x" * size) for ending in ("stl", "ts")]
-            for path in paths:
-                os.utime(path, (size, size))
-            times = itertools.count(float(at))  # each look takes a second
-            due = watching.due([Item("a", asked_for(*paths), None)], lambda: next(times))
-            self.must(f"{at}", bool(due) == is_due, due)
-        self.write("in/a.done", b"")
-        paths = [self.write(f"in/a.{ending}", b"other") for ending in ("stl", "ts")]
-        self.must("said", watching.due([Item("a", asked_for(*paths), None)], lambda: 37.0))
-
-    def test_verdicts(self) -> None:
+    def test_prints_a_line_for_each_verdict_and_writes_the_page_over_all(self) -> None:
         """A line for each, and the page over all, also of what an earlier call left."""
         for name in ("in", "out"):
             os.mkdir(self.path(name))

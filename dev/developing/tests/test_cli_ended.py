@@ -167,7 +167,7 @@ class Programs(Story):
                         line.startswith("accepted") for line in done.printed[-1:]), done)
                     self.assertTrue(all(line.startswith("qc: ") for line in done.told), done)
 
-    def test_waived(self) -> None:
+    def test_ends_with_0_if_all_faults_are_waived(self) -> None:
         """A file that names all faults warnings: status 0, and never accepted."""
         program = self.saying(CONTROL, "1 faults", then="exit 1")
         named = self.write("named", b"67 warning\n")
@@ -184,7 +184,7 @@ class Programs(Story):
         other = self.write("no", b"73 warning\n")
         self.assertEqual(self.judge(program, "--severity", other).status, 1)
 
-    def test_relative(self) -> None:
+    def test_never_says_accepted_without_a_clock(self) -> None:
         """Without a clock no line and no file says `accepted`, but what `check` itself said;
         --relative makes the status 0, and the word stays."""
         self.write("profile", b"--relative\n")
@@ -195,19 +195,22 @@ class Programs(Story):
                            "one.csv", "--junit", "one.xml", "-o", "out")
             known, last = self.object(), line + "; the profile has --relative" * (
                 "--profile" in words)
-            self.assertEqual((done.status, len(done.printed), done.printed[-1]), (status, 2, last))
+            self.assertEqual((done.status, len(done.printed), done.printed[-1]), (status, 2, last),
+                             status)
             self.assertEqual([known[name] for name in ("verdict", "status", "line", "lead")], [
-                "relative", status, last, last])
-            self.assertEqual(known["sentence"], done.printed[0])
-            self.assertIn("No clock was given, so its delay was not checked", done.printed[0])
+                "relative", status, last, last], status)
+            self.assertEqual(known["sentence"], done.printed[0], status)
+            self.assertIn("No clock was given, so its delay was not checked", done.printed[0],
+                          status)
             rows = list(csv.DictReader(self.text("one.csv").splitlines()))
             self.assertEqual((rows[0]["verdict"], rows[0]["reason"]), (
-                "relative", known["sentence"]))
+                "relative", known["sentence"]), status)
             case = tree.fromstring(self.read("one.xml"))[0][0]
-            self.assertEqual([one.tag for one in case], ["failure" if status else "system-out"])
-            self.assertIn(known["sentence"], case[0].text or "")
-            self.assertNotIn("ccepted", self.text("one.csv") + self.text("one.xml"))
-            self.assertIn(f"<title>{last} ", self.text("out/hello.html"))
+            self.assertEqual([one.tag for one in case], ["failure" if status else "system-out"],
+                             status)
+            self.assertIn(known["sentence"], case[0].text or "", status)
+            self.assertNotIn("ccepted", self.text("one.csv") + self.text("one.xml"), status)
+            self.assertIn(f"<title>{last} ", self.text("out/hello.html"), status)
         self.assertEqual(self.judge(program, "--strict").status, 0)
         self.assertEqual(self.judge(program, "--relative").printed, self.judge(program).printed)
         self.assertEqual(self.judge(program, "--quiet").printed, self.judge(program).printed[-2:])

@@ -86,7 +86,7 @@ def is_compiled(folder: str) -> bool:
 class Installed(Case):
     """What is installed and packed."""
 
-    def test_installs(self) -> None:
+    def test_installed_tools_run_in_a_folder_that_was_moved(self) -> None:
         """The program and the tools, also when the folder was moved."""
         done = self.tool("install", "-p", self.bench.program, "first/prefix")
         self.must("status", done.status == 0, done)
@@ -99,7 +99,7 @@ class Installed(Case):
         self.must("compiled", is_compiled(self.path("moved/lib/subttx/tools/subtitles")))
         runs_the_whole_way(self, self.path("moved"))
 
-    def test_removes(self) -> None:
+    def test_removes_all_that_was_installed_and_nothing_else(self) -> None:
         """All that was installed goes, and its folders where nobody else has a file in them."""
         tool = ("install", "--remove")
         done = self.tool("install", "-p", self.bench.program, "own/prefix")
@@ -159,7 +159,7 @@ class Installed(Case):
         text = without_dead_links("![a](x.png) [`b`](y.md#z) [c](http://d) [e](f.md)", self.folder)
         self.must("their words", text == "a `b` [c](http://d) e", text)
 
-    def test_completes(self) -> None:
+    def test_completes_commands_and_options(self) -> None:
         """Commands, and the options of each command that the manual names; those of a tool."""
         if not shutil.which("bash"):
             self.skipTest("completion, since there is no bash")

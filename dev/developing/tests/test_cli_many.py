@@ -46,7 +46,7 @@ class Lists(Case):
         os.mkdir(self.path("folder"))
         os.mkfifo(self.path("pipe"))
 
-    def test_lines(self) -> None:
+    def test_takes_each_line_of_a_list_as_a_pair_or_says_why_not(self) -> None:
         """Comments and empty lines are none; each other line is a pair, or why it is none, with its
         number; a name that comes again has a number too."""
         lines = ("# none\n\n{0}/one.stl {0}/one.ts --every 50 # more\n"
@@ -115,7 +115,7 @@ class Lists(Case):
             inputs.refuse(self.path("list"), True)
             self.must("something is", looked.call_count == 2 + len(words), looked.call_count)
 
-    def test_folder(self) -> None:
+    def test_pairs_the_files_of_a_folder_by_name(self) -> None:
         """Names, what lacks its other half, what is more than one, in the order of the names."""
         for name in ("B.STL", "b.TS", "c.stl", "c.ts", "c.pes", "d.m2t", "e.stl", "e.txt", "F.pes",
                      "f.stl", "f.trp", "G.stl", "g.MTS", "g.stl", "h\x1b.m2ts", "h\x1b.stl"):
@@ -178,7 +178,7 @@ class Batches(Case):
             self.write(name, b"")
         os.symlink(self.bench.program, self.path("program"))
 
-    def test_status(self) -> None:
+    def test_ends_a_batch_with_its_worst_status(self) -> None:
         """The worst of all, in the order of the list; 2 where a signal left some."""
         for judged, status in (("accepted, accepted, waived", 0), ("lost, accepted, accepted", 1),
                                ("accepted, relative, waived", 3),
@@ -285,7 +285,7 @@ class Judged(Case):
         """The row of a pair that is judged alone."""
         return calls.begin(item) or next(calls.rows(SECONDS))
 
-    def test_words(self) -> None:
+    def test_gives_each_call_its_files_and_options(self) -> None:
         """Of the call for a pair: where its object goes, and what is asked."""
         for out, is_kept in ((None, False), (self.path("out"), False), (self.path("out"), True)):
             calls = Calls(self.typed, self.path("temporary"), out, is_kept)
@@ -300,7 +300,7 @@ class Judged(Case):
                 called.endswith(f" -- {self.path('one.stl')} {self.path('one.ts')}")
                 and not calls.running, have)
 
-    def test_one(self) -> None:
+    def test_takes_the_verdict_of_a_pair_from_its_own_object(self) -> None:
         """By its object; where that is another's none, and nothing earlier."""
         for kind, verdict, line in (
                 ("accepted", "accepted", "accepted 72 Content"),
@@ -333,7 +333,7 @@ class Judged(Case):
         self.must("it has no place", row.verdict == "not judged" and row.line.startswith("why; ")
                   and nowhere.unwritten["four"]["reason"] == row.line, row)
 
-    def test_limit(self) -> None:
+    def test_does_not_judge_a_pair_that_takes_too_long(self) -> None:
         """A pair that takes more of the processor than it may is not judged, nor one of which what
         it calls does so and hears no signal; the one beside it is."""
         for kind, most in (("busy", batch.TO_WRITE), ("deaf", 0)):
@@ -348,7 +348,7 @@ class Judged(Case):
         self.must("all is gone", until(
             lambda: not os.path.exists(f"/proc/{int(self.read('its'))}/fd/0")))
 
-    def test_limits(self) -> None:
+    def test_limits_a_pair_by_the_size_of_its_files(self) -> None:
         """By the sizes of the files, where none is given."""
         for sizes, wanted in (((None, None), 60), ((0, 9_999_999), 60), ((1, 9_999_999), 61),
                               ((0, 4_000_000_000), 460)):
@@ -404,7 +404,7 @@ class Judged(Case):
         ended = call.end()
         self.must("all", ended == (7, [str([True] * 5)]), ended)
 
-    def test_all(self) -> None:
+    def test_judges_each_pair_once_with_its_own_options(self) -> None:
         """Each once, what is kept not again; the words of each are its own."""
         items = [self.item(kind, f"name{at}", *(["--strict"] if at == 1 else []))
                  for at, kind in enumerate(("accepted", "refused", "accepted", "not judged"))]
@@ -417,7 +417,7 @@ class Judged(Case):
                              for one in items[:2]] == [False, True])
         self.must("not called", not os.path.exists(self.calls.path(items[2])))
 
-    def test_stopped(self) -> None:
+    def test_keeps_what_was_judged_before_a_signal(self) -> None:
         """A signal ends the calls that run, and no other is begun: what was judged is kept. What
         else ends them is told."""
         kinds = ("accepted", "waits", "waits", "waits")
@@ -462,7 +462,7 @@ class Judged(Case):
         self.must("all", sorted(rows) == sorted(one.name for one in taken) == [
             "name0", "name1", "name2"], rows)
 
-    def test_kept(self) -> None:
+    def test_keeps_only_what_would_be_judged_the_same_now(self) -> None:
         """What an earlier call has judged as it would be judged now; not what it did not judge, and
         no object of another program, or that is none."""
         items = [self.item("accepted", name, "--origin", "0") for name in (
@@ -485,7 +485,7 @@ class Judged(Case):
             self.must("kept", {name: one.verdict for name, one in rows.items()} ==
                       {"one": "refused", "four": "waived"}, rows)
 
-    def test_progress(self) -> None:
+    def test_counts_verdicts_and_the_time_left(self) -> None:
         """How many of which verdict, each counted by its status, and how long the others will take,
         by those of this call."""
         rows = {word: row(word, word) for word in STATUSES if word not in (WAIVED, RELATIVE)}

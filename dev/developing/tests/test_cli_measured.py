@@ -19,7 +19,7 @@ from subtitles.common.times import TICKS
 from subtitles.formats.stl import Subtitle
 from subtitles.formats.teletext import BY_WORD
 from subtitles.request.commands import CommandWords
-from subtitles.stream.gaps import repeats_in
+from subtitles.stream.repeats import repeats_in
 from subtitles.stream.packets import Packets
 from subtitles.stream.receiver import BLANK_PAGE, Timeline
 from .bench import BENCH, Case
@@ -88,7 +88,7 @@ def holding(pages: dict[int, str], first: int, last: int) -> Timeline:
 class Cues(Case):
     """How late cues are."""
 
-    def test_delays(self) -> None:
+    def test_measures_how_late_each_subtitle_is(self) -> None:
         """Of each subtitle, by what is held when."""
         for shown, pages, heard, begins, ends, words in ROWS:
             subtitles = [Subtitle(at, at, begin, end, 20, 2, text.encode())
@@ -102,7 +102,7 @@ class Cues(Case):
                             line.split()[2] for line in found.unseen] == [
                                 word for word in words if " " not in word], found)
 
-    def test_bounds(self) -> None:
+    def test_proposes_the_longest_delay_of_all_recordings(self) -> None:
         """The longest of all begins and ends, of each recording, is proposed, where both are known,
         one is late, and none by more than may be."""
         most = MOST_WITHIN
@@ -170,7 +170,7 @@ class Cues(Case):
 class Parts(Case):
     """A recording of several parts."""
 
-    def test_parts(self) -> None:
+    def test_measures_each_part_of_a_recording(self) -> None:
         """What one of them tells counts, whichever it is: a header that is missing, that keeps the
         page, or of another option; a late cue."""
         stl = programme(self, times(24))

@@ -60,7 +60,7 @@ class Ends(Case):
         say_verdict(verdict, heard)
         return heard.lines
 
-    def test_accepted(self) -> None:
+    def test_prints_the_sentence_and_then_the_accepted_line(self) -> None:
         """What stands beside it, then the sentence, and the line last."""
         said = self.said(self.verdict([part_with(0, 9, 0)], notes=["a note"], hints=["a hint"],
                                       warnings=[Notice("kind", "strange")]))
@@ -89,7 +89,7 @@ class Ends(Case):
             said = self.said(self.verdict([part_with(0, 9, 0, causes=one) for one in causes]))
         self.must("causes of all parts", said[0] == "['first', 'third']", said)
 
-    def test_lost(self) -> None:
+    def test_names_at_most_twenty_lost_places(self) -> None:
         """Each place, twenty at most; whether it is judged."""
         for count, more in ((1, None), (20, None), (21, "! and at 1 more place"),
                             (23, "! and at 3 more places")):
@@ -108,7 +108,7 @@ class Ends(Case):
         said = self.said(self.verdict([part_with(0, 99, 0, answer(REFUSED))], gaps=[gap(True)]))
         self.must("refused too", "! that part was not recorded" in said, said)
 
-    def test_refused(self) -> None:
+    def test_prints_the_line_of_the_first_refused_part(self) -> None:
         """The line of the first part that is refused; after how many frames subtitles are whole."""
         parts = [part_with(0, 9, 0), part_with(10, 19, 0, answer(REFUSED), 2)]
         said = self.said(self.verdict(parts))
@@ -189,7 +189,7 @@ class Writes(Case):
         known = PairCall(None, **words)
         return refused(lambda: refuse_outputs(known, asked, words.get("out"), "one"))
 
-    def test_before(self) -> None:
+    def test_removes_earlier_results_and_never_writes_an_input(self) -> None:
         """What an earlier call left goes; an input is never written, by whatever name."""
         others = {"two.json", "one~2.json", "onex.1.txt", "one.0.txt", "one.1.json", "one.x.txt"}
         for name in ("one.json", "one.html", "one.txt", "one.1.html", "one.12.txt", *others):
@@ -249,7 +249,7 @@ class Writes(Case):
             os.utime(kept, ns=(at - before, at - before))
             self.must(f"{before} ns before a result", bool(self.refused(asked, out=out)) != is_own)
 
-    def test_locks(self) -> None:
+    def test_takes_a_lock_that_nobody_holds(self) -> None:
         """A link in the place of one goes; one that another call took away just then is none; where
         there are no locks, none is waited for. Nothing stays open, and no file."""
         path, kept, calls = self.path("out/.one.lock"), self.write("kept", b"1"), list[int]()
@@ -276,7 +276,7 @@ class Writes(Case):
                 self.assertRaises(InUse, claimed(self.path("out"), "one").__enter__)
             self.must("in use", os.listdir("/proc/self/fd") == before and os.path.exists(path))
 
-    def test_sums(self) -> None:
+    def test_sums_up_the_inputs_only_where_a_file_has_the_sums(self) -> None:
         """They are needed for a folder, an object and lines of CSV, not for a CI."""
         rows: list[tuple[dict[str, str], bool]] = [
             ({}, False), ({"json": "x"}, True), ({"csv": "x"}, True), ({"junit": "x"}, False),
@@ -284,7 +284,7 @@ class Writes(Case):
         for words, wanted in rows:
             self.must(f"{words}", self.files(self.verdict(), **words).are_any() == wanted)
 
-    def test_all(self) -> None:
+    def test_writes_each_file_that_was_requested(self) -> None:
         """The object, the lines and the testcase; with a folder the page."""
         files = self.files(self.verdict(), json=self.path("one.json"), csv=self.path("one.csv"),
                            junit=self.path("one.xml"), out=self.path("out"))
@@ -302,7 +302,7 @@ class Writes(Case):
         several.write()
         self.must("page of parts", b"part 2" in self.read("out/one.html"), verdict.failed)
 
-    def test_failed(self) -> None:
+    def test_says_in_all_files_what_could_not_be_written(self) -> None:
         """What could not be written stands in what was written before, and after."""
         for name, nowhere in itertools.product(("csv", "junit", "json"), (
                 self.path("no/where"), *["/dev/full"] * os.path.exists("/dev/full"))):
@@ -318,7 +318,7 @@ class Writes(Case):
             if name != "junit":
                 self.must(f"{name}: case", b"<error" in self.read(f"{name}.junit"))
 
-    def test_order(self) -> None:
+    def test_writes_last_what_cannot_be_written_again(self) -> None:
         """What can't be written once more comes last, when all that failed is known."""
         pipe = self.path("pipe")
         os.mkfifo(pipe)
@@ -344,7 +344,7 @@ class Writes(Case):
                       "wrong" in files.verdict.failed[0], files.verdict.failed)
         self.must("why", "wrong" in json.loads(self.read("True.json"))["reason"])
 
-    def test_lines(self) -> None:
+    def test_writes_the_first_hundred_faults_of_all_parts(self) -> None:
         """The first hundred faults of all parts, none of one that is accepted."""
         many = [f"refused 68 Parity frame 00:00:01:00 packet {at}" for at in range(70)]
         verdict = self.verdict([*many, "70 faults"])
@@ -395,7 +395,7 @@ class Writes(Case):
         """The process of a pair that ends by a mistake of these tools leaves an object that says
         so."""
         asked = asked_for(example("hello.stl"), example("hello.pes"))
-        with mock.patch.object(batch, "judge_request", side_effect=ZeroDivisionError("one")), \
+        with mock.patch.object(batch, "judged", side_effect=ZeroDivisionError("one")), \
                 contextlib.redirect_stderr(io.StringIO()):
             status = batch.judge_alone(asked, PairCall(
                 self.bench.program, json=self.path("one.json"), name="one"))
@@ -417,7 +417,7 @@ class Overview(Case):
             part.names.given = example("story.stl")
         return verdict
 
-    def test_parts(self) -> None:
+    def test_links_a_row_to_each_part(self) -> None:
         """A row for each part, which leads to it, with its clock; the box, and what was judged."""
         verdict = self.several()
         for delay, words in ((0, "Clock given: --origin 7."),
@@ -470,7 +470,7 @@ class Overview(Case):
             self.must(words, words in page, page)
         self.must("no part", "Timeline" not in page)
 
-    def test_pairs(self) -> None:
+    def test_lists_broken_pairs_before_those_that_nobody_judged(self) -> None:
         """What is broken first, then what nobody judged, warnings, and what is accepted."""
         def one(name: str, verdict: str, status: int, line: str, faults: int = 0,
                 causes: int = 0, hint: str = "") -> Row:

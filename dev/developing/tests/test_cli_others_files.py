@@ -1,5 +1,5 @@
-"""What strangers leave in folders, lists and results: see `strangers`; what a call may lack; and
-signals at the start."""
+"""What strangers leave in lists and results; inputs under the names of outputs; calls that lack
+something; signals at the start."""
 from __future__ import annotations
 
 import html
@@ -12,19 +12,15 @@ import signal
 import subprocess
 import sys
 import time
-from typing import Callable
 from xml.etree import ElementTree as tree
 
 from developing.looks import find_browser
 from subtitles.cli.collection import index_page
 from subtitles.common.markup import POLICY
 from subtitles.results.files import Row
-from .. import DEV
 from .bench import Case, Done, example, example_bytes, tool_path
 from .sent import in_pipe
 
-SHARES, EACH = 3, 20  # of the gate; with --speed there are 500 calls
-ALL = 500
 TAGS = {"html", "head", "meta", "title", "style", "body", "h1", "p", "small", "table", "thead",
         "tbody", "tr", "th", "td", "br", "a", "main", "caption", "fieldset", "legend", "label",
         "input", "span", "b"}
@@ -43,34 +39,6 @@ addEventListener("load", () => setTimeout(() => {{
 STARTS = {signal.SIGINT: range(0, 101, 10), signal.SIGTERM: range(0, 401, 80),
           signal.SIGHUP: range(40, 401, 80)}
 ALL_STARTS = range(0, 401, 5)
-
-
-class Strangers(Case):
-    """Calls at random."""
-
-    def tried(self, first: int, last: int) -> None:
-        """Tries the calls from a number on."""
-        done = self.call([sys.executable, "-m", "developing.tests.strangers", self.bench.program,
-                          str(first), str(last)], env={**os.environ, "PYTHONPATH": os.pathsep.join(
-                              [DEV, *os.environ.get("PYTHONPATH", "").split(":")])})
-        self.must(f"{first} to {last}", done.status == 0 and not done.out, (
-            done.out.decode("utf-8", "replace"), done.told[-5:]))
-
-    def test_all(self) -> None:
-        """Those that the gate leaves out."""
-        if not self.bench.is_timed:
-            self.skipTest(f"{ALL} calls on what strangers left, which --speed asks for")
-        for first in range(SHARES * EACH, ALL, EACH):
-            self.tried(first, first + EACH)
-
-
-def share(first: int) -> Callable[[Strangers], None]:
-    """The test of some calls."""
-    return lambda case: case.tried(first, first + EACH)
-
-
-for FIRST in range(0, SHARES * EACH, EACH):
-    setattr(Strangers, f"test_from_{FIRST:03}", share(FIRST))
 
 
 class Inputs(Case):
@@ -141,7 +109,7 @@ class Lines(Case):
             self.check(name, self.judged("list"), (2, b"", [
                 "qc: list begins with a byte order mark (BOM): save it as UTF-8 without one"]))
 
-    def test_devices(self) -> None:
+    def test_refuses_a_device_as_a_recording_without_waiting(self) -> None:
         """None is a recording, and none is waited for."""
         stl = example("hello.stl")
         for words, device in (
@@ -174,7 +142,7 @@ class Little(Case):
                               "-p", self.bench.program])
             self.check(f"{name} {ending}", done, known._replace(status=status, told=[]))
 
-    def test_memory(self) -> None:
+    def test_accepts_with_little_memory_or_says_why_not(self) -> None:
         """With little of it a pair is accepted, or a message says why not."""
         pair = [example("story.stl"), example("story.pes"), "--origin", "0", "-o", "out"]
         for size in range(20_000, 64_000, 4_000):
@@ -206,17 +174,17 @@ class Pages(Case):
                     [text()], 0.5, text(), text()) for _ in range(chance.randrange(1, 9))]
         return self.write(f"{number}.html", index_page(self.folder, rows, text()))
 
-    def test_marks(self) -> None:
+    def test_escapes_all_text_of_others(self) -> None:
         """No element or attribute is there that the page has not for text alone."""
         for number in range(200):
             with open(self.page(number), encoding="utf-8") as file:
                 root = tree.fromstring(re.sub("&(times|hellip);", "", file.read()))
             for one in root.iter():
-                self.assertIn(one.tag.rpartition("}")[2], TAGS)
-                self.assertLessEqual(one.attrib.keys(), ATTRIBUTES)
+                self.assertIn(one.tag.rpartition("}")[2], TAGS, one)
+                self.assertLessEqual(one.attrib.keys(), ATTRIBUTES, one)
         self.assertIn(POLICY, self.read("0.html").decode().replace("&#x27;", "'"))
 
-    def test_browser(self) -> None:
+    def test_loads_and_runs_nothing_in_a_browser(self) -> None:
         """Nothing is loaded, run or logged: each in a frame of one page, beside one that does all
         of it."""
         command = find_browser()
@@ -245,7 +213,7 @@ class Pages(Case):
 class Starts(Case):
     """Signals at any moment from the start on."""
 
-    def test_status(self) -> None:
+    def test_ends_with_2_or_the_status_of_its_last_line(self) -> None:
         """It is 2, or the verdict's where that stands last; a process that a signal ends before
         anything of the tool has begun has none. Never is it 1, and nothing else is told."""
         for number, starts in STARTS.items():

@@ -78,9 +78,9 @@ class Tables(unittest.TestCase):
         for counts, wanted in (({"judged": 9, "refused": 2}, ("9", "2")), (None, ("", ""))):
             rows = self.rows([result("refused", subtitle_counts=counts, faults=[fault(38)] * 150)])
             self.assertEqual([(row["subtitles_judged"], row["subtitles_refused"]) for row in rows],
-                             [wanted] * 151)
+                             [wanted] * 151, counts)
 
-    def test_order(self) -> None:
+    def test_writes_the_lines_of_each_object_under_one_head(self) -> None:
         """The lines of objects are those of each by itself, in any order, after one head."""
         for order in ((0, 1, 2), (2, 1, 0), (1, 0, 2), (0,), ()):
             alone = [row for at in order for row in self.rows([OBJECTS[at]])]
@@ -104,7 +104,7 @@ class Testcases(unittest.TestCase):
     CASES = [("accepted", 0), ("refused", 1), ("lost", 1), ("waived", 0), ("not judged", 2),
              ("refused", 1), ("warned", 1), ("not judged", 2)]
 
-    def test_counts(self) -> None:
+    def test_counts_failures_by_status_1_and_errors_by_status_2(self) -> None:
         """Of the first so many pairs: failures are those with status 1, errors those with 2."""
         for count in range(len(self.CASES) + 1):
             cases = [TestCase(f"pair {at}", verdict, status, "line", ["more"], 0.5)
@@ -123,19 +123,20 @@ class Testcases(unittest.TestCase):
                     for verdict, status in self.CASES[:count]])
 
 
-    def test_words(self) -> None:
+    def test_names_pair_seconds_and_first_lines(self) -> None:
         """The name, the seconds, and of what is not accepted its line and the first of its list."""
         for verdict, status, tag in (("refused", 1, "failure"), ("not judged", 2, "error"),
                                      ("waived", 0, "system-out"), ("accepted", 0, None)):
             suites = ElementTree.fromstring(junit_of([TestCase(
                 "a\x1bb", verdict, status, "a\ufffe\nline", ["one", "two"], 1.25)], "2026T10:00Z"))
             self.assertEqual((suites[0].get("timestamp"), suites[0].get("skipped")),
-                             ("2026T10:00", "0"))
+                             ("2026T10:00", "0"), (verdict, status, tag))
             self.assertEqual(suites[0][0].attrib, {"classname": "subttx", "name": "a\\x1bb",
-                                                   "time": "1.250"})
+                                                   "time": "1.250"}, (verdict, status, tag))
             told = [(one.tag, one.text, one.attrib) for one in suites[0][0]]
             words = {"message": "a\\ufffe\nline", "type": verdict} if status else {}
-            self.assertEqual(told, [(tag, "a\\ufffe\nline\none\ntwo", words)] * (tag is not None))
+            self.assertEqual(told, [(tag, "a\\ufffe\nline\none\ntwo", words)] * (tag is not None),
+                             (verdict, status, tag))
 
 
 class Statuses(Case):
@@ -170,7 +171,7 @@ class Statuses(Case):
 class Members(unittest.TestCase):
     """Members of an object."""
 
-    def test_times(self) -> None:
+    def test_writes_times_in_utc_on_any_machine(self) -> None:
         """The date, and when a file was written to, are in UTC wherever the machine stands."""
         self.addCleanup(time.tzset)
         with mock.patch.dict(os.environ, TZ="EAST-5"):
@@ -180,7 +181,7 @@ class Members(unittest.TestCase):
             self.assertLess(abs(date - time.time()), 600)
             self.assertEqual(modified(about), "1970-01-01T00:00:01.000000007Z")
 
-    def test_gap(self) -> None:
+    def test_writes_a_gap_with_its_times_and_pts(self) -> None:
         """What is before a place and what is behind it, as times and as PTS."""
         place = Place(5, 9, 3, scrambled=2, missing=4, mark=7)
         for is_judged in (True, False):
@@ -190,7 +191,7 @@ class Members(unittest.TestCase):
                     "pes": 7, "ts_packets": 3, "scrambled": 2, "missing": 4,
                     "judged": is_judged})
 
-    def test_part(self) -> None:
+    def test_writes_what_was_judged_of_a_recording(self) -> None:
         """What is judged of a recording, and by which clock; what was judged of a feed has a name
         where it is kept."""
         part = part_with(25, 49, 7, number=2)
@@ -208,12 +209,13 @@ class Members(unittest.TestCase):
                                         count=count)
             words = JUDGED_PART.made(PartOf(dataclasses.replace(part, answer=many), False))
             self.assertEqual((words["faults"], words["verdict"], words["line"]),
-                             (count, "refused", "l"))
+                             (count, "refused", "l"), count)
         for is_kept, name in ((True, "a.cut.pes"), (False, None)):
             words = JUDGED_PART.made(PartOf(part, is_kept))
             self.assertEqual([words[name] for name in ("pid", "packet_size", "pes", "judged",
                                                        "clock")],
-                             [0x101, 204, "3-9", {"name": name, "size": 5, "sha256": "sum"}, None])
+                             [0x101, 204, "3-9", {"name": name, "size": 5, "sha256": "sum"}, None],
+                             (is_kept, name))
 
     def test_columns_of_parts(self) -> None:
         """What is judged, of the only part, or of that with a fault; of several a pair has none."""
@@ -225,14 +227,14 @@ class Members(unittest.TestCase):
         nothing: dict[str, object] = {}
         for end, number, wanted in ((1, None, first), (2, None, nothing), (2, 1, first),
                                     (2, 2, second), (2, 3, nothing), (0, None, nothing)):
-            self.assertEqual(part_columns(parts[:end], number), wanted)
+            self.assertEqual(part_columns(parts[:end], number), wanted, (end, number))
         known = result(parts=parts, faults=[{**FAULT, "part": number} for number in (1, 2, 1)])
         self.assertEqual([{name: row.get(name) for name in first} for row in column_rows(known)],
                          [dict.fromkeys(first), first, second, first])
         for code, letter, words in (("41", "A", "41 A"), ("00", "", "00")):
-            self.assertEqual(cell_words({"code": code, "character": letter}), words)
+            self.assertEqual(cell_words({"code": code, "character": letter}), words, (code, letter))
         self.assertEqual(said("a\nb\x07"), "a\n" + shown("b\x07"))
         self.assertEqual((said(5), said(-5), said(None)), (5, -5, None))
         for text in ("=1+1", "+1", "-1", "@A1", "=a\nb"):
-            self.assertEqual(said(text), f"'{text}")
+            self.assertEqual(said(text), f"'{text}", text)
         self.assertEqual((said("a=1"), said("\ta")), ("a=1", "\\x09a"))

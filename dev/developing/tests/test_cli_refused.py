@@ -80,7 +80,7 @@ class NotBegun(Case):
             if os.path.exists("out/one.html"):
                 os.unlink("out/one.html")
 
-    def test_claims(self) -> None:
+    def test_keeps_other_calls_from_the_files_of_a_pair(self) -> None:
         """As long as a pair is judged its files are those of its call; then they are free."""
         item, calls = Item("one", asked_for(self.path("one.stl"), self.path("one.ts")), None), \
             self.calls()
@@ -115,7 +115,7 @@ class NotBegun(Case):
             self.must(f"{jobs} of {count}", (len(running), len(waiting), left) == (
                 min(jobs, count), max(count - jobs, 0), []))
 
-    def test_begun(self) -> None:
+    def test_begins_a_pair_with_its_limit(self) -> None:
         """It has its limit, which may be given."""
         asked = asked_for(self.path("one.stl"), self.path("one.ts"))
         for limit, wanted in ((None, LEAST_SECONDS), (5, 5)):
@@ -160,13 +160,13 @@ class NotBegun(Case):
         os.mkfifo(self.path("pipe"))
         for pair in (("pipe", "one.ts"), ("one.stl", "pipe")):
             asked = asked_for(*map(self.path, pair))
-            with mock.patch.object(batch, "judge_request", return_value=0), \
+            with mock.patch.object(batch, "judged", return_value=mock.Mock(status=0)), \
                     contextlib.redirect_stderr(io.StringIO()) as told:
                 status = batch.judge_alone(asked, PairCall(None))
             self.check(f"{pair}", (status, f"{self.path('pipe')} is a pipe" in told.getvalue()),
                        (2, True))
 
-    def test_ends(self) -> None:
+    def test_takes_a_verdict_only_with_its_own_status(self) -> None:
         """A verdict counts with its own status alone: not where a signal ended its process; but
         where that was told to end, since it took too long, and was judged."""
         asked = asked_for(self.path("one.stl"), self.path("one.ts"))
@@ -195,18 +195,9 @@ class NotBegun(Case):
         [row] = calls.rows(SECONDS)
         self.must("its line", (row.verdict, row.line) == ("not judged", "caf\ufffd: \x1b"), row)
 
-    def test_beside(self) -> None:
-        """What is done beside has one file of this process, and its status says that it went well;
-        a call for a pair reads nothing, whatever this one reads."""
+    def test_forked_call_reads_nothing_and_has_no_file_of_its_parent(self) -> None:
+        """A call for a pair reads nothing, whatever this one reads."""
         files = [os.open(self.path("one.ts"), os.O_RDONLY) for _ in range(3)]
-        rows: list[tuple[Any, int]] = [
-            (lambda: True, 0), (lambda: False, 1), (lambda: 1 // 0, 1), (lambda: sys.exit(0), 1),
-            (lambda: os.kill(os.getpid(), signal.SIGKILL), -9),
-            *((lambda kept=kept: [one for one in files if os.path.exists(
-                f"/proc/self/fd/{one}")] == [kept], 0) for kept in files)]
-        for at, (does, status) in enumerate(rows):
-            _, ended = os.waitpid(batch.beside(does, files[at % 3 if at < 5 else at - 5]), 0)
-            self.must(f"{at}", os.waitstatus_to_exitcode(ended) == status, ended)
         before = os.dup(0)
         os.dup2(files[0], 0)
         call = batch.Forked(lambda: len(os.read(0, 9)) + 2 * any(os.path.exists(
@@ -217,7 +208,7 @@ class NotBegun(Case):
         for one in (before, *files):
             os.close(one)
 
-    def test_language(self) -> None:
+    def test_takes_the_national_option_of_the_file_that_is_judged(self) -> None:
         """The option that a subtitle file names is that of the file that is judged, whatever it was
         when the list was read."""
         path = self.write("one.stl", example_bytes("story.stl"))
@@ -374,7 +365,7 @@ class Beside(Story):
                           b"own", b"" if is_result else b"own"))
             self.write("theirs", b"")
 
-    def test_signals(self) -> None:
+    def test_heeds_each_signal_until_the_last_line(self) -> None:
         """All that end a call are heeded, but those that were ignored; in the end none is, before
         the line stands that the status goes with."""
         for one in SIGNALS:

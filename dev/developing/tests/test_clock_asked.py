@@ -75,7 +75,7 @@ class Asked(Case):
             found = self.find([*self.sent([0] * 24), *wrong], origin=origin)
             self.assertEqual((len(found.runs), found.status), (runs, int(runs > 0)), origin)
 
-    def test_drift(self) -> None:
+    def test_finds_the_drift_of_the_time_base_that_is_judged(self) -> None:
         """It is that of the time base that is judged."""
         steady = [at // 6 for at in range(24)]
         strange = [(10 ** 9 + TICKS * at, b"") for at in range(3)]
@@ -95,6 +95,7 @@ class Asked(Case):
             found = find(Sought(self.stl, "one.pes", within=2), packets)
             self.assertEqual((found.lines[0], found.status) == (
                 "rows came while 888 was not open, in 1 PES packet", 1), is_told, found)
-            self.assertEqual(any("rows came" in line for line in found.lines), is_told)
+            self.assertEqual(any("rows came" in line for line in found.lines), is_told,
+                             (sent, is_told))
         found = self.find([(TICKS * 99, b"other"), (TICKS * 200, b"texts")], within=1)
         self.assertEqual((found.status, found.lines), (1, ["no cue agrees with any origin"]))

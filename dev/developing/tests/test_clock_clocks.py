@@ -31,7 +31,7 @@ class Clocks(OfProgramme):
 
     due, words = evenly(20), WORDS
 
-    def test_fitted(self) -> None:
+    def test_says_relative_for_a_delay_of_all_without_a_clock(self) -> None:
         """All is late: `relative` without a clock; with an origin it is refused, and said how late
         all is."""
         clock = "clock", "delay_frames"
@@ -145,7 +145,7 @@ class Clocks(OfProgramme):
             at = lines.index(f"+ {line}") + 1
             self.must(line, said == lines[at:at + len(said)], again)
 
-    def test_runs(self) -> None:
+    def test_judges_none_of_two_runs_unless_one_is_named(self) -> None:
         """The programme is there twice: neither is judged but one that is said; of a feed the
         first one is."""
         hour = 3600 * 25 * TICKS

@@ -14,9 +14,9 @@ from subtitles.clock.origin import Origin
 from subtitles.clock.start import Clock, Found, RECORDING
 from subtitles.clock.stretches import are_alike, is_again
 from subtitles.common.command_line import Lateness, late_word
-from subtitles.common.times import CLOCK, FRAMES_OF_A_DAY, Span, TICKS
+from subtitles.common.times import CLOCK, FRAMES_OF_A_DAY, Span, TICKS, time_in
 from subtitles.judging.part import is_in, reach, unseen
-from subtitles.judging.verdict import place_time
+
 from subtitles.stream.gaps import Place
 from subtitles.stream.packets import Change
 from .bench import Case
@@ -35,7 +35,7 @@ TEXT, OTHER = ((20, b"text"),), ((20, b"other"),)
 class Edges(Case):
     """Where another page is due than before."""
 
-    def test_table(self) -> None:
+    def test_finds_an_edge_where_the_look_changes(self) -> None:
         """Another look with the same letters is an edge, the same page once more is none."""
         one = Shown(10, 20, (20, 2, b"one"), b"one")
         for name, other, frames in (
@@ -49,7 +49,7 @@ class Edges(Case):
 class Apart(Case):
     """All beginnings, or all ends, so many frames late."""
 
-    def test_bounds(self) -> None:
+    def test_finds_begins_apart_from_ends_if_nine_in_ten_are(self) -> None:
         """Nine in ten of them tell it, and fewer do not."""
         several = [Shown(100 * at, 100 * at + 50, at, b"%d" % at) for at in range(10)]
         edges = edges_of(several)
@@ -68,7 +68,7 @@ class Again(Case):
     """A text, a blank page, and what comes then, by its frames; also where the clock comes round.
     """
 
-    def test_back(self) -> None:
+    def test_ignores_a_page_that_is_erased_and_sent_again(self) -> None:
         for origin in (0, CLOCK - TICKS, CLOCK - 2 * TICKS, CLOCK - 5 * TICKS, CLOCK - 100 * TICKS):
             def change(frame: int, letters: bytes, number: int) -> Change:
                 pts = (origin + frame * TICKS) % CLOCK
@@ -132,7 +132,7 @@ def all_agree(origin: Origin) -> bool:
 class Clocks(unittest.TestCase):
     """Which clock is meant."""
 
-    def test_usual(self) -> None:
+    def test_takes_the_earliest_delay_that_half_as_many_have(self) -> None:
         """The earliest delay that half as many begins, or ends, have as have the commonest of their
         kind; ends that are fewer than one cue in ten tell nothing."""
         rows: list[tuple[dict[int, int], dict[int, int], int]] = [
@@ -157,7 +157,7 @@ class Clocks(unittest.TestCase):
         best, early = settled(base, fit, shares)
         return fit.start - best.start, early
 
-    def test_settled(self) -> None:
+    def test_counts_cues_before_the_usual_clock(self) -> None:
         """What is before the usual clock is told, and whether it is many; without N nothing is."""
         for delays, within, wanted in (
                 ([0] * 9, 2, (0, None)), ([2] * 9, 2, (0, None)), ([0, 1, 2] * 4, 2, (0, None)),
@@ -168,7 +168,7 @@ class Clocks(unittest.TestCase):
         self.assertEqual([Early(count, of, 1).are_many for count, of in (
             (1, RARE), (1, RARE + 1), (2, 2 * RARE), (2, 2 * RARE + 1))], [True, False] * 2)
 
-    def test_likeliest(self) -> None:
+    def test_takes_the_likeliest_clock_by_shares_of_delays(self) -> None:
         """By shares: also before the earliest cue, and where fewer are before the others than
         without; of two that are as likely the later."""
         for delays, text, wanted in (
@@ -227,7 +227,7 @@ class Drifts(unittest.TestCase):
         return drift_of([Edge(100 * at, text, True) for at, text in enumerate(texts)], {
             100 * at + by: Agreed(0, b"%d" % at, 0) for at, by in enumerate(delays)})
 
-    def test_drifts(self) -> None:
+    def test_finds_a_steady_drift_and_no_other_delay(self) -> None:
         """Steady ones, in either way, with an outlier or rounded; not one delay, nor any that are
         up and down, nor too few."""
         steady = [at // 3 for at in range(12)]
@@ -245,7 +245,7 @@ class Drifts(unittest.TestCase):
                 ([0] * 4 + [130] * 4 + [260] * 4, None)):
             self.assertEqual(self.drift(delays), wanted, delays)
 
-    def test_texts(self) -> None:
+    def test_measures_a_drift_by_texts_that_are_sent_once(self) -> None:
         """Those alone that are due once and sent once; of most subtitles."""
         steady = [at // 2 for at in range(12)]
         own = [b"%d" % at for at in range(12)]
@@ -269,7 +269,7 @@ class Drifts(unittest.TestCase):
 class Airings(unittest.TestCase):
     """What is another airing."""
 
-    def test_alike(self) -> None:
+    def test_calls_half_of_the_frames_moved_alike_a_grid(self) -> None:
         """Half of the frames are others moved by a distance: a grid, and no programme."""
         rows: list[tuple[list[int], bool]] = [
             ([0, 10, 20, 30], True), ([0, 1, 10, 11, 20, 21], True), ([0, 3, 9, 27, 81], False),
@@ -277,7 +277,7 @@ class Airings(unittest.TestCase):
         for frames, wanted in rows:
             self.assertEqual(are_alike(frames), wanted, frames)
 
-    def test_again(self) -> None:
+    def test_takes_half_of_the_cues_for_another_airing(self) -> None:
         """Half of all; a quarter of the texts over half of the programme; those of the first."""
         base = bases_of([], packets_of([(0, b"a")]), 0)[0]
         base = base.limited([Edge(at, b"%d" % at if at % 2 == 0 else b"", at % 2 == 0)
@@ -330,7 +330,7 @@ class Judgements(Case):
         return judged(self, stl, path, "--every", "30", "--no-complete", "--within", str(
             frames if frames < 5 else 0), "--pace", "none")
 
-    def test_drift(self) -> None:
+    def test_reports_a_drift_in_its_own_sentence(self) -> None:
         """It has its own sentence, also where it is accepted."""
         for frames, words in ((3, ("accepted",)), (4, ("accepted",)),
                               (8, ("refused", "not judged")), (60, ("refused", "not judged"))):
@@ -340,7 +340,7 @@ class Judgements(Case):
             self.must(f"{frames}", one.word in words and len(lines) == 1 and
                       "another frame rate?" in lines[0], one.said)
 
-    def test_airings(self) -> None:
+    def test_judges_neither_airing_if_one_has_wrong_texts(self) -> None:
         """Twice, where one of them is right: of the other most texts are wrong, or most are
         missing."""
         times = [(FIRST + at * at * 7 + 90 * at, FIRST + at * at * 7 + 90 * at + 60 + at)
@@ -382,7 +382,7 @@ class Frames(unittest.TestCase):
             for ticks, time in ((0, "00:00:00:00"), (25 * TICKS, "00:00:01:00"), (-TICKS, None),
                                 (TICKS * FRAMES_OF_A_DAY, None)):
                 with self.subTest(shift=shift, ticks=ticks):
-                    self.assertEqual(place_time(shifted(ticks, shift), shift), time)
+                    self.assertEqual(time_in(shifted(ticks, shift), shift), time)
 
 
 class Losses(unittest.TestCase):
@@ -404,7 +404,7 @@ class Losses(unittest.TestCase):
             with self.subTest(shift=shift, before=before, after=after):
                 self.assertEqual(is_in(place, part_with(100, 200, shift)), wanted)
 
-    def test_hours(self) -> None:
+    def test_finds_losses_in_a_part_of_many_hours(self) -> None:
         """Also in a part that is longer than half of what PTS count."""
         hour = 90_000
         for hours, shift in itertools.product((1, 12, 14, 20, 23, 24), SHIFTS):
@@ -420,7 +420,7 @@ class Losses(unittest.TestCase):
             seen = reach((shifted(TICKS * ends[0], shift), shifted(TICKS * ends[1], shift)), found)
             self.assertEqual(seen, Span(*ends), hours)
 
-    def test_marks(self) -> None:
+    def test_counts_a_gap_marker_in_the_part_of_its_pes_packets(self) -> None:
         """A mark is in the part with whose PES packets it is judged, whatever its PTS are: the
         first one, one between, the last."""
         part = part_with(100, 200, 0, pes=(7, 19))
@@ -445,7 +445,7 @@ class Losses(unittest.TestCase):
                     Span(0, 5), Span(7, 9), Span(20, day), Span(0, 1), Span(0, day),
                     Span(day - 1, day), Span(0, 9)])
 
-    def test_reach(self) -> None:
+    def test_takes_the_frames_of_a_recording_from_its_pcr(self) -> None:
         """The frames of which a recording is, by its first PCR and its last one."""
         for shift, (ticks, wanted) in itertools.product(SHIFTS, (
                 ((0, 50 * TICKS), Span(0, 50)), ((1, 50 * TICKS - 1), Span(1, 49)),

@@ -95,14 +95,14 @@ class Laws(unittest.TestCase):
                 with self.subTest(name, origin=origin):
                     self.assertEqual((one.status, [part.origin for part in one.parts]),
                                      (0, [origin % CLOCK]), one.lines)
-            self.assertEqual(one.runs, [])
+            self.assertEqual(one.runs, [], origin)
 
     def test_a_delay_is_told(self) -> None:
         """Compared with the origin that is known."""
         for chance, shown, edges, origin in self.each():
             away = chance.randrange(-50, 51) * TICKS + chance.choice((0, 0, 7))
             one = found(shown, packets_of(sent(edges, origin + away)), known=origin)
-            self.assertEqual(one.away, away)
+            self.assertEqual(one.away, away, origin)
 
     def test_off_frames_are_told(self) -> None:
         """PTS that lie beside whole frames agree to the nearest one."""
@@ -110,8 +110,9 @@ class Laws(unittest.TestCase):
             sendings = [(pts + chance.randrange(-900, 901), text) for pts, text in
                         sent(edges, origin)]
             one = found(shown, packets_of(sendings))
-            self.assertLessEqual(abs((one.parts[0].origin - origin + 900) % CLOCK - 900), 900)
-            self.assertTrue(any("only to the nearest frame" in line for line in one.lines))
+            self.assertLessEqual(abs((one.parts[0].origin - origin + 900) % CLOCK - 900), 900,
+                                 origin)
+            self.assertTrue(any("only to the nearest frame" in line for line in one.lines), origin)
 
     def test_all_ends_may_be_late(self) -> None:
         """Beginnings and ends that are a constant number of frames apart."""
@@ -157,7 +158,7 @@ class Laws(unittest.TestCase):
                                  for pts, text in others)]
             one = found(shown, packets_of(sendings), 1)
             self.assertEqual([part.origin for part in one.parts], [origin % CLOCK], one.lines)
-            self.assertIn("no cue is late", one.lines)
+            self.assertIn("no cue is late", one.lines, origin)
 
     def test_finds_an_origin_for_each_part(self) -> None:
         """Each part of the programme has its own origin, also where an encoder begins anew."""
@@ -174,7 +175,8 @@ class Laws(unittest.TestCase):
             self.assertEqual([part.origin for part in one.parts],
                              [origin % CLOCK for origin in origins[:-1]], one.lines)
             self.assertEqual([part.frames for part in one.parts], [
-                (shown[12 * at].begin, shown[12 * at + 11].end) for at in range(breaks + 1)])
+                (shown[12 * at].begin, shown[12 * at + 11].end) for at in range(breaks + 1)],
+                             origin)
 
     def test_late_from_one_on(self) -> None:
         """Where all subtitles from one on are late that is told, with its time and length."""
@@ -185,9 +187,9 @@ class Laws(unittest.TestCase):
             sendings = [(pts + TICKS * late * (number >= at), text)
                         for number, (pts, text) in enumerate(sent(edges, origin))]
             one = found(shown, packets_of(sendings))
-            self.assertEqual([part.origin for part in one.parts], [origin % CLOCK])
+            self.assertEqual([part.origin for part in one.parts], [origin % CLOCK], origin)
             self.assertEqual(one.shifted_from, edges[at].frame, one.lines)
-            self.assertIn(f"({late} frames) late", one.shifts[0])
+            self.assertIn(f"({late} frames) late", one.shifts[0], origin)
 
     def test_finds_each_run_of_a_programme(self) -> None:
         """The programme once, twice and three times."""
@@ -215,7 +217,7 @@ class Laws(unittest.TestCase):
             half = len(packets.changes) // 2
             last, first = (one.number for one in packets.changes[half - 1:half + 1])
             self.assertEqual(found(shown, packets).runs, [
-                (0, first - 1), (last + 1, packets.count - 1)])
+                (0, first - 1), (last + 1, packets.count - 1)], origin)
 
     def test_what_fits_twice_is_not_clear(self) -> None:
         """One subtitle whose length another one has too, with no text of its own."""

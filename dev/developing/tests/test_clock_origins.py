@@ -213,7 +213,7 @@ class Origins(Case):
             self.must(f"{row}", (found.status, found.printed, found.parts) == (1, [], []) and
                       found.lines[0].startswith("2 parts: "), found)
 
-    def test_runs(self) -> None:
+    def test_finds_each_run_with_its_pes_packets(self) -> None:
         """Each time that it is there, with its PES packets and those beside it, of which one is
         looked for then; also where PTS go back, or are a bit before a frame."""
         gaps = TICKS * 70 * (COUNT + 20) - 3, -3 * 10 ** 9
@@ -261,7 +261,7 @@ class Origins(Case):
             found = self.find(self.own(), pes)
             self.must(f"{late}", found.are_all == are_all, found)
 
-    def test_agreement(self) -> None:
+    def test_counts_cues_that_agree(self) -> None:
         """How many cues agree, among how many, with how many letters: where a text is another one,
         where less is sent, and where an edge is not."""
         pes, count = self.sent(5000), 2 * COUNT
@@ -317,7 +317,7 @@ class Tracks(unittest.TestCase):
                                  for frame, letters in sorted(changes.items())],
                     0, 1000 * TICKS, (0, 999), within)
 
-    def test_points(self) -> None:
+    def test_gives_a_text_more_points_than_an_erased_page(self) -> None:
         """Of a text that comes, a page that is erased, another text, and nothing; within some
         frames also of one that is late, and of no other text."""
         due = {edge.frame: edge.letters for edge in self.edges}
@@ -326,12 +326,12 @@ class Tracks(unittest.TestCase):
         for within, points, late, places in ((0, [3, 2, 1, 0, 0, 2], 0, [150, 200, 350]),
                                              (1, [3, 2, 0, 0, 3, 2], 1, [150, 301, 350])):
             track = Track(0, 0, self.base(sent, within))
-            self.assertEqual(track.points, points + [3, 2] * 3)
-            self.assertEqual(track.rank(), (-sum(track.points), late, 0))
-            self.assertEqual(Stretch(track, 1, 6).agreeing(), places)
-            self.assertEqual(max(track.in_a_row), 7 if not within else 8)
+            self.assertEqual(track.points, points + [3, 2] * 3, (within, points, late))
+            self.assertEqual(track.rank(), (-sum(track.points), late, 0), (within, points, late))
+            self.assertEqual(Stretch(track, 1, 6).agreeing(), places, (within, points, late))
+            self.assertEqual(max(track.in_a_row), 7 if not within else 8, (within, points, late))
 
-    def test_votes(self) -> None:
+    def test_prefers_two_texts_to_many_times(self) -> None:
         """Two texts tell more than many times at which the page changes as often as edges are due.
         """
         edges = [Edge(1000 * at, b"%d" % at, True) for at in range(4)]
@@ -354,7 +354,7 @@ class Tracks(unittest.TestCase):
             found = Track(*one, base).may_follow(Track(*before, base), frames)
             self.assertEqual(found, wanted, (one, before, frames))
 
-    def test_rows(self) -> None:
+    def test_takes_five_cues_in_a_row_for_a_track(self) -> None:
         """Five changes in a row at least, in whichever time base; of two halves of a file each has
         its own, and an edge that agrees with either goes with the one before."""
         due = {edge.frame: edge.letters for edge in self.edges}
@@ -362,12 +362,12 @@ class Tracks(unittest.TestCase):
         for bases, number in (([few[0]], None), ([few[1]], 0), ([few[0], few[2]], 1), (few, 2)):
             row = find_row(bases)
             self.assertEqual([stretch.track.base for stretch in row],
-                             [] if number is None else [number])
+                             [] if number is None else [number], (bases, number))
         later = {frame + 40 * (frame > 350): letters for frame, letters in due.items()}
         for some in (later, {frame: text and b"other " + text for frame, text in later.items()}):
             row = find_row([self.base(some)])
             self.assertEqual([(stretch.track.start, stretch.first, stretch.end)
-                              for stretch in row], [(0, 0, 6), (-40, 6, 12)])
+                              for stretch in row], [(0, 0, 6), (-40, 6, 12)], some)
 
     def test_rows_at_once(self) -> None:
         """One stretch alone where all letters agree, or beginnings and ends are apart; of tracks

@@ -67,7 +67,7 @@ class Bases(unittest.TestCase):
                              several)
             self.assertEqual(base.length, 7, several)
 
-    def test_repeats(self) -> None:
+    def test_takes_no_repeated_page_for_a_change(self) -> None:
         """A page that is erased and back is no change, however often: with the same rows, after
         a pause alone, in so many frames; as often as nothing else is due so soon."""
         text, other = ((20, b"x"),), ((22, b"x"),)
@@ -144,7 +144,7 @@ class Fits(unittest.TestCase):
         return base_with(self.edges, [(TICKS * frame + off, letters) for (frame, letters), off in
                                       zip(sent, offs)], length, within, shift).fit_at(start)
 
-    def test_counts(self) -> None:
+    def test_counts_cues_with_their_letters_and_texts(self) -> None:
         """What agrees, with its letters, with a text; of the time in which it is sent; what is the
         first, and the first that does not."""
         sent = self.SENT
@@ -162,7 +162,7 @@ class Fits(unittest.TestCase):
             self.assertEqual((fit.origin, fit.start, fit.late), (
                 (shift - 10 * TICKS) % CLOCK, 10, []), some)
             self.assertEqual((fit.points(), fit.points(False)), (
-                fit.agree + fit.letters, fit.agree + fit.texts))
+                fit.agree + fit.letters, fit.agree + fit.texts), (shift, some, length))
 
     def test_beside_frames(self) -> None:
         """The origin is that of the PTS in the middle, with which some agree to the tick; within
@@ -180,7 +180,7 @@ class Fits(unittest.TestCase):
         self.assertEqual(fields, fit)
         for frame, text, is_there in ((20, b"b", True), (20, b"x", False), (21, b"b", False)):
             one = base_with(self.edges, [(TICKS * frame, text)])
-            self.assertEqual(one.has(self.edges[2], 10), is_there)
+            self.assertEqual(one.has(self.edges[2], 10), is_there, (frame, text, is_there))
         one = base_with(self.edges, [(TICKS * 20, b"b"), (TICKS * 21, b"x"), (TICKS * 22, b"b"),
                                      (TICKS * 36, b"")], 60, 2)
         for at, start, by in ((2, 10, 0), (2, 9, 1), (2, 8, 0), (2, 7, None), (2, 11, 1),
@@ -196,7 +196,7 @@ class Fits(unittest.TestCase):
         self.assertEqual([min(one.late) for one in base.fits], [0] * len(base.fits))
         self.assertEqual((base_with(self.edges, []).fits, base_with([], self.SENT).fits), ([], []))
 
-    def test_apart(self) -> None:
+    def test_finds_the_smaller_of_two_delays_between_begins_and_ends(self) -> None:
         """Half that agree are not apart; of two delays that as many have the smaller is told; that
         of one end alone is none where no text agrees; within N frames it is more than N."""
         two = [(frame + by, text) for (frame, text), by in zip(self.SENT, (0, 2, 0, 2, 0, 2))]
@@ -218,19 +218,19 @@ class Fits(unittest.TestCase):
                 (True, 0, 3, 3), (False, 0, 2, 2), (True, 10, 0, 2), (True, -1, 0, 2),
                 (False, -1, 0, 3), (True, 9, 0, 3), (False, -36, 0, 1), (True, 20, 0, 2)):
             self.assertEqual(base.late_by(base.fit_at(10), is_begin, late),
-                             Apart(is_begin, late, agree, of))
+                             Apart(is_begin, late, agree, of), (is_begin, late, agree))
         for at, is_told in ((MOST_APART, True), (MOST_APART + 1, False)):
             base = base_with(self.edges[:2], [(0, b"a"), (TICKS * (10 + at), b"")])
             found = base.apart(base.fit_at(10))
-            self.assertEqual(found, Apart(False, at, 1, 1) if is_told else None)
+            self.assertEqual(found, Apart(False, at, 1, 1) if is_told else None, (at, is_told))
         base = base_with(self.edges[:2], [(TICKS * 13, b"")])
         self.assertIsNone(base.apart(base.fit_at(10)))
         for by in (-3, 3):  # the ends are as due, the beginnings are not: these have the origin
             some = [(frame + 9 + by * bool(text), text) for frame, text in self.SENT]
             base = base_with(self.edges, [(TICKS * frame, text) for frame, text in some], 70)
-            self.assertEqual(base.apart(base.fit_at(1)), Apart(True, by, 3, 3))
-            self.assertEqual(base.by_beginnings(base.fit_at(1)).start, 1 - by)
-            self.assertEqual(base.by_beginnings(base.fit_at(1 - by)).start, 1 - by)
+            self.assertEqual(base.apart(base.fit_at(1)), Apart(True, by, 3, 3), by)
+            self.assertEqual(base.by_beginnings(base.fit_at(1)).start, 1 - by, by)
+            self.assertEqual(base.by_beginnings(base.fit_at(1 - by)).start, 1 - by, by)
 
     def test_which_vote(self) -> None:
         """Of many some of the whole length vote, and each of its texts, unless there are many of
@@ -240,16 +240,15 @@ class Fits(unittest.TestCase):
         for votes in (1 << 20, 100):
             with mock.patch("subtitles.clock.alignment.VOTES", votes):
                 starts = [fit.start for fit in base_with(self.edges, sent).fits]
-            self.assertIn(-500, starts)
-        with mock.patch("subtitles.clock.alignment.VOTES", 100), \
-                mock.patch("subtitles.clock.stretches.VOTES", 60):
+            self.assertIn(-500, starts, votes)
+        with mock.patch("subtitles.clock.alignment.VOTES", 60):
             self.assertEqual(len(by_times([base_with(self.edges * 2, sent)], 12)), 12)
         for count, votes in ((REPEATED, True), (REPEATED + 1, False)):
             edges = [Edge(1000 * at * at, b"x", True) for at in range(count)] + [
                 Edge(5, b"", False), Edge(7, b"y", True)]
             found = base_with(edges, [(TICKS, b"x"), (2 * TICKS, b""), (3 * TICKS, b"y")]).alike()
             self.assertEqual(found, {4: 1, **{1000 * at * at - 1: 1 for at in range(
-                count * votes)}})
+                count * votes)}}, (count, votes))
 
     def test_single_texts(self) -> None:
         """Those that are there once; what is erased is none."""
@@ -336,16 +335,17 @@ class Parts(unittest.TestCase):
             [part] = parts_of(self.shown[::-1], bases, [])  # in any order
             self.assertEqual((part.base, part[:2], part.best.start, part.over), (
                 number, (100, 650), 0, []), number)
-            self.assertIs(part.sent, bases[number])
-            self.assertEqual([fit for fit in bases[number].fits if fit.start], part.others)
+            self.assertIs(part.sent, bases[number], (bases, number))
+            self.assertEqual([fit for fit in bases[number].fits if fit.start], part.others,
+                             (bases, number))
         self.assertEqual(parts_of(self.shown, [none], []), [])
         ends = [(ticks + 3 * TICKS * (not text), text) for ticks, text in own]
         begins = [(ticks + 3 * TICKS * bool(text), text) for ticks, text in own]
         for some, start in ((ends, 0), (begins, -3)):
             [part] = parts_of(self.shown, [base_with(edges, some)], [])
-            self.assertEqual(part.best.start, start)
+            self.assertEqual(part.best.start, start, (some, start))
 
-    def test_border(self) -> None:
+    def test_begins_a_stretch_where_it_gains_the_most(self) -> None:
         """The second of two stretches begins where it gains the most, behind five of the first, and
         what is due there is sent later; of two the later one."""
         edges = [Edge(50 * at, b"", True) for at in range(15)]
@@ -388,7 +388,7 @@ class Runs(unittest.TestCase):
         return [(first[1] + EACH * first[0], last[1] + EACH * last[0])
                 for first, last in runs_of(bases, has_clock)]
 
-    def test_which(self) -> None:
+    def test_finds_each_run_whichever_is_the_best(self) -> None:
         """Each in its order, whichever is the best; what is half of it, or a quarter of its texts
         over most of it; and by its times alone, where no clock is known, of what is no grid."""
         for step, kinds in itertools.product((EACH, -10 ** 6), (
@@ -402,7 +402,7 @@ class Runs(unittest.TestCase):
         self.assertEqual(self.found(self.grid, "rw", EACH), [(0, 1150)])
         self.assertEqual(self.found(self.grid, "rr", EACH), [(0, 1150), (EACH, EACH + 1150)])
 
-    def test_between(self) -> None:
+    def test_takes_what_is_sent_between_two_places(self) -> None:
         """What is sent between two places, neither of them included."""
         bases = [base_with([], [(TICKS * at, b"%d" % at) for at in range(5)], 4) for _ in range(3)]
         for low, high, wanted in (

@@ -9,13 +9,12 @@ from typing import Any, Sequence
 from developing.pes import packet
 from subtitles.clock.alignment import Early
 from subtitles.clock.origin import (
-    Origin, Sought, break_lines, is_sent, measure, part_lines, shift_lines, take_parts,
-    time_of_pts)
+    Origin, Sought, break_lines, is_sent, measure, part_lines, shift_lines, take_parts)
 from subtitles.clock.start import (
     Clock, FITTED, First, GIVEN, NoFirst, RECORDING, START, TCP, began, first_picture, left_out,
     off_words)
 from subtitles.clock.stretches import Stretch
-from subtitles.common.times import CLOCK, FRAMES_OF_A_DAY, TICKS
+from subtitles.common.times import CLOCK, TICKS
 from subtitles.request.request import ORIGIN_CHOICE, Selection, Unclear
 from subtitles.stream.packets import Change, Mark, Packets, Run
 from subtitles.stream.receiver import national_option
@@ -55,7 +54,7 @@ class Words(unittest.TestCase):
         return SimpleNamespace(origin=origin, agree=agree, start=900, texts=1,
                                points=lambda is_one=True: agree)
 
-    def test_part(self) -> None:
+    def test_describes_a_part_by_its_best_origin(self) -> None:
         """As good as the best are many; fewer than half agree; what is early, or apart. Rows of
         calls have the others."""
         rows: list[tuple[Any, int, list[str]]] = [
@@ -98,9 +97,10 @@ class Words(unittest.TestCase):
                 "4 of 9 cues agree, 4 with the letters that are due; the file has 20; next best: "
                 "none", line]))
         for part, count, lines in rows:
-            self.assertEqual([*part_lines(part, count, True)], lines)
+            self.assertEqual([*part_lines(part, count, True)], lines, (part, count, lines))
             self.assertEqual([*part_lines(part, count)], [
-                line.replace("--origin or --start", "--origin") for line in lines])
+                line.replace("--origin or --start", "--origin") for line in lines],
+                             (part, count, lines))
 
     def test_how_many_parts(self) -> None:
         """One more than breaks are said; else nothing is taken, and what was found is told."""
@@ -112,11 +112,13 @@ class Words(unittest.TestCase):
             take_parts(found, Sought("a", "b", breaks=said), [], parts)
             words = {0: "no break", 1: "1 break"}.get(breaks, f"{breaks} breaks")
             if count == said + 1:
-                self.assertEqual((found.status, len(found.parts), found.breaks), (0, count, None))
+                self.assertEqual((found.status, len(found.parts), found.breaks), (0, count, None),
+                                 (count, said))
             else:
-                self.assertEqual((found.status, found.parts, found.breaks), (1, [], breaks))
+                self.assertEqual((found.status, found.parts, found.breaks), (1, [], breaks),
+                                 (count, said))
                 self.assertEqual(found.lines, [f"{words} found, where --breaks {said} is said",
-                                               *break_lines(parts)])
+                                               *break_lines(parts)], (count, said))
 
     def test_all_parts(self) -> None:
         """Each is told with its frames, and its PES packets where PTS go back; the first is
@@ -134,11 +136,11 @@ class Words(unittest.TestCase):
                 0, None if origin is None else 0, [
                     f"--from 00:00:00:00 --to 00:00:20:00 {pes[0]}--origin 9",
                     f"--from 00:00:40:00 --to 00:01:00:00 {pes[1]}--origin 10",
-                    f"--from 00:01:20:00 --to 00:01:40:00 {pes[2]}--origin 11"]))
+                    f"--from 00:01:20:00 --to 00:01:40:00 {pes[2]}--origin 11"]), (origin, count))
             self.assertEqual([(one.origin, one.packets, one.frames, one.agree, one.among)
                               for one in found.parts], [
                 (9 + at, (at, 7) if count > 1 else None, (1000 * at, 1000 * at + 500), edges - 1,
-                 edges) for at, edges in enumerate((20, 12, 6))])
+                 edges) for at, edges in enumerate((20, 12, 6))], (origin, count))
             for line, is_there in (("3 parts: 35 of 38 cues agree", True),
                                    ("19 of 20 cues agree, 19 with the letters that are due; this "
                                     "part has 20; next best: none", True),
@@ -162,7 +164,7 @@ class Words(unittest.TestCase):
             take_parts(found, Sought("a", "b", origin=origin, breaks=1), [parts[0].sent], parts)
             self.assertEqual((found.status, len(found.parts)), (status, 2 - 2 * status), early)
 
-    def test_compared(self) -> None:
+    def test_compares_an_origin_with_a_given_one(self) -> None:
         """With the origin that is known, also 0, however far it is; with 0 near that alone."""
         rows: list[tuple[int | None, int, str]] = [
             (None, 0, ""), (None, TICKS - 1, ""), (None, 251 * TICKS, ""),
@@ -174,7 +176,7 @@ class Words(unittest.TestCase):
             part.origin = origin
             measure(found, known, part)
             self.assertEqual(found.lines, [f"that is {words}"] * bool(words), (known, origin))
-            self.assertEqual(found.away, None if known is None else origin - known)
+            self.assertEqual(found.away, None if known is None else origin - known, (known, origin))
 
     def test_what_is_there(self) -> None:
         """What is damaged, has no PTS, or is missing; where the page is not sent, what is."""
@@ -197,12 +199,9 @@ class Words(unittest.TestCase):
             packets.marks, packets.changes = some, changes
             packets.damage, packets.sent = damage, {"888": 9, "150": 1, "777": 2}
             self.assertEqual((is_sent(packets, Sought("a", "one"), lines), lines),
-                             (bool(changes), said))
-        for frame, words in ((0, "00:00:00:00"), (FRAMES_OF_A_DAY - 1, "23:59:59:24"),
-                             (FRAMES_OF_A_DAY, "outside of the day"), (-1, "outside of the day")):
-            self.assertEqual(time_of_pts((ORIGIN + TICKS * frame) % CLOCK, ORIGIN), words)
+                             (bool(changes), said), (several, some, damage))
 
-    def test_breaks(self) -> None:
+    def test_says_how_much_longer_each_part_begins(self) -> None:
         """Of the second part and the third: what is longer, shorter, or goes back."""
         parts = [part_at(0), part_at(25, 100), part_at(-50, 200), part_at(0, 300, 1)]
         parts.append(SimpleNamespace(origin=ORIGIN + 7, begin=400, base=1))
@@ -222,7 +221,7 @@ class Words(unittest.TestCase):
         return shift_lines([Stretch(one, at, at + 1) for at, one in enumerate(tracks)], parts,
                            ORIGIN)
 
-    def test_shifts(self) -> None:
+    def test_says_from_when_on_subtitles_are_late(self) -> None:
         """Late, early, on time; back; of many the first and the last."""
         said = "on subtitles are"
         self.assertEqual(self.shifts(0, 25), [f"from 00:01:00:00 {said} 1.00 s (25 frames) late"])
@@ -287,7 +286,7 @@ class Pictures(unittest.TestCase):
                 VIDEO, MPEG_2, (CLOCK - 5 + TICKS * least) % CLOCK, 3), frames)
         for kind in (0x01, H_264, HEVC):
             lines = [*programme_with((VIDEO, kind)), f"video {VIDEO} 0", f"picture {VIDEO} 9"]
-            self.assertEqual(self.said(lines), First(VIDEO, kind, 9, 0))
+            self.assertEqual(self.said(lines), First(VIDEO, kind, 9, 0), kind)
         self.assertIn("PTS 9, HEVC of PID 0x200; 1 PES packet of video before it skipped",
                       First(VIDEO, HEVC, 9, 1).line())
 
@@ -298,12 +297,12 @@ class Pictures(unittest.TestCase):
         own = programme_with((VIDEO, MPEG_2))
         for tables in ([*none, *own], [*own, *none]):
             for is_whole in (True, False):
-                self.assertEqual(self.said([*tables, *begun], is_whole), first)
+                self.assertEqual(self.said([*tables, *begun], is_whole), first, is_whole)
         lines = [*programme_with((VIDEO, MPEG_2)), *begun, f"picture {VIDEO} {3 * TICKS}"]
         self.assertIn("leave out 2 frames", str(self.said(lines)))
         self.assertEqual(self.said([*lines, f"pictures {VIDEO} 0 0 0 0"]), first)
 
-    def test_clocks(self) -> None:
+    def test_takes_the_clock_of_the_first_picture(self) -> None:
         """The PTS of the first picture less its frame, moved to those of the Teletext by less than
         half a frame: at half a frame it is not clear. Which clock is chosen, and by what."""
         rows: list[tuple[list[int], int, int | None, str]] = [
@@ -323,8 +322,9 @@ class Pictures(unittest.TestCase):
                 continue
             found = began(asked, surveyed(lines), packets)
             origin = (shift - 2 * TICKS + moved) % CLOCK
-            self.assertEqual((found.clock, found.frame), (Clock(origin, START), 2))
-            self.assertIn(words, found.lines[1])
+            self.assertEqual((found.clock, found.frame), (Clock(origin, START), 2),
+                             (shift, several, within))
+            self.assertIn(words, found.lines[1], (shift, several, within))
         lines = [*programme_with((VIDEO, MPEG_2)), f"video {VIDEO} 0", f"picture {VIDEO} {TICKS}",
                  f"picture {VIDEO} 0", f"group {VIDEO} 0 0 open"]
         self.assertEqual(began(asked, surveyed(lines), packets).clock.away, -1)
@@ -333,12 +333,12 @@ class Pictures(unittest.TestCase):
                 None, Selection(ORIGIN_CHOICE, "8", "words"))):
             chosen = (evidence or Selection(ORIGIN_CHOICE, "7", FITTED))._replace(part=2)
             self.assertEqual(Clock(7, source, evidence=evidence).chosen(2),
-                             chosen if source == RECORDING else None)
+                             chosen if source == RECORDING else None, (source, evidence))
         for other, away in ((None, 0), (0, -3), (5 * TICKS + 9, 2), (5 * TICKS - 9, 2),
                             (CLOCK - TICKS, -4)):
-            self.assertEqual(First(VIDEO, MPEG_2, 3 * TICKS, 0, other).away, away)
+            self.assertEqual(First(VIDEO, MPEG_2, 3 * TICKS, 0, other).away, away, (other, away))
 
-    def test_groups(self) -> None:
+    def test_takes_the_first_picture_of_a_closed_or_open_group(self) -> None:
         """Of a closed group the smallest; of one that is open or unknown the one with the flag;
         both are said where they differ."""
         flagged, least = (CLOCK - 5 + TICKS * 2) % CLOCK, CLOCK - 5
@@ -356,9 +356,9 @@ class Pictures(unittest.TestCase):
             self.assertEqual(found, First(VIDEO, MPEG_2, first, 3, other), (frames, form))
             assert isinstance(found, First)
             self.assertEqual((found.away, found.line()), (
-                away, f"the first picture has PTS {first}{begin}{more}"))
+                away, f"the first picture has PTS {first}{begin}{more}"), (frames, form, first))
 
-    def test_questions(self) -> None:
+    def test_asks_about_a_delay_as_long_as_to_another_picture(self) -> None:
         """A delay of all that is just as long as to the other picture asks whether the time code is
         of that."""
         for away, delay, words in (
@@ -368,7 +368,7 @@ class Pictures(unittest.TestCase):
             said = Clock(0, START, delay, away=away).question()
             self.assertTrue(said.startswith(words) and bool(said) == bool(words), said)
 
-    def test_none(self) -> None:
+    def test_says_why_there_is_no_first_picture(self) -> None:
         """Each reason."""
         two = programme_with((VIDEO, MPEG_2), (0x201, H_264))
         rows: list[tuple[list[str], bool, str]] = [
@@ -389,7 +389,7 @@ class Pictures(unittest.TestCase):
                 # Two pictures in each PES packet: the first that is shown has no PTS.
                 (shown(GROUP[::2] + [9]), True, "leave out 3 frames: a PES packet has several")]
         for lines, is_whole, words in rows:
-            self.assertIn(words, self.said(lines, is_whole))
+            self.assertIn(words, self.said(lines, is_whole), (lines, is_whole))
 
     def test_left_out(self) -> None:
         """Frames and fields have a PTS each; of pictures that are cut the last may be missing."""

@@ -28,7 +28,7 @@ class Shapes(unittest.TestCase):
                        Rules(({"a": OneOf("p"), "b": OneOf(None)}, {"a": Text("[qr]+")})),
                        Rules(({"a": Text("[pq]")}, {"b": INNER}))))
 
-    def test_misfits(self) -> None:
+    def test_names_the_first_place_that_does_not_fit(self) -> None:
         """Where a value does not fit: in itself, or at a place in it, the first one; a number is no
         truth, nor one of another type."""
         nan, inf = float("nan"), float("inf")
@@ -66,7 +66,7 @@ class Shapes(unittest.TestCase):
         for shape, value, place in deep:
             self.assertEqual(shape.misfit(value), place, value)
 
-    def test_made(self) -> None:
+    def test_cuts_a_text_and_a_list_that_are_too_long(self) -> None:
         """A text that is too long is cut, unless a pattern asks something of it; a list is; what
         is not always there is left out where it is not."""
         rows: list[tuple[Shape, object, object]] = [
@@ -83,7 +83,7 @@ class Shapes(unittest.TestCase):
         for shape, value, wanted in rows:
             self.assertEqual(shape.made(value), wanted, value)
 
-    def test_anchors(self) -> None:
+    def test_prefixes_all_anchors_of_a_part_and_their_links(self) -> None:
         """All anchors, and all links to them, have the prefix of a part; a text has none."""
         some = markup('<a id="x">{}</a><a href="#x">b</a><a id="y" href="#y">c</a>', ' id="')
         self.assertEqual(some.anchored("p").source, '<a id="px"> id=&quot;</a><a href="#px">b</a>'
@@ -93,7 +93,7 @@ class Shapes(unittest.TestCase):
 class Spans(unittest.TestCase):
     """Frames between two."""
 
-    def test_between(self) -> None:
+    def test_has_the_first_frame_and_not_the_end(self) -> None:
         """From the first on, and before the end; in words, where it is not the whole day."""
         day = FRAMES_OF_A_DAY
         for between, inside, words in (
@@ -105,13 +105,13 @@ class Spans(unittest.TestCase):
                 (Between(1, day - 1), [False, True, True],
                  "--from 00:00:00:01 --to 23:59:59:24")):
             self.assertEqual([between.has(frame) for frame in (0, 25, 50)], inside, between)
-            self.assertEqual(" ".join(between.words()), words)
+            self.assertEqual(" ".join(between.words()), words, (between, inside))
 
 
 class Heard(unittest.TestCase):
     """What is kept of what is said of a pair."""
 
-    def test_all(self) -> None:
+    def test_keeps_each_command_and_choice_and_a_note_once(self) -> None:
         """Each command and choice in its order; a note once, and none that is empty."""
         said = list[str]()
         speech: Any = SimpleNamespace(say=said.append, command=said.append)
@@ -130,7 +130,7 @@ class Heard(unittest.TestCase):
         self.assertEqual(heard.commands, ["check 'a b' >c", "check 'd'\"'\"''"])
         self.assertEqual(said, ["line 1", *heard.commands, "more"])
 
-    def test_speech(self) -> None:
+    def test_prints_the_last_line_after_what_is_done_before_it(self) -> None:
         """What is done before the verdict's line is done between its sentence and that; all before
         the verdict may be quiet; each line is said at once."""
         speech, out = Speech(Progress()), io.StringIO()
@@ -151,7 +151,7 @@ class Heard(unittest.TestCase):
 class Named(Case):
     """Names of files that a call makes."""
 
-    def test_files(self) -> None:
+    def test_gives_the_program_a_file_name_in_utf_8(self) -> None:
         """Where somebody else gives them their place; the subtitle file as the program is given
         it, of a part too, by a name that is UTF-8."""
         later = Names("one", self.folder, "out", "later")  # somebody else puts them into `out`
@@ -168,15 +168,10 @@ class Named(Case):
                       later.of_part(1).given == later.given and self.read("one.given.stl") ==
                       b"two" and later.as_program(own, "x") != later.given)
 
-    def test_names(self) -> None:
-        """What was given before is given to nobody else; long names are cut, and differ."""
-        of_taken: list[tuple[list[str], str]] = [
-            ([], "a"), (["a"], "a~2"), (["a~3", "a~2"], "a~4"), (["a~2", "a~5", "a"], "a~6"),
-            (["b", "ab~3"], "a"), (["a~x"], "a"), (["~2"], "a")]
-        for taken, wanted in of_taken:
-            names = NamesOfList()
-            self.must(f"taken {taken}", [names.take(one) for one in taken] == taken and
-                      names.pair("a.stl") == wanted)
+    def test_names_no_two_pairs_the_same(self) -> None:
+        """A pair of a list has another name than those before; long names are cut, and differ."""
+        names = NamesOfList()
+        self.check("pairs", [names.pair(f"{one}.stl") for one in "abaa"], ["a", "b", "a~2", "a~3"])
         long = ["a" * 179, "a" * 180, "a" * 181, "a" * 182, "a" * 181 + "b", "é" * 90, "é" * 91]
         found = [pair_name(f"{one}.stl") for one in long]
         self.must("long", len({*found}) == len(long) and [one in found for one in long] == [

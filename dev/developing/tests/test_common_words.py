@@ -36,7 +36,7 @@ from .test_formats_files import refused
 class Words(Case):
     """The words of a call."""
 
-    def test_values(self) -> None:
+    def test_takes_the_least_and_the_greatest_value_of_each_option(self) -> None:
         """Of each option the least and the most, what is beyond, and what is none."""
         none: Any = None
         many = "9" * 5000
@@ -73,11 +73,11 @@ class Words(Case):
                     found = None
                 self.assertEqual(found, wanted, f"{call.__name__} {text[:20]}")
 
-    def test_options(self) -> None:
+    def test_takes_an_option_that_several_tools_have(self) -> None:
         for pid, size, wanted in ((None, 188, []), (None, 204, []),
                                   (0x101, 188, ["--pid", "0x101"]),
                                   (0, 192, ["--pid", "0x0", "--packet-size", "192"])):
-            self.assertEqual(command_line.stream_words(pid, size), wanted)
+            self.assertEqual(command_line.stream_words(pid, size), wanted, (pid, size))
         self.assertEqual([command_line.counted(one, "fault") for one in (0, 1, 2)],
                          ["0 faults", "1 fault", "2 faults"])
         self.assertEqual([command_line.range_words(*one)
@@ -87,7 +87,7 @@ class Words(Case):
         command_line.add_page(parser)
         self.assertEqual(vars(parser.parse_args([])), {"page": (0, 0x88)})
 
-    def test_shown(self) -> None:
+    def test_escapes_characters_that_a_terminal_obeys(self) -> None:
         """Characters that a terminal obeys, at each end of their ranges."""
         for text, wanted in (("\x1f ~\x7f", "\\x1f ~\\x7f"), ("\x80\x9f\xa0", "\\u0080\\u009f\xa0"),
                              ("\u061c\u061b", "\\u061c\u061b"), ("\u200d\u200e\u200f\u2010",
@@ -96,15 +96,15 @@ class Words(Case):
                              ("\u2065\u2066\u2069\u206a", "\u2065\\u2066\\u2069\u206a"),
                              ("\udc80\udcff", "\\x80\\xff"), ("\udc7f\ud800", "\\udc7f\\ud800"),
                              ("a\nb\0", "a\\x0ab\\x00")):
-            self.assertEqual(command_line.shown(text), wanted)
-            self.assertTrue(command_line.quoted(text).startswith("$'"))
+            self.assertEqual(command_line.shown(text), wanted, text)
+            self.assertTrue(command_line.quoted(text).startswith("$'"), text)
         for text in ("plain", "two words", "it's", "a\\b", ""):
-            self.assertEqual(shlex.split(command_line.quoted(text)), [text])
+            self.assertEqual(shlex.split(command_line.quoted(text)), [text], text)
         for text in ("it's\na\\n", "\x1b[1m"):
             done = self.call(["bash", "-c", f"printf %s {command_line.quoted(text)}"])
-            self.assertEqual(done.out.decode(), text)
+            self.assertEqual(done.out.decode(), text, text)
 
-    def test_ends(self) -> None:
+    def test_prints_one_line_for_what_ends_a_tool_early(self) -> None:
         """The line of what ends a tool early."""
         for reason, wanted in (
                 (Stop("a  line\nof two"), "a line of two"), (KeyboardInterrupt(), "stopped"),
@@ -113,16 +113,16 @@ class Words(Case):
                 (OSError(2, "No such file", ""), "an empty name: No such file"),
                 (OSError("a  word"), "the output: a word"),
                 (ValueError("x  y"), "a mistake of this tool, ValueError in no line: x y")):
-            self.assertEqual(command_line.error_line(reason), wanted)
+            self.assertEqual(command_line.error_line(reason), wanted, reason)
         for value, lines in (("0", 0), ("1", 1)):
             with mock.patch.dict(os.environ, {"SUBTTX_DEBUG": value}), \
                     mock.patch("traceback.print_exception") as traced:
                 command_line.error_line(ValueError("x"))
                 command_line.error_line(Stop("x"))
-            self.assertEqual(traced.call_count, lines)
+            self.assertEqual(traced.call_count, lines, (value, lines))
         for name, wanted in (("a", "a"), ("-", "./-"), ("-a", "./-a"), ("=a", "./=a"),
                              ("+a", "./+a"), ("@a", "./@a"), ("a-", "a-"), ("/-a", "/-a")):
-            self.assertEqual(plain_name(name), wanted)
+            self.assertEqual(plain_name(name), wanted, name)
 
     def test_what_is_not_there(self) -> None:
         """A version that no file has, an output that is closed."""
@@ -135,7 +135,7 @@ class Words(Case):
         self.assertEqual([is_utf_8(name) for name in ("", "a", "\u00e9", "\udce9")],
                          [True, True, True, False])
 
-    def test_inputs(self) -> None:
+    def test_names_a_file_as_it_was_typed(self) -> None:
         """An error names what was typed alone; a pipe that answers at once is waited for."""
         with self.assertRaises(OSError) as told, naming("typed"):
             raise OSError(2, "No such file", "one", None, "two")
@@ -148,10 +148,11 @@ class Words(Case):
             self.assertEqual((source.read(5), waited.call_count), (b"some", 2))
         for code, status in ((3, 3), (None, 0), (0, 0)):
             with mock.patch("sys.argv", ["tool", "word"]):
-                self.assertEqual(command_line.answer(lambda line: sys.exit(code), []), status)
-                self.assertEqual(command_line.answer(len, ["one"]), 1)
+                self.assertEqual(command_line.answer(lambda line: sys.exit(code), []), status,
+                                 (code, status))
+                self.assertEqual(command_line.answer(len, ["one"]), 1, (code, status))
 
-    def test_files(self) -> None:
+    def test_refuses_what_is_no_file_without_waiting(self) -> None:
         """What is no file is refused at once, by what is open; a pipe, where there may be one, is
         waited for; no link is followed where none may be; and nothing is read beyond the bound."""
         self.write("file", b"12345")
@@ -182,7 +183,7 @@ class Words(Case):
             self.must("a pipe", first_bytes(self.path("pipe"), 100_001, True) ==
                       (b"y\n" * 50_001)[:100_001])
 
-    def test_lists(self) -> None:
+    def test_splits_lines_as_shlex_does_within_bounds(self) -> None:
         """Words are those of `shlex`, in linear time; lists and lines have a bound."""
         chance = random.Random(94)
         for _ in range(20_000):
@@ -198,7 +199,7 @@ class Words(Case):
             self.assertEqual(found, wanted, repr(line))
         began = time.process_time()
         for one in ("a", "'b'c", "\\d", '"\\e"'):
-            self.assertEqual(len(split(one * (MOST_OF_LINE // len(one)))), 1)
+            self.assertEqual(len(split(one * (MOST_OF_LINE // len(one)))), 1, one)
         self.assertLess(time.process_time() - began, 5)
         lines = lines_in(f"a\n{'b' * (MOST_OF_LINE + 1)}\nc\x0b\x85\u2028 'd e'\n'")
         self.assertEqual([(one.number, one.words[-1][:9], bool(one.fault)) for one in lines], [
@@ -231,7 +232,7 @@ class Words(Case):
                 "one in a comment": ("a #\0", "")}.items():
             self.check(name, [line.fault for line in lines_in(text)], [fault])
 
-    def test_markup(self) -> None:
+    def test_escapes_text_in_pages(self) -> None:
         """Text is escaped, also in a place within a tag, and what XML can't hold, or what hides or
         turns round what is read, is a number; markup is as it is, and no text."""
         for text, wanted in (("a<b>&\"'", "a&lt;b&gt;&amp;&quot;&#x27;"), ("\x07", "\\x07"),
@@ -242,7 +243,7 @@ class Words(Case):
                              *((chr(code), f"\\u{code:04x}") for code in range(0x80, 0xA0)),
                              ("\r", "\\x0d"), ("\t", "\\x09"), ("\x7f", "\\x7f")):
             self.assertEqual(markup('<a b="{}">{}</a>', text, text).source,
-                             f'<a b="{wanted}">{wanted}</a>')
+                             f'<a b="{wanted}">{wanted}</a>', text)
         bold = markup("<b>{}</b>", 5)
         self.assertEqual((markup("{}{:,}{:.1f}", bold, 1000, 2.55).source, (bold + bold).source,
                           joined([bold, "<"], markup("<br/>")).source, bool(bold),
@@ -253,7 +254,7 @@ class Words(Case):
                       lambda: bold + "<b>"):  # type: ignore[operator]
             self.assertRaises((TypeError, AttributeError), wrong)
 
-    def test_templates(self) -> None:
+    def test_writes_no_markup_but_that_of_its_sources(self) -> None:
         """What is no text in a page stands in the sources as it is."""
         for path in modules(TOOLS):
             with open(path, encoding="utf-8") as file:
@@ -265,7 +266,7 @@ class Words(Case):
                     self.must(f"{path} line {call.lineno}", all(isinstance(
                         one, ast.Constant) for one in call.args[at:at + 1]))
 
-    def test_manual(self) -> None:
+    def test_reads_meanings_from_the_manual(self) -> None:
         """A row of which the cure is that of the one before, as it is or with more; options that
         accept it are no part of it."""
         path = self.write("chapter", b"""# Refusals
@@ -284,24 +285,10 @@ class Words(Case):
         self.assertTrue({50, 72} <= {*listing.meanings()} and all(map(all, listing.meanings(
             ).values())))
 
-    def test_outputs(self) -> None:
-        """What is written takes a name whole or not at all, and never that of an input."""
-        one, two = self.write("one", b"old"), self.write("two", b"input")
-        of_inputs: list[tuple[list[str | None], bool]] = [
-            ([], False), ([two], False), ([None, two, one], True), ([one, two], True),
-            ([self.path("none")], False)]
-        for inputs, is_refused in of_inputs:
-            def write() -> None:
-                with whole_file(one, Inputs(*inputs)) as file:
-                    file.write(b"new")
-
-            self.write("one", b"old")
-            self.assertEqual((bool(refused(write)), self.read("one")),
-                             (is_refused, b"old" if is_refused else b"new"))
+    def test_writes_a_file_whole_or_not_at_all(self) -> None:
+        """What is written takes a name whole or not at all."""
+        one = self.write("one", b"old")
         os.symlink(one, self.path("link"))
-        for path in (self.path("link"), os.path.join(self.folder, ".", "one")):
-            self.assertTrue(refused(lambda: whole_file(path, Inputs(one)).__enter__()))
-        self.assertEqual(self.read("one"), b"new")
         with whole_file(self.path("link")) as file:
             file.write(b"linked")
         self.assertEqual((self.read("one"), os.path.islink(self.path("link"))), (b"linked", True))
@@ -309,7 +296,7 @@ class Words(Case):
         for path in (one, self.path("new")):
             with whole_file(path) as file:
                 file.write(b"new")
-            self.assertEqual(os.stat(path).st_mode & 0o777, 0o640)
+            self.assertEqual(os.stat(path).st_mode & 0o777, 0o640, path)
         os.umask(mask)
         with self.assertRaises(KeyError), whole_file(one) as file:
             file.write(b"half")
@@ -318,7 +305,7 @@ class Words(Case):
                           is_replaced(self.path("none")), is_replaced("-")),
                          (b"new", True, False, True, False))
 
-    def test_results(self) -> None:
+    def test_replaces_a_link_in_a_folder_of_results(self) -> None:
         """In a folder of results a link is replaced, and what it leads to stays, there or not."""
         for target in (self.write("one", b"theirs"), self.path("none"), self.folder):
             os.symlink(target, self.path("link"))
@@ -329,7 +316,7 @@ class Words(Case):
                       not os.path.exists(self.path("none")))
             os.unlink(self.path("link"))
 
-    def test_sums(self) -> None:
+    def test_sums_up_all_bytes_of_a_file(self) -> None:
         """A sum is of all bytes, also without memory for a thread; what can't be read is told."""
         for size in (0, 1, ROOM - 1, ROOM, ROOM + 1, 2 * ROOM + 5):
             name = self.write(f"{size}", bytes(range(251)) * (size // 251) + b"x" * (size % 251))
@@ -341,7 +328,7 @@ class Words(Case):
         for wrong in (self.folder, self.path("none"), self.path("0/x"), self.path("pipe")):
             self.assertRaises((Stop, OSError), BackgroundSum(wrong).result)
 
-    def test_programs(self) -> None:
+    def test_refuses_a_program_that_cannot_be_called(self) -> None:
         """What can be called is one, and nothing else."""
         self.write_program("program", "#!/bin/sh\n")
         self.write("text", b"#!/bin/sh\n")

@@ -70,7 +70,7 @@ class Engines(Case):
         self.must(name, found == self.WANTED and not os.path.exists(self.path("hit")) and
                   "index.html" not in os.listdir(self.path("out")), found)
 
-    def test_slurm(self) -> None:
+    def test_runs_each_line_as_a_job_of_slurm(self) -> None:
         """The script as Slurm calls it; a job that did not judge failed."""
         script = os.path.join(TOP, "docs", "manual", "judge.sh")
         ended = [self.call(["bash", script], env={**self.env, "SLURM_ARRAY_TASK_ID": f"{number}"})
@@ -90,7 +90,7 @@ class Engines(Case):
         self.call(["sbatch", "--wait", "--array=1-6", script], env=self.env)
         self.is_judged("an array")
 
-    def test_parallel(self) -> None:
+    def test_runs_each_line_by_gnu_parallel_again_if_not_judged(self) -> None:
         """The manual's command: what was not judged is tried again, and nothing else."""
         if not shutil.which("parallel"):
             self.skipTest("GNU parallel, which is not here")
@@ -133,7 +133,7 @@ SEEDS = 150
 class Statuses(unittest.TestCase):
     """The status that goes with a last line."""
 
-    def test_table(self) -> None:
+    def test_gives_each_last_line_its_status(self) -> None:
         for line, status in (
                 ("accepted 51 frames 2 transmissions", 0), ("written 2 transmissions", 0),
                 ("written 3 pes 1 gaps", 0), ("2 pes", 0), ("blank", 0), ("heard no", 0),
@@ -147,7 +147,7 @@ class Statuses(unittest.TestCase):
 class Promised(unittest.TestCase):
     """What is promised of a recording."""
 
-    def test_laws(self) -> None:
+    def test_holds_the_laws_of_carried_packets(self) -> None:
         for name, law in LAWS.items():
             for seed in range(SEEDS):
                 with self.subTest(name, seed=seed):
@@ -173,7 +173,7 @@ class Promised(unittest.TestCase):
 class Found(Case):
     """Which tests are of a word."""
 
-    def test_modules(self) -> None:
+    def test_finds_a_module_by_any_of_its_names(self) -> None:
         for name, wanted in (
                 ("stream/layout.py", "stream/layout.py"), ("stream.layout", "stream/layout.py"),
                 ("tools/subtitles/stream/layout.py", "stream/layout.py"),
@@ -181,7 +181,7 @@ class Found(Case):
                 ("dev/dist", "dev/dist"), ("air/judge.py", "air/judge.py")):
             self.must(name, table.module_of(name) == wanted, table.module_of(name))
 
-    def test_table(self) -> None:
+    def test_has_tests_for_each_module_and_script(self) -> None:
         """Each module of the tools has tests, and each class of tests is one; each script that
         tests name has its row."""
         known, top = table.rows(), os.path.join(TOP, "tools", "subtitles")

@@ -3,15 +3,12 @@ at each bound, of the first, the second and the last, and where the clock begins
 """
 from __future__ import annotations
 
-import io
 import itertools
-import random
 import unittest
 
 from developing import pes, stl
 from subtitles.common import times
 from subtitles.common.command_line import page_in
-from subtitles.common.files import Damaged
 from subtitles.formats import teletext
 from .sent import CLOSING, HEADER, row
 
@@ -32,7 +29,7 @@ def bits_of(number: int, count: int) -> str:
 class Times(unittest.TestCase):
     """Times of the day and PTS."""
 
-    def test_words(self) -> None:
+    def test_reads_the_time_that_it_writes(self) -> None:
         """Of each kind of a frame its time and back; what is no time."""
         for frame, text in ((0, "00:00:00:00"), (24, "00:00:00:24"), (25, "00:00:01:00"),
                             (1499, "00:00:59:24"), (1500, "00:01:00:00"), (89_999, "00:59:59:24"),
@@ -41,7 +38,7 @@ class Times(unittest.TestCase):
             code = bytes(map(int, text.split(":")))
             self.assertEqual((times.time_of(frame), times.frame_of(text), stl.time_code(frame),
                               times.time_of_code(code), times.frame_of_code(code)),
-                             (text, frame, code, text, frame))
+                             (text, frame, code, text, frame), (frame, text))
         self.assertEqual(times.time_of(DAY), "24:00:00:00")
         self.assertEqual(times.time_of_code(bytes([24, 99, 255, 25])), "24:99:255:25")
         for text in ("24:00:00:00", "23:60:00:00", "23:59:60:00", "23:59:59:25", "", "1:00:00:00",
@@ -49,21 +46,21 @@ class Times(unittest.TestCase):
                      "00:00:00:0\u0661"):
             self.assertIsNone(times.frame_of(text), text)
 
-    def test_clock(self) -> None:
+    def test_counts_pts_over_33_bits(self) -> None:
         """A PTS is of 33 bits: what is later, at each end of half the clock."""
         half = CLOCK // 2
         for first, second, later in ((0, 0, 0), (0, 1, 1), (1, 0, -1), (CLOCK - 1, 0, 1),
                                      (0, CLOCK - 1, -1), (0, half - 1, half - 1), (0, half, -half),
                                      (7, half + 6, half - 1), (half + 7, 6, half - 1),
                                      (half + 7, 7, -half), (CLOCK - 5, 20, 25)):
-            self.assertEqual(times.ticks_between(first, second), later)
+            self.assertEqual(times.ticks_between(first, second), later, (first, second, later))
         for ticks, wanted in ((-1, CLOCK - 1), (0, 0), (CLOCK - 1, CLOCK - 1), (CLOCK, 0)):
-            self.assertEqual(times.wrapped(ticks), wanted)
+            self.assertEqual(times.wrapped(ticks), wanted, ticks)
         for frame, origin, wanted in ((0, 5, 5), (1, 5, 3605), (1, CLOCK - 1, 3599),
                                       (DAY, 0, 7_776_000_000), (DAY, CLOCK - 1, 7_775_999_999)):
-            self.assertEqual(times.pts_of(frame, origin), wanted)
+            self.assertEqual(times.pts_of(frame, origin), wanted, (frame, origin))
 
-    def test_frames(self) -> None:
+    def test_finds_the_frame_of_each_pts(self) -> None:
         """Of PTS one by one, and of many that rise by a frame: at the ends of a day and of a frame,
         and where the clock begins again."""
         offs = (-901, -900, -899, -1, 0, 1, 1800, 2699, 2700, 3599)
@@ -88,36 +85,38 @@ class Times(unittest.TestCase):
                 ticks[0] + 3600 * at for at in range(len(ticks))]
             self.assertTrue(isinstance(found, range) or not is_row, ticks)
             for pts, frame, distance in zip(several, wanted, distances):
-                self.assertEqual(times.frame_at(pts, origin, within), None if frame < 0 else frame)
-                self.assertEqual(times.frame_in(pts, origin, within), distance // 3600)
+                self.assertEqual(times.frame_at(pts, origin, within), None if frame < 0 else frame,
+                                 (pts, frame, distance))
+                self.assertEqual(times.frame_in(pts, origin, within), distance // 3600,
+                                 (pts, frame, distance))
 
 
 class Codes(unittest.TestCase):
     """Teletext's codes, bit by bit."""
 
-    def test_bytes(self) -> None:
+    def test_decodes_each_byte_bit_by_bit(self) -> None:
         """Each byte: its parity, its reverse, the number that it codes with at most one wrong bit.
         """
         for byte in range(256):
             bits = bits_of(byte, 8)
-            self.assertEqual(teletext.is_odd(byte), bits.count("1") % 2 == 1)
-            self.assertEqual(pes.mirrored(bytes([byte])), bytes([int(bits[::-1], 2)]))
+            self.assertEqual(teletext.is_odd(byte), bits.count("1") % 2 == 1, byte)
+            self.assertEqual(pes.mirrored(bytes([byte])), bytes([int(bits[::-1], 2)]), byte)
             near = [number for number, code in enumerate(CODES)
                     if sum(one != two for one, two in zip(bits, code)) < 2]
-            self.assertEqual(teletext.NUMBER[byte], near[0] if near else None)
+            self.assertEqual(teletext.NUMBER[byte], near[0] if near else None, byte)
         for code in range(128):
-            self.assertIn(pes.odd(code), (code, code + 128))
-            self.assertTrue(teletext.is_odd(pes.odd(code)))
+            self.assertIn(pes.odd(code), (code, code + 128), code)
+            self.assertTrue(teletext.is_odd(pes.odd(code)), code)
 
-    def test_addresses(self) -> None:
+    def test_reads_each_magazine_and_packet_number(self) -> None:
         """Each magazine and packet number; with what means nothing in the first byte or the second;
         a header's eight numbers, the second of them wrong, and the last."""
         for magazine, number in itertools.product(range(8), range(32)):
             made = pes.packet(magazine, number, (), b"a")
-            self.assertEqual(pes.address_of(made), (magazine, number))
-            self.assertEqual(made[2], 0x61)
+            self.assertEqual(pes.address_of(made), (magazine, number), (magazine, number))
+            self.assertEqual(made[2], 0x61, (magazine, number))
             for at in (0, 1):
-                self.assertIsNone(pes.address_of(made[:at] + NOTHING + made[at + 1:]))
+                self.assertIsNone(pes.address_of(made[:at] + NOTHING + made[at + 1:]), at)
         numbers = bytes([8, 7, 0, 9, 1, 14, 2, 15])
         made = pes.packet(1, 0, numbers, b" " * 32)
         self.assertEqual((len(made), pes.header_of(made)), (42, numbers))
@@ -137,14 +136,14 @@ class Codes(unittest.TestCase):
             alone = [(place // 4 == at) << place % 4 for at in range(8)]
             for header, is_set in ((bytes(alone), True), (bytes(15 - one for one in alone), False)):
                 self.assertEqual([one for one in places if teletext.has_bit(header, one) == is_set],
-                                 [bit])
+                                 [bit], (header, is_set))
 
-    def test_pages(self) -> None:
+    def test_reads_names_of_pages(self) -> None:
         """Names of pages, and what is none."""
         for text, page in (("888", (0, 0x88)), ("100", (1, 0)), ("7fE", (7, 0xFE)),
                            ("8Ab", (0, 0xAB)), ("200", (2, 0)), ("899", (0, 0x99))):
-            self.assertEqual(page_in(text), page)
-            self.assertEqual(teletext.page_name(*page), text.upper())
+            self.assertEqual(page_in(text), page, (text, page))
+            self.assertEqual(teletext.page_name(*page), text.upper(), (text, page))
         for text in ("", "88", "8888", "000", "900", "8FF", "1ff", "8 1", "8+1", "8_1", "8g0",
                      "x88", "8\u0661\u0661"):
             self.assertIsNone(page_in(text), text)
@@ -153,61 +152,11 @@ class Codes(unittest.TestCase):
 class Packets(unittest.TestCase):
     """PES packets."""
 
-    def test_pts(self) -> None:
+    def test_writes_each_bit_of_a_pts_in_its_place(self) -> None:
         """Each bit of a PTS stands where ISO 13818-1 has it."""
         for pts in (0, 1, CLOCK - 1, 0x155555555, 0xAAAAAAAA, *(1 << bit for bit in range(33))):
             bits = bits_of(pts, 33)
             wanted = int(f"0010{bits[:3]}1{bits[3:18]}1{bits[18:]}1", 2).to_bytes(5, "big")
-            self.assertEqual(pes.pts_bytes(pts), wanted)
+            self.assertEqual(pes.pts_bytes(pts), wanted, pts)
             data = pes.pes_packet(pts, [])
-            self.assertEqual(pes.pts_in(data), pts)
-
-    def test_begins(self) -> None:
-        """Of one length, and of several; then what is cut, and what is none."""
-        chance = random.Random(3)
-        rows: list[list[int]] = [[], [6], [6, 6], [6, 7], [184] * 63, [184] * 64, [184] * 65,
-                                 [184] * 5000,
-                [184] * 64 + [368] * 3 + [184], [6] * 3 + [70_000 % 65_541] + [6] * 2]
-        rows += [[6 + chance.choice((0, 1, 255, 256)) for _ in range(9)] for _ in range(9)]
-        for lengths in rows:
-            data = b"".join(START + (length - 6).to_bytes(2, "big") + b"x" * (length - 6)
-                            for length in lengths)
-            wanted = [0, *itertools.accumulate(lengths)]
-            for rest in (b"", b"\0", START, START + b"\0", START + b"\0\1", START[:3] + b"\xbe" * 9,
-                         START + b"\0\7" + b"y" * 6):
-                self.assertEqual(pes.begins_in(data + rest), wanted, (lengths[:9], rest))
-                self.assertEqual([len(one) for one in pes.whole_in(data + rest)], lengths)
-
-    def test_runs(self) -> None:
-        """Read a few bytes at a time: what comes whole, what is cut, and what is something else,
-        by its number."""
-        rows: list[list[int]] = [[], [10], [10, 10, 10], [10, 30, 10, 10], [90, 10], [10] * 200,
-                                 [10, 20] * 40]
-        for most, lengths in itertools.product((3, 50, 1 << 18), rows):
-            data = b"".join(START + (length - 6).to_bytes(2, "big") + b"z" * (length - 6)
-                            for length in lengths)
-            for rest, words in ((b"", ""), (b"\0", "is cut"), (START + b"\0\7abcdef", "is cut"),
-                                (b"x" * 5, "is cut"),
-                                (b"x" * 6, "does not begin with 00 00 01 BD")):
-                found: list[bytes] = []
-                told = ""
-                try:
-                    for one in pes.pes_packets(Slow(data + rest, most)):
-                        found.append(one)
-                except Damaged as reason:
-                    told = str(reason)
-                self.assertEqual(list(map(len, found)), lengths, (most, rest))
-                self.assertEqual(b"".join(found), data)
-                self.assertEqual(told, words and f"PES packet {len(lengths)} {words}")
-
-
-class Slow(io.BytesIO):
-    """Bytes that come a few at a time."""
-
-    def __init__(self, data: bytes, most: int) -> None:
-        super().__init__(data)
-        self.most = most
-
-    def read(self, size: int | None = -1, /) -> bytes:
-        assert size is not None and size > 0
-        return super().read(min(size, self.most))
+            self.assertEqual(pes.pts_in(data), pts, pts)

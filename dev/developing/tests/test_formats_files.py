@@ -39,7 +39,7 @@ class Blocks(unittest.TestCase):
     def block(self, number: int, ebn: int, comment: int = 0, group: int = 0) -> bytes:
         return tti_block(number, number, number + 1, 20, 2, b"%d" % number, ebn, comment, group)
 
-    def test_subtitles(self) -> None:
+    def test_joins_blocks_into_subtitles(self) -> None:
         """Rows of blocks by SN, EBN and CF: the subtitles by SN and text, which is that of all
         their blocks, or why one can't be read on; the first, the second and the last wrong."""
         last, user = 255, 254
@@ -69,7 +69,7 @@ class Blocks(unittest.TestCase):
                 told = refused(lambda: found.extend(stl.subtitles_in(data + rest)), Damaged)
                 self.assertEqual([(one.number, one.text) for one in found], wanted, row)
                 self.assertEqual(told, words if words and "no last" not in words or not rest else
-                                 f"block {len(row) + 1} is cut")
+                                 f"block {len(row) + 1} is cut", rest)
         [one] = stl.subtitles_in(gsi_block(b"", 0, 0) + b"".join(
             tti_block(1, at, at + 2, 20 + at, at, b"x", ebn) for at, ebn in ((0, 0), (1, last))))
         self.assertEqual((stl.subtitle_times(one), one.row, one.justify), ((0, 2), 20, 0))
@@ -85,7 +85,7 @@ class Blocks(unittest.TestCase):
             told = refused(lambda: list(stl.subtitles_in(data)), Damaged)
             self.assertTrue(told.startswith(words) and bool(told) == bool(words), told)
 
-    def test_readable(self) -> None:
+    def test_reads_subtitles_before_damage(self) -> None:
         """Damage behind a subtitle is told, and before the first ends it."""
         good = gsi_block(b"", 0, 0)
         for data, count, is_told in ((good, 0, False), (good + self.block(1, 255), 1, False),
@@ -96,7 +96,8 @@ class Blocks(unittest.TestCase):
             with mock.patch.object(stl, "tell", told.append):
                 stopped = refused(lambda: found.extend(stl.readable("damaged.stl", data)))
             self.assertEqual((-1 if stopped else len(found), any(
-                line.startswith("damaged.stl: ") for line in told)), (count, is_told))
+                line.startswith("damaged.stl: ") for line in told)), (count, is_told),
+                             (data, count, is_told))
         self.assertEqual(stl.letters_on_page(b"A b\x01\xc1!$\x23", "english"), b"Ab!\x24\x5f")
         self.assertEqual(stl.letters_on_page(b" \x20!", "german"), b"!")
 
@@ -165,8 +166,8 @@ class Files(Case):
                     self.assertEqual((found and (found.position, found.number), file.first_before(
                         block), file.is_outside(block)), (
                             (at, at + (at > 3)), earlier[-1].blocks[0] if earlier else None,
-                            outside[at - 1]))
-                self.assertEqual(file.text(one.blocks[-1]), one.text)
+                            outside[at - 1]), block)
+                self.assertEqual(file.text(one.blocks[-1]), one.text, (at, one))
             for frame in range(0, 300, 3):
                 due = [at for at, one in own if (one.begin or 0) <= frame < (one.end or 0)]
                 found = file.at_frame(frame)
@@ -179,22 +180,22 @@ class Files(Case):
                                  [(at, one.begin, one.end, one.text) for at, one in enumerate(
                                      groups, 1) if one.begin is not None and one.end != one.begin])
 
-    def test_letters(self) -> None:
+    def test_names_the_byte_and_character_at_a_place(self) -> None:
         """A byte of a text, and its character, but of control codes."""
         for byte in {*range(256)} - {0x8F}:
             file = SubtitleFile(self.write("one.stl", gsi_block(b"", 1, 1) + tti_block(
                 1, 25, 50, 20, 2, b"a" + bytes([byte]))))
             self.assertEqual(file.letter(1, 1), (f"{byte:02X}", None if byte < 0x20 or 0x7F <= byte
-                                                 < 0xA0 else letters_of(bytes([byte]))))
+                                                 < 0xA0 else letters_of(bytes([byte]))), byte)
 
 
-    def test_bounds(self) -> None:
+    def test_reads_one_block_more_than_check_takes(self) -> None:
         """As many bytes are read as `check` takes blocks, and one more; through a pipe too."""
         most, path = GSI + 128 * 99_999 + 1, self.path("long.stl")
         for more in (-1, 0, 1):
             with open(path, "wb") as file:
                 file.truncate(most + more)
-            self.assertEqual(len(stl.stl_bytes(path)), most + min(more, 0))
+            self.assertEqual(len(stl.stl_bytes(path)), most + min(more, 0), more)
         with subprocess.Popen(["cat", path], stdout=subprocess.PIPE) as run:
             assert run.stdout
             self.assertEqual(len(stl.stl_bytes(f"/dev/fd/{run.stdout.fileno()}")), most)
@@ -204,7 +205,7 @@ class Files(Case):
 class Titles(Case):
     """The titles of a GSI block."""
 
-    def test_titles(self) -> None:
+    def test_reads_the_titles_of_the_gsi_block(self) -> None:
         def block(page: bytes, first: bytes, second: bytes) -> bytes:
             return (page + b"STL25.01" + b" " * 5 + first.ljust(32) + b"x" * 32
                     + second.ljust(32) + b"y" * 912)
@@ -218,7 +219,8 @@ class Titles(Case):
                 (b"860", b"\x84", b"", ["ã"]), (b"863", b"\x84", b"", ["Â"]),
                 (b"865", b"\x9d", b"", ["Ø"]), (b"999", b"\xd0", b"", ["ð"])]
         for page, first, second, wanted in of_titles:
-            self.assertEqual(titles_in(self.write("one.stl", block(page, first, second))), wanted)
+            self.assertEqual(titles_in(self.write("one.stl", block(page, first, second))), wanted,
+                             (page, first, second))
         self.assertEqual(titles_in(self.write("one.stl", b"")), [])
 
 
@@ -227,7 +229,7 @@ class Lines(unittest.TestCase):
 
     NUMBERS = [*range(10, 26), *range(30, 41), 44, 45, *range(50, 58), *range(60, 78), 82]
 
-    def test_kinds(self) -> None:
+    def test_knows_what_each_number_is_of(self) -> None:
         """Of each number what it is of: the file, what ends reading, what is passed over."""
         kinds = {"stl": listing.STL_FAULTS, "ends": listing.ENDS_READING,
                  "passed": listing.PASSED_OVER}
@@ -235,7 +237,8 @@ class Lines(unittest.TestCase):
             wanted = {"stl"} if 10 <= number <= 25 or 50 <= number <= 57 else set[str]()
             wanted |= {"ends"} if number in (30, 31, 32, 44) else set()
             wanted |= {"passed"} if 33 <= number <= 40 or number in (45, 61) else set()
-            self.assertEqual({kind for kind, some in kinds.items() if number in some}, wanted)
+            self.assertEqual({kind for kind, some in kinds.items() if number in some}, wanted,
+                             number)
         self.assertEqual((listing.EMPTY, listing.EMPTY_TIME, listing.OUT_OF_ORDER,
                           listing.OFF_FRAME, listing.GAP, listing.LOST_PACKETS, listing.CONTENT,
                           listing.CHARACTER, listing.CONTROL, listing.BEGIN, listing.END),
@@ -248,24 +251,24 @@ class Lines(unittest.TestCase):
         one = listing.NamedFault("not shown", "words")
         for fault, place in ((one, ""), (one._replace(block=0), " block 0"), (one._replace(
                 block=7), " block 7"), (one._replace(time="00:00:01:00"), " frame 00:00:01:00")):
-            self.assertEqual(fault.line, f"refused not shown{place}")
+            self.assertEqual(fault.line, f"refused not shown{place}", (fault, place))
         self.assertEqual({*listing.named_meanings()}, {*listing.FAULT_NAMES})
         self.assertTrue(all(map(all, listing.named_meanings().values())))
         self.assertEqual(listing.plain("`a` [b c](d#e) f, [g](h)"), "a b c f, g")
 
-    def test_whole(self) -> None:
+    def test_takes_only_a_complete_line(self) -> None:
         """A line is one of these as a whole alone: with something before or behind it, or without
         its last word, it is none, or one of another place."""
         for line in ("accepted 1 frames 2 transmissions", "trusted frames 00:00:01:00 00:00:02:00",
                      "5 faults", "refused 72 Content frame 00:00:01:00 row 3 column 4",
                      "ended 72 Content frame 00:00:01:00", "refused 50 Character block 3 at 4",
                      "refused 68 Parity frame 00:00:01:00 packet 5", "refused 33 Flags pes 6"):
-            self.assertTrue(listing.is_line(line))
+            self.assertTrue(listing.is_line(line), line)
             for other in (f"x {line}", f" {line}", f"{line} ", f"{line} x", f"{line}\n",
                           line.rpartition(" ")[0], line.replace(" ", "  ", 1), line.upper()):
                 self.assertFalse(listing.is_line(other), other)
 
-    def test_quickly(self) -> None:
+    def test_reads_parts_of_a_line_as_the_whole_line(self) -> None:
         """What is taken of a line without reading all of it is what all of it says."""
         places = ("", " block 7", " block 0 at 111", " pes 12", " frame 23:59:59:24",
                   " frame 00:00:01:00 packet 9", " frame 10:00:00:01 row 22 column 39")
@@ -275,20 +278,22 @@ class Lines(unittest.TestCase):
             found = listing.fault_of_line(line)
             assert found
             self.assertEqual((found.word, found.number, found.name, found.is_fault),
-                             (word, number, "Name", word == "refused"))
-            self.assertEqual(listing.number_of(line), number if word == "refused" else None)
+                             (word, number, "Name", word == "refused"), (word, number, place))
+            self.assertEqual(listing.number_of(line), number if word == "refused" else None,
+                             (word, number, place))
             parts = line.split(" ")
             self.assertEqual(listing.line_words(line), parts[:5] + [" ".join(parts[5:])] * (
-                len(parts) > 5))
+                len(parts) > 5), (word, number, place))
             if found.time:
-                self.assertEqual(found.frame, listing.frame_of_place(found.time))
-                self.assertIn(found.frame, (2_159_999, 25, 900_001))
+                self.assertEqual(found.frame, listing.frame_of_place(found.time),
+                                 (word, number, place))
+                self.assertIn(found.frame, (2_159_999, 25, 900_001), (word, number, place))
             else:
-                self.assertIsNone(found.frame)
-            self.assertTrue(listing.is_line(line))
+                self.assertIsNone(found.frame, (word, number, place))
+            self.assertTrue(listing.is_line(line), (word, number, place))
         for line, is_one in (("5 faults", True), ("accepted 1 frames 2 transmissions", True),
                              ("trusted frames a b", True), ("faults", False), ("", False)):
-            self.assertEqual(listing.is_line(line), is_one)
+            self.assertEqual(listing.is_line(line), is_one, (line, is_one))
         for line in ("refused", "refused ", "refused x Name", "refused \u0661 Name", "ended 5 Name",
                      "refused5 6 Name"):
             self.assertIsNone(listing.number_of(line + " "), line)
@@ -309,36 +314,40 @@ class Order(unittest.TestCase):
                 due = [one for one in all_of if one.begin <= frame < one.end]
                 self.assertEqual((programme.place_at(frame), programme.due(frame),
                                   programme.subtitle(frame)),
-                                 (len(begun) - 1, (len(begun), bool(due)), due[0] if due else None))
+                                 (len(begun) - 1, (len(begun), bool(due)), due[0] if due else None),
+                                 frame)
                 for last in range(frame, 18):
                     self.assertEqual(programme.edges(frame, last), [
-                        one for pair in times for one in pair if frame < one <= last])
+                        one for pair in times for one in pair if frame < one <= last], last)
                 for count in range(1, len(times) + 1):
                     places = list(range(0, len(times), count))
                     self.assertEqual(programme.nearest(places, frame), min(
-                        places, key=lambda place: abs(times[place][0] - frame)))  # the first of two
+                        places, key=lambda place: abs(times[place][0] - frame)),
+                                     count)  # the first of two
             self.assertEqual([programme.before(at) for at in range(len(times))],
-                             [0, *(end for _, end in times)][:len(times)])
+                             [0, *(end for _, end in times)][:len(times)], times)
             self.assertEqual([programme.after(at) for at in range(len(times))],
-                             [*(begin for begin, _ in times[1:]), *[2_160_000] * bool(times)])
+                             [*(begin for begin, _ in times[1:]), *[2_160_000] * bool(times)],
+                             times)
             for position, number in itertools.product(range(1, 5), range(7)):
                 more = f" (SN {number})" if number != position else ""
-                self.assertEqual(stl.subtitle_name(position, number), f"subtitle {position}{more}")
+                self.assertEqual(stl.subtitle_name(position, number), f"subtitle {position}{more}",
+                                 (position, number))
             self.assertEqual([one.name for one in all_of],
                              ["subtitle 1", "subtitle 2", "subtitle 3 (SN 4)",
-                              "subtitle 4 (SN 5)"][:len(times)])
+                              "subtitle 4 (SN 5)"][:len(times)], times)
 
 
 class Letters(unittest.TestCase):
     """Letters of code table 00."""
 
-    def test_letters(self) -> None:
+    def test_decodes_letters_of_code_table_00(self) -> None:
         for text, wanted in ((b"", ""), (b"a~ ", "a~ "), (b"\x1f\x7f\x80", "\ufffd" * 3),
                              (b"\xc1e\xcfz", "èž"), (b"\xc9e", "\ufffde"), (b"\xc2", "\ufffd"),
                              (b"a\xc2", "a\ufffd"), (b"\xa0\xaf\xb0\xbf", "\xa0↓°¿"),
                              (b"\xd0\xd7\xd8\xdb\xdc\xe4\xe5\xe6\xef\xf0\xfe\xff",
                               "—¦\ufffd\ufffd⅛Ħ\ufffdĲŉĸŋ\ufffd"), (b"\xc2e\xc2a!", "éá!")):
-            self.assertEqual(letters_of(text), wanted)
+            self.assertEqual(letters_of(text), wanted, text)
 
     def test_iso_6937(self) -> None:
         """The C library's ISO 6937 is an outside value for each byte, and each accent on a letter;

@@ -62,13 +62,13 @@ class Table(unittest.TestCase):
     def test_characters_that_no_text_has(self) -> None:
         """As libzvbi 0.2.41 has them in its Latin set, by `vbi_teletext_unicode`."""
         for option in OPTIONS:
-            self.assertEqual(letters(option.bits)[0x7F], "\u25a0")
+            self.assertEqual(letters(option.bits)[0x7F], "\u25a0", option)
         self.assertEqual("".join(letters(ENGLISH.bits)[code] for code in b"[\\]^`{|}~"),
                          "←½→↑—¼‖¾÷")
         self.assertEqual(letters(GERMAN.bits)[0x5E:0x60], ["^", "_"])
         for bits in (RESERVED, 8):  # no option's: its own letters are not known, the others are
             self.assertEqual([(code, letters(bits)[code] != "\u25a1") for code in range(32, 127)],
-                             [(code, code not in PLACES) for code in range(32, 127)])
+                             [(code, code not in PLACES) for code in range(32, 127)], bits)
 
     def test_nothing_else_has_a_cell(self) -> None:
         known = {(row["option"], bytes.fromhex(row["stl"])) for row in rows_of("options.tsv")}
@@ -96,7 +96,7 @@ class Table(unittest.TestCase):
             self.assertTrue(has_characters(b"A%cA" % byte, ENGLISH), byte)
         self.assertFalse(has_characters(b"A\x90A", ENGLISH))
 
-    def test_languages(self) -> None:
+    def test_chooses_the_option_of_each_language(self) -> None:
         for code, option in ((b"09", ENGLISH), (b"08", GERMAN), (b"27", SWEDISH), (b"28", SWEDISH),
                              (b"1B", SWEDISH), (b"1b", SWEDISH), (b"15", ITALIAN), (b"0F", FRENCH),
                              (b"0A", SPANISH), (b"21", SPANISH), (b"06", CZECH), (b"25", CZECH),
@@ -108,14 +108,14 @@ class Table(unittest.TestCase):
             self.assertEqual(of_track(track), named, track)
         self.assertIsNone(of_track("pol"))
 
-    def test_names(self) -> None:
+    def test_names_each_option(self) -> None:
         self.assertEqual({len(one.characters) for one in OPTIONS}, {len(PLACES)})
 
 
 class Advice(unittest.TestCase):
     """What to do about a letter."""
 
-    def test_letters(self) -> None:
+    def test_advises_on_each_letter_that_an_option_lacks(self) -> None:
         for text, words in (
                 ("C265", "é is in --option swedish, italian, french, spanish, czech"),
                 ("24", "$ is in --option english, german, italian, spanish"),
@@ -255,11 +255,11 @@ class Sent(Case):
             self.must(f"{name}: the row", told == [((0, one.row), one.cells)], told)
             before = one.cells
 
-    def test_letters(self) -> None:
+    def test_draws_each_letter_as_libzvbi_does(self) -> None:
         for option in OPTIONS:
             self.are_sent(option, [one for one, _ in letters_of(option)])
 
-    def test_texts(self) -> None:
+    def test_draws_texts_or_names_the_refused_byte(self) -> None:
         """Texts that are drawn, and of those that are refused the byte."""
         for option in OPTIONS:
             several = texts(option)
@@ -270,7 +270,7 @@ class Sent(Case):
                     self.must(f"{option.word} {one.text.hex()}", line ==
                               "refused {} {} block 1 {} {}".format(*told.split()), line)
 
-    def test_others(self) -> None:
+    def test_refuses_every_other_byte(self) -> None:
         """Every other byte, and every other two of which the first is a diacritical mark."""
         singles = [bytes([byte]) for byte in range(256) if byte != UNUSED[0]]
         tried = singles + [bytes([mark, byte]) for mark in MARKS for byte in range(256)]
@@ -366,7 +366,7 @@ def warnings(case: Case, name: str, done: Done, kinds: list[str]) -> list[Any]:
 class Warnings(Case):
     """What is said of it."""
 
-    def test_lines(self) -> None:
+    def test_warns_of_another_option_than_that_of_the_language(self) -> None:
         may = "receivers above level 1 may show other letters"
         cases: list[tuple[str, bytes, list[str]]] = [
             ("another region", naming(29, 8),
@@ -406,7 +406,7 @@ class Warnings(Case):
 class Languages(unittest.TestCase):
     """The option of the language that a PMT has for the page."""
 
-    def test_lines(self) -> None:
+    def test_takes_the_option_of_the_language_that_a_pmt_names(self) -> None:
         cases: list[tuple[list[str], str, str]] = [
             (["eng"], "english", ""), (["eng"], "french", "eng, which is of --option english"),
             (["fre"], "french", ""), (["fra"], "german", "fra, which is of --option french"),

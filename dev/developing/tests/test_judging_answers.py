@@ -78,7 +78,7 @@ LISTS: list[tuple[list[str], int, str | None]] = [
 class Answers(Case):
     """What `check --all` answered: lines, and a status."""
 
-    def test_answers(self) -> None:
+    def test_takes_each_list_for_its_verdict_or_says_why_not(self) -> None:
         """Each kind of list: its verdict, or why it is none; its line and faults, and what is heard
         as it comes."""
         for lines, status, wanted in LISTS:
@@ -113,7 +113,7 @@ class Answers(Case):
                     check(["echo", FIRST], Answer(self.path("list")), mock.Mock(side_effect=error))
             kill.assert_called_once_with()
 
-    def test_stopped(self) -> None:
+    def test_knows_up_to_when_a_stopped_list_goes(self) -> None:
         """Up to when it was told; what is accepted without a list; and where its file is then."""
         of_times: list[tuple[list[str], str | None]] = [
             ([], None), ([FIRST], "00:00:05:00"),
@@ -125,7 +125,7 @@ class Answers(Case):
                 made.take(one)
             made.stop()
             self.assertEqual((made.told_up_to(), made.verdict, made.said().status),
-                             (wanted, "not judged", None))
+                             (wanted, "not judged", None), lines)
         verdict, nothing = verdict_of([]), mock.Mock()
         pair = Pair(verdict, nothing, nothing, nothing, False)
         self.assertEqual(pair.stop("10:00"), "10:00")
@@ -133,7 +133,8 @@ class Answers(Case):
             pair.begun = part_with(0, 9, 0, Answer(self.path("list")))
             pair.begun.answer.take(line)
             for words in (f"10:00, when check had reported {told}", "10:00"):  # it is taken once
-                self.assertEqual((pair.stop("10:00"), verdict.parts[-1]), (words, pair.begun))
+                self.assertEqual((pair.stop("10:00"), verdict.parts[-1]), (words, pair.begun),
+                                 (line, told, words))
         self.assertEqual(len(verdict.parts), 2)
         made = Answer(self.path("list"))
         made.take(FIRST)
@@ -151,7 +152,7 @@ class Answers(Case):
 class Nights(Case):
     """Times that fall at midnight."""
 
-    def test_falls(self) -> None:
+    def test_finds_times_that_fall_at_midnight(self) -> None:
         def code(text: str) -> bytes:
             return bytes(map(int, text.split(":")))
 
@@ -159,9 +160,9 @@ class Nights(Case):
                 ("23:00:00:00", "00:59:59:24", True), ("22:59:59:24", "00:00:00:00", False),
                 ("23:59:59:24", "01:00:00:00", False), ("23:59:59:24", "00:00:00:00", True),
                 ("24:00:00:00", "00:00:00:00", False), ("23:00:00:00", "00:60:00:00", False)):
-            self.assertEqual(falls_at_midnight(code(first), code(second)), wanted)
+            self.assertEqual(falls_at_midnight(code(first), code(second)), wanted, (first, second))
 
-    def test_words(self) -> None:
+    def test_advises_to_cut_a_file_at_midnight(self) -> None:
         """Of a subtitle that goes before it comes, and of one that comes before the one before it:
         by its number alone, and for the block that is named."""
         day = FRAMES_OF_A_DAY
@@ -179,13 +180,13 @@ class Nights(Case):
         told = fault_of_line("refused 56 Order block 2")
         for begin, wanted in ((day - 90_001, ""), (day - 90_000, AT_MIDNIGHT)):
             subtitles = SubtitleFile(programme(self, [(begin, day - 100), (10, 60)]))
-            self.assertEqual(told and midnight_words(told, subtitles), wanted)
+            self.assertEqual(told and midnight_words(told, subtitles), wanted, begin)
 
 
 class Asked(Case):
     """What is asked of a pair of a list."""
 
-    def test_clocks(self) -> None:
+    def test_takes_the_clock_of_a_line_before_that_of_the_call(self) -> None:
         """A line that tells its origin, or its first picture, takes neither of the call; the other
         options stay, where it has none of its own."""
         parser = Words("")
@@ -202,8 +203,8 @@ class Asked(Case):
                                     parser.parse_args(call.split()))
             self.assertEqual((asked.origin, asked.start, asked.every), wanted, (call, line))
         for name, wanted_name in (("-", "-"), ("-a", "./-a"), ("a", "a"), ("", ""), (None, None)):
-            self.assertEqual(asked_for("-a.stl", name).recording, wanted_name)
-            self.assertEqual(asked_for("-a.stl", name).stl, "./-a.stl")
+            self.assertEqual(asked_for("-a.stl", name).recording, wanted_name, (name, wanted_name))
+            self.assertEqual(asked_for("-a.stl", name).stl, "./-a.stl", (name, wanted_name))
         for words in (["a.stl", "-"], ["a.stl", "a.ts", "--origin", "1", "--start", "tcp"]):
             self.assertRaises(Stop, request_of_line, words, parser.parse_args([]))
 
@@ -213,9 +214,10 @@ class Asked(Case):
                            (b"0F", "french"), (b"ZZ", "english")):
             stl = self.write("one.stl", gsi_block(b"", 0, 0, language=code))
             self.assertEqual(asked_for(stl, "a.ts", "--option", "auto").option, word, code)
-            self.assertEqual(asked_for(stl, "a.ts", "--option", "czech").option, "czech")
+            self.assertEqual(asked_for(stl, "a.ts", "--option", "czech").option, "czech",
+                             (code, word))
         for path in ("none.stl", self.folder, self.write("two.stl", b"850STL25.01100")):
-            self.assertEqual(asked_for(path, "a.ts", "--option", "auto").option, "english")
+            self.assertEqual(asked_for(path, "a.ts", "--option", "auto").option, "english", path)
 
 
 # What each of several mistakes would have said, that no test told once: a row for each.
@@ -237,7 +239,7 @@ class Meanwhile(Case):
         "another file, then the first again": "mv FILE kept; cp other FILE; mv kept FILE",
         "gone": "rm FILE"}
 
-    def test_changes(self) -> None:
+    def test_gives_no_verdict_if_a_file_changed_meanwhile(self) -> None:
         """A pair has no verdict if one of its files changed, whichever way, while it was read or
         while `check` judged it: its result could describe another file."""
         data = {"one.stl": example_bytes("story.stl"), "one.severity": b"79 warning\n",
@@ -266,7 +268,7 @@ class Meanwhile(Case):
 class Kept(Case):
     """What --keep leaves of a recording that is not judged."""
 
-    def test_kept(self) -> None:
+    def test_keeps_the_whole_recording_of_a_pair_that_is_not_judged(self) -> None:
         """All of it, whyever it is not judged, as of one that is."""
         pes = example_bytes("story.pes")
         whole = in_stream((TELETEXT_PID, pes))
@@ -285,7 +287,7 @@ class Kept(Case):
 class Values(Case):
     """Functions that decide."""
 
-    def test_pauses(self) -> None:
+    def test_counts_no_pause_before_the_first_pes_packet(self) -> None:
         """What comes before the first PES packet is no pause."""
         for before, frames, wanted in (
                 (NO_FRAME, [900], []), (10, [900], [Span(11, 899)]), (0, [4], [Span(1, 3)]),

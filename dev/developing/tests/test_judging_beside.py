@@ -78,7 +78,7 @@ class Beside(Case):
     def judge(self, stl: str, *words: str) -> Judged:
         return judged(self, stl, *words, *WORDS)
 
-    def test_sentence(self) -> None:
+    def test_says_how_many_subtitles_were_judged_and_which_are_refused(self) -> None:
         """How many were judged, how they stand, and which are refused, with letter and cure."""
         first = f"subtitle 3 at 00:00:12:00 is refused by 50 Character, \u0132: \u0132 is in no " \
             f"option: at level 1 {CURE}"
@@ -102,7 +102,7 @@ class Beside(Case):
             self.must(f"{bad}", words in said and more in said and (" more; " in said) ==
                       bool(more), said)
 
-    def test_results(self) -> None:
+    def test_writes_both_counts_into_all_results(self) -> None:
         """Both counts stand in the result, the tables, and what collects them."""
         files = {"--json": self.path("x.json"), "--csv": self.path("x.csv"),
                  "--junit": self.path("x.xml")}
@@ -131,7 +131,7 @@ class Beside(Case):
             result = judged(self, *more).result
             self.must(f"{more}", result["subtitle_counts"] == counts, result)
 
-    def test_severities(self) -> None:
+    def test_waives_faults_of_the_subtitle_file_and_78_by_number(self) -> None:
         """The subtitle file's faults and 78 are waived by their numbers; a fault of the
         transmission is not."""
         slow = self.write("slow.pes", joined(late(5, 3600 * 600, 3600 * 650)(self.sent)))
@@ -156,7 +156,7 @@ class Beside(Case):
         self.must("nothing was read", found.word == "not judged" and
                   found.verdict.why_not == UNREAD, found.said)
 
-    def test_ranges(self) -> None:
+    def test_ignores_refused_subtitles_outside_of_a_range(self) -> None:
         """What is refused outside of a range is not told; where nothing is left, that is."""
         for words, word, counts in (
                 (("--from", "00:00:20:00"), "accepted", (6, 0)),
@@ -169,7 +169,7 @@ class Beside(Case):
         self.must("none is left", "no subtitle of " in found.told[0] and " is left: " in
                   found.told[0], found.told)
 
-    def test_parts(self) -> None:
+    def test_judges_each_part_beside_its_refused_subtitles(self) -> None:
         """After a break, with a refused subtitle in the second part alone, and in both; and with a
         header in each part that keeps the page."""
         two = [(pts + 3600 * 500 * (pts >= 3600 * 480), some) for pts, some in self.sent]
@@ -184,7 +184,7 @@ class Beside(Case):
                       and len(found.result["parts"]) == 2 and
                       found.verdict.counts == Counts(10 - len(bad), len(bad)), found.said)
 
-    def test_reports(self) -> None:
+    def test_lists_refused_and_late_subtitles_in_the_report(self) -> None:
         """The report lists all subtitles: those that are refused, and those that are late. Each
         link leads somewhere, and each place has a name of its own."""
         slow = self.write("slow.pes", joined(late(5, 3600 * 600, 3600 * 650)(self.sent)))
@@ -208,7 +208,7 @@ class Beside(Case):
                     {6} if len(bad) > 1 else set()), rows)
                 self.must(f"{bad} {name}: said", "other subtitles were judged: " in page)
 
-    def test_layouts(self) -> None:
+    def test_draws_the_judged_subtitles_by_a_layout(self) -> None:
         """A layout draws what is due of the subtitles that are judged, with the letters of the
         national option."""
         self.blocks = [(begin, end, b"N\xc8umber %d" % number)
@@ -254,7 +254,7 @@ class Beside(Case):
             found = judged(self, self.file(3), self.pes, *WORDS)
         self.must("a mistake", found.word == "not judged", found.said)
 
-    def test_many(self) -> None:
+    def test_judges_beside_many_refused_subtitles(self) -> None:
         """Of 800 subtitles 42 are refused: the letters of the file are looked through once, and 40
         have a line."""
         bad = range(19, 800, 19)
@@ -299,7 +299,7 @@ class Judgeable(unittest.TestCase):
             assert held
             self.assertEqual(list(map(held.page_at, frames)), list(map(due.page_at, frames)), gap)
             self.assertEqual({national_option(held.state_at(frame).header or b"") for frame in
-                              frames[1:]}, {BY_WORD[option].bits})
+                              frames[1:]}, {BY_WORD[option].bits}, (gap, option))
 
     def test_words_of_many(self) -> None:
         """Each of the first forty has a line, and how many more there are is one; the sentence has
@@ -310,14 +310,16 @@ class Judgeable(unittest.TestCase):
                        for at in range(1, count + 1)]
             found = JudgedBeside([], refused, frozenset(range(count + 2)))
             more = [f"undecided: {counted(count - 40, 'more subtitle')}"] * (count > 40)
-            self.assertEqual([*found.lines()], [one.line() for one in refused[:40]] + more)
+            self.assertEqual([*found.lines()], [one.line() for one in refused[:40]] + more, count)
             if count < 2:
                 continue
             said = found.words()
-            self.assertTrue(said.startswith(f"{count} of {count + 2} subtitles are refused, "))
+            self.assertTrue(said.startswith(f"{count} of {count + 2} subtitles are refused, "),
+                            count)
             self.assertEqual([at for at in range(1, count + 1) if f", letter {at}" in said],
-                             [*range(1, min(count, 3) + 1)])
-            self.assertEqual(re.findall(r" and (\d+) more$", said), [f"{count - 3}"] * (count > 3))
+                             [*range(1, min(count, 3) + 1)], count)
+            self.assertEqual(re.findall(r" and (\d+) more$", said), [f"{count - 3}"] * (count > 3),
+                             count)
 
 
 class AtRandom(Case):

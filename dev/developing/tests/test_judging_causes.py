@@ -16,9 +16,9 @@ from subtitles.judging.causes import (
     Cause, Causes, EARLY, LATE, NAMES, NEVER, NOT_ERASED, OTHER, TEXT, Wording, count_line,
     counts_of, names_line)
 from subtitles.judging.transmissions import DuePages
-from subtitles.judging.verdict import frames_of
+from subtitles.judging.verdict import frames_until
 from subtitles.stream.packets import Packets
-from subtitles.stream.receiver import BLANK_PAGE, Rows, Timeline
+from subtitles.stream.receiver import BLANK_PAGE, Meeting, Rows, Timeline
 from .. import DEV
 from .judged import Judged, OfProgramme
 from .muxed import Shape, multiplexed, of_teletext
@@ -76,7 +76,7 @@ class Told(OfProgramme):
         self.must("ours", "another text in a pause" not in [one[0] for one in self.causes(told)],
                   told.said)
 
-    def test_beside(self) -> None:
+    def test_names_another_row_beside_the_expected_ones(self) -> None:
         """A row of another page stands beside what is due, of one subtitle or of two."""
         own = next(some[1] for pts, some in self.sent if pts == TICKS * (BEGIN + 100))
         for rows, words in (((own, row(11, b"Share prices")), "another row beside it: row 11"),
@@ -90,7 +90,7 @@ class Told(OfProgramme):
                                              "has a wrong text, sent: ") in told.verdict.sentence,
                       told.verdict.sentence)
 
-    def test_erased(self) -> None:
+    def test_names_a_header_without_rows(self) -> None:
         """By a header without rows, at its time; where rows come later it is gone."""
         for frame, time in ((10, "10:00:00:10"), (330, "10:00:13:05")):
             told = self.with_pages((frame, ()))
@@ -115,7 +115,7 @@ class Told(OfProgramme):
             names = [(one["cause"], one["subtitle"]["number"]) for one in told.result["causes"]]
             self.must(f"{frames}", told.word == "refused" and names == wanted, told.said)
 
-    def test_manual(self) -> None:
+    def test_finds_each_cause_in_the_manual(self) -> None:
         """Each cause begins an item there."""
         rows = read(os.path.join(TOP, "docs", "manual", "refusals.md")) or ""
         begins = [line.partition(": ")[0] for line in rows.splitlines() if line.startswith("- `")]
@@ -238,7 +238,7 @@ class Made:
         reach = Span(begin - chance.choice((2, 3, 4, 300)), held.last + chance.choice((0, 30))) \
             if chance.randrange(2) else None
         held.first = chance.choice((held.first, begin, begin + 2))
-        held.lost = lost
+        held.lost = Meeting(lost)
         causes = Causes(self.programme, held, reach)
         wrong = {frame: None for frame in range(min(held.last, END))
                  if not causes.namer.is_due(frame)}
@@ -254,7 +254,8 @@ class Made:
                 for one in causes.all()]
         known = [one and one.place for one in (causes.of(63, 0), causes.of(74, 0), *(
             causes.of(72, frame) for frame in begins[:3]))]
-        delays = [frames_of(self.programme, held, is_complete) for is_complete in (False, True)]
+        delays = [[frames_until(one, page, held, is_complete) for one, page in zip(
+            self.programme.subtitles, self.programme.pages)] for is_complete in (False, True)]
         sent = " ".join(f"{frame}:{text}" for frame, text in self.sent)
         about = f"{self.within} {held.first} {held.last} {lost} {reach} {known}"
         return "\t".join([self.subtitles, sent, about,
@@ -264,7 +265,7 @@ class Made:
 class Table(unittest.TestCase):
     """Rows of the table."""
 
-    def test_causes(self) -> None:
+    def test_finds_the_causes_of_each_row(self) -> None:
         with open(VECTORS, encoding="utf-8") as file:
             rows = file.read().splitlines()
         self.assertEqual(len(rows), COUNT)
@@ -357,7 +358,7 @@ BY_HAND: list[tuple[str, str, list[tuple[int, str, int | None, int | None, str |
 class ByHand(unittest.TestCase):
     """Rows that were worked by hand."""
 
-    def test_causes(self) -> None:
+    def test_finds_the_causes_that_were_worked_by_hand(self) -> None:
         for subtitles, sent, wanted in BY_HAND:
             times = [[int(frame) for frame in one.split()[0].split("-")]
                      for one in subtitles.split(";")]
@@ -388,7 +389,7 @@ class ByHand(unittest.TestCase):
                                    None if one.sent is None else pages.get(one.sent, "due"))
                                   for one in causes.all()], wanted)
 
-    def test_reached(self) -> None:
+    def test_knows_the_frames_of_a_recording(self) -> None:
         """The frames of which a recording is: of its PES packets, or more by its PCR."""
         for reach, wanted in ((None, (10, 20)), ((5, 30), (5, 30)), ((12, 18), (10, 20)),
                               ((5, 18), (5, 20)), ((12, 30), (10, 30))):
@@ -397,7 +398,7 @@ class ByHand(unittest.TestCase):
             causes = Causes(DuePages([], []), held, reach and Span(*reach))
             self.assertEqual(causes.reached(), wanted, reach)
 
-    def test_edges(self) -> None:
+    def test_looks_beside_the_first_and_the_last_frame(self) -> None:
         """What is held beside the first frame that is judged, and the last one, is looked at where
         the recording has all that is due there, or it is known that nothing came early."""
         for held_from, first, last, wanted in (
@@ -413,7 +414,7 @@ class ByHand(unittest.TestCase):
             found = tuple(one and one.place for one in (causes.of(63, 103), causes.of(74, 140)))
             self.assertEqual(found, wanted, (held_from, first, last))
 
-    def test_values(self) -> None:
+    def test_writes_a_cause_as_values_and_as_words(self) -> None:
         """A cause for machines, and in words: of which subtitle, by how much, what is sent, and of
         which other one the text is."""
         pages = [page_of(name) for name in "abc"]
@@ -435,11 +436,12 @@ class ByHand(unittest.TestCase):
                 (known["cause"], known["frames"], known["text"], known["sent"], known["other"],
                  known["other_position"], known["words"], known["subtitle"]),
                 (name, frames, due, sent and f"Line {sent} / and more {sent}", of and 8, of and 3,
-                 said, {"position": 1, "number": 6, "begin": "00:00:04:00", "end": "00:00:06:00"}))
+                 said, {"position": 1, "number": 6, "begin": "00:00:04:00", "end": "00:00:06:00"}),
+                             (name, frames, sent))
             self.assertEqual(wording.line(one), "cause: subtitle 1 (SN 6) at 00:00:04:00, "
-                             f'"{due}": {said}')
+                             f'"{due}": {said}', (name, frames, sent))
 
-    def test_counts(self) -> None:
+    def test_counts_causes_of_all_parts_by_name(self) -> None:
         """Of several parts together, how many of each name, in the order of the names."""
         chance = random.Random(3)
         for count in (1, 1, 2, 2, 3, 3, 4):
@@ -451,7 +453,7 @@ class ByHand(unittest.TestCase):
                                if name in together)
             self.assertEqual((names_line(several), count_line(several), counts_of(several)), (
                 wanted, f"causes of {counted(len(together), 'subtitle')}: {wanted}",
-                {name: together.count(name) for name in NAMES}))
+                {name: together.count(name) for name in NAMES}), count)
 
 
 if __name__ == "__main__":

@@ -15,7 +15,8 @@ from subtitles.common.program import TOP, read
 from subtitles.common.times import TICKS, time_of
 from subtitles.request.lines import profile_at, read_options
 from subtitles.request.request import CHOICES, option_line, request_of
-from subtitles.stream.gaps import PAUSED, Pace, REGULAR, Repeats
+from subtitles.stream.pace import PAUSED, Pace, REGULAR
+from subtitles.stream.repeats import Repeats
 from .bench import Case, example, tool_path
 from .judged import Judged, OfProgramme, judged
 from .muxed import OLD, Shape, in_turn, multiplexed, stream
@@ -70,11 +71,11 @@ class Chosen(Case):
         wrong = [*wrong_choices(found.result, found.said)]
         self.must(name, told(found) == wanted and not wrong, (told(found), wrong, found.said))
 
-    def test_rows(self) -> None:
+    def test_lists_what_was_chosen_with_its_evidence(self) -> None:
         for words, wanted in ROWS:
             self.must_tell(f"{words}", judged(self, *words), wanted)
 
-    def test_parts(self) -> None:
+    def test_chooses_a_clock_and_a_range_for_each_part(self) -> None:
         """Each part has a clock and a range of its own; of one that was given the others alone."""
         stl = programme(self, times(24))
         path = self.write("one.pes", joined(apart(sendings(self, stl), 130)))
@@ -86,7 +87,7 @@ class Chosen(Case):
                       == clocks and [one[4] for one in told(found) if one[0] == "pes"] == [1, 2]
                       and not [*wrong_choices(found.result, found.said)], found.said)
 
-    def test_pace(self) -> None:
+    def test_gives_the_evidence_of_a_pace_or_says_why_none(self) -> None:
         """By at how many places a loss takes longer; where none is asked the note says why."""
         stl = programme(self, times(60))
         sent = sendings(self, stl)
@@ -108,7 +109,7 @@ class Chosen(Case):
                       and all("not checked: " in one[5] for one in pace)
                       and not [*wrong_choices(found.result, found.said)], found.said)
 
-    def test_languages(self) -> None:
+    def test_chooses_the_option_that_the_file_names(self) -> None:
         """What the file names, with what a terminal would obey escaped."""
         with open(TS[0], "rb") as file:
             data = file.read()
@@ -119,7 +120,7 @@ class Chosen(Case):
             self.must(f"{language!r}", asked.option == option and
                       option_line(asked) == f"option: {option}, since {why}", option_line(asked))
 
-    def test_batch(self) -> None:
+    def test_chooses_the_option_of_each_pair_of_a_batch(self) -> None:
         """What the file of a pair names is its own call's choice."""
         self.write("list", "\n".join([" ".join(PES), f"{' '.join(PES)} --option english"]).encode())
         done = self.call([tool_path("qc"), "--batch", "list", "-o", "out", "-p", self.bench.program,
@@ -133,7 +134,7 @@ class Chosen(Case):
         self.must("kept", done.status == 3 and results == [
             json.loads(self.read(f"out/{name}.json")) for name in ("story", "story~2")], done)
 
-    def test_manual(self) -> None:
+    def test_finds_each_choice_in_the_manual(self) -> None:
         """The manual says what is chosen, and which options are typed and never chosen."""
         manual = read(os.path.join(TOP, "docs", "manual", "qc.md")) or ""
         rule = manual.partition('<a id="what-qc-chooses">')[2].partition("<a id=")[0]
@@ -257,7 +258,7 @@ class Measured(Case):
         """The options that are proposed."""
         return [line for line in self.profile(*words) if not line.startswith("#")]
 
-    def test_pace(self) -> None:
+    def test_proposes_the_longest_pace_if_all_are_regular(self) -> None:
         """The longest of all recordings; none where one is not regular."""
         paces = [Pace(REGULAR, 1, 3), Pace(REGULAR, 2, 5), Pace(REGULAR, 1, 4)]
         rows: list[tuple[list[Pace], str]] = [
@@ -266,7 +267,7 @@ class Measured(Case):
         for some, words in rows:
             self.must(f"{some}", pace_found(some).words == words, pace_found(some))
 
-    def test_every(self) -> None:
+    def test_proposes_the_longest_distance_of_repeats(self) -> None:
         """The longest distance of all recordings, and the most that are usual, in any order."""
         several = [Repeats(9, 30, 5, 25), Repeats(8, 50, 7, 26), Repeats(3, 40, 9, None)]
         for some in itertools.permutations(several):
@@ -294,7 +295,7 @@ class Measured(Case):
         again = judged(self, stl, pes, "--origin", "0", "--profile", self.path("profile"))
         self.must("accepted", again.word == "accepted", again.said)
 
-    def test_delays(self) -> None:
+    def test_measures_delays_of_begins_and_ends_by_a_given_clock(self) -> None:
         """Begins and ends apart, where a clock is given; of the first begin nothing is known, since
         nothing came before. The early ones are named, and accepted by nothing."""
         stl = self.file("one.stl")
@@ -328,7 +329,7 @@ class Measured(Case):
         self.must("no clock", not any(line.startswith(("--within", "--late")) for line in lines) and
                   any("no clock is given" in line for line in lines), lines)
 
-    def test_layouts(self) -> None:
+    def test_proposes_a_layout_that_ten_subtitles_show(self) -> None:
         """How the house draws: what ten subtitles show; never flash, one start box, or all rows
         moved far. What no layout says is named, with the nearest."""
         stl = self.file("one.stl")
@@ -357,7 +358,7 @@ class Measured(Case):
                       any(line.startswith(f"# against it: {stl}, subtitle 1 (SN 0) at 10:00:00:00: "
                                           "sent row ") for line in lines), lines)
 
-    def test_against(self) -> None:
+    def test_names_a_subtitle_that_was_drawn_otherwise(self) -> None:
         """A subtitle that the house drew otherwise is named beside what is proposed."""
         stl = self.file("one.stl")
         one, other = sendings(self, stl, "--layout", "after=0A"), sendings(self, stl)
@@ -371,7 +372,7 @@ class Measured(Case):
         self.must("rests", "# layout: 11 of 12 subtitles as they were sent; after=0A rests on 12, "
                   "of which 11 were sent so" in lines, lines)
 
-    def test_keeping(self) -> None:
+    def test_proposes_keeping_if_nothing_else_is_wrong_in_headers(self) -> None:
         """Headers that keep the page, where nothing else of them is wrong."""
         stl = self.file("one.stl")
         sent = sendings(self, stl)
@@ -385,7 +386,7 @@ class Measured(Case):
                       f"# keeping: C4 (erase page) is clear in {count} of 59 headers" in lines,
                       lines)
 
-    def test_several(self) -> None:
+    def test_measures_all_pairs_together(self) -> None:
         """All pairs together: what one of them alone shows is not taken from it alone."""
         paths = []
         for number, every in enumerate((25, 50)):
@@ -440,7 +441,7 @@ class Measured(Case):
         known = read_options(parser_of(""), ["--measure", stl, pes], {}, {})
         self.must("a call", measure(known, "tools/qc") == 0)
 
-    def test_never(self) -> None:
+    def test_never_proposes_what_no_site_does(self) -> None:
         for text, words in (
                 ("before=0B0B08", "all would flash"),
                 ("row=3", "no house moves all by more than 2 rows"),

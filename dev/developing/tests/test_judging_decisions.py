@@ -7,6 +7,7 @@ import itertools
 import os
 from dataclasses import replace
 from typing import Callable
+from unittest import mock
 
 from developing.pes import pes_packet
 from developing.stl import gsi_block, tti_block
@@ -17,8 +18,7 @@ from subtitles.common.times import Between, Span, TICKS
 from subtitles.formats.stl import Subtitle, SubtitleFile
 from subtitles.judging.part import parted, refuse_others
 from subtitles.judging.timing import unclear_origin, with_delay
-from subtitles.judging.transmissions import DuePages
-from subtitles.judging.verdict import frames_in, frames_until
+from subtitles.judging.verdict import frames_until
 from subtitles.recording.notices import count_notices, of_character_sets, of_page
 from subtitles.request.lines import of_folder, request_of_line
 from subtitles.request.request import Unclear
@@ -35,7 +35,7 @@ from .sent import CLOSING, HEADER, PAGE, row
 class Objects(Case):
     """Numbers and words of objects and calls."""
 
-    def test_total(self) -> None:
+    def test_counts_faults_only_if_each_part_is_counted(self) -> None:
         """Known where each part's number is: of none it is not."""
         of_numbers: list[tuple[list[int | None], int | None]] = [
             ([], None), ([3], 3), ([None], None), ([3, 4, 5], 12), ([None, 4, 5], None),
@@ -43,7 +43,7 @@ class Objects(Case):
         for numbers, wanted in of_numbers:
             self.must(f"{numbers}", total(numbers) == wanted, total(numbers))
 
-    def test_hint(self) -> None:
+    def test_takes_the_hint_of_the_named_fault(self) -> None:
         """Of the fault that the line names, by its whole number; also where it is waived."""
         hints = ["5: of none", "7: of none", "72: of the content", "72: once more", "6: of none"]
         for line, wanted in (
@@ -72,7 +72,7 @@ class Objects(Case):
 class Folders(Case):
     """Files of a folder as pairs."""
 
-    def test_pairs(self) -> None:
+    def test_pairs_files_by_name_whatever_the_case(self) -> None:
         """By name, whatever the case; where more than one is possible, of the very same name."""
         for files, wanted in (
                 (["a.stl", "a.ts"], ["a"]), (["a.STL", "A.pes"], ["a"]), (["a.stl"], ["a?"]),
@@ -121,7 +121,7 @@ class Folders(Case):
             self.must("files", ((item.asked is None) == (options is wrong), {*item.files} - {None})
                       == (True, {self.path("0/a.stl"), self.path("0/a.ts")}), item)
 
-    def test_watched(self) -> None:
+    def test_judges_a_pair_once_it_has_not_changed_for_a_while(self) -> None:
         """A pair is judged when it has not changed for a while, and again when it has changed."""
         os.mkdir(self.path("in"))
         watch = Watch(self.path("in"), 10)
@@ -129,7 +129,8 @@ class Folders(Case):
             self.write(name, b"1")
 
         def due(clock: Callable[[], float]) -> list[str]:
-            return [item.name for item in watch.due(of_folder(self.path("in"), defaults()), clock)]
+            with mock.patch("time.monotonic", clock):
+                return [item.name for item in watch.due(of_folder(self.path("in"), defaults()))]
 
         for now, wanted in ((100, []), (109, []), (110, ["one"]), (111, []), (150, [])):
             self.must(f"at {now}", due(lambda: now) == wanted)
@@ -156,7 +157,8 @@ class Folders(Case):
 
         def told(now: float) -> int:
             with contextlib.redirect_stderr(io.StringIO()) as told:
-                watch.due(of_folder(self.path("in"), defaults()), lambda: now)
+                with mock.patch("time.monotonic", lambda: now):
+                    watch.due(of_folder(self.path("in"), defaults()))
             return len(told.getvalue().splitlines())
 
         self.write("in/one.stl", b"1")
@@ -175,7 +177,7 @@ def subtitle(index: int, begin: int) -> Subtitle:
 class Files(Case):
     """What is announced of a subtitle file."""
 
-    def test_announced(self) -> None:
+    def test_warns_unless_a_page_is_announced_as_subtitles_in_the_language(self) -> None:
         """One of the pages has to be of subtitles, and one in the language of the file."""
         stl = self.write("one.stl", gsi_block(b"", 0, 0, language=b"09"))
         asked = asked_for(stl, "one.ts")
@@ -212,7 +214,7 @@ class Files(Case):
 class Fitted(Case):
     """What the origin that was found in a recording says of a clock that was given."""
 
-    def test_delay(self) -> None:
+    def test_measures_a_delay_to_the_nearest_frame(self) -> None:
         """In whole frames, the nearest; not where it is not clear or nothing was known."""
         clock = Clock(5, START)
         for away, status, wanted, said in (
@@ -237,7 +239,7 @@ class Fitted(Case):
             self.must(words, with_delay(Clock(5, START), origin)[1] ==
                       [f"{words} subtitles are 1 frame late"])
 
-    def test_question(self) -> None:
+    def test_asks_about_a_delay_as_long_as_to_another_picture(self) -> None:
         """A delay of just as long as from the first picture to another one asks which it was."""
         for away, is_asked in ((TICKS, True), (TICKS + 5, False), (2 * TICKS, False)):
             said = with_delay(Clock(5, START, away=1), Origin(0, away=away, printed=["one"]))[1]
@@ -268,25 +270,19 @@ class Pages(Case):
             for is_complete, frames in ((True, wanted), (False, 0)):
                 found = frames_until(one, held.page_at(100), held, is_complete)
                 self.must(f"{closed} {is_complete}", found == frames, found)
-                due = DuePages([one], [held.page_at(100)])
-                for is_known in (False, True):  # that each is whole at once
-                    self.must(f"{closed} {is_complete}: each", frames_in(
-                        is_known, 1, held, lambda: due, is_complete) == [
-                            0 if is_known else frames])
 
-    def test_closed(self) -> None:
+    def test_finds_the_first_frame_at_which_the_page_is_closed(self) -> None:
         """The first frame from one on at whose end the page is not open."""
         data = b"".join(pes_packet(TICKS * frame, units) for frame, units in (
             (10, [HEADER, row(20, b"a")]), (20, [CLOSING]), (30, [HEADER]), (40, [CLOSING])))
         held = self.held(data)
         for frame, wanted in ((5, 5), (9, 9), (10, 20), (15, 20), (20, 20), (25, 25), (30, 40),
                               (39, 40), (40, 40), (99, 99)):
-            for one in (held, held.alone()):
-                self.must(f"from {frame}", one.closed_from(frame) == wanted, one.closed_from(frame))
+            self.check(f"from {frame}", held.closed_from(frame), wanted)
         held = self.held(data[:len(data) // 2 + 1])
         self.must("open and closed once", (held.closed_from(15), held.closed_from(20)) == (20, 20))
 
-    def test_screen(self) -> None:
+    def test_shows_a_page_once_a_header_ends_it(self) -> None:
         """A header of another page shows what was held before it; what comes behind that is shown
         once a further one ends the page. One of the page itself ends nothing."""
         old, new = row(20, b"old"), row(20, b"new")
@@ -297,14 +293,14 @@ class Pages(Case):
             ([HEADER, CLOSING, HEADER, new], b""), ([CLOSING, HEADER, CLOSING], b"")]
         for units, wanted in rows:
             screen = self.held(pes_packet(0, [HEADER, old]) +
-                               pes_packet(TICKS * 10, units)).state.screen
+                               pes_packet(TICKS * 10, units)).states[-1].screen
             text = screen and screen[0][19].strip(b"\x0b ")
             self.must(f"{units}", text == wanted, text)
         packets = packets_told(self, pes_packet(0, [HEADER, old]) + pes_packet(
             TICKS, [CLOSING, HEADER, new]))
-        self.must("tuned in later", Timeline(packets, PAGE, 0, 0, (1, 1)).state.screen is None)
+        self.must("tuned in later", Timeline(packets, PAGE, 0, 0, (1, 1)).states[-1].screen is None)
 
-    def test_doubts(self) -> None:
+    def test_doubts_frames_around_what_cannot_be_read(self) -> None:
         """From before what can't be read to the next: a first place, and a second."""
         good = [pes_packet(TICKS * frame, [HEADER, CLOSING]) for frame in range(0, 100, 10)]
         broken = [one[:45] + b"\x20" + one[46:] for one in good]
@@ -319,7 +315,7 @@ class Pages(Case):
                 is_seen = not any(one.first <= last and first <= one.last for one in wanted)
                 self.must(f"{numbers}: {first} to {last}", held.is_seen(first, last) == is_seen)
 
-    def test_ranges(self) -> None:
+    def test_holds_only_the_pages_of_a_range(self) -> None:
         """Some PES packets of a file."""
         data = b"".join(pes_packet(TICKS * 10 * at, [
             HEADER, row(20, b"%d" % at), *[row(22, b"x")] * (at % 3), CLOSING]) for at in range(9))
@@ -341,21 +337,17 @@ class Pages(Case):
             held = Timeline(Packets(0), PAGE, 0)
             for frame, page in changes:
                 held.change(frame, page)
-                self.must(f"{frame}: when", all(at in held.when.get(one, [])
-                                                for at, one in zip(held.frames, held.pages)))
             self.must(f"{frames}", (list(held.frames), held.pages) == (frames, pages), held.frames)
-            self.must(f"{frames}: when", {page: list(some) for page, some in held.when.items()
-                                          if some} == {page: [
-                frame for frame, one in zip(frames, pages) if one == page] for page in pages})
+            self.check(f"{frames}: when", {page: list(some) for page, some in held.when.items()}, {
+                page: [frame for frame, one in zip(frames, pages) if one == page]
+                for page in pages})
             for begin, end in itertools.combinations(range(4, 14), 2):
                 numbers = [at for at, frame in enumerate(frames) if frame < end and
                            begin < [*frames, 99][at + 1]]
                 self.must(f"{begin} {end}", [*held.numbers(begin, end)] == numbers and
                           held.page_at(begin) == (BLANK_PAGE if begin < 5 else pages[numbers[0]]))
-            held.forget()
-            self.must("forgotten", not held.when)
 
-    def test_pauses(self) -> None:
+    def test_finds_pauses_of_what_is_sent_in_each_frame(self) -> None:
         """More than two frames without a PES packet, of what sends one in each but few."""
         steady = [*range(90), *range(93, 120), *range(124, 200)]
         for frames, wanted in (([*range(50), *range(52, 99)], []), (steady, [Span(90, 92),

@@ -6,7 +6,6 @@ from __future__ import annotations
 import contextlib
 import io
 import os
-import random
 from types import SimpleNamespace
 from typing import Any
 from unittest import mock
@@ -52,7 +51,7 @@ def causes_of(*several: Cause, count: int = 9, text: bytes = b"text") -> Any:
 class Words(Case):
     """Causes, hints and lists in words."""
 
-    def test_causes(self) -> None:
+    def test_leads_with_the_worst_cause(self) -> None:
         """The worst cause, whatever most have; from when on, or up to when; how many; and how many
         have which other one, the worst first."""
         for several, wanted in (
@@ -91,7 +90,7 @@ class Words(Case):
                  "another text was sent in 2 pauses, the first at 10:02"),
                 ([cause(8, ATTRIBUTE)],
                  'at 00:00:08:00 subtitle 9, "text", has a wrong colour or attribute')):
-            self.assertEqual(of_causes(causes_of(*several), "english"), wanted)
+            self.assertEqual(of_causes(causes_of(*several), "english"), wanted, several)
         wrong = cause(0, TEXT)._replace(sent=(b"]".ljust(40),) + BLANK_PAGE[1:])
         part = part_with(0, 9, 0, answer(["refused 72 X frame 00:00:00:00", "1 faults"]),
                          causes=causes_of(wrong, text=b"["))
@@ -128,31 +127,19 @@ class Words(Case):
                 "refused 68 Parity frame 00:00:01:00 packet 1"), False, 3, counts, "a letter"))
             self.must(wanted, words == f"at 00:00:01:00 a letter{wanted}", words)
 
-    def test_what_meets(self) -> None:
-        """Spans at random, of which some meet, against each of them; and where more come."""
-        chance, spans, meeting = random.Random(7), list[Span](), Meeting()
-        for count in range(30):
-            for _ in range(20):
-                first = chance.randrange(100)
-                last = first + chance.randrange(20)
-                wanted = any(one.first <= last and first <= one.last for one in spans)
-                self.must(f"{count}", meeting.has(spans, first, last) == wanted, (spans, first))
-            first = chance.randrange(100)
-            spans.append(Span(first, first + chance.choice((0, 0, 3, 40))))
-
     def test_what_is_seen(self) -> None:
         """Nothing of frames of which something is lost, by whoever knows it, nor behind the end of
         what can be followed."""
         data = b"".join(pes_packet(TICKS * frame, [HEADER, CLOSING]) for frame in (0, 50, 100))
         held = timeline_of(self, data)
-        held.lost, held.doubts = [Span(10, 20)], [Span(60, 70)]
+        held.lost, held.doubts = Meeting([Span(10, 20)]), [Span(60, 70)]
         for first, last, is_seen in ((0, 9, True), (0, 10, False), (20, 25, False), (21, 59, True),
                                      (5, 30, False), (70, 90, False), (71, 100, True)):
             self.assertEqual(held.is_seen(first, last), is_seen, (first, last))
         held.halt = 9
         self.assertEqual([held.is_seen(80, last) for last in (100, 101)], [True, False])
 
-    def test_places(self) -> None:
+    def test_finds_the_pes_packet_of_a_fault(self) -> None:
         """Of a frame's end the last of its PES packets; of a gap the first, which it is told
         before, but where several are one frame's."""
         data = b"".join(pes_packet(ticks, [HEADER, CLOSING])
@@ -181,7 +168,7 @@ class Words(Case):
         fault = fault_of_line("refused 67 Control frame 00:00:00:00 packet 0")
         self.must("headers", fault and len(fault_place(fault, held.packets, held).headers) == 1)
 
-    def test_ends(self) -> None:
+    def test_says_why_the_teletext_ends(self) -> None:
         """Why the PID goes on as no Teletext, if the last PES packet before that is judged."""
         packets = Packets(0x101, [Run(0, 5, 0, TICKS, "h", "")], refusal=31)
         why = "PID 0x101 has other than PES packets of private_stream_1 from PES packet 5 on: " \
@@ -190,7 +177,7 @@ class Words(Case):
             part = part_with(0, 9, 0, packets=packets, pes=(0, last))
             self.assertEqual(end_words(part), words, last)
 
-    def test_gaps(self) -> None:
+    def test_names_the_longest_gap_if_all_is_known(self) -> None:
         """The longest gap, the last among them, and behind the last header, where all that was sent
         is known; and what is usual, but where the page comes by the times of subtitles."""
         each = tuple(range(0, 1001, 100))
@@ -215,7 +202,7 @@ class Words(Case):
                 self.must(f"{frames} {numbers} {origin} {off}", found ==
                           (wanted and f"the longest gap is {wanted}"), found)
 
-    def test_hints(self) -> None:
+    def test_gives_a_hint_for_the_first_fault_of_each_number(self) -> None:
         """Of each number the first fault; of each part its own, by its own clock."""
         data = b"".join(
             pes_packet((ORIGIN + TICKS * frame) % CLOCK, [NO_C4 if frame % 50 else HEADER, CLOSING])
@@ -238,7 +225,7 @@ class Words(Case):
         verdict.parts = parts[1:2]
         self.must("none", not list(hints_of(verdict)))
 
-    def test_lists(self) -> None:
+    def test_prints_the_first_forty_lines_of_a_list(self) -> None:
         """The first forty lines, how many more there are, and the last; and of causes."""
         for count in (0, 1, 40, 41, 42, 50):
             heard = Heard()
@@ -275,7 +262,7 @@ class Words(Case):
 class Calls(Case):
     """Calls of the program that are heard while they go on, and others."""
 
-    def test_asked(self) -> None:
+    def test_takes_no_answer_from_a_call_that_failed(self) -> None:
         """Lines with status 0, or of no subtitle; else it is no answer."""
         rows: list[tuple[list[str], int, bool]] = [
             (["a", "b"], 0, True), ([], 0, True), (["refused 82 NoSubtitles"], 1, True),
@@ -294,7 +281,7 @@ class Calls(Case):
 class Made(Case):
     """The program's line of the prover, and the line that rewrites itself."""
 
-    def test_proved(self) -> None:
+    def test_finds_the_prover_line_of_this_program_alone(self) -> None:
         """Beside the program, over its folder; of this program alone, and of the crate that is the
         program."""
         os.makedirs(self.path("top/bin"))
@@ -309,7 +296,7 @@ class Made(Case):
             self.must(f"{name} {text}", proved_line(self.path("top/bin/subttx"), "5") == wanted)
             os.unlink(path)
 
-    def test_progress(self) -> None:
+    def test_rewrites_its_line_each_fifth_of_a_second(self) -> None:
         """Each fifth of a second, on a terminal alone, up to its width; taken away once."""
         for is_terminal, times, shown in ((True, (0.0, 0.1, 0.2, 0.5), 3), (False, (0.0, 9.0), 0)):
             with contextlib.redirect_stderr(io.StringIO()) as told:

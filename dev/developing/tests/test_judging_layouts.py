@@ -109,13 +109,13 @@ class Words(Case):
             self.must(text, fault_in(text) == fault and (layout_of(text) is None) == bool(fault),
                       fault_in(text))
 
-    def test_auto(self) -> None:
+    def test_says_what_to_type_instead_of_auto(self) -> None:
         """It is gone: what to type is said."""
         done = self.tool("qc", "one.stl", "one.ts", "--layout", "auto")
         self.must("auto", done.status == 2 and len(done.told) == 1 and
                   "`--measure STL RECORDING ..` finds how a house draws" in done.told[0], done)
 
-    def test_cells(self) -> None:
+    def test_names_the_cells_in_which_pages_differ(self) -> None:
         """In which cells a page with the same letters differs."""
         for text, wanted in (
                 ("row=1", "row 19 where 18 is due"), ("after=0A", "row 18, 0A behind its letters "
@@ -138,7 +138,7 @@ class Words(Case):
 class Open(Case):
     """Files of open subtitles."""
 
-    def test_open(self) -> None:
+    def test_judges_open_subtitles_with_the_option_that_a_refusal_names(self) -> None:
         """A refusal names the option, and with it the pair is judged and its report is drawn."""
         texts = [(b"Number %d\x0a" % at, 2) for at in range(12)]  # a code that may hide
         for dsc, kind in ((b"0", "0, open subtitles"), (b" ", "a space, none"), (b"3", None)):

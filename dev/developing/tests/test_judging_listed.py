@@ -86,7 +86,7 @@ class Listed(Case):
                      for one in faults_of(verdict)]
             self.assertEqual(found, wanted, kinds)
             self.assertLessEqual({one["cause"]["text"] for one in faults_of(verdict)
-                                  if one["cause"]}, {"\u00c4"})
+                                  if one["cause"]}, {"\u00c4"}, kinds)
         self.assertEqual([one["line"] for one in faults_of(verdict)][:2], [
             "refused never sent frame 00:00:03:07", "refused not shown block 2"])
 
@@ -142,9 +142,9 @@ class Listed(Case):
             found = [(one["pes"], one["pes_pts"], one["pes_time"], bool(one["subtitle"]))
                      for one in faults_of(verdict_of([part]))]
             self.assertEqual(found, [*((at, pts[at], time_of(frame), place == 3) for place, (
-                at, frame) in enumerate(wanted)), (None, None, None, True)])
+                at, frame) in enumerate(wanted)), (None, None, None, True)], origin)
 
-    def test_cells(self) -> None:
+    def test_lists_the_expected_and_the_decoded_cell(self) -> None:
         """Of a cell that is not as it is due what is due and what is held, whatever is allowed."""
         data = pes_packet(25 * TICKS, [HEADER, row(20, b"\x01xyz"), CLOSING])
         due = (*BLANK_PAGE[:19], b"  [b".ljust(40), *BLANK_PAGE[20:])
@@ -161,10 +161,10 @@ class Listed(Case):
             self.assertEqual([[(one[name]["code"], one[name]["character"]) for name in (
                 "due", "held")] for one in faults_of(verdict)], [
                     [("5B", letter), ("01", None)], [("62", "b"), ("78", "x")],
-                    [("20", " "), ("79", "y")]])
+                    [("20", " "), ("79", "y")]], (within, option, letter))
             part = dataclasses.replace(part, pes=None)  # of what is not read nothing is known
             self.assertEqual(lead_words(fault_of("refused 67 X frame 00:00:01:00"), part, verdict),
-                             "")
+                             "", (within, option, letter))
         cells = (bytes([0x41, HIT, OLD, 0x01]).ljust(40), *BLANK_PAGE[1:])
         self.assertEqual([code_at(cells, 1, at) for at in range(4)], [0x41, 0x20, None, 0x01])
         self.assertIsNone(code_at(None, 1, 0))

@@ -10,7 +10,7 @@ from unittest import mock
 from developing.pes import STUFFING_UNIT, pes_packet
 from subtitles.common.times import TICKS
 from subtitles.judging.timing import UNCHECKED, unseen_words
-from subtitles.stream.gaps import IRREGULAR, Pace
+from subtitles.stream.pace import IRREGULAR, Pace
 from .judged import OfProgramme
 from .muxed import Packet, Shape, multiplexed, of_teletext, with_loss
 from .sent import CLOSING, HEADER, Sent, programme, row, sendings
@@ -98,7 +98,7 @@ class Hidden(OfProgramme):
             self.must(name, told.word == word and told.parts("pace") == [(25,)] and any(
                 "is missing, at " in note for note in told.result["notes"]), told.said)
 
-    def test_announced(self) -> None:
+    def test_finds_a_loss_that_an_announced_jump_hides(self) -> None:
         """A hole at which a jump of the counter is announced, which then tells nothing, is 45 where
         more time passes than usual."""
         made = self.multiplexed(self.with_wrong(), 0, 1 << 20, 3)
@@ -127,7 +127,7 @@ class Hidden(OfProgramme):
         self.must("two", told.word == "refused" and
                   told.result["line"] == "refused 79 Silent frame 10:00:12:01", told.said)
 
-    def test_few(self) -> None:
+    def test_notes_that_too_few_pes_packets_show_no_loss(self) -> None:
         """Of fewer than 101 PES packets no pace is measured: what is missing is not seen, and a
         note says so; a jump that is announced is 45 all the same, and what --every tells 73."""
         sent = [one for at, one in enumerate(self.with_wrong()) if at % 12 == 0 or one[1]]
@@ -179,11 +179,11 @@ class Hidden(OfProgramme):
 class Taken(unittest.TestCase):
     """What a note says that no pace was measured of."""
 
-    def test_unseen(self) -> None:
+    def test_says_from_how_long_on_a_loss_may_be_unseen(self) -> None:
         """From how long on a hole may be unseen, to tenths of a second."""
         recording: Any = SimpleNamespace(is_stream=True, packets=SimpleNamespace(pid=5),
                                          survey=mock.Mock())
         for frames, words in ((None, "some"), (0, "some"), (2, "some"), (3, "0.1 s or more"),
                               (25, "1.0 s or more")):
             self.assertIn(f"{UNCHECKED} {words} of this PID", unseen_words(
-                Pace(IRREGULAR), frames, recording))
+                Pace(IRREGULAR), frames, recording), frames)

@@ -49,7 +49,7 @@ class Unread(OfProgramme):
         super().setUp()
         self.frames = [(pts_in(one) - ORIGIN) // TICKS for one in self.pes]
 
-    def test_numbers(self) -> None:
+    def test_judges_what_follows_unreadable_pes_packets(self) -> None:
         """For each number two PES packets in a row, one of the next number right after them, and
         two numbers one after the other: up to where each goes, in the list and in the result."""
         runs = [(number, 5 * at + 1, 5 * at + 2) for at, number in enumerate([*BITS, 61])]
@@ -72,7 +72,7 @@ class Unread(OfProgramme):
         self.must("the verdict", found.said[-1] == "refused 33 Flags pes 1", found.said)
         agrees(self, found.result)
 
-    def test_trusted(self) -> None:
+    def test_trusts_frames_around_two_gap_markers(self) -> None:
         """Two marks, and what may be trusted around them: before the first, between, and behind."""
         some = [*self.pes[:22], MARK, *self.pes[24:61], MARK, *self.pes[62:]]
         found = judged(self, self.stl, self.write("one.pes", b"".join(some)), *EVERY, "--origin",
@@ -130,7 +130,7 @@ class Steps(Case):
         return Pair(verdict, CommandWords("tools/qc", self.bench.program), Names(
             "one", "", None), nothing, False)
 
-    def test_parts(self) -> None:
+    def test_gives_each_part_its_subtitles_and_files(self) -> None:
         """Each part has its number, its subtitles, its files; one alone those of the pair. Of
         several, also of two, each subtitle has to be in one."""
         found = [Found(at, at + 9, Clock(0, GIVEN), None, Between(at, at + 10))
@@ -151,7 +151,7 @@ class Steps(Case):
                 [(alignment.between, 30) for alignment in found[:count]] if count > 1
                 else [(ALL_DAY, 30)]), made)
 
-    def test_due(self) -> None:
+    def test_asks_for_expected_pages_with_the_options_of_the_part(self) -> None:
         """What is due is asked with the options of the part."""
         of_part = asked_for("one.stl", "one.pes", *"--page 150 --option german --from 00:00:01:00 "
                             "--to 00:00:02:00 --layout double".split())
@@ -180,7 +180,7 @@ class Said(OfProgramme):
 
     due, first = times(20), 50
 
-    def test_sentences(self) -> None:
+    def test_says_how_many_subtitles_are_late(self) -> None:
         """Of all but the first, of some in the middle, of one; of what is accepted and waived."""
         def moved(places: Sequence[int], by: int = 7) -> Sent:
             sent = self.sent
@@ -216,7 +216,7 @@ class Said(OfProgramme):
             self.must(wanted, found.said[-2].startswith(wanted) and
                       found.result["sentence"] == wanted, found.said)
 
-    def test_places(self) -> None:
+    def test_names_a_subtitle_by_its_place_and_number(self) -> None:
         """Of a subtitle its place in the file, and its SN where that is another, in each member."""
         found = self.judge(one_late(3, 7)(self.sent))
         place = {"position": 3, "number": 52, "begin": "00:00:12:00", "end": "00:00:14:10"}
@@ -247,7 +247,7 @@ class Said(OfProgramme):
                 found.result["cause_counts"]["another subtitle's text"] == 1 and
                 "1 subtitle: 1 another subtitle's text" in found.lines("causes of "), causes)
 
-    def test_unsent(self) -> None:
+    def test_says_where_reading_stops(self) -> None:
         """A page that is not sent again before it is due to go: where reading stops, and why."""
         early = [(pts - 3000 * TICKS, some) for pts, some in self.sent[-1:]]
         doubt = list(self.sent)
@@ -263,7 +263,7 @@ class Said(OfProgramme):
             'subtitle 3 (SN 52) at 00:00:12:00, "Number 52": late by 4 frames'] and
             found.parts("pes") == [(f"4-{len(self.sent) + 3}",)], found.said)
 
-    def test_clocks(self) -> None:
+    def test_judges_by_a_given_clock_what_nobody_can_estimate(self) -> None:
         """A clock that is given judges what nobody can fit; of several runs one is to be said."""
         others = self.write("two.stl", random_subtitles(7)[0])
         self.schedule(others, "two.pes")
@@ -288,7 +288,7 @@ class Said(OfProgramme):
             self.must(f"{words}: to type", words[:5] == "--pes" or [
                 line.split()[-2:] for line in typed] == [["--pes", "I-J"]], found.said)
 
-    def test_delays(self) -> None:
+    def test_says_by_how_much_all_subtitles_are_late(self) -> None:
         """By how much all that is sent is late or early, by a clock that is given."""
         for by, words in ((0, None), (2, "all subtitles are 2 frames late"),
                           (-1, "all subtitles are 1 frame early")):
@@ -326,7 +326,7 @@ class Said(OfProgramme):
             f"67: {words}", "refused 67 Control frame 10:00:00:00 packet 0"] and
             found.result["faults"][0]["means"] == words, found.said)
 
-    def test_options(self) -> None:
+    def test_judges_by_each_option(self) -> None:
         """Complete pages, the page, the national option, severities."""
         stl = subtitle_file(self, [(90_000, 90_050, b"Gr\xc8u\xfbe"), (90_100, 90_150, b"Ja")],
                             "two.stl", language=b"08")

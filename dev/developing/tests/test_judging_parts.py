@@ -6,14 +6,14 @@ from typing import Any, Sequence
 from unittest import mock
 
 from developing.pes import MARK, pes_packet
-from subtitles.clock.origin import Sought
 from subtitles.clock.start import FITTED_LATER, GIVEN, RECORDING
 from subtitles.common.command_line import counted
 from subtitles.common.times import CLOCK, EARLY, TICKS, pts_of, time_of
 from subtitles.formats.listing import NOT_SHOWN, NamedFault, PICTURES_LEFT
 from subtitles.judging import pair
 from subtitles.judging.pages import HIDDEN, HiddenRows
-from subtitles.judging.timing import PicturesFound, origin_in
+from subtitles.clock.origin import Sought, find
+from subtitles.judging.timing import PicturesFound
 from subtitles.recording import notices
 from subtitles.recording.notices import Notice
 from .bench import example
@@ -51,7 +51,7 @@ class Parts(OfProgramme):
         return judged(self, self.stl, self.write("one.pes", data), "--breaks", str(len(shifts)),
                       *words)
 
-    def test_parts(self) -> None:
+    def test_judges_each_part_by_its_own_clock(self) -> None:
         """The frames of each, its clock, its PES packets; the clock that is given is that of the
         first part alone."""
         edges = ((100, 860), (900, 1660), (1700, 2460))
@@ -95,7 +95,7 @@ class Parts(OfProgramme):
             self.must(f"{shifts}: all PES packets", of_all.parts(
                 "part", "from", "to", "origin", "pes", "verdict") == members, of_all.said)
 
-    def test_refused(self) -> None:
+    def test_refuses_a_fault_in_any_part(self) -> None:
         """The first, the second and the last part, by the file's numbers; nothing is advised."""
         every: list[dict[int, int]] = [
             {3: 2}, {10: 3}, {19: 1}, {3: 2, 10: 4, 19: 3}, {3: 5, 19: 2}, {10: 2, 19: 6},
@@ -130,7 +130,7 @@ class Parts(OfProgramme):
             self.must(f"{changes}: counts", found.lines("causes of ") == [
                 f"{len(changes)} subtitle{'s' * (len(changes) > 1)}: {len(changes)} late"])
 
-    def test_within(self) -> None:
+    def test_sums_up_parts_that_are_judged_within_frames(self) -> None:
         """Where parts are judged within N: the sums."""
         found = self.judge_parts((1000, 3000), {10: 2, 19: 4}, "--within", "1")
         self.must("refused", "subtitles are whole after 0 to 4 frames, 0 in the middle" in
@@ -138,7 +138,7 @@ class Parts(OfProgramme):
         found = self.judge_parts((1000, 3000), {10: 2, 19: 4}, "--within", "4")
         self.must("accepted", found.word == "accepted")
 
-    def test_losses(self) -> None:
+    def test_counts_a_gap_marker_in_the_part_that_it_ends(self) -> None:
         """A mark in the first part, the second and the last; one behind the last of a part is of
         that one: where it is, and whether the verdict speaks of it."""
         every, clock = ["--every", "50"], ["--origin", str(ORIGIN)]
@@ -247,7 +247,7 @@ class Within(OfProgramme):
 
     lines, origin, words = 2, ORIGIN, ()
 
-    def test_ways(self) -> None:
+    def test_accepts_late_rows_within_some_frames(self) -> None:
         """Refused without, accepted within some frames, with the clock that is given and with one
         that is found; and after how many frames subtitles are whole then."""
         ways: list[tuple[str, Change, int, int]] = [
@@ -268,7 +268,7 @@ class Within(OfProgramme):
                 self.must(f"{name}: the clock", abs(
                     found.result["parts"][0]["origin"] - ORIGIN) < EARLY, found.said)
 
-    def test_origins(self) -> None:
+    def test_estimates_the_clock_within_some_frames(self) -> None:
         """The most cues agree within N frames, and of equals the one of which the first is not
         late; within 0 that of the beginnings, as a page that each repeat erases does not change."""
         ways: list[tuple[str, Change, int, int | None]] = [
@@ -277,7 +277,7 @@ class Within(OfProgramme):
         for name, change, least, off in ways:
             packets = packets_told(self, joined(change(self.sent)))
             for within in (least, 5, 50):
-                origin = origin_in(packets, Sought(self.stl, "one.pes", within=within))
+                origin = find(Sought(self.stl, "one.pes", within=within), packets)
                 found = origin.parts[0].origin - ORIGIN
                 self.must(f"{name} {within}", origin.status == 0 and
                           (abs(found) < EARLY if off is None else found == off), origin)
@@ -289,7 +289,7 @@ class Within(OfProgramme):
             (in_three_frames, 7200, "2 frames")]
         for change, ticks, early in at_once:
             packets = packets_told(self, joined(change(self.sent)))
-            origin = origin_in(packets, Sought(self.stl, "one.pes"))
+            origin = find(Sought(self.stl, "one.pes"), packets)
             self.must(f"{ticks}: within 0", origin.parts[0].origin == ORIGIN + ticks and
                       any(f"all ends are {early} early compared with" in line
                           for line in origin.lines), origin)
@@ -322,7 +322,7 @@ class Within(OfProgramme):
         begin = ORIGIN + EACH * number * TICKS
         return [one for one in self.sent if not begin <= one[0] < begin + LASTS * TICKS]
 
-    def test_causes(self) -> None:
+    def test_finds_causes_within_some_frames(self) -> None:
         """Fields with one PTS are no wrong colour; a repeat that erases the page for longer is not
         late; frames of a pause and of what is late after it add up."""
         hello = [(ORIGIN + pts, some) for pts, some in sendings(self, HELLO)]
@@ -345,7 +345,7 @@ class Within(OfProgramme):
         self.must("of six in a row", judged(self, pauses, self.path("one.pes"), "--origin",
                                             str(ORIGIN), "--within", "6").word == "accepted")
 
-    def test_places(self) -> None:
+    def test_finds_the_pes_packet_of_a_fault_in_a_frame_of_several(self) -> None:
         """A fault of a packet has the PES packet that holds it, though the packets of a frame are
         counted on; one of a frame's end the last of its PES packets."""
         for at, bits, wanted in ((10, 0x80, (68, 1, 1, "10:00:00:00")),

@@ -17,7 +17,7 @@ from subtitles.judging.transmissions import (
 from subtitles.recording.recording import header_bytes, pes_header_words
 from subtitles.stream.gaps import Place, places_of, what_of
 from subtitles.stream.packets import Clocked, Mark, Packets, Run, subcode_of, turns_of
-from subtitles.stream.receiver import BLANK_PAGE, Rows, TUNED, Timeline
+from subtitles.stream.receiver import BLANK_PAGE, Meeting, Rows, TUNED, Timeline
 from .bench import Case
 from .judged import Judged, OfProgramme, judged
 from .muxed import OLD, Shape, TELETEXT_PID, beside_video, in_turn, multiplexed, stream, without
@@ -49,7 +49,7 @@ def all_changed(sent: Sent, at: int, off: int, on: int) -> Sent:
 class Reasons(OfProgramme):
     """Ten subtitles, with a page transmission a second."""
 
-    def test_erasing(self) -> None:
+    def test_reports_headers_that_never_erase(self) -> None:
         """C4 is clear in all headers: that is told, and nothing of PES packets of one frame."""
         found = self.judge(all_changed(self.sent, 3, 8, 0), *WORDS)
         words = "C4 (erase page) is clear in 49 of 49 headers"
@@ -59,7 +59,7 @@ class Reasons(OfProgramme):
                   found.result["hints"] == [f"67: {words}"] and
                   not any(IN_PARTS in line for line in found.said), found.said)
 
-    def test_hidden(self) -> None:
+    def test_says_why_a_decoded_page_is_refused(self) -> None:
         """Why a page is not due at a frame at whose end it is held: several PES packets, bytes of
         even parity."""
         text = row(20, b"Text")
@@ -77,7 +77,7 @@ class Reasons(OfProgramme):
         found = Namer(DuePages([], []), held).hidden_words(5)
         self.must("behind one that goes back", found == UNSEEN, found)
 
-    def test_scrambled(self) -> None:
+    def test_reports_a_scrambled_pid(self) -> None:
         """A PID that is scrambled is told so, in files and feeds; no other page is advised."""
         data = bytearray(beside_video(b"".join(self.pes)))
         for at in range(0, len(data), 188):
@@ -106,11 +106,11 @@ class Reasons(OfProgramme):
                 data, "--pid", "0x101").verdict.sentence)
             words = words.replace(" of PID 0x101", "")
             for one in (of_length[0], b"\0\0\1\xbe" + of_length[0][4:]):
-                self.assertEqual(pes_header_words(one, 0), words)
+                self.assertEqual(pes_header_words(one, 0), words, one)
         found = judged(self, self.stl, self.write("one.pes", b"".join(of_length)), "--origin", "0")
         self.must("PES packets", words in found.verdict.sentence, found.said)
         for data in (b"", b"refused 60", self.pes[0], self.pes[0][:8]):
-            self.assertEqual(pes_header_words(data, 0), "")
+            self.assertEqual(pes_header_words(data, 0), "", data)
         path = self.write("none", b"\x47\x41\x01\x30\xff".ljust(188, b"\0") * 9)
         self.assertEqual(header_bytes(self.bench.program, path, TELETEXT_PID, 188), b"refused 6")
 
@@ -145,7 +145,7 @@ class Reasons(OfProgramme):
                       found.said)
         self.assertEqual(subcode_of(bytes([8, 8, 1, 8 + 2, 3, 8 + 2, 1, 0])), "2321")
 
-    def test_turns(self) -> None:
+    def test_finds_sub_pages_that_alternate(self) -> None:
         """From how many turns on sub-pages alternate, however PES packets have them."""
         def sent(*codes: str) -> Packets:
             return Packets(0, [Run(at, int(word[0]), 0, 0, "h", "+".join(
@@ -219,7 +219,7 @@ def numbers(**places: int) -> bytes:
 class Headers(Case):
     """What is told of one header."""
 
-    def test_headed(self) -> None:
+    def test_knows_the_header_before_each_header(self) -> None:
         """The headers of a PES packet, each with the one before it, and whether the page is open:
         behind nothing, behind a page, and one behind another."""
         one, other = "88000810", "88100810"
@@ -254,7 +254,7 @@ class Headers(Case):
             found = unerased_words(header, asked_for("one.stl", "one.pes", *words.split()))
             self.must(f"{header} {words}", found == wanted, found)
 
-    def test_several(self) -> None:
+    def test_describes_the_first_wrong_header_of_several(self) -> None:
         """Of several headers the first of which something is wrong, by what is asked: what that is,
         and what the page does."""
         good, keeps, german, plain = map(Headed, (
@@ -285,7 +285,7 @@ class Headers(Case):
 class Counted(Case):
     """What is told of all headers of a part."""
 
-    def test_counts(self) -> None:
+    def test_counts_headers_that_keep_the_page(self) -> None:
         """None that keeps, one, all; one with another wrong bit, of any that is there."""
         rows: list[tuple[dict[bytes, int], str, tuple[int, int] | None]] = [
                 ({}, "english", None), ({NUMBERS: 7}, "english", None),
@@ -298,7 +298,7 @@ class Counted(Case):
             found = kept_in(headers, option)
             self.must(f"{headers} {option}", (found and found[:2]) == wanted, found)
 
-    def test_rows(self) -> None:
+    def test_names_rows_that_are_left_out(self) -> None:
         """No row came, one is told, one is not; and how many more are left out."""
         cases: list[tuple[list[int], int | None, int, str]] = [
                 ([], 22, 0, ""), ([22], 22, 0, "row 22"), ([22], None, 0, "row 22"),
@@ -373,14 +373,14 @@ class RowsLeftOut(Case):
         held, due = self.held(*frames)
         self.must("one frame", left_at(held, due, 25, self.told_at(25)) == "rows 20 and 22")
 
-    def test_causes(self) -> None:
+    def test_finds_rows_left_out_behind_a_keeping_header(self) -> None:
         """Why a page is not as it is due at a frame at whose end it is held."""
         held, due = self.held((0, WHOLE), (25, BARE), (50, ONE_LESS))
         one = Subtitle(1, 1, 0, 100, 20, 2, b"1")
         namer = Namer(DuePages([one], [due]), held, self.told_at(50))
         for frame, wanted in ((0, ""), (25, "rows 20 and 22"), (50, "row 22")):
             self.must(f"{frame}", namer.rows_left(frame) == wanted, namer.rows_left(frame))
-        namer.held.lost = [Span(50, 50)]
+        namer.held.lost = Meeting([Span(50, 50)])
         self.must("not received", namer.rows_left(50) == "" and namer.rows_left(25) != "")
         several = (25, [KEEPING_HEADER]), (25, [FIRST, CLOSING])
         for within, wanted in ((0, ""), (1, "row 22")):
@@ -434,7 +434,7 @@ class Pairs(OfProgramme):
     def judged(self, way: str, *words: str, frames: int = 0) -> Judged:
         return self.judge(as_houses(self.sent, way, frames), *words)
 
-    def test_whole(self) -> None:
+    def test_accepts_keeping_headers_only_if_they_are_allowed(self) -> None:
         """Accepted where repeats may keep the page, which is typed and stands in the result; else
         that is said."""
         found = self.judged("", "--keeping")
@@ -456,14 +456,14 @@ class Pairs(OfProgramme):
             [f"not repeated whole: row 22 {REPEATED}"] and
             "(row 22 left out behind a header" in found.verdict.sentence, found.said)
 
-    def test_subcode(self) -> None:
+    def test_refuses_another_sub_code_all_the_same(self) -> None:
         """Another subcode is refused all the same."""
         found = self.judged("subcode", "--keeping")
         self.must("by it", found.word == "refused" and found.result["hints"] == [
             f"67: {CLEAR}, and the sub-code is another one than before: 0001 after 0000"],
             found.said)
 
-    def test_later(self) -> None:
+    def test_takes_rows_of_the_next_frame_for_a_late_page(self) -> None:
         """Rows that come a frame later are of a page that is late, and within one it is right."""
         found = self.judged("", "--keeping", "--no-complete", frames=1)
         self.must("late", found.word == "refused", found.said)

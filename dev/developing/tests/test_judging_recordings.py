@@ -61,7 +61,7 @@ class Recordings(Case):
                         found.said)
             self.must(f"{name}: the same list", len(lists) == 1, lists)
 
-    def test_warnings(self) -> None:
+    def test_warns_without_changing_the_status_unless_strict(self) -> None:
         """What is strange of a stream: said, in the result, and no change of the status unless it
         counts."""
         pes = example_bytes("story.pes")
@@ -116,7 +116,7 @@ class Recordings(Case):
             found.parts("origin") == [
             (ORIGIN,), (ORIGIN + 1000 * TICKS,)], found.said)
 
-    def test_pids(self) -> None:
+    def test_judges_losses_of_the_page_s_own_pid(self) -> None:
         """The PID with the page, the first or the second; a loss of it counts, and none of the
         other one."""
         stl = programme(self, times(10), 2)
@@ -196,7 +196,7 @@ class Recordings(Case):
             found = judged(self, STORY, both, "--pid", pid)
             self.must(pid, found.word == "accepted" and found.parts("pid") == [(int(pid, 16),)])
 
-    def test_files(self) -> None:
+    def test_keeps_a_recording_and_its_sums(self) -> None:
         """What is written and kept of a file and of a feed, and the sums of what was read."""
         pes = example_bytes("story.pes")
         data = in_stream((TELETEXT_PID, pes))

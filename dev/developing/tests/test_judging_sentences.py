@@ -54,7 +54,7 @@ class Words(unittest.TestCase):
 class Sentences(unittest.TestCase):
     """Each verdict in a sentence."""
 
-    def test_words(self) -> None:
+    def test_words_each_verdict(self) -> None:
         """Each verdict, whatever is known."""
         fault = fault_of_line("refused 73 Gap frame 10:00:00:00")
         packet = fault_of_line("refused 34 Pts pes 0")
@@ -109,7 +109,7 @@ class Sentences(unittest.TestCase):
                 (Facts(REFUSED, 2, first=fault, faults=3, hint="no header"),
                  "Refused: from 10:00:00:00 on no header; in all 3 faults.")):
             found = sentence_of(seen)
-            self.assertEqual(found, wanted)
+            self.assertEqual(found, wanted, seen)
         for told, begin in ((packet, "Refused: in PES packet 0 "), (block, "Refused: in block 12 "),
                             (fault, "Refused: at 10:00:00:00 ")):
             found = sentence_of(Facts(WAIVED if told is None else REFUSED, 1, first=told, faults=1))
@@ -229,7 +229,7 @@ class Ends(OfProgramme):
             self.must(name, ends == hints, ends)
             self.must(name, sentence in found.verdict.sentence, found.verdict.sentence)
 
-    def test_waived(self) -> None:
+    def test_never_leads_with_a_waived_fault(self) -> None:
         """A fault that is waived leads neither the sentence nor the last line."""
         sent = one_late(3, 2)(self.sent)
         pts, (header, text, *more) = sent[0]
@@ -292,7 +292,7 @@ class Places(OfProgramme):
         for frame, wanted, change in rows:
             made = [(pts, change(some) if pts == 3600 * frame % CLOCK else some)
                     for pts, some in sent]
-            self.assertNotEqual(made, sent)
+            self.assertNotEqual(made, sent, (frame, change))
             told = self.judge(made)
             self.must(wanted, told.result["sentence"].startswith(f"Refused: {wanted}"),
                       told.result["sentence"])
@@ -363,7 +363,7 @@ class Drawn(Receiver):
 class Rows(Case):
     """What is seen of rows."""
 
-    def test_rows(self) -> None:
+    def test_sees_letters_as_decoders_draw_them(self) -> None:
         for cells, sight, words in ROWS:
             self.must(cells.hex(), (sight_of(cells), hidden_words(cells, "english")) ==
                       (sight, words), (sight_of(cells), hidden_words(cells, "english")))
@@ -401,9 +401,10 @@ class Rows(Case):
                     for subtitle, row, one in wanted]
             found = hidden_rows(subtitles, pages, file, "english")
             self.assertEqual(found.faults, [NamedFault(NOT_SHOWN, words, block=block)
-                                            for is_none, words, block, _ in said if is_none])
+                                            for is_none, words, block, _ in said if is_none], cells)
             self.assertEqual(found.warnings, [Notice(HIDDEN_KIND, words, when)
-                                              for is_none, words, _, when in said if not is_none])
+                                              for is_none, words, _, when in said if not is_none],
+                             cells)
 
     def test_may_hide(self) -> None:
         """A file is looked at where one of its texts has a code that hides letters, wherever it
@@ -418,7 +419,7 @@ class Rows(Case):
             self.assertEqual(found, has_layout or code in (0x0A, 0x0B, 0x1D), (code, at))
             self.assertTrue(found or all(sight_of(one) == Sight.ALL for one in drawn), code)
 
-    def test_judged(self) -> None:
+    def test_refuses_a_row_of_which_nobody_sees_a_letter(self) -> None:
         """A row of which nobody sees a letter is refused, with its block, also where it is sent as
         it is due; of one that some show there is a warning. `check` accepts both."""
         times = [(900_000 + 50 * at, 900_040 + 50 * at) for at in range(3)]

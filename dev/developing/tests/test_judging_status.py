@@ -96,7 +96,7 @@ class Parts(unittest.TestCase):
 class Decided(unittest.TestCase):
     """The verdict on one to three parts."""
 
-    def test_parts(self) -> None:
+    def test_decides_by_each_part_at_each_place(self) -> None:
         """Each kind of part at each place, with a clock and without: nothing hides behind another
         one."""
         kinds = RIGHT | WRONG
@@ -149,7 +149,8 @@ class Decided(unittest.TestCase):
                                      (name, is_error, parts, clock))
         for reasons, failed in ((["why"], ()), ((), ["full"])):
             self.assertEqual(decide(Grounds([], NAMED, reasons=reasons, failed=failed,
-                                            names=[NEVER_SENT])).word, NOT_JUDGED)
+                                            names=[NEVER_SENT])).word, NOT_JUDGED,
+                             (reasons, failed))
         self.assertEqual(decide(Grounds([], warned, names=[NEVER_SENT])),
                          Decision(NOT_JUDGED, UNREAD))
 
@@ -180,14 +181,14 @@ class Decided(unittest.TestCase):
                                      else NOT_JUDGED)
                     self.assertEqual(found.status == 2, found.word == NOT_JUDGED)
 
-    def test_reasons(self) -> None:
+    def test_says_why_a_pair_is_not_judged(self) -> None:
         """What is not judged says why, where nobody else does."""
         accepted, unread = RIGHT["accepted"], RIGHT["waived, not read"]
         rows: list[tuple[list[Said], str]] = [
             ([], UNSAID), ([accepted, WRONG["silent"]], UNSAID), ([unread], UNREAD),
             ([accepted, accepted, unread], UNREAD)]
         for parts, wanted in rows:
-            self.assertEqual(decide(Grounds(parts, NAMED)), Decision(NOT_JUDGED, wanted))
+            self.assertEqual(decide(Grounds(parts, NAMED)), Decision(NOT_JUDGED, wanted), parts)
         self.assertEqual(decide(Grounds([accepted], NAMED, has_clock=True)), Decision(ACCEPTED))
 
 
@@ -219,7 +220,7 @@ class Several(unittest.TestCase):
 class Severities(unittest.TestCase):
     """Numbers and names, and whether they count, by the lines of a file."""
 
-    def test_lines(self) -> None:
+    def test_reads_severities_line_by_line(self) -> None:
         """Of no line, of one, of several in each order; of all others, whoever is named; of what is
         lost. What ends reading is an error whatever a file says, and each other number what it says
         of that."""
@@ -285,7 +286,7 @@ def told(*lines: str, path: str) -> Answer:
 class Worst(Case):
     """What is said first."""
 
-    def test_ranks(self) -> None:
+    def test_ranks_each_cause_and_number(self) -> None:
         """Each cause and each number has one. What the manual calls `now` comes before what nobody
         has seen, and what it calls `next` after that."""
         self.must("causes", set(OF_CAUSE) == set(NAMES))
@@ -325,7 +326,7 @@ class Worst(Case):
         part = part_with(0, 9, 0, answer(["accepted 10 frames 2 transmissions"]))
         self.must("none", part.leading is None and part.lead == part.answer.line)
 
-    def test_names(self) -> None:
+    def test_ranks_faults_that_have_a_name(self) -> None:
         """Of faults that have a name in the place of a number too; they come first where they are
         as bad as what else is refused."""
         self.must("each", set(OF_NAME) == set(FAULT_NAMES))

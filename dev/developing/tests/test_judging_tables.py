@@ -24,7 +24,7 @@ from subtitles.judging.pages import (
     page_text, words_on)
 from subtitles.judging.subtitles import OptionAdvice
 from subtitles.judging.timing import (
-    PartSearch, cut_within, found_in, left_by_pictures, search_in)
+    PartSearch, cut_within, fitted_origin, found_in, left_by_pictures)
 from subtitles.judging.transmissions import control_words
 from subtitles.recording.notices import (
     Notice, count_notices, length_words, of_character_sets, of_jumps, of_pauses, of_repeat,
@@ -34,10 +34,12 @@ from subtitles.request.commands import (
     CommandWords, Names, NamesOfList, again, files_in, pair_name, part_name, shell_line)
 from subtitles.request.request import Selection, Unclear
 from subtitles.stream import gaps
-from subtitles.stream.gaps import ClockJump, longest_gap, repeat_distance
+from subtitles.stream.gaps import ClockJump
+from subtitles.stream.repeats import longest_gap, repeat_distance
 from subtitles.stream.packets import Packets
 from subtitles.stream.receiver import BLANK_PAGE
-from subtitles.stream.survey import Announced, Departure
+from subtitles.stream.pictures import Departure
+from subtitles.stream.survey import Announced
 from .bench import Case
 from .parts import asked_for, packets_told
 from .sent import CLOSING, HEADER, PAGE
@@ -55,7 +57,7 @@ def said(warned: Iterable[Notice]) -> list[tuple[str, str, str | None]]:
 class Clocks(unittest.TestCase):
     """The parts with the clocks that are found."""
 
-    def test_found(self) -> None:
+    def test_takes_parts_only_if_the_origin_is_clear(self) -> None:
         """None where that is not clear; else with what agrees."""
         whole = Found(3, 9, Clock(7, GIVEN))
         self.assertEqual(found_in(Origin(1, [OfPart(5)]), whole), [])
@@ -63,15 +65,17 @@ class Clocks(unittest.TestCase):
         self.assertEqual(found_in(Origin(0, [OfPart(5, (1, 2), None, 3, 4, "3 of 4")]), whole),
                          [Found(3, 9, Clock(5, RECORDING, evidence=told), (1, 2))])
 
-    def test_search(self) -> None:
+    def test_looks_for_all_that_was_requested(self) -> None:
         """All that is asked is looked for, and cut out; of a part its own PES packets."""
         asked = asked_for("a.stl", "a.pes", *"--page 150 --option german --within 3 --breaks 2 "
                           "--every 30 --from 00:00:01:00 --late 0:9,3:1/0:12".split())
         programme = PartSearch(asked, Found(3, 9, Clock(7, GIVEN)), (2, 8), frozenset({4}))
-        self.assertEqual(search_in(programme, "name", Clock(5, GIVEN)), Sought(
+        recording: Any = SimpleNamespace(packets="packets", shown="name", has_picture=lambda: True)
+        with mock.patch.object(timing, "find", return_value=Origin(0)) as sought:
+            fitted_origin(programme, recording, Clock(5, GIVEN), mock.Mock())
+        self.assertEqual(sought.call_args.args, (Sought(
             asked.stl_path, "name", (1, 0x50), "german", 5, 3, 2, (2, 8), asked.between,
-            frozenset({4}), asked.late))
-        recording: Any = SimpleNamespace(packets="packets")
+            frozenset({4}), asked.late, True), "packets"))
         with mock.patch.object(timing, "cut_of") as cut:
             for packets, inside, begin, is_continued in (
                     (None, (2, 8), 3, False), ((4, 5), (4, 5), 3, False), (None, (2, 8), 3, True),
@@ -81,7 +85,7 @@ class Clocks(unittest.TestCase):
                 self.assertEqual(cut.call_args.args, (
                     "packets", begin, 9, 7, 30, 6, inside, is_continued and begin == 3))
 
-    def test_pictures(self) -> None:
+    def test_reports_where_each_video_leaves_the_subtitles(self) -> None:
         """Each video of each programme with the Teletext leaves it, and no other one: what is wrong
         has the number of the part, and what is not clear is counted in its time; a clock that the
         first picture tells counts what was before all PES packets too."""
@@ -97,13 +101,14 @@ class Clocks(unittest.TestCase):
             for source, count in ((GIVEN, 2), (RECORDING, 2), (START, 3), (TCP, 3)):
                 found = left_by_pictures(survey, 9, Found(10, 100, Clock(0, source)), 0, 7)
                 self.assertEqual([one.part for one in found.faults], [7] * count, source)
-                self.assertEqual([" at 1 place where " in note for note in found.notes], [True])
+                self.assertEqual([" at 1 place where " in note for note in found.notes], [True],
+                                 (source, count))
 
 
 class Warnings(Case):
     """What is strange of a recording."""
 
-    def test_jumps(self) -> None:
+    def test_warns_of_clock_jumps_in_what_is_judged(self) -> None:
         """Those of the frames that are judged, the first and the last too, each in its direction.
         """
         for origin in (0, CLOCK - 15 * TICKS):
@@ -116,13 +121,13 @@ class Warnings(Case):
             self.assertEqual(found, [
                 ("clock_jump", "00:00:00:10", "the clock jumps by 1.00 s"),
                 ("clock_jump", "00:00:00:15", "the clock jumps back by 1.00 s"),
-                ("clock_jump", "00:00:00:20", "the clock jumps by 0:01:36")])
+                ("clock_jump", "00:00:00:20", "the clock jumps by 0:01:36")], origin)
         for ticks, words in ((0, "0.00 s"), (45_000, "0.50 s"), (59 * 90_000, "59.00 s"),
                              (60 * 90_000, "0:01:00"), (3599 * 90_000, "0:59:59"),
                              (8641 * 90_000, "2:24:01")):
-            self.assertEqual(length_words(ticks), words)
+            self.assertEqual(length_words(ticks), words, ticks)
 
-    def test_tables(self) -> None:
+    def test_warns_of_what_the_pmt_announces(self) -> None:
         """What the PMT announces: nothing, others, the page among others; in the second programme
         too."""
         own, other = Announced(PAGE, "eng", 2), Announced((1, 0x50), "ger", 5)
@@ -151,14 +156,14 @@ class Warnings(Case):
             found = said(of_character_sets(packets, asked_for("one.stl", "one.ts")))
             self.assertEqual([one[0] for one in found], ["character_set"] * count, (sets, found))
 
-    def test_counts(self) -> None:
+    def test_warns_of_wrong_counts_in_the_gsi_block(self) -> None:
         """The counts of a GSI block beside what is there: each one less, right, and one more."""
         blocks = [subtitle_blocks(at, 25 * at, 25 * at + 20, 20, 2, b"a") for at in (1, 2)]
         for told_blocks, told_subtitles in itertools.product((1, 2, 3), repeat=2):
             data = gsi_block(b"", told_blocks, told_subtitles) + b"".join(blocks)
             found = said(count_notices(SubtitleFile(self.write("one.stl", data))))
             kinds = ["blocks"] * (told_blocks != 2) + ["subtitles"] * (told_subtitles != 2)
-            self.assertEqual([one[0] for one in found], kinds)
+            self.assertEqual([one[0] for one in found], kinds, (told_blocks, told_subtitles))
             for _, line, _ in found:
                 self.assertTrue("there are 2" in line, line)
         data = gsi_block(b"", 1, 1)[:238] + b"  x  00000" + gsi_block(b"", 1, 1)[248:]
@@ -171,9 +176,10 @@ class Warnings(Case):
         comment = tti_block(2, 30, 40, 20, 2, b"", comment=1)
         for count in (1, 2):
             data = gsi_block(b"", 2, count) + blocks[0] + comment
-            self.assertEqual(said(count_notices(SubtitleFile(self.write("one.stl", data)))), [])
+            self.assertEqual(said(count_notices(SubtitleFile(self.write("one.stl", data)))), [],
+                             count)
 
-    def test_pauses(self) -> None:
+    def test_warns_of_pauses_of_what_comes_in_each_frame(self) -> None:
         """Frames without a PES packet, of what sends one in each but few: one in twenty."""
         def pauses(frames: Sequence[int], origin: int = 0) -> list[tuple[str, str | None]]:
             pts = [(origin + TICKS * frame) % CLOCK for frame in frames]
@@ -192,7 +198,7 @@ class Warnings(Case):
                      [*three, ("no PES packet for 5 frames", "00:00:01:15")]), ([], []), ([5], [])):
                 self.assertEqual(pauses(frames, origin), wanted, frames)
 
-    def test_repeats(self) -> None:
+    def test_warns_of_a_repeat_bound_that_sees_no_missing_repeat(self) -> None:
         """A page that comes so often that a repeat that is missing would not be seen."""
         def warned(step: int, every: int) -> list[str]:
             headers = [TICKS * frame for frame in range(0, 600, step)]
@@ -208,7 +214,7 @@ class Warnings(Case):
 class Grids(Case):
     """How PTS lie beside frames."""
 
-    def test_off(self) -> None:
+    def test_measures_how_far_pts_are_off_their_frames(self) -> None:
         """By how many ticks at most, before and after; over half a frame it is the other one's."""
         for origin in (0, CLOCK - 3 * TICKS):
             of_offs: list[tuple[list[int], int]] = [
@@ -254,7 +260,7 @@ def page_with(*rows: tuple[int, bytes]) -> tuple[bytes, ...]:
 class Named(Case):
     """Files, and calls as they are typed."""
 
-    def test_files(self) -> None:
+    def test_names_the_files_of_a_pair_and_its_parts(self) -> None:
         """Of a pair and of a part: as they are typed, and where they stand."""
         for out in (None, "out"):
             names = Names("one", self.folder, out)
@@ -267,7 +273,7 @@ class Named(Case):
                 self.must(f"{out} {name}: object", one.machine == (f"{typed}.json" if out else
                                                                    None))
 
-    def test_names(self) -> None:
+    def test_gives_no_two_results_the_same_name(self) -> None:
         """No two have the same, of pairs, of their parts and of lines; none is that of the page
         over all, begins with a point, or has what a terminal would obey."""
         of_names = {"film": "film", "film.1": "film%2E1", "film.12": "film%2E12",
@@ -319,7 +325,7 @@ class Named(Case):
             self.must(name, path in kept and os.path.join(out, "one.1.txt") not in kept, kept)
         self.must("no folder", len(files_in(self.path("none"), "one")) == 6)
 
-    def test_again(self) -> None:
+    def test_types_the_same_call_with_other_options(self) -> None:
         """The same call with more words: an option that is said anew stands once."""
         typed = CommandWords("tools/qc", self.bench.program)
         asked = asked_for("one.stl", "one.ts", "--page", "150", "--every", "50", "--no-complete",
@@ -344,8 +350,7 @@ class Named(Case):
                                       ("./qc", "./air", "../subttx"), ("qc", "./air", "../subttx"),
                                       ("/a/tools/qc", "/a/tools/air", "/a/subttx")):
             made = CommandWords(called, self.bench.program)
-            self.must(called, made.tool("air") == tool and made.program_words ==
-                      ["-p", self.bench.program], made.tool("air"))
+            self.check(called, made.tool("air"), tool)
             self.must(f"{called}: beside", os.path.normpath(made.beside()) ==
                       os.path.normpath(program), made.beside())
 
@@ -353,7 +358,7 @@ class Named(Case):
 class Kinds(Case):
     """What a file is, by its first bytes."""
 
-    def test_kinds(self) -> None:
+    def test_knows_a_recording_by_its_first_bytes(self) -> None:
         """Whether it begins as a recording does."""
         for data, is_one in (
                 (pes_packet(0, []), True), (pes_packet(0, [])[:4], True), (b"G" * 400, True),
@@ -371,7 +376,7 @@ class Pages(Case):
 
     ONE, TWO = b"\x0b\x0bHello", b"\x03\x0b\x0bHello"
 
-    def test_words(self) -> None:
+    def test_names_the_first_difference_of_two_pages(self) -> None:
         """The first that differs: a row, a column, a cell, the ends of a row."""
         own = page_with((20, self.ONE), (22, b"  two"))
         for other, place in (
@@ -381,7 +386,7 @@ class Pages(Case):
                  "row 20 from column 3 instead of 2"),
                 (page_with((20, self.ONE), (22, b" two")), "row 22 from column 1 instead of 2"),
                 (page_with((20, self.ONE)), "1 rows instead of 2")):
-            self.assertEqual(moved_words(own, other), place)
+            self.assertEqual(moved_words(own, other), place, (other, place))
         for other, words in (
                 (own, ""), (page_with((20, b"\x0b\x0bHallo"), (22, b"  two")),
                             "row 20 column 3: 61 instead of 65"),
@@ -392,24 +397,24 @@ class Pages(Case):
                 (page_with((20, self.ONE), (22, b"\x02 tw")),
                  "row 22 column 0: alpha green instead of a space, begins 2 columns early, ends a "
                  "column early")):
-            self.assertEqual(attribute_words(own, other), words)
+            self.assertEqual(attribute_words(own, other), words, other)
         for other, words in (
                 (own, ""), (page_with((20, self.ONE), (22, b"  two"), (2, b"x")),
                             "another row beside it: row 2"),
                 (page_with((20, self.ONE), (22, b"  two"), (2, b"x"), (24, b"y")),
                  "other rows beside it: rows 2 and 24"),
                 (page_with((20, self.TWO), (22, b"  two"), (2, b"x")), "")):
-            self.assertEqual(beside_words(own, other), words)
+            self.assertEqual(beside_words(own, other), words, other)
         for sent, due, moved in (
                 (own, own, False), (page_with((20, b" " + self.ONE), (22, b"  two")), own, True),
                 (page_with((21, self.ONE), (22, b"  two")), own, True),
                 (page_with((20, self.TWO), (22, b"  two")), own, False),
                 (page_with((20, self.ONE), (22, b" two")), own, True)):
-            self.assertEqual(is_moved(due, sent), moved)
+            self.assertEqual(is_moved(due, sent), moved, (sent, due, moved))
         for sent, part in ((own, True), (page_with((20, self.ONE)), True), (BLANK_PAGE, True),
                            (page_with((20, self.TWO)), False), (page_with((22, b"  two")), True),
                            (page_with((21, b"x")), False)):
-            self.assertEqual(is_part(sent, own), part)
+            self.assertEqual(is_part(sent, own), part, (sent, part))
         self.assertEqual((words_on(own), page_text(own, 0),
                           page_text(page_with((1, b"\x5b[#")), 4)),
                          ("Hello two", "Hello / two", "ÄÄ#"))
@@ -469,7 +474,7 @@ class Pages(Case):
 class Repeats(unittest.TestCase):
     """How often a page comes."""
 
-    def test_measured(self) -> None:
+    def test_measures_repeats_between_cues(self) -> None:
         """Between edges, and not up to five frames before one; of few there is no measure."""
         steady = list(range(0, 200, 10))
         of_frames: list[tuple[list[int], list[int], int | None]] = [
@@ -489,4 +494,4 @@ class Repeats(unittest.TestCase):
         self.assertLess(summed.call_count, 3)  # not once for each sending
         of_gaps: list[tuple[list[int], int]] = [([], 0), ([5], 0), ([5, 5], 0), ([9, 5, 30], 21)]
         for frames, gap in of_gaps:
-            self.assertEqual(longest_gap(frames), gap)
+            self.assertEqual(longest_gap(frames), gap, (frames, gap))

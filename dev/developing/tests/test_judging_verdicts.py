@@ -19,7 +19,7 @@ from subtitles.judging.part import Part, is_in, part_causes
 from subtitles.judging.status import Severity
 from subtitles.judging.subtitles import Counts, JudgedBeside
 from subtitles.judging.verdict import (
-    Gap, MOVED, Spread, Unjudged, Verdict, counts_of_numbers, gap_of, gaps_in, gaps_of, spread_of)
+    Gap, MOVED, Spread, Unjudged, Verdict, counts_of_numbers, gaps_in, gaps_of, spread_of)
 from subtitles.recording.notices import Notice
 from subtitles.request.commands import Names
 from subtitles.request.request import Request
@@ -59,7 +59,7 @@ class Verdicts(Case):
         return [part_with(100 * at, 100 * at + 99, 5, answer(REFUSED if at in refused else
                           ("accepted 10 frames 2 transmissions",)), at + 1) for at in range(3)]
 
-    def test_lines(self) -> None:
+    def test_chooses_the_last_line_and_the_leading_fault(self) -> None:
         """What became of it, the line that says so, and the one that is said first: by its parts,
         by faults without a number, by what is lost and strange, by the clock and the profile."""
         left, never = NamedFault(PICTURES_LEFT, "away", "00:00:01:00"), NamedFault(NEVER_SENT, "")
@@ -120,7 +120,7 @@ class Verdicts(Case):
             self.must(f"{names} {known}", (verdict.word, verdict.line, verdict.lead) ==
                       (word, line, lead or line), (verdict.word, verdict.line, verdict.lead))
 
-    def test_reasons(self) -> None:
+    def test_does_not_judge_if_there_is_a_reason_or_a_failed_output(self) -> None:
         """Whatever is said of the parts, a reason and outputs that failed are not judged, and each
         is told; it is so another time too, where the machine did what was asked."""
         rows: list[tuple[Unjudged | None, list[str], str, bool]] = [
@@ -136,7 +136,7 @@ class Verdicts(Case):
                 verdict.is_final) == ("not judged", 2, None, None, why, is_final), verdict.why_not)
         self.must("judged", verdict_of(self.three()).is_final)
 
-    def test_warnings(self) -> None:
+    def test_keeps_each_warning_once(self) -> None:
         """Each once, of one call and of two; others of a kind are others."""
         one, other, verdict = Notice("pause", "1", None), Notice("pause", "2", None), verdict_of([])
         verdict.warn([one, one])
@@ -170,7 +170,7 @@ class Verdicts(Case):
             self.must(f"{before} {after}", is_in(place_of(before, after), part) == is_of)
         self.must("no clock", not is_in(place_of(1, 2), part_with(None, None, None)))
 
-    def test_losses(self) -> None:
+    def test_counts_losses_of_any_part(self) -> None:
         """Those of the first part, the second and the last, and of none, in any order."""
         for shift in (0, CLOCK - 150 * TICKS):
             verdict = verdict_of([part_with(100 * at, 100 * at + 99, shift, number=at + 1)
@@ -216,12 +216,13 @@ class Verdicts(Case):
             for origin in (0, CLOCK - 40 * TICKS):
                 first, second = (None if pts is None else (origin + pts) % CLOCK
                                  for pts in (before, after))
-                place = Place(first, second, 3)
-                found = gap_of(place, origin, True)
+                place, part = Place(first, second, 3, mark=0), part_with(0, 1, origin)
+                part = dataclasses.replace(part, pes=(0, 0))
+                found, = gaps_of([place], [part])
                 self.must(f"{words} {origin}", found.line() == f"{words}: 3 TS packets lost" and
                           found.is_judged and found.place is place, found)
 
-    def test_trusted(self) -> None:
+    def test_trusts_no_frame_of_a_loss(self) -> None:
         """Of each part, in the result as on its page, without the frames of a hole that the PCR
         alone tells."""
         said = ["trusted frames 00:00:04:00 00:00:07:24", "accepted 10 frames 2 transmissions"]
@@ -240,7 +241,7 @@ class Verdicts(Case):
             self.must(f"{places} {words}", found == [(1, time_of(100), time_of(199)), *(
                 (2, time_of(first), time_of(last)) for first, last in wanted)], found)
 
-    def test_numbers(self) -> None:
+    def test_counts_faults_of_each_number_in_all_parts(self) -> None:
         """How many faults there are of each number in all parts, but for some; and in all."""
         verdict = verdict_of([part_with(0, 9, 0, answer(one)) for one in (REFUSED, OTHER, OTHER)])
         counts = [tuple(one) for one in counts_of_numbers(verdict.parts, {70})]
@@ -253,7 +254,7 @@ class Verdicts(Case):
         letter = answer(["refused 50 Character block 1 at 4", "1 faults"])
         self.must("a file", verdict_of([*self.three(), part_with(0, 9, 0, letter)]).counts is None)
 
-    def test_delays(self) -> None:
+    def test_spreads_the_delays_of_subtitles(self) -> None:
         of_spreads: list[tuple[list[int | None], Spread | None]] = [
             ([], None), ([None], None), ([3], Spread(3, 3, 3, 0)), ([5, 1, 3], Spread(1, 3, 5, 0)),
             ([None, 2, None, 4], Spread(2, 4, 4, 2))]
@@ -304,7 +305,7 @@ class Read(Case):
                 place_of(first - 1, last + 2, missing=9)])
             self.must(f"a hole from {first} to {last}", part.is_read() == (last < 900_049))
 
-    def test_headers(self) -> None:
+    def test_counts_the_headers_of_its_own_pes_packets(self) -> None:
         """Those of its own PES packets: each that is heard, as often as it was sent; and the
         national options of all, but for the one that is reserved."""
         runs = [Run(0, 2, 0, 9, "h", "88080812"), Run(2, 4, 20, 9, "h", "88080810"),
@@ -402,5 +403,4 @@ class Numbers(Case):
         self.must("ends", found == [("00:00:02:00", None), (None, 9), (None, None), (None, None),
                                     ("00:00:05:00", None)], found)
         self.must("trusted", [*answer.trusted] == [(150, 175), (225, 225)], answer.trusted)
-        self.must("anew", answer.anew == {2, 3, 5}, answer.anew)
         self.must("marks", [*answer.marks[72]] == [(25, 50), (75, 75), (100, 125)], answer.marks)

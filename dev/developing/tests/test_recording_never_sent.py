@@ -56,7 +56,7 @@ def table(number: int, *pids: int, clock: int = 100, page: str = "888") -> list[
 class Announced(Case):
     """By tables."""
 
-    def test_when(self) -> None:
+    def test_knows_when_a_pmt_announces_the_page(self) -> None:
         """From the PCR before a PMT up to the one before the next of that programme, of each PMT
         that announces the page."""
         lines = [*table(1, ONE), f"pcr 100 {SECOND}", *table(1, TWO), f"pcr 100 {9 * SECOND}",
@@ -67,7 +67,7 @@ class Announced(Case):
             Announcement(1, frozenset({TWO}), SECOND, 9 * SECOND),
             Announcement(2, frozenset({THREE}), None, None)], found)
 
-    def test_timing(self) -> None:
+    def test_warns_of_pts_behind_the_pcr(self) -> None:
         """From when on PTS are behind the PCR, wherever they begin anew; before the day by its PTS.
         """
         for origin, frame in itertools.product((0, CLOCK - 60 * TICKS), (50, 90, -5)):
@@ -79,7 +79,7 @@ class Announced(Case):
                 "pts_behind", f"{where} PTS of the Teletext are behind the PCR, by up to 0.10 s: 1 "
                 "of 3 that were looked at", time)], [*of_timing(packets, origin)])
 
-    def test_unsent(self) -> None:
+    def test_finds_an_announced_page_that_is_not_sent(self) -> None:
         """Of the subtitles' time, from 10 to 20 seconds, by the programme that carries the page,
         or by any where none announces its PID: one of several PIDs is enough."""
         begin, end = 10 * SECOND, 20 * SECOND
@@ -107,7 +107,7 @@ class Announced(Case):
             found = unsent_by(shifted, carriers, (begin - 15 * SECOND) % CLOCK, 5 * SECOND)
             self.must(f"{name}: over the wrap", (found is None) == (wanted is None), found)
 
-    def test_silent(self) -> None:
+    def test_finds_programmes_that_never_send_the_page(self) -> None:
         """Of several programmes those that never send it, where one does."""
         rows: list[tuple[list[str], set[int], set[int]]] = [
                 ([*table(1, ONE)], {ONE}, set()), ([*table(1, ONE), *table(2, TWO)], {ONE}, {TWO}),
@@ -137,7 +137,7 @@ class Announced(Case):
             return [*reason.to_type]
         return None
 
-    def test_due(self) -> None:
+    def test_expects_the_page_if_a_subtitle_is_recorded(self) -> None:
         """By an origin where all of a subtitle's time is recorded; without one where so much is as
         the programme takes; also over the wrap."""
         subtitles = [(100, 150), (500, 600)]
@@ -153,7 +153,7 @@ class Announced(Case):
         self.must("no PCR", not is_due_in(None, subtitles, 0))
         self.must("no subtitle", not is_due_in((0, CLOCK // 2), [], 0))
 
-    def test_refused(self) -> None:
+    def test_refuses_a_page_that_is_sent_nowhere(self) -> None:
         """Nowhere, or elsewhere alone; not where a PID is asked for that is not announced, what one
         of them carries is not known, or nothing is due by the first picture."""
         clock = ["pcr 100 0", f"pcr 100 {60 * SECOND}"]
@@ -220,7 +220,7 @@ class Judgements(OfProgramme):
                   and known["subtitle_counts"] is None and known["inputs"]["recording"]["sha256"]
                   and any("announced 888" in line for line in told.said), told.said)
 
-    def test_elsewhere(self) -> None:
+    def test_refuses_a_page_that_comes_on_another_pid(self) -> None:
         """On a PID that no PMT announces, from the beginning or from some time on; not where that
         is behind the subtitles, nor where the PID that has the page is typed."""
         told = self.judge_plan([(0, OLD)], self.on_old, "--every", "25")
@@ -237,7 +237,7 @@ class Judgements(OfProgramme):
             told = self.judge_plan(plan, self.on_old, "--every", "25", *more)
             self.must(name, told.word == "accepted", told.said)
 
-    def test_nowhere(self) -> None:
+    def test_refuses_a_page_that_never_comes_while_it_is_due(self) -> None:
         """Refused where it is due by the clock, or the recording is as long as the programme; of a
         short one nobody knows."""
         words = "page 888 is announced in PID 0x111, never sent"
@@ -275,13 +275,13 @@ class Judgements(OfProgramme):
                   told.told[0].startswith("the other subtitles were not judged: page 888 is "
                                           "announced in PID 0x111, never sent "), told.said)
 
-    def test_severity(self) -> None:
+    def test_does_not_judge_if_that_fault_is_waived(self) -> None:
         """A file may name it a warning: then nothing is judged."""
         path = self.write("severity", b"never sent warning\n")
         told = self.judge_plan([(0, NEW)], self.bare, "--severity", path)
         self.must("a warning", told.word == "not judged", told.said)
 
-    def test_pages(self) -> None:
+    def test_writes_report_and_result_of_a_page_never_sent(self) -> None:
         """Its report and its result in a folder."""
         out = self.path("out")
         self.judge_plan([(0, NEW)], self.bare, "-o", out)

@@ -60,7 +60,7 @@ def table(number: int, pid: int) -> list[str]:
 class Chosen(Case):
     """Which PID."""
 
-    def test_which(self) -> None:
+    def test_chooses_the_only_pid_with_the_page(self) -> None:
         """The only one with a header of the page, whatever it shows, or the one of --pid. Else what
         the operator may type, also if the PMT moves the page from one to the other."""
         both = [header(ONE), header(TWO, "he")]
@@ -156,7 +156,7 @@ class Told(Case):
                 *["1 TS packet lost"] * marks] * bool(size)]
             self.assertSaid(one.listener.lines, [*wanted[0], *wanted[1]])
 
-    def test_strange(self) -> None:
+    def test_warns_of_a_cut_and_of_damage(self) -> None:
         """An end within a PES packet, and damage."""
         for is_cut, refusal, damage, size in itertools.product(
                 (False, True), (0, 31), (None, "is damaged"), (0, 188)):
@@ -167,7 +167,7 @@ class Told(Case):
                 damage)
             self.assertSaid(found, ends)
 
-    def test_kept(self) -> None:
+    def test_keeps_the_pid_as_it_is_extracted(self) -> None:
         """The PID as it is extracted, up to a PES packet that is refused; where that fails nothing
         is given for whole."""
         path = self.write("program", b'#!/bin/sh\nfor file; do :; done\necho "$3" >"$file"\n'

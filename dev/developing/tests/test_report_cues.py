@@ -1,10 +1,8 @@
 """The cue list, the timeline, refused subtitles, and the box of a verdict."""
 from __future__ import annotations
 
-from typing import Any
 
 from developing.stl import gsi_block
-from subtitles.common.times import Span
 from subtitles.formats.stl import NamedSubtitle, Subtitle, SubtitleFile
 from subtitles.judging.causes import Cause, LATE, NEVER, TEXT
 from subtitles.judging.cues import Cue, decoded_cue
@@ -14,7 +12,8 @@ from subtitles.judging.transmissions import DuePages
 from subtitles.report.blocks import field, marked_text, marked_times, readable
 from subtitles.report.cue_list import marked_difference, signed
 from subtitles.report.page import SHAPES, with_options
-from subtitles.stream.receiver import BLANK_PAGE, Held, Rows
+from subtitles.stream.packets import PES, Packets
+from subtitles.stream.receiver import BLANK_PAGE, Rows, Timeline
 from .bench import Case
 from .parts import fault_of, in_page
 
@@ -24,22 +23,13 @@ def page(text: bytes) -> Rows:
     return (*BLANK_PAGE[:19], text.ljust(40), *BLANK_PAGE[20:])
 
 
-class Held20(Held):
+def holding(*changes: tuple[int, Rows]) -> Timeline:
     """Pages by the frames from which on they are held, up to frame 1000."""
-
-    first, last, halt = 0, 1000, None
-
-    def __init__(self, *changes: tuple[int, Rows]) -> None:
-        super().__init__()
-        for frame, rows in changes:
-            self.change(frame, rows)
-
-    def stretch(self, number: int) -> Span:
-        is_last = number + 1 == len(self.frames)
-        return Span(self.frames[number], self.last if is_last else self.frames[number + 1] - 1)
-
-    def is_seen(self, first: int, last: int) -> bool:
-        return True
+    held = Timeline(Packets(PES), (0, 0x88), 0)
+    held.first, held.last = 0, 1000
+    for frame, rows in changes:
+        held.change(frame, rows)
+    return held
 
 
 class Cues(Case):
@@ -47,7 +37,7 @@ class Cues(Case):
 
     ONE, TWO = page(b"one"), page(b"two")
 
-    def test_times(self) -> None:
+    def test_finds_the_frames_of_a_decoded_subtitle(self) -> None:
         """By what is held, and by the cause: the first and the last frame of a subtitle that is
         expected from 100 to 200, behind which another one is expected from 200 to 300."""
         one, blank, two = self.ONE, BLANK_PAGE, self.TWO
@@ -64,7 +54,7 @@ class Cues(Case):
                 ("by another one", None, [(100, one), (150, two)], (100, 150)),
                 ("up to the end", None, [(100, one)], (100, None))):
             subtitles = [Subtitle(1, 1, 100, 200, 20, 2, b""), Subtitle(2, 2, 200, 300, 20, 2, b"")]
-            held: Any = Held20(*changes)
+            held = holding(*changes)
             made = decoded_cue(Cue(subtitles[0], one, cause), 0, DuePages(subtitles, [one, two]),
                                held, 0)
             self.must(name, (made.begin, made.end) == wanted, (made.begin, made.end))
@@ -74,7 +64,7 @@ class Cues(Case):
     def test_same_page_twice(self) -> None:
         """Two subtitles that adjoin and have the same page: the cue between them is as expected."""
         subtitles = [Subtitle(1, 1, 100, 200, 20, 2, b""), Subtitle(2, 2, 200, 300, 20, 2, b"")]
-        held: Any = Held20((100, self.ONE), (300, BLANK_PAGE))
+        held = holding((100, self.ONE), (300, BLANK_PAGE))
         due = DuePages(subtitles, [self.ONE, self.ONE])
         made = [decoded_cue(Cue(one, self.ONE, None), place, due, held, 0)
                 for place, one in enumerate(subtitles)]
@@ -84,7 +74,7 @@ class Cues(Case):
 class Words(Case):
     """Texts with marks, numbers with signs."""
 
-    def test_difference(self) -> None:
+    def test_marks_characters_that_differ(self) -> None:
         """The characters that differ are marked in both texts."""
         for first, second, wanted in (
                 ("abc", "abd", ("ab[c]", "ab[d]")), ("abc", "abc", ("abc", "abc")),
@@ -95,16 +85,16 @@ class Words(Case):
                          for one in marked_difference(first, second))
             self.must(f"{first} {second}", told == wanted, told)
 
-    def test_signs(self) -> None:
+    def test_writes_numbers_with_their_signs(self) -> None:
         self.must("signs", [signed(one) for one in (None, 0, 12, -3)] == ["", "0", "+12", "-3"])
 
-    def test_options(self) -> None:
+    def test_breaks_no_option_between_lines(self) -> None:
         """Options are not broken between two lines."""
         for text, wanted in (("give --origin or --start", "give <b>--origin</b> or <b>--start</b>"),
                              ("--every 25 <x>", "<b>--every 25</b> &lt;x&gt;"), ("a - b", "a - b")):
             self.must(text, in_page(with_options(text)) == wanted, in_page(with_options(text)))
 
-    def test_shapes(self) -> None:
+    def test_gives_each_verdict_a_class_and_a_shape(self) -> None:
         """Each verdict has a class and a shape of its own."""
         words = (ACCEPTED, WAIVED, RELATIVE, REFUSED, LOST, WARNED, NOT_JUDGED)
         self.must("all", set(SHAPES) == set(words))
@@ -115,7 +105,7 @@ class Words(Case):
 class BlocksOfFile(Case):
     """A subtitle file that is refused: its subtitles."""
 
-    def test_fields(self) -> None:
+    def test_shows_the_field_that_a_fault_names(self) -> None:
         """The field that a fault is about, as it stands in the file; of no other fault one."""
         path = self.write("two.stl", gsi_block(b"", 1, 1) + bytes(range(16)) + b"\x8f" * 112)
         made = SubtitleFile(path)
@@ -128,7 +118,7 @@ class BlocksOfFile(Case):
             self.must(line, told == (f"{head} <mark>{value}</mark>" if head else ""), told)
         self.must("no block", in_page(field(made, fault_of("refused 14 Cct"))) == "")
 
-    def test_marks(self) -> None:
+    def test_marks_the_byte_or_line_that_a_fault_names(self) -> None:
         """The byte or the line that a fault names, in a text and in tables."""
         def marked(*lines: str) -> str:
             return in_page(marked_text(b"a b\x8ac", [fault_of(line) for line in lines]))
@@ -143,7 +133,7 @@ class BlocksOfFile(Case):
         letters = [in_page(readable(byte)) for byte in (0x20, 0x41, 0x7E, 0x7F, 0x1F)]
         self.must("letters", letters == ["\u2423", "A", "~", "<i>7F</i>", "<i>1F</i>"])
 
-    def test_times(self) -> None:
+    def test_marks_the_times_that_a_fault_names(self) -> None:
         """Those that a fault is about are marked."""
         begin, end = "00:00:02:10", "00:00:02:20"
         one = NamedSubtitle(3, 3, begin, end)

@@ -29,7 +29,7 @@ class Attributes(unittest.TestCase):
         """The look of the last cell of a row."""
         return spans_of(row, number, 0, is_boxed_page)[-1]
 
-    def test_last(self) -> None:
+    def test_applies_each_spacing_attribute_until_it_ends(self) -> None:
         """White on black outside of a box at first; each attribute by itself, and what ends it."""
         plain = CellStyle("A", 7, 0, False, False, False)
         rows: list[tuple[bytes, dict[str, Any]]] = [
@@ -45,9 +45,9 @@ class Attributes(unittest.TestCase):
             with self.subTest(row=row):
                 self.assertEqual(self.look(row)._replace(letters="A"), plain._replace(**change))
         for number, wanted in ((22, True), (23, False), (24, False)):
-            self.assertEqual(self.look(b"\x0dA", number).double, wanted)
+            self.assertEqual(self.look(b"\x0dA", number).double, wanted, number)
         for row in (b"A", b"\x0b\x0bA", b"\x0a\x0aA"):
-            self.assertTrue(self.look(row, is_boxed_page=False).boxed)
+            self.assertTrue(self.look(row, is_boxed_page=False).boxed, row)
 
     def test_at_once_and_from_the_next_on(self) -> None:
         """A colour, flash and double height hold from the next cell on, the others at once."""
@@ -62,7 +62,7 @@ class Attributes(unittest.TestCase):
             with self.subTest(row=row):
                 self.assertEqual({name: getattr(found, name) for name in own}, own)
 
-    def test_rows(self) -> None:
+    def test_draws_rows_as_ffmpeg_and_libzvbi_do(self) -> None:
         """Rows that ffmpeg and libzvbi draw the same: of each cell the ink, the paper, and whether
         it is in a box, flashes, and is of double height."""
         for codes, *wanted in (
@@ -77,9 +77,9 @@ class Attributes(unittest.TestCase):
             found = ["".join(letters) for letters in zip(*(
                 (str(cell.ink), str(cell.paper), " b"[cell.boxed], " f"[cell.flash],
                  " d"[cell.double]) for cell in cells))]
-            self.assertEqual(found, wanted)
+            self.assertEqual(found, wanted, codes)
 
-    def test_mosaics(self) -> None:
+    def test_draws_mosaics_from_a_colour_of_mosaics_on(self) -> None:
         """From a colour of mosaics on, up to one of letters; capital letters stay."""
         for row, letters in ((b"\x11a", "\u2592"), (b"\x11A", "A"), (b"\x11 ", " "),
                              (b"\x11\1a", "a"), (b"\x11!", "\u2592"), (b"a", "a"),
@@ -90,7 +90,7 @@ class Attributes(unittest.TestCase):
 class Rowed(unittest.TestCase):
     """Rows and pages as SVG."""
 
-    def test_picture(self) -> None:
+    def test_draws_the_rows_in_use(self) -> None:
         """Rows in use, none that is below one of double height; letters in boxes and outside,
         and frames."""
         rows = page(r20=b"\x0b\x0b\x0dtall", r21=b"\x0b\x0bcovered", r22=b"\x0b\x0b\1seen <")
@@ -103,7 +103,8 @@ class Rowed(unittest.TestCase):
                             ('<rect class="d1" x="36" y="315" width="24" height="15"/>', 1)):
             self.assertEqual(drawn.count(part), count, part)
         for header, count in ((PLAIN_HEADER, 3), (SUBTITLE_HEADER, 1)):
-            self.assertEqual(in_page(picture(rows, header, (18, 20))).count('class="n"'), count)
+            self.assertEqual(in_page(picture(rows, header, (18, 20))).count('class="n"'), count,
+                             (header, count))
         for last, is_there in ((21, False), (22, True)):
             drawn = in_page(picture(rows, PLAIN_HEADER, (18, last)))
             self.assertEqual("seen" in drawn, is_there, last)
@@ -113,7 +114,7 @@ class Rowed(unittest.TestCase):
         self.assertEqual([is_boxed(bytes([8, 8, 0, 0, 0, bits, 1, 0])) for bits in (0, 4, 8, 12)],
                          [False, True, True, True])
 
-    def test_frames(self) -> None:
+    def test_frames_neighbouring_cells_once(self) -> None:
         """One for neighbours, and for rows that are alike; two lines for double height."""
         rows: list[tuple[list[tuple[int, int]], list[int], int]] = [
             ([], [], 0), ([(5, 1)], [], 1), ([(5, 1), (5, 2)], [], 1), ([(5, 1), (5, 3)], [], 2),
@@ -126,30 +127,30 @@ class Rowed(unittest.TestCase):
         self.assertIn('x="12" y="60" width="12" height="30"',
                       in_page(frames_of([(6, 1), (5, 1)], set())))
 
-    def test_cut(self) -> None:
+    def test_shows_the_rows_in_use_and_one_more_on_each_side(self) -> None:
         """The rows in use of all pages, and one more on each side."""
         for pages, wanted in (
                 ([BLANK_PAGE], LOW_ROWS), ([page(r20=b"x")], (19, 21)),
                 ([page(r1=b"x")], (1, 2)), ([page(r24=b"x")], (23, 24)),
                 ([page(r20=b"x"), page(r5=b"x")], (4, 21))):
-            self.assertEqual(cut_of(pages), wanted)
+            self.assertEqual(cut_of(pages), wanted, pages)
 
-    def test_differences(self) -> None:
+    def test_finds_cells_whose_codes_differ(self) -> None:
         """Cells whose codes differ, whatever says more than the code."""
         one = page(r20=b"abc", r22=b"x")
         for other, wanted in ((one, []), (page(r20=b"abd", r22=b"x"), [(20, 2)]),
                               (page(r20=b"Abd"), [(20, 0), (20, 2), (22, 0)]),
                               (page(r20=b"abc\xa0", r22=b"\xf8"), [])):
-            self.assertEqual(differences(one, other), wanted)
+            self.assertEqual(differences(one, other), wanted, other)
         for row, column in itertools.product(range(24), range(40)):  # each cell alone
             cells = bytearray(one[row])
             cells[column] ^= 1
             other = (*one[:row], bytes(cells), *one[row + 1:])
-            self.assertEqual(differences(one, other), [(row + 1, column)])
+            self.assertEqual(differences(one, other), [(row + 1, column)], (row, column))
 
-    def test_letters(self) -> None:
+    def test_draws_letters_of_the_header_s_option(self) -> None:
         """Each picture has the letters of its header's national option, of the same row too."""
         for option, letter in ((0, "\u2190"), (4, "\u00c4"), (0, "\u2190"), (7, "\u25a1")):
             header = bytes([*SUBTITLE_HEADER[:7], option << 1])
             self.assertIn(f">{letter}</text>", in_page(picture(
-                page(r20=b"\x0b\x0b["), header, (19, 21))))
+                page(r20=b"\x0b\x0b["), header, (19, 21))), (option, letter))

@@ -80,7 +80,7 @@ class Times(Case):
                 place for place, one in enumerate(subtitles, 1)
                 if begin <= one.begin and one.end <= last + 1], right)
 
-    def test_csv(self) -> None:
+    def test_writes_a_line_of_csv_for_each_subtitle(self) -> None:
         """A line for the verdict, then one for each subtitle with what the JSON result has."""
         subtitles = random_programme(random.Random(1))
         expected = edited(subtitles, random.Random(1))

@@ -19,7 +19,8 @@ from subtitles.report import page as report_page
 from subtitles.report.page import BETWEEN, DELAY
 from subtitles.request.commands import CommandWords
 from subtitles.stream.gaps import Place
-from subtitles.stream.receiver import BLANK_PAGE, Held
+from subtitles.stream.packets import PES, Packets
+from subtitles.stream.receiver import BLANK_PAGE, Timeline
 from .bench import Case, example
 from .parts import answer, asked_for, in_page, packets_told, part_with
 from .sent import CLOSING, HEADER
@@ -45,7 +46,8 @@ class Whole(Case):
         for number, kind in enumerate(kinds, 1):
             given: dict[str, Any] = {
                 "packets": self.packets, "pes": (0, 3), "due": lambda: DuePages([Subtitle(
-                    1, 1, 75, 100, 20, 2, b"")], [BLANK_PAGE], Held())} if is_read else {}
+                    1, 1, 75, 100, 20, 2, b"")], [BLANK_PAGE], Timeline(
+                        Packets(PES), (0, 0x88), 0))} if is_read else {}
             part = part_with(75, 99, 0, answer(self.KINDS[kind], path=self.path(f"{number}.txt")),
                              number, RECORDING if is_fitted and number == len(kinds) else GIVEN,
                              delays=[0], otherwise=f"drawn {number}", **given)
@@ -94,6 +96,8 @@ class Whole(Case):
             self.assertTrue(why or (colour == "refused") == (verdict.word == REFUSED), kinds)
             counts = [f"{len(self.KINDS[kind]) - 1}" for kind in kinds]
             self.assertEqual(re.findall('data-name="Faults">([0-9]+)</td><td data-name="Causes',
-                                        page), counts if len(kinds) > 1 and not why else [])
+                                        page), counts if len(kinds) > 1 and not why else [],
+                             (kinds, is_fitted, named))
             self.assertEqual(page.count('data-name="From">00:00:03:00</td><td data-name="To">00:00:'
-                                        '03:24<'), len(kinds) if len(counts) > 1 and not why else 0)
+                                        '03:24<'), len(kinds) if len(counts) > 1 and not why else 0,
+                             (kinds, is_fitted, named))

@@ -175,7 +175,7 @@ class Modes(Case):
 class Words(unittest.TestCase):
     """Words of a command line, whatever else is wrong with it."""
 
-    def test_json(self) -> None:
+    def test_finds_the_file_of_an_option_in_wrong_words(self) -> None:
         paths: list[tuple[list[str], str | None]] = [
                            (["--json", "x"], "x"), (["--json=x"], "x"), (["--json", "-"], "-"),
                            (["--json", "--page"], None), (["--json"], None), (["--json="], None),
@@ -192,30 +192,31 @@ class Words(unittest.TestCase):
         for line, name in names:
             self.assertEqual(name_in(line), name, line)
 
-    def test_left(self) -> None:
+    def test_says_in_each_requested_file_why_a_call_ended_early(self) -> None:
         """Of a call that ends early each file that is asked for says why; whichever of the others
         can't be written, or holds what no call wrote."""
         with tempfile.TemporaryDirectory() as folder:
             for at, kinds in enumerate(itertools.product(("new", "none", "other"), repeat=3)):
                 paths: dict[str, str | None] = {}
-                for option, kind in zip(main.WRITERS, kinds):
+                for option, kind in zip(main.PIECES, kinds):
                     path = os.path.join(folder, "none" * (kind == "none"), f"{at}{option}")
                     paths[option] = path
                     if kind == "other":
                         with open(path, "wb") as file:
                             file.write(b"other")
                 main.leave("one", paths, "the reason")
-                for option, kind in zip(main.WRITERS, kinds):
+                for option, kind in zip(main.PIECES, kinds):
                     data = read(paths[option] or "") or ""
                     self.assertEqual(("the reason" in data, data == "other"),
                                      (kind == "new", kind == "other"), (kinds, option))
 
-    def test_numbers(self) -> None:
+    def test_takes_numbers_within_their_bounds(self) -> None:
         for taken, good, bad in (
                 (line_word, ("1", "9999999"), ("0", "10000000", "-1", "", "x", "\u00b2")),
                 (jobs_word, ("1", "9999"), ("0", "10000", "-1", "", "x", "\u00b2")),
                 (seconds_word, ("0", "99999"), ("100000", "-1", "", "1.5", "\u0663"))):
-            self.assertEqual([taken(word) for word in good], list(map(int, good)))
+            self.assertEqual([taken(word) for word in good], list(map(int, good)),
+                             (taken, good, bad))
             for word in bad:
                 self.assertRaises(argparse.ArgumentTypeError, taken, word)
 
@@ -316,7 +317,7 @@ class WrongWords(Case):
             self.tool("qc", STL, PES, "--page", "8FF", option, path)
             self.must(f"{option}: something else", self.read(name) == b"something else")
 
-    def test_helps(self) -> None:
+    def test_prints_the_help_and_the_version(self) -> None:
         """--help, and what it says first is what the script says first; --version."""
         with open(os.path.join(TOP, "VERSION"), encoding="utf-8") as file:
             version = file.read().strip()
@@ -365,7 +366,7 @@ class WrongWords(Case):
         self.must("/dev/null", done ==
                   (2, b"", ["poke: /dev/null is a device: give a file or a pipe"]), done)
 
-    def test_pokes(self) -> None:
+    def test_changes_bytes_up_to_the_last_one(self) -> None:
         """One change after another, up to the last byte and no farther; so many bytes of that."""
         for words, wanted in (
                 (["0=41", "5=5A"], b"AbcdeZ"), (["0=4142", "1=5A"], b"AZcdef"),

@@ -179,7 +179,7 @@ class Rows(Case):
             "--option", "--severity", "--strict", "--from", "--to", "--layout", "--open",
             "--profile"])
 
-    def test_times(self) -> None:
+    def test_judges_the_subtitles_of_some_frames(self) -> None:
         """In which frames subtitles come that are judged: from the first of a day, and up to the
         last, by what is typed and as a part of a programme."""
         day = FRAMES_OF_A_DAY
@@ -219,7 +219,7 @@ MAY = "--page, --every, --option, --origin, --complete, --no-complete, --pid, --
 class Files(Case):
     """What stands in a profile."""
 
-    def test_lines(self) -> None:
+    def test_reads_an_option_from_each_line(self) -> None:
         """An option a line, as in a line of a list; a comment and an empty line say nothing."""
         rows: list[tuple[str, dict[str, object]]] = [
             ("", {}), ("# nothing\n\n  # here\n", {}), ("--every 25", {"every": 25}),
@@ -242,7 +242,7 @@ class Files(Case):
             self.must(f"{text}: sum", (profile.name, profile.sha256) == (
                 self.path("house"), hashlib.sha256(text.encode()).hexdigest()))
 
-    def test_piped(self) -> None:
+    def test_keeps_a_subtitle_file_that_comes_through_a_pipe(self) -> None:
         """A subtitle file that comes through a pipe is kept, and tells its option then; any other
         one is where it is."""
         data = subtitle_file(self, [(0, 9, b"text")], "one.stl", language=b"08")
@@ -298,14 +298,15 @@ class Files(Case):
         """Which options: those that a refusal names."""
         self.assertEqual(", ".join(one.name for one in OPTIONS if one.in_profile), MAY)
 
-    def test_late(self) -> None:
+    def test_takes_shares_of_rising_delays(self) -> None:
         """Shares of delays: rising, none of them empty."""
         for text, begins, ends in (
                 ("0:1/0:1", {0: 1}, {0: 1}),
                 ("1:31,50:1000000/0:7,2:1", {1: 31, 50: 1_000_000}, {0: 7, 2: 1})):
             late = late_word(text)
-            self.assertEqual((late, late_text(late)), (Lateness(begins, ends), text))
-            self.assertEqual(late.longest, max(*begins, *ends))
+            self.assertEqual((late, late_text(late)), (Lateness(begins, ends), text),
+                             (text, begins, ends))
+            self.assertEqual(late.longest, max(*begins, *ends), (text, begins, ends))
         for text in ("", "/", "0:1", "0:1/", "/0:1", "0:1/0:1/0:1", "0:0/0:1", "51:1/0:1", "0/0:1",
                      "1:1,0:1/0:1", "0:1,0:1/0:1", "0:1000001/0:1", "-1:1/0:1", "0:1,/0:1",
                      "0:\u0661/0:1", "0 :1/0:1"):
@@ -357,7 +358,7 @@ class Beside(Case):
             again = asked_for("a.stl", "a.ts", *call_words(asked)[:-3])
             self.must(f"{call} | {line}: again", again == asked, again)
 
-    def test_clocks(self) -> None:
+    def test_replaces_one_clock_by_another(self) -> None:
         """A clock replaces another one: a line's that of the call, and a typed one that of a
         profile, also if it is given by the other option."""
         self.write("other", b"--every 50\n")
@@ -385,7 +386,7 @@ class Beside(Case):
         for words in ("--late 0:1,1:1/0:1", "--late 0:1/0:1,3:1 --within 2"):
             self.assertRaises(Stop, asked_for, "a.stl", "a.ts", *words.split())
 
-    def test_lists(self) -> None:
+    def test_finds_the_profile_of_a_line_beside_the_list(self) -> None:
         """The path of a line's profile begins at the list; a wrong line of it is that of the line.
         """
         os.mkdir(self.path("in"))
@@ -429,7 +430,7 @@ class Verdicts(Case):
             found = judged(self, STORY, RECORDING, "--origin", "5000000000", *words)
             self.must(f"{words}", found.said[-1] == last == found.result["line"], found.said[-1])
 
-    def test_said(self) -> None:
+    def test_says_what_a_profile_sets(self) -> None:
         """All that it says, in a line and in the result, with its sum."""
         data = b"--every 25  # each second\n--no-complete\n--layout 'fit,up'\n"
         path = self.write("house", data)

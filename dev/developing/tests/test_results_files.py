@@ -21,7 +21,7 @@ from subtitles.judging.verdict import Unjudged
 from subtitles.request.commands import CommandWords
 from subtitles.request.lines import Item
 from subtitles.results import files
-from subtitles.results.files import object_at, object_of, unjudged
+from subtitles.results.files import object_at, object_of, table_lines, unjudged
 from subtitles.results.schema import FAULT as ROWS_OF_FAULT, FORMAT, LISTS, VERDICT, misfit, schema
 from ..pages import SCHEMA, laid_out
 from .bench import Case, example_bytes
@@ -114,7 +114,7 @@ class Written(Case):
             self.must(f"{number}", (misfit(known) is None) == fits != any(
                 wrong_in(known, read_schema())))
 
-    def test_bounds(self) -> None:
+    def test_counts_what_is_left_out_of_each_list(self) -> None:
         """What is left out is counted, of each list; what fits no more is not begun."""
         whole = self.judge()
         self.must("all", not any(whole["left_out"].values()), whole["left_out"])
@@ -150,7 +150,7 @@ class Written(Case):
             self.must(f"{word} {status} {asked}", (misfit(known) is None) == fits and
                       (not [*wrong_by_schema(known)]) == fits, misfit(known))
 
-    def test_longest(self) -> None:
+    def test_cuts_a_text_that_is_too_long(self) -> None:
         """A text that is too long is cut."""
         self.must("cut", len(unjudged("x", "y" * 70_000)["reason"]) == 65_536 and
                   misfit(unjudged("x", "y" * 70_000)) is None)
@@ -272,7 +272,7 @@ class Collected(Case):
             "Content frame 1; more", "a hint", 12), row("c", "not judged", "why\nmore"),
             row("d", "waived", "waived: refused 5 X", "", 3)]
 
-    def test_table(self) -> None:
+    def test_prints_columns_as_wide_as_their_widest_cell(self) -> None:
         """Columns as wide as their widest, and how many there are of which verdict."""
         self.must("table", list(collection.table_of(self.ROWS)) == [
             "pair    verdict     faults  worst fault", "one     accepted         0",
@@ -296,7 +296,7 @@ class Collected(Case):
             status = collection.write_collection(words, self.ROWS, paths)
         return status, out.getvalue(), told.getvalue()
 
-    def test_outputs(self) -> None:
+    def test_prints_the_table_on_standard_output_unless_a_file_goes_there(self) -> None:
         """The table goes to standard output unless a file does, and what failed is told."""
         table = "".join(f"{line}\n" for line in collection.table_of(self.ROWS))
         self.must("none", self.end() == (2, table, ""), self.end())
@@ -333,7 +333,7 @@ class Collected(Case):
         self.must("status", status == 1 and os.path.exists(self.path("lines")) and
                   silenced.call_args == mock.call(out), silenced)
 
-    def test_collects(self) -> None:
+    def test_collects_the_results_of_a_folder(self) -> None:
         """The objects of a folder, whatever else is in it; the status is the worst."""
         words = argparse.Namespace(csv=None, junit=None, json=None, collect=self.path("in"))
 
@@ -366,15 +366,17 @@ class Collected(Case):
         for data in (None, b"[]", b"{"):
             if data is not None:
                 self.write("gone.json", data)
-            have = json.loads(collection.fitting_text(path))
+            have = collection.known_at(path)
             self.must("gone", have["verdict"] == "not judged" and have["name"] == "gone", have)
         known = result(faults=[FAULT])
         self.write("gone.json", b'{"status": 0, ' + json.dumps(known, indent=3).encode()[1:])
-        self.must("as it was read", json.loads(collection.fitting_text(path)) == known)
-        self.must("lines", len(b"".join(collection.csv_lines([path, path])).splitlines()) == 5)
+        self.must("as it was read", collection.known_at(path) == known)
+        lines = table_lines(map(collection.all_told, [path, path]))
+        self.check("lines", len(b"".join(lines).splitlines()), 5)
         known["left_out"]["faults"] = 7
         self.write("gone.json", json.dumps(known).encode())
         with contextlib.redirect_stderr(io.StringIO()) as told:
-            self.must("lines of some", len(list(collection.csv_lines([path]))) == 3)
+            lines = table_lines([collection.all_told(path)])
+            self.check("lines of some", len([*lines]), 3)
         self.must("told", told.getvalue().endswith(
             f": {path} leaves out 7 faults, and so do the lines\n"), told.getvalue())

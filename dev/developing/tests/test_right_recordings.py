@@ -331,12 +331,12 @@ def recordings() -> list[Recording]:
 class Right(Case):
     """Some of each kind."""
 
-    def test_counts(self) -> None:
+    def test_tries_as_many_recordings_of_each_kind_as_it_says(self) -> None:
         """As many of each kind as there are to be."""
         counts = collections.Counter(one.kind for one in recordings())
         self.must("counts", counts == {kind: one.recordings for kind, one in LOST.items()}, counts)
 
-    def test_accepted(self) -> None:
+    def test_accepts_right_recordings_of_each_kind(self) -> None:
         """Of some of each kind no more are lost than of all of them, and some are accepted."""
         for kind in LOST:
             several = [one for one in recordings() if one.kind == kind][::GATE]
@@ -405,7 +405,7 @@ def is_bounded(kind: str, words: Sequence[str]) -> bool:
 def main(program: str) -> None:
     """Judges all, and prints the counts."""
     BENCH.chosen = program
-    case, kinds = Right("test_accepted"), dict[str, list[str]]()
+    case, kinds = Right("test_accepts_right_recordings_of_each_kind"), dict[str, list[str]]()
     case.setUp()
     for one in recordings():
         told = one.judge(case)

@@ -12,12 +12,12 @@ from subtitles.clock.start import Began, Clock, TCP, after_frame, refuse_outside
 from subtitles.common.times import CLOCK, EARLY, FRAMES_A_SECOND, NO_FRAME, Span, TICKS
 from subtitles.recording.recording import Recording
 from subtitles.request.request import Unclear
-from subtitles.stream.gaps import (
-    Lull, NEAR, Pauses, Place, SECOND, TOLD, USUAL_EVERY, first_lines, idle_of, is_within,
-    marks_told, repeats_in)
+from subtitles.stream.gaps import Place, SECOND, TOLD, first_lines, is_within, marks_told
+from subtitles.stream.pace import Lull, Pauses, USUAL_EVERY, idle_of
+from subtitles.stream.repeats import NEAR, repeats_in
 from subtitles.stream.packets import Clocked, Mark, Packets, Run, Texts
 from subtitles.stream.receiver import (
-    BLANK_PAGE, HIT, HeardRun, Meeting, OLD, OLD_PAGE, Order, Timeline, cleared, heard_of,
+    BLANK_PAGE, HIT, Meeting, OLD, OLD_PAGE, ReceivedPackets, Timeline, cleared,
     timeline_near)
 from .parts import asked_for
 
@@ -101,7 +101,7 @@ class Silences(unittest.TestCase):
             lines = [f"{number}" for number in range(count)]
             more = count - TOLD
             told = [f"and at {more} more place{'s' * (more > 1)}"] * (more > 0)
-            self.assertEqual(first_lines(lines), lines[:TOLD] + told)
+            self.assertEqual(first_lines(lines), lines[:TOLD] + told, count)
             pts = [SECOND + at * TICKS for at in range(2 * count + 1)]
             packets = Packets(5, [Run(at, 1, None if at % 2 else one, 0, "", "")
                                   for at, one in enumerate(pts)])
@@ -112,7 +112,7 @@ class Silences(unittest.TestCase):
             self.assertEqual((len(found), others), (
                 min(count, TOLD), [f"and at {more + 1} more places"] * (more > 0)), count)
             times = f"PTS {SECOND} and {SECOND + 2 * TICKS}, 00:00:00:00 and 00:00:00:02 on"
-            self.assertEqual(found[:1], [f"between {times}: 1 TS packet lost"][:count])
+            self.assertEqual(found[:1], [f"between {times}: 1 TS packet lost"][:count], count)
 
 
 class Pictures(unittest.TestCase):
@@ -126,7 +126,7 @@ class Pictures(unittest.TestCase):
                                     for one in (pcr, pts, last))
             known: Any = SimpleNamespace(packets=Packets(5, begun=begun), survey=SimpleNamespace(
                 clock_of=lambda _: None if clock is None else (0, clock)))
-            self.assertEqual(Recording.last(known), wanted)
+            self.assertEqual(Recording.last(known), wanted, (origin, pts, pcr))
 
     def test_ticks_after_a_frame(self) -> None:
         """As most PTS are; within some frames as most of those that are near it."""
@@ -160,7 +160,7 @@ class Pictures(unittest.TestCase):
                 refuse_outside(asked, began._replace(frame=0), 0, FRAMES_A_SECOND + 1, origin)
 
 
-class Heard(unittest.TestCase):
+class Received(unittest.TestCase):
     """PES packets that were heard, by their numbers and frames."""
 
     # The number of the first, and the frame of each.
@@ -168,10 +168,10 @@ class Heard(unittest.TestCase):
 
     def test_before_and_after(self) -> None:
         """The frames that were heard last before one, and next after it; those of a frame."""
-        order = Order()
+        order = Timeline(Packets(5), (0, 0x88), 0)
         for first, frames in self.RUNS:
             run = Run(first, len(frames), TICKS * frames[0], TICKS, "h", "")
-            self.assertTrue(order.goes_on(HeardRun(run, frames)))
+            self.assertTrue(order.goes_on(run, frames), (first, frames))
         known = {first + at: frame for first, frames in self.RUNS
                  for at, frame in enumerate(frames)}
         for number in range(-1, 12):
@@ -183,37 +183,34 @@ class Heard(unittest.TestCase):
             self.assertEqual([run.first for run in order.members(frame)],
                              [number for number, one in known.items() if one == frame], frame)
         self.assertEqual((order.first, order.last, order.count), (10, 30, 8))
-        self.assertEqual(Order().first, NO_FRAME)
-
+        self.assertEqual(ReceivedPackets().first, NO_FRAME)
 
     def test_knows_which_frames_were_received_completely(self) -> None:
         """All rows of four frames, of which something is not heard before one, and some are lost:
         what is heard, from where on nothing is, and which frames are seen."""
-        for frames, least, gap in itertools.product(itertools.product(range(4), repeat=4), (0, 1),
-                                                    range(5)):
+        for frames, gap in itertools.product(itertools.product(range(4), repeat=4), range(5)):
             lost = [Span(3, 3)] * (gap % 2)
-            order = Order(least, lost)
+            order = ReceivedPackets(lost)
             for at, frame in enumerate(frames):
                 order.is_doubted = order.is_doubted or at == gap
-                order.goes_on(HeardRun(Run(at, 1, 0, 0, "h", ""), [frame]))
-            falls = [at for at in range(1, 4) if frames[at] < frames[at - 1] + least]
+                order.goes_on(Run(at, 1, 0, 0, "h", ""), [frame])
+            falls = [at for at in range(1, 4) if frames[at] < frames[at - 1]]
             count = falls[0] if falls else 4
             doubts = [Span(frames[gap - 1] if gap else 0, frames[gap])] if gap < count else []
-            self.assertEqual((order.count, order.halt, order.falls, order.doubts), (
-                count, falls[0] if falls else None, [frames[at] for at in falls], doubts))
+            self.assertEqual((order.count, order.halt, order.doubts), (
+                count, falls[0] if falls else None, doubts), (frames, gap))
             for first, last in itertools.combinations_with_replacement(range(5), 2):
                 is_seen = (not falls or last <= frames[count - 1]) and not any(
                     one.first <= last and first <= one.last for one in doubts + lost)
-                self.assertEqual(order.is_seen(first, last), is_seen, (frames, least, gap))
+                self.assertEqual(order.is_seen(first, last), is_seen, (frames, gap))
 
     def test_spans_that_meet(self) -> None:
-        """In any order, and more of them after a question."""
+        """In any order, and where there is none."""
         some = [Span(*one) for one in itertools.combinations_with_replacement(range(4), 2)]
-        for several in itertools.permutations(some, 3):
-            meeting = Meeting()
-            for count, (first, last) in itertools.product(range(4), some):
-                self.assertEqual(meeting.has(several[:count], first, last), any(
-                    one.first <= last and first <= one.last for one in several[:count]))
+        for several in ((), *itertools.permutations(some, 3)):
+            for first, last in some:
+                self.assertEqual(Meeting(several).has(first, last), any(
+                    one.first <= last and first <= one.last for one in several), (first, last))
 
     @staticmethod
     def timeline(sent: str, **more: Any) -> Timeline:
@@ -256,21 +253,19 @@ class Heard(unittest.TestCase):
             held = self.timeline(f"200:he {frame}:he 290:he", begin=300)
             self.assertEqual(held.halt, halt, frame)
         twice = "10:heo:a 10:c 11:c"
-        for is_single, within, halt in ((True, 0, 1), (True, 1, None), (False, 0, None)):
-            held = self.timeline(twice, is_single=is_single, within=within)
-            self.assertEqual(held.halt, halt, (is_single, within))
-        self.assertEqual([run.first for run in held.members(10)], [0, 1])
+        held = self.timeline(twice)
+        self.assertEqual((held.halt, [run.first for run in held.members(10)]), (None, [0, 1]))
         before, behind = "200:heos:a 205!:he 220:c ", "150:heos:b 160!:h 170:c 310:ho:c"
         alone, both = (self.timeline(sent, begin=300) for sent in (behind, before + behind))
         for name in ("frames", "pages", "turns", "sendings", "erasings", "strays", "doubts",
-                     "pauses", "begins", "ends", "count", "first", "last", "state", "stored"):
+                     "pauses", "begins", "ends", "count", "first", "last", "states", "stored"):
             self.assertEqual(getattr(both, name), getattr(alone, name), name)
-        held = self.timeline("200:he 200:he 190:he 310:he", begin=300, is_single=True)
-        self.assertEqual((held.halt, held.last, held.falls), (1, 200, [200, 190]))
+        held = self.timeline("200:he 310:he 200:he 400:he", begin=300)
+        self.assertEqual((held.halt, held.last), (2, 310))
         self.assertEqual([self.timeline(twice, came=came).first for came in (NO_FRAME, 0, 7)],
                          [10, 0, 7])
         held = self.timeline(twice, lost=[Span(5, 6)])
-        self.assertEqual([held.is_lost(*one) for one in ((6, 9), (7, 9))], [True, False])
+        self.assertEqual([held.lost.has(*one) for one in ((6, 9), (7, 9))], [True, False])
         runs = [Run(0, 3, 0, 5 * TICKS, "s", ""), Run(3, 1, 20 * TICKS, 0, "s", ""),
                 Run(4, 1, 30 * TICKS, 0, "s", "")]
         texts = [((20, b"a"),), ((20, b"b"),)]
@@ -278,17 +273,6 @@ class Heard(unittest.TestCase):
         self.assertEqual(held.strays, [(Span(0, 10), texts[0]), (Span(20, 20), texts[0]),
                                        (Span(30, 30), texts[1])])
         self.assertEqual([*held.ends], [10, 20, 30])
-
-    def test_parts_of_a_run(self) -> None:
-        """All runs of three frames, or of none: in each part all have one, or none; they rise."""
-        for frames, least in itertools.product(itertools.product(range(-1, 3), repeat=3), (0, 1)):
-            parts = [*heard_of(Run(5, 3, 70, 10, "h", ""), frames, least)]
-            self.assertEqual(tuple(frame for one in parts for frame in one.frames), frames)
-            firsts = [0, *(at for at in (1, 2) if (frames[at] < 0) != (frames[at - 1] < 0)
-                           or frames[at] < frames[at - 1] + least > NO_FRAME)]
-            self.assertEqual([one.run for one in parts], [
-                Run(5 + first, end - first, 70 + 10 * first, 10, "h", "")
-                for first, end in zip(firsts, [*firsts[1:], 3])], (frames, least))
 
     def test_near_what_is_due(self) -> None:
         """From 250 frames before it, or as many as the repeat bound, to as many behind it; of some
@@ -300,9 +284,10 @@ class Heard(unittest.TestCase):
                                            (25, (90, 110), 900, 1100)):
             held = timeline_near(packets, (0, 0x88), 0, 0, Span(1000, 1200), every, inside,
                                  [Span(5, 6)])
-            self.assertEqual((held.first, held.last, held.is_lost(6, 7)), (first, last, True))
+            self.assertEqual((held.first, held.last, held.lost.has(6, 7)), (first, last, True),
+                             (every, inside, first))
             self.assertEqual([held.stretch(at) for at in (0, len(held.frames) - 1)], [
-                Span(held.frames[0], held.frames[0] + 9), Span(last, last)])
+                Span(held.frames[0], held.frames[0] + 9), Span(last, last)], (every, inside, first))
         held = timeline_near(packets, (0, 0x88), EARLY, 1, Span(1000, 1200), 25)
         self.assertEqual((held.first, held.last), (750, 1450))
         held = timeline_near(packets, (0, 0x88), 0, 0, Span(9000, 9100), 25)
@@ -316,12 +301,12 @@ class Heard(unittest.TestCase):
             held: list[tuple[int, Texts]] = [(at, ((20, text),)) for at, text in enumerate(
                 (b"w", b"x", b"y", b"z"))]
             packets = Packets(5, runs, held=held if is_told else held[:2] + held[3:])
-            rows = Timeline(packets, (0, 0x88), 0, 0, (2, 2)).state.rows
+            rows = Timeline(packets, (0, 0x88), 0, 0, (2, 2)).states[-1].rows
             self.assertEqual((rows[0], rows[19]), ((BLANK_PAGE if "e" in does else OLD_PAGE)[0],
-                                                   b"y" if is_told else b"x"))
+                                                   b"y" if is_told else b"x"), (does, is_told))
         for marks in ((), (OLD,), (HIT,), (HIT, OLD)):
             self.assertEqual(cleared((b"a", bytes([*marks, 0x62]))), (
-                b"a", b" " * len(marks) + b"b"))
+                b"a", b" " * len(marks) + b"b"), marks)
 
 
 class Clear(unittest.TestCase):
@@ -350,7 +335,8 @@ class Clear(unittest.TestCase):
                 (five, self.fit(5, 5, 0, start=MOST_APART + 1), True, False)):
             part = self.part(best, self.fit(1, 1), other, apart=apart if is_apart else None)
             self.assertEqual(as_good(part), [other] * wanted, (best, other))
-            self.assertEqual([is_clear(part), is_clear(part, True)], [not wanted] * 2)
+            self.assertEqual([is_clear(part), is_clear(part, True)], [not wanted] * 2,
+                             (best, other, is_apart))
 
     def test_accepts_an_origin_with_which_half_of_the_cues_agree(self) -> None:
         """Half of the cues agree, or begins and ends are apart; and early ones are not many, unless

@@ -8,9 +8,10 @@ from typing import NamedTuple, Sequence
 
 from developing.pes import pes_packet
 from subtitles.common.times import CLOCK, TICKS
-from subtitles.stream.gaps import (
-    BY_EVERY, FEW, IRREGULAR, Lull, PAUSED, Pauses, REGULAR, TOO_FEW, each_of, edges_of, frame_rows,
-    pace_of, pauses_of, silences_in, unseen_from, usual_in)
+from subtitles.stream.pace import (
+    BY_EVERY, FEW, IRREGULAR, Lull, PAUSED, Pauses, REGULAR, TOO_FEW, each_of, frame_rows, pace_of,
+    pauses_of, silences_in, unseen_from, usual_in)
+from subtitles.stream.repeats import edges_of
 from subtitles.stream.packets import Packets, Run
 from .bench import Case
 from .judged import Judged, OfProgramme, judged

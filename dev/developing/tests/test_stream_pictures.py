@@ -1,24 +1,20 @@
 """Whether the pictures leave the Teletext; what the PMT announces."""
 from __future__ import annotations
 
-import io
 import itertools
-import os
 import random
-import unittest
 from types import SimpleNamespace
-from typing import Any, Mapping, Optional, Sequence
-from unittest import mock
+from typing import Any, Mapping, Sequence
 
-from developing.multiplex import ADAPTATION_ALONE, BEGINS, PACKET, PAYLOAD, head
-from developing.pes import pes_packet, pts_in
+from developing.pes import pts_in
 from subtitles.clock.start import Clock, Found, GIVEN, RECORDING, START
 from subtitles.common.times import CLOCK, TICKS, pts_of, time_of
 from subtitles.formats.listing import PICTURES_LEFT
 from subtitles.judging.timing import NOT_CHECKED, departures_in, late_jumps, left_by_pictures
-from subtitles.stream.gaps import Pace, REGULAR
-from subtitles.stream.packets import Packets, Run, announced_in, jumps_at, jumps_told, packets_in
-from subtitles.stream.survey import Departure, VideoLead, Survey, departures_of
+from subtitles.stream.pace import Pace, REGULAR
+from subtitles.stream.packets import Packets, Run, announced_jumps
+from subtitles.stream.pictures import Departure, VideoLead, departures_of
+from subtitles.stream.survey import Survey
 from .bench import Case
 from .judged import judged
 from .muxed import Programme, TELETEXT_PID, shown
@@ -241,100 +237,21 @@ class Pairs(Case):
                 f"refused pictures left frame {time}" for time in several], found.result["line"])
 
 
-# Jumps of a counter that a stream announces: the TS packets of a PID, and where they say so.
-
-SIZES = (188, 192, 204)
-
-
-def ts_packet(pid: int = PID, begin: Optional[int] = None, field: Optional[int] = None,
-              has_payload: bool = True, length: int = 30) -> bytes:
-    """A TS packet: one in which a PES packet with a PTS begins; the flags of its adaptation field,
-    and how long that is, or an empty field where these are 0."""
-    made = b"" if field is None else b"\0" if not field and has_payload else \
-        bytes([length, field]).ljust(length + 1, b"\xff")
-    if not has_payload:
-        made = bytes([PACKET - 5]) + made[1:].ljust(PACKET - 5, b"\xff")
-    data = b"\xd5" * PACKET if begin is None else pes_packet(begin, [])
-    control = PAYLOAD * has_payload | ADAPTATION_ALONE * (field is not None)
-    return (head(pid, BEGINS * (begin is not None), control) + made + data)[:PACKET]
-
-
-def in_size(packet: bytes, size: int) -> bytes:
-    """A TS packet with what stands before it, or behind it, in packets of a size."""
-    return b"\0" * (4 * (size == 192)) + packet + b"\0" * (16 * (size == 204))
-
-
 class Announced(Case):
     """Functions that decide."""
 
-    def test_finds_the_announced_jumps_of_a_pid(self) -> None:
-        """The packet in which a PES packet begins, one before it, one without a payload; the last
-        of several counts once, and each of several."""
-        plain, first, second = ts_packet(), ts_packet(begin=5), ts_packet(begin=CLOCK - 7)
-        says, alone = ts_packet(field=0x80), ts_packet(field=0x80, has_payload=False)
-        both = ts_packet(begin=9, field=0x80)
-        full, over = (ts_packet(begin=9, field=0x80, length=one) for one in (169, 170))
-        rows: list[tuple[str, list[bytes], list[int]]] = [
-                ("none", [], []), ("no jump", [first, plain, second], []),
-                ("before", [first, says, plain, second], [CLOCK - 7]),
-                ("without a payload", [first, plain, alone, second, first], [CLOCK - 7]),
-                ("in it", [first, plain, both, first], [9]), ("first", [both, second], [9]),
-                ("last", [first, says, plain], []), ("two", [says, alone, first], [5]),
-                ("each", [both, second, says, first], [9, 5]),
-                ("another flag", [ts_packet(field=0x40), first], []),
-                ("an empty field", [ts_packet(field=0), first], []),
-                ("its PTS is the end of the packet", [full, first], [9]),
-                ("its PTS goes on in the next", [over, first], [5])]
-        for name, packets, wanted in rows:
-            told = [*announced_in(iter(packets))]
-            self.must(name, told == wanted, told)
-
-    def test_reads_the_ts_packets_of_a_pid(self) -> None:
-        """The TS packets of a PID, of each size, behind bytes of none and where some stand between,
-        once and often; the last is whole."""
-        for size, pid in zip(SIZES, (PID, 0x1EFE, 0xFF)):
-            own = [ts_packet(pid, at) for at in range(40)]
-            others = [ts_packet(pid ^ bits) for bits in (*(1 << bit for bit in range(13)), 0x1FFF)]
-            spaced = [in_size(one, size) for some in own for one in (some, *others)]
-            cut = [b"".join(spaced[:70]), b"".join(spaced[70:])]
-            often = [b"".join(spaced[at:at + 20]) for at in range(0, len(spaced), 20)]
-            for name, data in (("whole", b"".join(cut)), ("junk", b"\x47junk" + b"".join(cut)),
-                               ("between", b"junk ".join(cut)),
-                               ("at the end", b"".join(cut) + b"G"),
-                               ("often", b"junk ".join(often))):
-                for most in (1 << 22, 7000, 2000):
-                    with mock.patch("subtitles.stream.packets.AT_A_TIME", most):
-                        told = [*packets_in(io.BytesIO(data), size, pid)]
-                    self.must(f"{size} {name} {most}", told == own, len(told))
-        self.must("no packet", not [*packets_in(io.BytesIO(b""), 188, PID)]
-                  and not [*packets_in(io.BytesIO(b"G" * 100), 188, PID)])
-
     def test_finds_announced_jumps_with_more_time_than_usual(self) -> None:
         """Of those after which more frames pass than usual, each once; over the wrap too."""
-        path = self.path("one.ts")
-        for origin, size in itertools.product((0, CLOCK - 5 * TICKS), SIZES):
-            frames = [0, 1, 2, 5, 6, 8, 9, 12]
-            pts = [(origin + frame * TICKS) % CLOCK for frame in frames]
-            packets = Packets(PID, [Run(at, 1, one, 0, "-", "") for at, one in enumerate(pts)])
-            with open(path, "wb") as file:
-                file.write(b"".join(in_size(ts_packet(
-                    begin=one, field=0x80 * (frame in (2, 5, 8)) or None), size)
-                    for one, frame in zip(pts, frames)))
-            rows: list[tuple[int, tuple[int, int], list[tuple[int, int]]]] = [
-                (1, (0, 7), [(2, 5), (6, 8)]), (2, (0, 7), [(2, 5)]), (3, (0, 7), []),
-                (1, (0, 2), []), (1, (3, 7), [(6, 8)]), (1, (2, 3), [(2, 5)])]
-            for usual, inside, wanted in rows:
-                told = jumps_at(packets, inside, usual, path, size)
-                pairs = [(pts[frames.index(one)], pts[frames.index(other)])
-                         for one, other in wanted]
-                self.must(f"{origin} {size} {usual} {inside}", told == pairs, told)
-                packets.seams = [frames.index(frame) for frame in (2, 5, 5, 8)]
-                told = jumps_told(packets, inside, usual)
-                self.must(f"{origin} {usual} {inside}: as survey tells", told == pairs, told)
-        self.must("before the first", jumps_told(Packets(PID, packets.runs, seams=[0, 99]), (0, 7),
-                                                 1) == [])
-        os.remove(path)
-        self.must("nothing is read", jumps_at(packets, (0, 7), 9, path, 188) == [])
+        rows: list[tuple[int, tuple[int, int], list[tuple[int, int]]]] = [
+            (1, (0, 7), [(2, 5), (6, 8)]), (2, (0, 7), [(2, 5)]), (3, (0, 7), []),
+            (1, (0, 2), []), (1, (3, 7), [(6, 8)]), (1, (2, 3), [(2, 5)])]
+        frames = [0, 1, 2, 5, 6, 8, 9, 12]
+        for origin, (usual, inside, wanted) in itertools.product((0, CLOCK - 5 * TICKS), rows):
+            pts = [pts_of(frame, origin) for frame in frames]
+            packets = Packets(PID, [Run(at, 1, one, 0, "-", "") for at, one in enumerate(pts)],
+                              seams=[0, *(frames.index(frame) for frame in (2, 5, 5, 8)), 99])
+            self.check(f"{origin} {usual} {inside}", announced_jumps(packets, inside, usual), [
+                (pts[frames.index(one)], pts[frames.index(other)]) for one, other in wanted])
 
     def test_late_jumps(self) -> None:
         """Of the jumps where a frame at least lies between, those count after which more time
@@ -348,8 +265,7 @@ class Announced(Case):
                 (0, *(CLOCK - frame * TICKS for frame in range(14))), rows):
             packets = Packets(PID, [Run(at, 1, pts_of(frame, origin), 0, "-", "")
                                     for at, frame in enumerate(frames)], seams=[2, 3, 4, 5, 6])
-            recording: Any = SimpleNamespace(is_stream=True, packets=packets,
-                                             survey=SimpleNamespace(tells_seams=True))
+            recording: Any = SimpleNamespace(is_stream=True, packets=packets)
             part: Any = SimpleNamespace(recorded=(recording, None), pes=(0, 7))
             told = late_jumps(part, Pace(REGULAR, apart))
             self.must(f"{origin} {apart}", told == ([

@@ -9,13 +9,13 @@ import os
 import random
 from typing import Callable, Iterable, NamedTuple, Sequence
 
-from developing.multiplex import ADAPTATION_ALONE, BEGINS, PACKET, PAYLOAD, head
+from developing.multiplex import ADAPTATION_ALONE, BEGINS, PACKET, head
 from developing.pes import packet, pes_packet, pts_bytes
 from subtitles.common.command_line import Unanswered
 from subtitles.common.times import CLOCK, TICKS
 from subtitles.stream.packets import Change, Clocked, Mark, Packets, Run, Texts
-from subtitles.stream.survey import (
-    Announced, VideoLead, Lines, ProgramMap, Survey, VERSION, Video, runs_told, survey)
+from subtitles.stream.pictures import VideoLead
+from subtitles.stream.survey import Announced, ProgramMap, Survey, VERSION, Video, runs_told, survey
 from .bench import Case
 from .muxed import (
     AHEAD, AUDIO_PID, CLOSED_GROUP, MPEG_2, PMT_PID, PRIVATE, RANDOM_ACCESS, SLICES, TELETEXT_PID,
@@ -471,7 +471,7 @@ def with_third(place: int, *new: int) -> list[bytes]:
 class PesPackets(Case):
     """Lines `pes`, `end` and `over`."""
 
-    def test_runs(self) -> None:
+    def test_joins_pes_packets_that_differ_in_nothing_but_pts(self) -> None:
         """Those in a row are one line where they differ in nothing but the PTS."""
         again = packet(0, 0, [8, 8, 0, 8, 0, 8, 3, 0], b" " * 32)  # the header, with C8
         # FIRST COUNT PTS STEP DOES/CONTROL UNITS FAULT
@@ -770,9 +770,9 @@ class Answered(Case):
                 on_5(it).packets, on_5(it).scrambled, on_5(it).refusal, on_5(it).is_cut,
                 on_5(it).begun), (30, 4, refusal, bool(cut), pts))
               for refusal, cut, begun, pts in ((31, 1, "77", 77), (0, 0, "-", None), (0, 0, 0, 0))),
-            ("seam 5 7; seam 5 9", lambda it: (on_5(it).seams, it.tells_seams), ([7, 9], True)),
-            ("video 9 3; picture 9 0; picture 9 -; group 9 0 1 open", lambda it: (
-                it.videos, it.tells_seams), ({9: Video(3, [0, None], form="open")}, True)),
+            ("seam 5 7; seam 5 9", lambda it: on_5(it).seams, [7, 9]),
+            ("video 9 3; picture 9 0; picture 9 -; group 9 0 1 open", lambda it: it.videos,
+             {9: Video(3, [0, None], form="open")}),
             ("pictures 9 1 2", lambda it: it.videos, {9: Video(0, [], 1, 2)}),
             ("video 9 3; pictures 9 1 2 0 1", lambda it: it.videos, {9: Video(3, [], 1, 2, True)}),
             ("pictures 9 0 0 7 0", lambda it: it.videos, {9: Video(7, [], 0, 0, True)}),
@@ -816,15 +816,15 @@ class Answered(Case):
     def test_calls_the_program_and_looks_after_each_line(self) -> None:
         """What the program is asked for, a look after each line, and its status."""
         looks = list[int]()
-        found = survey(self.teller([]), "-one.ts", PAGE, 5, 204, lambda: looks.append(1))
-        self.must("words", found.head == b"survey --page 888 --pid 0x5 --packet-size 204 -- -one.ts"
+        found = survey(self.teller([]), "-one.ts", PAGE, 5, lambda: looks.append(1))
+        self.must("words", found.head == b"survey --page 888 --pid 0x5 -- -one.ts"
                   and len(looks) == 4, found.head)
         found = survey(self.teller([]), "one.ts", PAGE)
         self.must("no more", found.head == b"survey --page 888 -- one.ts", found.head)
         with self.assertRaises(Unanswered):
             survey(self.teller([], 3), "one.ts", PAGE)
 
-    def test_runs(self) -> None:
+    def test_takes_each_run_before_all_is_printed(self) -> None:
         """Each run of a file with what is told behind it, before all is told; then the status."""
         runs = [f"pes 0 {number} 1 {number} 0 -/ 1 0" for number in range(4)]
         rows = "rows 0 0 20:41", "rows 0 2 -", "rows 0 3 20:41"
@@ -838,16 +838,3 @@ class Answered(Case):
                 told.append(one)
         self.must("all", [(run.first, texts) for run, texts in told] == [
             (0, ((20, b"A"),)), (1, None), (2, ())], told)
-
-    def test_lines_of_a_feed(self) -> None:
-        """Each that has come whole, once it is taken; up to the end."""
-        reading, writing = os.pipe()
-        taken = Survey()
-        with os.fdopen(reading, "rb") as out:
-            lines, known = Lines(out, taken), list[tuple[str, object]]()
-            for data in (b"pcr 9 7\npc", b"r 9 8\npcr 9 9\n", b"pc", b""):
-                os.write(writing, data) if data else os.close(writing)
-                known += [(line, taken.clocks.get(9)) for line in lines.take()]
-                self.must(f"{data!r}", lines.has_ended == (not data))
-        self.must("lines", known == [("pcr 9 7", (7, 7)), ("pcr 9 8", (7, 8)),
-                                     ("pcr 9 9", (7, 9))], known)

@@ -4,7 +4,6 @@ from __future__ import annotations
 
 import itertools
 import random
-import time
 import unittest
 from types import SimpleNamespace
 from typing import Any, Iterator, Sequence
@@ -147,7 +146,8 @@ class Times(unittest.TestCase):
             self.assertEqual(list(packets), known)
             for does, some, several in (("", None, known), ("h", (first, last), inside)):
                 self.assertEqual(list(packets.pts(some, does)), [
-                    pts for _, pts, done in several if pts is not None and does in done])
+                    pts for _, pts, done in several if pts is not None and does in done],
+                                 (does, some, several))
             self.assertEqual([packets.pts_at(number) for number in range(-1, len(known) + 1)],
                              [None, *(pts for _, pts, _ in known), None])
             timed = [(number, pts) for number, pts, _ in known if pts is not None]
@@ -172,31 +172,27 @@ class Times(unittest.TestCase):
 
     def test_many_bases(self) -> None:
         """PTS that go back at each PES packet: those stretches are looked at in which the page
-        changes most, and the time that takes is that of as many PES packets."""
+        changes most."""
         edges = [Shown(100 * at, 100 * at + 50, at, b"%d" % at) for at in range(400)]
-        began = time.process_time()
         for count, wanted in ((MOST_BASES, MOST_BASES), (5000, MOST_BASES)):
             packets = packets_with([10 ** 9 - TICKS * at for at in range(count + 2)])
             packets.changes = [Change(run.pts or 0, b"x", run.first) for run in packets.runs]
             bases = bases_of(edges, packets, 0)
-            self.assertEqual((len(bases), find_row(bases)), (wanted, []))
+            self.assertEqual((len(bases), find_row(bases)), (wanted, []), count)
         long = [*range(9000, 9400, 10), *range(5000, 0, -1)]
         packets = packets_with([TICKS * at for at in long])
         packets.changes = [Change(run.pts or 0, b"x%d" % run.first, run.first)
                            for run in packets.runs]
         self.assertEqual(bases_of(edges, packets, 0)[0].packets, (0, 39))
-        self.assertLess(time.process_time() - began, 60)
 
     def test_many_maps(self) -> None:
-        """A PMT that changes with each packet takes as long as it has lines; the PCR before it is
-        that of its PID, or of one before."""
-        began, survey = time.process_time(), Survey()
+        """The PCR before a PMT is that of its PID, or of one before, however often it changes."""
+        survey = Survey()
         survey.take("pcr 513 7")
-        for number in range(20_000):
+        for number in range(200):
             survey.take(f"programme 1 {512 + number % 2}")
         self.assertEqual({one.after for one in survey.programmes[2:]}, {7})
         self.assertIsNone(survey.programmes[0].after)
-        self.assertLess(time.process_time() - began, 20)
 
     def test_parts_a_programme_at_breaks(self) -> None:
         """An origin that is later by five seconds than in the part before, and than just before;
@@ -242,10 +238,11 @@ class Times(unittest.TestCase):
             found = list(strange_of(packets_with([], samples=samples)))
             self.assertEqual([(one.kind, one.number, one.worst) for one in found], wanted, more)
             self.assertTrue(all(one.among == len(samples) and one.pts in dict(samples[9:])
-                                for one in found))
+                                for one in found), (begin, more))
         for alone, kind in ((-5, "behind"), (0, ""), (SECOND, ""), (SECOND + 1, "early")):
             found = list(strange_of(packets_with([], samples=[(7, alone)])))
-            self.assertEqual([(one.kind, one.pts) for one in found], [(kind, 7)] * bool(kind))
+            self.assertEqual([(one.kind, one.pts) for one in found], [(kind, 7)] * bool(kind),
+                             (alone, kind))
 
     def test_places_marks_and_holes_once(self) -> None:
         """Marks, and what the PCR and the counters of other PIDs alone tell elsewhere; a clock that
@@ -262,7 +259,8 @@ class Times(unittest.TestCase):
         for marks, several, wanted in rows:
             packets = packets_with([100, None, 200, 600], clocked=several, marks=[
                 Mark(number, 100, 3, 0) for number in marks])
-            self.assertEqual([(one.before, one.missing) for one in places_of(packets)], wanted)
+            self.assertEqual([(one.before, one.missing) for one in places_of(packets)], wanted,
+                             (marks, several))
 
     def test_cuts_the_range_of_each_row(self) -> None:
         """The three questions of a cut of frames 100 to 200: where it begins, where it ends, which
@@ -406,7 +404,8 @@ class Times(unittest.TestCase):
             made = Packets(257, [Run(at, 1, TICKS * (first + one - begin), 0, "h-h-"[at], "")
                                  for at, one in enumerate(frames)])
             found = cut_of(made, first, last, 0, 25)
-            self.assertEqual((found.range, found.came, found.has_end), (wanted, first, False))
+            self.assertEqual((found.range, found.came, found.has_end), (wanted, first, False),
+                             (frames, begin, end))
 
     def test_marks_at_the_ends_of_a_cut(self) -> None:
         """A mark just behind the last frame, up to the first PES packet of a later one, is judged;
@@ -476,17 +475,17 @@ class Times(unittest.TestCase):
                 (Place(1, 2, 2, 1), "2 TS packets lost, 1 TS packet scrambled"),
                 (Place(1, 2, missing=225_000), "TS packets of 2.50 s are missing, by the PCR and "
                  "the counters of other PIDs")):
-            self.assertEqual(what_of(place), words)
+            self.assertEqual(what_of(place), words, place)
         for place, words in (
                 (Place(3600, 7200, 1), "between PTS 3600 and 7200, 00:00:00:01 and 00:00:00:02 on"),
                 (Place(None, 7200, 1), "before PTS 7200, 00:00:00:02 on"),
                 (Place(3600, None, 1), "after PTS 3600, 00:00:00:01 on")):
-            self.assertEqual(place_line(place, 0), f"{words}: 1 TS packet lost")
+            self.assertEqual(place_line(place, 0), f"{words}: 1 TS packet lost", place)
         words = f"between PTS {CLOCK - 3600} and 3600, 00:00:00:01 and 00:00:00:03 on: "
         for first, last in ((CLOCK - 7200, 3600), (CLOCK - 7201, 3599)):
             said = place_line(Place(CLOCK - 3600, last, 1, 2), first)
             self.assertEqual(said, words.replace(" 3600", f" {last}") +
-                             "1 TS packet lost, 2 TS packets scrambled")
+                             "1 TS packet lost, 2 TS packets scrambled", (first, last))
         self.assertEqual(place_line(Place(None, 3600, 0), None),
                          "before PTS 3600, 00:00:00:01 on: a break in the stream")
         self.assertEqual(place_line(Place(None, None, 1), None), "1 TS packet lost")

@@ -1,21 +1,13 @@
 """Transport streams that are written, read again, and read from a pipe; languages."""
 from __future__ import annotations
 
-import os
-import random
-import select
-import subprocess
-import time
 
-from developing.multiplex import Multiplex
-from developing.pes import pes_packet
-from subtitles.common.times import CLOCK, TICKS
 from subtitles.recording.recording import silent_in
 from subtitles.stream.gaps import why_refused
 from subtitles.stream.packets import Packets, Run
-from subtitles.stream.survey import Survey, names_of, survey
-from .bench import Case, SECONDS, example, example_bytes
-from .sent import HEADER, packets, row
+from subtitles.stream.survey import Survey, names_of
+from .bench import Case, example, example_bytes
+from .sent import packets
 
 
 # Transport streams that are written, read again, and told as a feed; languages of subtitle files.
@@ -25,31 +17,6 @@ PID = 0x101
 
 class Written(Case):
     """Streams that are written."""
-
-    def test_are_read_again(self) -> None:
-        """Each PES packet of any length comes back, with the tables before it, over 2^33, whatever
-        was taken between."""
-        for seed in range(6):
-            chance = random.Random(seed)
-            multiplex, pes, data = Multiplex(PID, b"ger", (1, 0x50)), list[bytes](), b""
-            for number in range(40):
-                pes.append(pes_packet((CLOCK + TICKS * (number - 20)) % CLOCK,
-                                      [HEADER, *[row(20, b"x")] * chance.randrange(14)]))
-                multiplex.put(pes[-1], (CLOCK + TICKS * (number - 20)) % CLOCK)
-                if chance.random() < 0.5:
-                    data += multiplex.taken()
-                    self.must("all is taken", multiplex.size == 0 and not multiplex.taken())
-            data += multiplex.taken()
-            self.write("one.ts", data)
-            status, _ = self.program("extract", "--pid", str(PID), self.path("one.ts"),
-                                     self.path("one.pes"))
-            self.must("PES packets", status == 0 and packets(self.read("one.pes")) == pes, status)
-            found = survey(self.bench.program, self.path("one.ts"), (0, 0x88))
-            self.must("listed", found.lines() == [
-                "PID 0x101: announced 150 ger subtitles in programme 1; subtitle pages sent: 888"],
-                found.lines())
-            [one] = found.programmes
-            self.must("its PCR", (one.number, one.pcr_pid, one.kinds) == (1, 0x1FF0, {PID: 6}), one)
 
     def test_why_nothing(self) -> None:
         """Why nothing is given of a PID, or nothing more; those of which nothing is are told in
@@ -83,46 +50,6 @@ class Written(Case):
                 ("1E", "nor nob nno"), ("22", "ron rum"), ("26", "slv"), ("29", "tur"),
                 ("7f", ""), ("00", ""), ("x", ""), ("", "")):
             self.must(code, names_of(code) == wanted.split(), names_of(code))
-
-
-class Fed(Case):
-    """A stream that comes through a pipe, block by block."""
-
-    def sent(self) -> bytes:
-        """Of one PES packet a frame, in each second another row."""
-        multiplex = Multiplex(PID, b"ger", (1, 0x50))
-        for number in range(300):
-            pts = (CLOCK + TICKS * (number - 20)) % CLOCK
-            multiplex.put(pes_packet(pts, [HEADER, row(20, b"%d" % (number // 25))]), pts)
-        return multiplex.taken()
-
-    def packets_in(self, data: bytes) -> int:
-        """The PES packets that a file of these bytes has."""
-        _, lines = self.program("survey", self.write("front.ts", data))
-        [count] = [int(line.split()[2]) for line in lines if line.startswith("end ")]
-        return count
-
-    def test_is_told_at_once(self) -> None:
-        """After each block the lines tell each PES packet that has come, also where a block is half
-        as long as what is asked for at once."""
-        data = self.sent()
-        for size in (1000, 16_384, 32_768, 60_000):
-            with subprocess.Popen([self.bench.program, "survey", "/dev/stdin"],
-                                  stdin=subprocess.PIPE, stdout=subprocess.PIPE) as process:
-                assert process.stdin and process.stdout
-                out, told = b"", -1
-                for end in range(size, 3 * size + 1, size):
-                    process.stdin.write(data[end - size:end])
-                    process.stdin.flush()
-                    wanted, last = self.packets_in(data[:end]), time.monotonic() + SECONDS
-                    while told != wanted and (left := last - time.monotonic()) > 0:
-                        if select.select([process.stdout], [], [], left)[0]:
-                            out += os.read(process.stdout.fileno(), 1 << 16)
-                        runs = [line.split() for line in out[:out.rfind(b"\n") + 1].splitlines()
-                                if line.startswith(b"pes ")]
-                        told = int(runs[-1][2]) + int(runs[-1][3]) if runs else 0
-                    self.must(f"{end} in blocks of {size}", told == wanted, (told, wanted))
-                process.stdin.close()
 
 
 class Carried(Case):

@@ -27,7 +27,7 @@ from ..results.files import (
 from .main import leave
 from .single import (
     InUse, PairCall, SIGNALS, claimed, claimed_for_batch, clear, heed_signals, ignore_signals,
-    judge_request, refuse_files_of, refuse_files_of_all)
+    judged, refuse_files_of, refuse_files_of_all)
 
 
 # A call of this tool in a process of its own, forked from one that has all loaded and no thread.
@@ -47,7 +47,7 @@ def judge_alone(asked: Request, call: PairCall) -> int:
         try:
             if reason := no_file(asked.stl) or no_file(asked.recording or ""):
                 raise Stop(reason)
-            return judge_request(asked, call, os.path.join(TOP, "tools", "qc"))
+            return judged(asked, call, os.path.join(TOP, "tools", "qc")).status
         except (Exception, KeyboardInterrupt) as reason:
             if not isinstance(reason, IsInput):
                 leave(call.name or "", {"--json": call.json}, error_line(reason))
@@ -155,30 +155,10 @@ def take_files(told: int, alive: int) -> None:
     nothing = os.open(os.devnull, os.O_RDWR)
     for file, place in ((nothing, INPUT), (nothing, OUTPUT), (told, ERRORS)):
         os.dup2(file, place)
-    close_all_but(alive)
-
-
-def close_all_but(kept: int) -> None:
-    """Closes what a process has open that was forked, locks among it, which would stay; but for
-    what each call has, and one more."""
     for name in os.listdir(FILES):
         with contextlib.suppress(OSError):
-            if int(name) > ERRORS and int(name) != kept:
+            if int(name) > ERRORS and int(name) != alive:
                 os.close(int(name))
-
-
-def beside(does: Callable[[], bool], kept: int) -> int:
-    """The id of a process that does something beside this one, with one of its files; its status
-    is 0 where that went well."""
-    pid = os.fork()
-    if pid:
-        return pid
-    status = 1
-    try:
-        close_all_but(kept)
-        status = 0 if does() else 1
-    finally:
-        os._exit(status)
 
 
 def ended_of(calls: Collection[Forked], seconds: float) -> list[Forked]:
@@ -426,14 +406,12 @@ class Watch:
         self.seen: dict[str, Sighting] = {}
         self.known: dict[str, object] = {}
 
-    def due(self, items: Iterable[Item], clock: Callable[[], float] = time.monotonic) \
-            -> list[Item]:
+    def due(self, items: Iterable[Item]) -> list[Item]:
         """The pairs that are whole, and new or changed; what is no pair is told, once."""
-        now, due = clock(), []
+        now, due = time.monotonic(), []
         for item in items:
             is_like = found(item.asked) if item.asked else item.reason
-            if self.known.get(item.name) == is_like or not self.is_whole(
-                    item.name, is_like, now, clock):
+            if self.known.get(item.name) == is_like or not self.is_whole(item.name, is_like, now):
                 continue
             self.known[item.name] = is_like
             if item.asked:
@@ -442,14 +420,14 @@ class Watch:
                 tell(item.reason or item.name)
         return due
 
-    def is_whole(self, name: str, is_like: object, now: float, clock: Callable[[], float]) -> bool:
+    def is_whole(self, name: str, is_like: object, now: float) -> bool:
         """Whether the files of a pair are whole: somebody says so, or they have not changed from
         when they were seen first to when this look began."""
         if os.path.exists(os.path.join(self.folder, name + DONE)):
             return True
         seen = self.seen.get(name)
         if seen is None or seen.is_like != is_like:
-            self.seen[name] = Sighting(is_like, clock())
+            self.seen[name] = Sighting(is_like, time.monotonic())
             return False
         return now - seen.since >= self.settled
 

@@ -11,14 +11,14 @@ from typing import Any, Callable, Iterator, Sequence, Union
 from urllib.parse import quote
 
 from ..common.command_line import Stop, counted, error_line, say, shown, silence, tell
-from ..common.files import Inputs, NOTHING, OWN_OUTPUT, refuse_name, result_file, whole_file
+from ..common.files import Inputs, NOTHING, OWN_OUTPUT, refuse_name, result_file
 from ..common.markup import BREAK, HEAD, Markup, NO_MARKUP, Value, joined, markup
 from ..judging.status import (
     ACCEPTED, LOST, NOT_JUDGED, REFUSED, RELATIVE, WAIVED, WARNED, of_all)
 from ..request.commands import index_in
 from ..results.files import (
-    ENDING, NO_CLOCK, Row, TestCase, in_order, junit_file, object_at, objects_in, row_of_object,
-    table_lines, unjudged)
+    ENDING, NO_CLOCK, Row, TestCase, in_order, junit_file, object_at, objects_in, put_file,
+    row_of_object, table_lines, unjudged)
 from ..results.schema import FORMAT
 from .single import now, refuse_files_of_all
 
@@ -175,7 +175,8 @@ def write_collection(words: argparse.Namespace, rows: Sequence[Row], places: Seq
         return of_all((row.status for row in rows), is_stopped or bool(failed))
 
     written: list[Callable[[], None]] = [
-        lambda: write_index(folder, rows), lambda: put_file(words.csv, lambda: csv_lines(places)),
+        lambda: write_index(folder, rows), lambda: put_file(
+            words.csv, lambda: table_lines(map(all_told, places))),
         lambda: put_file(words.junit, lambda: testcases(rows, date)),
         lambda: put_file(words.json, lambda: objects(places, status(), date))]
     for write in written:
@@ -297,28 +298,15 @@ def worst_fault(row: Row) -> str:
     return (f"{line}: {row.hint}" if row.hint else line) + more
 
 
-def put_file(path: str | None, pieces: Callable[[], Iterator[bytes]]) -> None:
-    """Writes a file whole, or not at all."""
-    if path is not None:
-        with whole_file(path) as file:
-            for piece in pieces():
-                file.write(piece)
-
-
 def objects(places: Sequence[Place], status: int, date: str) -> Iterator[bytes]:
     """One object with those of all pairs."""
     head = {"format": FORMAT, "status": status, "date": date}
     yield json.dumps(head, indent=1).removesuffix("\n}").encode() + b',\n "pairs": ['
     before = b"\n"
     for place in places:
-        yield before + fitting_text(place)
+        yield before + json.dumps(known_at(place)).encode()
         before = b",\n"
     yield b"]\n}\n"
-
-
-def fitting_text(place: Place) -> bytes:
-    """An object, as it was read and fits."""
-    return json.dumps(known_at(place)).encode()
 
 
 def known_at(place: Place) -> dict[str, Any]:
@@ -327,11 +315,6 @@ def known_at(place: Place) -> dict[str, Any]:
         return place
     name = os.path.basename(place).removesuffix(ENDING)
     return object_at(place) or unjudged(name, "its JSON result is gone: judge it again")
-
-
-def csv_lines(places: Sequence[Place]) -> Iterator[bytes]:
-    """The lines of all pairs under one head."""
-    yield from table_lines(map(all_told, places))
 
 
 def all_told(place: Place) -> dict[str, Any]:

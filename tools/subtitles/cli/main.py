@@ -5,11 +5,11 @@ import argparse
 import contextlib
 import os
 import sys
-from typing import Any, Callable, Sequence
+from typing import Any, Callable, Iterable, Sequence
 
 from ..cli import single
 from ..common.command_line import Stop, Words, error_line
-from ..common.files import IsInput, plain_name, whole_file
+from ..common.files import IsInput, plain_name
 from ..request.lines import goes_with, read_options
 from ..request.request import (
     ALONE, BATCH, COLLECT, MEASURE, Mode, OPTIONS, Option, PAIR, WATCH, add_options)
@@ -127,7 +127,7 @@ def main(text: str, called: str, line: list[str]) -> int:
         return status
     except (Exception, KeyboardInterrupt) as reason:
         if not isinstance(reason, IsInput):
-            leave(name_in(line), {one: file_in(line, one) for one in WRITERS}, error_line(reason))
+            leave(name_in(line), {one: file_in(line, one) for one in PIECES}, error_line(reason))
         raise
 
 
@@ -137,31 +137,20 @@ def leave(name: str, paths: dict[str, str | None], reason: str) -> None:
     for option, path in paths.items():
         with contextlib.suppress(Stop, OSError):
             if path is not None and files.may_take(path, BEGINS[option]):
-                WRITERS[option](path, known)
+                files.put_file(path, lambda: PIECES[option](known))
 
 
-def write_table(path: str, known: dict[str, Any]) -> None:
-    """The CSV file of a pair by its object."""
-    with whole_file(path) as file:
-        for piece in files.table_lines([known]):
-            file.write(piece)
-
-
-def write_testcase(path: str, known: dict[str, Any]) -> None:
+def testcase(known: dict[str, Any]) -> list[bytes]:
     """The file for a CI of a pair that is not judged."""
     case = files.TestCase(known["name"], known["verdict"], known["status"], known["reason"], [],
-                           0.0)
-    with whole_file(path) as file:
-        file.write(files.junit_file([case], single.now()))
+                          0.0)
+    return [files.junit_file([case], single.now())]
 
 
-def write_object(path: str, known: dict[str, Any]) -> None:
-    """The object of a pair."""
-    with whole_file(path) as file:
-        file.write(files.object_text(known))
-
-
-WRITERS = {"--json": write_object, "--csv": write_table, "--junit": write_testcase}
+# What each file has of the object of a pair.
+PIECES: dict[str, Callable[[dict[str, Any]], Iterable[bytes]]] = {
+    "--json": lambda known: [files.object_text(known)],
+    "--csv": lambda known: files.table_lines([known]), "--junit": testcase}
 # What a file begins with that an earlier call wrote: another one may be an input.
 BEGINS = {"--json": b"{", "--csv": b"stl,recording,", "--junit": b"<?xml version='1.0' "}
 

@@ -29,10 +29,10 @@ from ..recording.recording import refuse_files
 from ..request.commands import CommandWords, Listener, Names, Progress, Speech
 from ..request.lines import pairs_at, profile_at
 from ..request.request import PID_CHOICE, Request, Unclear, request_with
-from ..stream.gaps import (
-    BY_EVERY, IRREGULAR, PAUSED, Pace, Repeats, TOO_FEW, UNUSUAL, repeats_in)
+from ..stream.pace import BY_EVERY, IRREGULAR, PAUSED, Pace, TOO_FEW
+from ..stream.repeats import Repeats, UNUSUAL, repeats_in
 from ..stream.layout import (
-    Choice, FEWEST, FLASH, Left, MOST_MOVED, Sent, TENTHS, choices_of, draws, sent_in, taken_from)
+    Choice, FEWEST, FLASH, MOST_MOVED, Sent, TENTHS, choices_of, draws, sent_in, taken_from)
 from ..stream.packets import HEADER
 from ..stream.receiver import Timeline, timeline_near
 from .single import now
@@ -294,12 +294,8 @@ def layout_found(sendings: Sequence[Sending], option: NationalOption) -> Finding
 
 def left_lines(choice: Choice) -> list[str]:
     """Which items are not proposed that would draw more, and why."""
-    return [f"{left_words(left, choice.total)}: {never_words(left.whole)}" for left in choice.left]
-
-
-def left_words(left: Left, count: int) -> str:
-    """How many more an item would draw."""
-    return f"{left.text} would draw {left.more} more of {count}"
+    return [f"{left.text} would draw {left.more} more of {choice.total}: {never_words(left.whole)}"
+            for left in choice.left]
 
 
 def against_lines(choice: Choice, sendings: Sequence[Sending], option: NationalOption) \

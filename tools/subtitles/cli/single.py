@@ -84,15 +84,15 @@ def is_kept_beside(path: str, result: str) -> bool:
     return 0 <= os.stat(result).st_mtime_ns - os.stat(path).st_mtime_ns < KEPT_SECONDS * 10**9
 
 
-def refuse_file(path: str, inputs: Inputs, is_known: Callable[[str], object] = is_own,
-                why: str = "is no result of these tools") -> None:
+def refuse_file(path: str, inputs: Inputs) -> None:
     """`Stop` where a file of a folder is an input, or nothing that these tools have written; a link
     is taken away, and not what it leads to."""
     inputs.refuse(path, False)
     with contextlib.suppress(FileNotFoundError, NotADirectoryError):
         about = os.lstat(path)
-        if not stat.S_ISLNK(about.st_mode) and (kind_of(about.st_mode) or not is_known(path)):
-            raise Stop(f"{path} is there, and {why}: move it away, or give another folder")
+        if not stat.S_ISLNK(about.st_mode) and (kind_of(about.st_mode) or not is_own(path)):
+            raise Stop(f"{path} is there, and is no result of these tools: move it away, or give "
+                       "another folder")
 
 
 def clear(folder: str, name: str, parts: PartFiles | None = None) -> None:
@@ -195,14 +195,9 @@ class PairCall(NamedTuple):
 
 def judge_call(words: argparse.Namespace, called: str) -> int:
     """Judges the pair of a command line; answers its status."""
-    return judge_request(request_of(words), PairCall(
+    return judged(request_of(words), PairCall(
         words.program, words.out or None, words.is_kept, words.json, words.csv, words.junit,
-        is_quiet=words.is_quiet), called)
-
-
-def judge_request(asked: Request, call: PairCall, called: str) -> int:
-    """Judges a pair; answers its status."""
-    return judged(asked, call, called).status
+        is_quiet=words.is_quiet), called).status
 
 
 def judged(asked: Request, call: PairCall, called: str) -> Verdict:
@@ -299,11 +294,11 @@ def end_pair(verdict: Verdict, speech: Speech, files: Files) -> None:
         silence(speech.out)
 
 
-def heed_signals(handler: Callable[..., object] = signal.default_int_handler) -> None:
+def heed_signals() -> None:
     """Lets signals end this call, but those that are ignored: nohup lets a hang-up pass."""
     for one in SIGNALS:
         if signal.getsignal(one) != signal.SIG_IGN:
-            signal.signal(one, handler)
+            signal.signal(one, signal.default_int_handler)
 
 
 def ignore_signals() -> None:

@@ -160,10 +160,7 @@ class Base:
         that are the best, the one of the earliest text is the first."""
         if not self.edges or not self.changes:
             return []
-        places = sorted(self.changes)
-        voting = places[::len(places) * len(self.edges) // VOTES + 1]
-        votes = collections.Counter(itertools.starmap(operator.sub, itertools.product(
-            self.frames, voting)))
+        votes = self.votes()
         for start, count in self.alike().items():
             votes[start] += 2 * count
         if self.within:
@@ -172,12 +169,20 @@ class Base:
                 self.within + 1)) for start in known})
         best = heapq.nlargest(TRIED + 4 * self.within, votes, key=lambda one: (votes[one], -one))
         # Where all subtitles are alike, the first and the last tell more than those between.
-        starts = {*best, self.edges[0].frame, self.edges[-1].frame - places[-1]}
+        starts = {*best, self.edges[0].frame, self.edges[-1].frame - max(self.changes)}
         fits = [fit for fit in map(self.fit, starts) if fit.agree]
         first = min(fits, default=None, key=lambda fit: (
             -fit.points(), -fit.texts, fit.first or 0, fit.start))
         return sorted(fits, key=lambda fit: (
             fit is not first, -fit.points(), -fit.texts, fit.start))
+
+    def votes(self) -> collections.Counter[int]:
+        """How often each start is that of an edge and a change, of some changes where there are too
+        many."""
+        places = sorted(self.changes)
+        voting = places[::len(places) * len(self.edges) // VOTES + 1]
+        return collections.Counter(itertools.starmap(operator.sub, itertools.product(
+            self.frames, voting)))
 
     def alike(self) -> collections.Counter[int]:
         """How often each start is that of an edge and a change with the same letters."""

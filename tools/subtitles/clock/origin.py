@@ -6,8 +6,8 @@ from typing import Collection, Iterator, NamedTuple, Sequence
 
 from ..common.command_line import Lateness, Stop, counted, range_words
 from ..common.times import (
-    ALL_DAY, Between, FRAMES_A_SECOND, FRAMES_OF_A_DAY, TICKS, frame_in, ticks_after,
-    ticks_between, ticks_within, time_of)
+    ALL_DAY, Between, FRAMES_A_SECOND, TICKS, ticks_after, ticks_between, ticks_within, time_in,
+    time_of)
 from ..formats.stl import letters_on_page, readable, stl_bytes, subtitle_times
 from ..formats.teletext import Page, page_name
 from ..stream.packets import Packets, Range, STRAY, subcode_words, turns_of
@@ -107,7 +107,7 @@ def find(sought: Sought, packets: Packets) -> Origin:
     runs = runs_of(bases, sought.origin is not None)
     if len(runs) > 1:
         origin.runs = [packets_of(runs, number, bases, packets) for number in range(len(runs))]
-        origin.lines.append(runs_line(len(runs)))
+        origin.lines.append(f"the programme is there {len(runs)} times")
         return origin
     row = find_row(bases)
     if sought.breaks:
@@ -167,7 +167,7 @@ def take_one(origin: Origin, sought: Sought, bases: Sequence[Base],
     if drift := drift_of(edges, bases[part.base].changes):
         origin.shifts = [drift_line(drift)]
     origin.lines += origin.shifts
-    first, last = (time_of_pts(pts, part.origin) for pts in part.sent.sent)
+    first, last = (time_in(pts, part.origin) or "outside of the day" for pts in part.sent.sent)
     origin.lines.append(f"subtitles due from {time_of(edges[0].frame)} to "
                         f"{time_of(edges[-1].frame)}, page sent from {first} to {last}")
 
@@ -245,12 +245,6 @@ def other_words(packets: Packets, page: Page) -> Iterator[str]:
     subcodes = turns_of(packets)
     if subcodes:
         yield subcode_words(subcodes, name)
-
-
-def time_of_pts(pts: int, origin: int) -> str:
-    """The time of the day of a PTS, or that it is of none."""
-    frame = frame_in(pts, origin)
-    return time_of(frame) if frame < FRAMES_OF_A_DAY else "outside of the day"
 
 
 def frames_words(ticks: int) -> str:
@@ -360,11 +354,6 @@ def break_lines(parts: Sequence[FittedPart]) -> Iterator[str]:
         where = "where PTS go back" if part.base != before.base else \
             f"after a break of {length}" if away > 0 else f"where the recording lacks {length}"
         yield f"part {number} begins at {time_of(part.begin)}, {where}"
-
-
-def runs_line(runs: int) -> str:
-    """How often the programme is there."""
-    return f"the programme is there {runs} times"
 
 
 def packets_of(runs: Sequence[Airing], number: int, bases: Sequence[Base],

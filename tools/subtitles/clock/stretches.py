@@ -6,12 +6,11 @@ import collections
 import functools
 import heapq
 import itertools
-import operator
-from typing import NamedTuple, Sequence
+from typing import Mapping, NamedTuple, Sequence
 
 from ..common.command_line import Lateness
 from ..common.times import FRAMES_A_SECOND, FRAMES_OF_A_DAY
-from .alignment import Base, Early, Edge, Fit, Shown, TRIED, VOTES, edges_of, settled
+from .alignment import Base, Early, Edge, Fit, Shown, TRIED, edges_of, settled
 
 LEADERS = 8  # ways, the best of those up to an edge, that go on with another track
 IN_A_ROW = 5  # edges that have to agree with an origin of their own
@@ -93,67 +92,49 @@ def find_row(bases: Sequence[Base]) -> list[Stretch]:
     return best_row(bases[0].edges, kept[:TRIED]) if kept else []
 
 
-class Turn(NamedTuple):
-    """From which edge on, by its number, a row is on which track."""
-
-    edge: int
-    track: Track
-
-
 class Way(NamedTuple):
     """A row of tracks up to an edge: its points, the less the farther apart its tracks are, and
-    where it turns to each."""
+    from which edge on, by its number, it is on which track."""
 
     points: int
     nearness: int
-    turns: tuple[Turn, ...]
+    turns: tuple[tuple[int, Track], ...]
 
     @property
     def rank(self) -> tuple[int, int]:
         """Of two ways the one of the higher rank is better."""
-        return self.points, self.nearness
-
-    @property
-    def track(self) -> Track:
-        """The one that it is on."""
-        return self.turns[-1].track
+        return self[:2]
 
     def turned(self, edge: int, track: Track) -> Way:
         """The way that goes on with another track from an edge on."""
-        apart = abs(track.start - self.track.start) + FRAMES_OF_A_DAY * (
-            track.base - self.track.base)
-        return Way(self.points - NEW_TRACK, self.nearness - apart,
-                   (*self.turns, Turn(edge, track)))
-
-
-def best_way(edges: Sequence[Edge], tracks: Sequence[Track]) -> Way:
-    """The way through all edges with the most points, where another track is begun by five edges
-    that agree; what is nearer is taken of two that are as good. From edge to edge the best way that
-    ends on each track is known, and only the best of these turn."""
-    best: dict[int, Way] = {}  # by the number of the track that it is on
-    for at, edge in enumerate(edges):
-        gap = edge.frame - edges[at - 1].frame if at else 0
-        leaders = heapq.nlargest(LEADERS, best.values(), key=lambda way: way.rank)
-        longer: dict[int, Way] = {}
-        for number, track in enumerate(tracks):
-            ways = [best[number]] if number in best else []
-            if track.in_a_row[at] >= IN_A_ROW:
-                if not ways:
-                    ways.append(Way(sum(track.points[:at]), 0, (Turn(0, track),)))
-                ways += [way.turned(at, track) for way in leaders
-                         if way.track is not track and track.may_follow(way.track, gap)]
-            if ways:
-                way = max(ways, key=lambda way: way.rank)
-                longer[number] = way._replace(points=way.points + track.points[at])
-        best = longer
-    return max(best.values(), key=lambda way: way.rank)
+        before = self.turns[-1][1]
+        apart = abs(track.start - before.start) + FRAMES_OF_A_DAY * (track.base - before.base)
+        return Way(self.points - NEW_TRACK, self.nearness - apart, (*self.turns, (edge, track)))
 
 
 def best_row(edges: Sequence[Edge], tracks: Sequence[Track]) -> list[Stretch]:
-    """The stretches of the best way; where two meet, as many edges as can go with the second."""
-    turns = best_way(edges, tracks).turns
-    ends = [*(turn.edge for turn in turns[1:]), len(edges)]
-    row = [Stretch(turn.track, turn.edge, end) for turn, end in zip(turns, ends)]
+    """The stretches of the way through all edges with the most points, where another track is begun
+    by five edges that agree; what is nearer is taken of two that are as good. From edge to edge the
+    best way that ends on each track is known, and only the best of these turn. Where two stretches
+    meet, as many edges as can go with the second."""
+    best: dict[Track, Way] = {}  # by the track that it is on
+    for at, edge in enumerate(edges):
+        gap = edge.frame - edges[at - 1].frame if at else 0
+        leaders = heapq.nlargest(LEADERS, best.items(), key=lambda item: item[1].rank)
+        longer: dict[Track, Way] = {}
+        for track in tracks:
+            ways = [best[track]] if track in best else []
+            if track.in_a_row[at] >= IN_A_ROW:
+                ways = ways or [Way(sum(track.points[:at]), 0, ((0, track),))]
+                ways += [way.turned(at, track) for before, way in leaders
+                         if before is not track and track.may_follow(before, gap)]
+            if ways:
+                way = max(ways, key=lambda way: way.rank)
+                longer[track] = way._replace(points=way.points + track.points[at])
+        best = longer
+    turns = max(best.values(), key=lambda way: way.rank).turns
+    row = [Stretch(track, edge, end) for (edge, track), end in zip(
+        turns, [*(edge for edge, _ in turns[1:]), len(edges)])]
     for number in range(1, len(row)):
         before, own = row[number - 1:number + 1]
         border = border_of(edges, before, own)
@@ -275,29 +256,27 @@ def runs_of(bases: Sequence[Base], has_clock: bool = False) -> list[Airing]:
     row = find_row(bases)
     has_times = not has_clock and not are_alike([edge.frame for edge in bases[0].edges])
     if len(row) > 1:  # the end of another run may be taken for the end of the first
-        tracks = {stretch.track for stretch in row}
-        whole = max((Stretch(track, 0, row[-1].end) for track in tracks),
-                    key=lambda stretch: sum(stretch.track.points))
-        places = sightings([whole])
-        others = [sightings([Stretch(stretch.track, 0, row[-1].end)]) for stretch in row
-                  if stretch.track is not whole.track]
-        row = [whole] if any(is_again(bases, places, side) for one in others for side in (
-            {at: place for at, place in one.items() if place < min(places.values())},
-            {at: place for at, place in one.items() if place > max(places.values())})) else row
-    first = sightings(row)
-    if not first:
+        whole, *others = sorted((Stretch(track, 0, row[-1].end) for track in dict.fromkeys(
+            stretch.track for stretch in row)), key=lambda one: -sum(one.track.points))
+        if places := sightings([whole]):
+            first, last = airing_of(places)
+            sides = (side for found in (sightings([other]) for other in others) for side in (
+                {at: place for at, place in found.items() if place < first},
+                {at: place for at, place in found.items() if place > last}))
+            row = [whole] if any(is_again(bases, places, side) for side in sides) else row
+    own = sightings(row)
+    if not own:
         return []
-    airings = [Airing(min(first.values()), max(first.values()))]
+    airings = [airing_of(own)]
     windows = [((-1, 0), airings[0].first), (airings[0].last, (1 << 40, 0))]
     while windows:
         low, high = windows.pop()
         others_in = sent_between(bases, low, high)
         some = sightings(find_row(others_in)) if any(base.changes for base in others_in) else {}
-        if not is_again(bases, first, some):
-            some = by_times(others_in, len(first)) if has_times else {}
+        if not is_again(bases, own, some):
+            some = by_times(others_in, len(own)) if has_times else {}
         if some:
-            run = Airing(min(some.values()), max(some.values()))
-            airings.append(run)
+            airings.append(run := airing_of(some))
             windows += [(low, run.first), (run.last, high)]
     return sorted(airings)
 
@@ -306,6 +285,11 @@ def sightings(row: Sequence[Stretch]) -> dict[int, Place]:
     """Where the edges of a row are whose letters agree."""
     return {at: (stretch.track.base, stretch.track.places[at]) for stretch in row
             for at in range(stretch.first, stretch.end) if stretch.track.points[at] > 1}
+
+
+def airing_of(places: Mapping[int, Place]) -> Airing:
+    """The first and the last of some places."""
+    return Airing(min(places.values()), max(places.values()))
 
 
 def is_again(bases: Sequence[Base], first: dict[int, Place], some: dict[int, Place]) -> bool:
@@ -333,13 +317,9 @@ def by_times(bases: Sequence[Base], count: int) -> dict[int, Place]:
     """Where nine in ten of so many edges, and three quarters of all, have a change of the page,
     whatever its letters are; nothing where none has."""
     for number, base in enumerate(bases):
-        places = sorted(base.changes)
-        if not places or count < AS_MANY * (2 if base.within else 1):
+        if not base.changes or count < AS_MANY * (2 if base.within else 1):
             continue
-        voting = places[::len(places) * len(base.edges) // VOTES + 1]
-        votes = collections.Counter(itertools.starmap(operator.sub, itertools.product(
-            base.frames, voting)))
-        for start, _ in votes.most_common(TRIED_TIMES):
+        for start, _ in base.votes().most_common(TRIED_TIMES):
             changed = changes_at(base, number, start)
             if len(changed) * 10 >= count * 9 and len(changed) * 4 >= len(base.edges) * 3:
                 return changed

@@ -240,14 +240,12 @@ def refuse_name(name: str) -> None:
 
 
 @contextlib.contextmanager
-def whole_file(path: str, inputs: Inputs = NOTHING) -> Iterator[BinaryIO]:
+def whole_file(path: str) -> Iterator[BinaryIO]:
     """A file to write to that somebody has named, who may mean what a link leads to. It takes the
     name `path` when all went well; else that is as it was.
 
     A device, which has no other name, is written to as it is, and so is standard output, `-`.
     """
-    if path not in OWN_OUTPUT:
-        inputs.refuse(path, True)
     if path in OWN_OUTPUT:
         with own_output() as file:
             yield file

@@ -3,7 +3,6 @@ from __future__ import annotations
 
 import functools
 import glob
-import hashlib
 import os
 import re
 import shutil
@@ -271,24 +270,6 @@ def remove(prefix: str) -> list[str]:
         if os.path.normpath(path) in made and os.path.isdir(path) and not os.listdir(path):
             os.rmdir(path)
     return [*removed, home]
-
-
-def files_below(folder: str) -> list[str]:
-    """The files of a folder, links left out, by their names from there."""
-    files = []
-    for place, _, names in os.walk(folder):
-        paths = [os.path.join(place, name) for name in names]
-        files += [os.path.relpath(path, folder) for path in paths if not os.path.islink(path)]
-    return sorted(files)
-
-
-def sums_of(folder: str, kind: str) -> str:
-    """A line for each file of a folder: its sum, as md5 or sha256, and its name."""
-    lines = []
-    for name in files_below(folder):
-        with open(os.path.join(folder, name), "rb") as file:
-            lines.append(f"{hashlib.new(kind, file.read()).hexdigest()}  {name}\n")
-    return "".join(lines)
 
 
 def links_into(prefix: str) -> list[str]:

@@ -110,6 +110,12 @@ def frame_in(pts: int, origin: int, within: int = 0) -> int:
     return wrapped(pts - origin + EARLY * (within > 0)) // TICKS
 
 
+def time_in(pts: int, origin: int) -> str | None:
+    """The time of the frame in which a PTS lies; `None` after the day's end."""
+    frame = frame_in(pts, origin)
+    return time_of(frame) if frame < FRAMES_OF_A_DAY else None
+
+
 def frame_at(pts: int, origin: int, within: int = 0) -> int | None:
     """The frame of the day of a PTS, `None` where it has none."""
     frame = frames_at([pts], origin, within)[0]
@@ -129,6 +135,17 @@ def frames_at(several: Sequence[int], origin: int, within: int = 0) -> Sequence[
     if within:
         return [ticks // TICKS if ticks < end else NO_FRAME for ticks in distances]
     return [NO_FRAME if ticks % TICKS or ticks >= end else ticks // TICKS for ticks in distances]
+
+
+def rising_rows(frames: Sequence[int]) -> list[tuple[int, Sequence[int]]]:
+    """Frames as rows in which none is before the one before it, each with the place of its first;
+    where one is `NO_FRAME` it is a row of its own."""
+    if isinstance(frames, range):
+        return [(0, frames)]
+    breaks = [at for at, (one, other) in enumerate(zip(frames, frames[1:]), 1)
+              if other < one or NO_FRAME in (one, other)]
+    return [(begin, frames[begin:end]) for begin, end in zip([0, *breaks], [*breaks, len(frames)])
+            if begin < end]
 
 
 # Spans of frames, or of PES packets, as few numbers.

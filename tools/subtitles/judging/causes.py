@@ -300,7 +300,7 @@ class Namer(Sendings):
 
     def unseen_words(self, first: int, last: int) -> str:
         """Why not all is known that was sent in some frames."""
-        return NOT_RECEIVED if self.held.is_lost(first, last) else UNSEEN
+        return NOT_RECEIVED if self.held.lost.has(first, last) else UNSEEN
 
     def unknown(self, place: int, frame: int, known: int, words: str) -> Cause:
         sent = self.held.page_at(frame)
@@ -496,7 +496,7 @@ class Wording:
         elif cause.name == OTHER:
             words += " at its time"
         if cause.name == IN_PAUSE:
-            words = pause_words(cause)
+            words = f"another text was sent in a pause, {cause.words}"
         elif cause.words:
             words += f": {cause.words}"
         if has_text and cause.sent not in (None, self.pages[cause.place]):
@@ -507,11 +507,6 @@ class Wording:
         if cause.other is not None:
             words += f" of {self.subtitles[cause.other].name}"
         return words
-
-
-def pause_words(cause: Cause) -> str:
-    """That another text was sent in a pause."""
-    return f"another text was sent in a pause, {cause.words}"
 
 
 def count_line(several: list[Causes]) -> str:

@@ -34,17 +34,29 @@ class End(NamedTuple):
 NO_END = End(None, None)
 
 
-class FaultCounts:
-    """The faults of a list. `first` is the first, which is the line of `check` without `--all`, and
-    `last_told` the last one. By number, `counts` are how many there are, `firsts` the first of
-    each, and `marks` the frames at which it is told, or stands; `ends` are by the number of a fault
-    in the list, and `anew` the numbers of those that are told right after one has ended. `passed`
-    are the numbers of the PES packets that were passed over, `trusted` the frames that may be
-    trusted.
+# `subttx check --all`, asked about a pair, and all that its list comes to: it is read here alone.
+
+TIME = re.compile(r"\d\d:\d\d:\d\d:\d\d")
+
+
+class Answer:
+    """What `check --all` printed, line by line; all its lines stand in the file at `path`.
+
+    `first` is the first fault, which is the line of `check` without `--all`. By number, `counts`
+    are how many there are, `firsts` the first of each, and `marks` the frames at which it is told,
+    or stands; `ends` are by the number of a fault in the list. `passed` are the numbers of the PES
+    packets that were passed over, `trusted` the frames that may be trusted.
     """
 
-    def __init__(self) -> None:
+    def __init__(self, path: str) -> None:
+        self.path, self.last = path, ""
+        self.status: int | None = None  # until it has ended
+        self.is_accepted = False  # by the last line
+        self.strange: str | None = None  # the first line that is none of `check`
+        self.frames: int | None = None
+        self.transmissions: int | None = None
         self.forget()
+        self.file: BinaryIO = open(path, "wb")
 
     def forget(self) -> None:
         """No fault was told."""
@@ -52,10 +64,8 @@ class FaultCounts:
         self.counts: collections.Counter[int] = collections.Counter()
         self.firsts: dict[int, FaultLine] = {}
         self.first: FaultLine | None = None
-        self.last_told = ""
         self.marks: dict[int, Spans] = {}
         self.ends: dict[int, End] = {}
-        self.anew: set[int] = set()
         self.latest: dict[str, int] = {}  # the number in the list of the last fault of a number
         self.passing = ""  # the number of the PES packets that were passed over last
         self.passed, self.trusted = Spans(), Spans()
@@ -76,7 +86,6 @@ class FaultCounts:
         self.latest[words[1]] = self.count
         self.count += 1
         self.counts[number] += 1
-        self.last_told = line
         if place[:1] == ["frame"]:
             frame = frame_of_place(place[1])
             self.marks.setdefault(number, Spans()).add(frame, frame)
@@ -87,7 +96,6 @@ class FaultCounts:
     def take_end(self, words: list[str]) -> None:
         """A line `ended`: what stood up to a frame, or for PES packets in a row."""
         number, (kind, value) = int(words[1]), words[3:5]
-        self.anew.add(self.count)
         index = self.latest.pop(words[1], None)
         if index is None:
             return
@@ -105,25 +113,6 @@ class FaultCounts:
         """How many faults of the transmission there are."""
         return sum(count for number, count in self.counts.items()
                    if number not in STL_FAULTS | {UNDECIDED})
-
-
-# `subttx check --all`, asked about a pair, and all that its list comes to: it is read here alone.
-
-TIME = re.compile(r"\d\d:\d\d:\d\d:\d\d")
-
-
-class Answer(FaultCounts):
-    """What `check --all` printed, line by line; all its lines stand in the file at `path`."""
-
-    def __init__(self, path: str) -> None:
-        self.path, self.last = path, ""
-        self.status: int | None = None  # until it has ended
-        self.is_accepted = False  # by the last line
-        self.strange: str | None = None  # the first line that is none of `check`
-        self.frames: int | None = None
-        self.transmissions: int | None = None
-        super().__init__()
-        self.file: BinaryIO = open(path, "wb")
 
     def take(self, line: str) -> None:
         """Takes a line as it comes."""

@@ -15,7 +15,9 @@ from ..formats.listing import (
 from ..formats.stl import NEW_LINE, NamedSubtitle, SubtitleFile, subtitle_name
 from ..formats.teletext import BY_WORD, character_of, letter_at, letters
 from ..request.request import Request
-from ..stream.gaps import edges_of, frame_rows, longest_gap, repeat_distance, why_refused
+from ..stream.gaps import why_refused
+from ..stream.pace import frame_rows
+from ..stream.repeats import edges_of, longest_gap, repeat_distance
 from ..stream.packets import HEADER, Packets, Run
 from ..stream.receiver import HIT, OLD, Rows, Timeline
 from .causes import Wording
@@ -96,16 +98,9 @@ DSC = slice(11, 12)  # the field in the GSI block
 def hints_of(verdict: Verdict) -> Iterator[str]:
     """The lines for the first fault of each of these numbers, in the order of the list."""
     for part in verdict.parts:
-        if part.answer.numbers & HINTS:
-            yield from hints_of_part(part, verdict)
-
-
-def hints_of_part(part: Part, verdict: Verdict) -> Iterator[str]:
-    """The same of a part."""
-    for number, fault in part.answer.firsts.items():
-        words = hint_words(fault, part, verdict) if number in HINTS else ""
-        if words:
-            yield f"{number}: {words}"
+        for number, fault in part.answer.firsts.items():
+            if number in HINTS and (words := hint_words(fault, part, verdict)):
+                yield f"{number}: {words}"
 
 
 def hint_words(fault: FaultLine, part: Part, verdict: Verdict) -> str:
@@ -311,7 +306,8 @@ class PartFaults:
             "pes": place.pes if fault.pes is None else fault.pes,
             "pes_pts": place.pts, "pes_time": self.time_at(place.pts), "packet": fault.packet,
             "frame": fault.frame, "time": fault.time, "row": fault.row, "column": fault.column,
-            "due": self.cell(due, fault), "held": self.held_cell(fault, place),
+            "due": self.cell(due, fault),
+            "held": self.cell(place.rows, fault) if fault.number == CONTENT else None,
             "until": end.time, "until_pes": end.pes, "means": means, "do": do,
             "cause": self.cause_of(fault),
         }
@@ -335,10 +331,6 @@ class PartFaults:
             return None
         frame = frame_at(pts, self.part.origin, self.request.within)
         return None if frame is None else time_of(frame)
-
-    def held_cell(self, fault: FaultLine, place: FaultPlace) -> Members | None:
-        """The cell of a 72 as it is held."""
-        return self.cell(place.rows, fault) if fault.number == CONTENT else None
 
     def cell(self, rows: Rows | None, fault: FaultLine) -> Members | None:
         """The cell that a fault names."""

@@ -32,7 +32,7 @@ from .subtitles import beside_of, due_beside, is_judged_beside, title_words
 from .timing import (
     NO_CLOCK, PartClocks, PartSearch, cut_part, given_clock, left_by_pictures, paced_part, parts_of)
 from .transmissions import DuePages, due_pages_of, kept_in, subtitles_in
-from .verdict import MOVED, Verdict, frames_in, gaps_in
+from .verdict import MOVED, Verdict, frames_until, gaps_in
 
 
 # Why `check` refuses a part, and what else follows of its answer.
@@ -69,9 +69,11 @@ def delays_in(part: Part, causes: Causes | None, request: Request, is_summed: bo
     held = causes.held if causes else part.held
     if not (is_summed or request.within) or not held:
         return ()
-    is_known = not request.within and not part.answer.numbers & MOVED
-    return frames_in(is_known, len(part.subtitle_file().begins), held, part.due,
-                     request.is_complete)
+    if not request.within and not part.answer.numbers & MOVED:
+        return [0] * len(part.subtitle_file().begins)
+    due = part.due()
+    return [frames_until(subtitle, page, held, request.is_complete)
+            for subtitle, page in zip(due.subtitles, due.pages)]
 
 
 def hint_of(lead: Lead | None, part: Part, verdict: Verdict) -> str:

@@ -19,13 +19,13 @@ from ..recording.recording import Recording
 from ..request.commands import Listener, MOST_LINES, Names
 from ..request.request import Request, Unclear
 from ..stream.gaps import Place
-from ..stream.packets import NO_RANGE, PES, PTSPair, Packets, Range
+from ..stream.packets import NO_RANGE, PES, PTSPair, Packets, Range, headers_in
 from ..stream.receiver import Timeline, national_option, timeline_near
 from .causes import Causes, Wording
 from .check import Answer
 from .sentence import Lead, lead_of
 from .status import REFUSED, Said, Severity
-from .transmissions import DuePages, Kept, headers_of
+from .transmissions import DuePages, Kept
 
 
 def nothing_due() -> DuePages:
@@ -185,15 +185,16 @@ class Part:
     def options_sent(self) -> set[str]:
         """The national options of its headers of the page."""
         bits = {national_option(header) for run in self.packets.inside(*self.pes or NO_RANGE)
-                for header in headers_of(run)}
+                for header in headers_in(run.control)}
         return {BY_BITS[one].word for one in bits if one != RESERVED}
 
     def headers_sent(self) -> collections.Counter[bytes]:
         """How many there are of each of its headers that `check` hears."""
         counts: collections.Counter[bytes] = collections.Counter()
         for run in self.packets.inside(*self.pes or NO_RANGE):
-            for header in headers_of(run) if run.pts is not None and not run.fault else ():
-                counts[header] += run.length
+            if run.pts is not None and not run.fault:
+                for header in headers_in(run.control):
+                    counts[header] += run.length
         return counts
 
     @property

@@ -408,7 +408,7 @@ def of_one(cause: Cause, causes: Causes, option: str) -> str:
     if cause.name == IN_PAUSE:
         return f"another text was sent in a pause, {cause.words}" + (
             f', "{page_text(cause.sent, BY_WORD[option].bits)}"' if cause.sent else "")
-    text = due_text(causes, cause.place, option)
+    text = page_text(causes.programme.pages[cause.place], BY_WORD[option].bits)
     said = f"is {counted(cause.frames or 0, 'frame')} {cause.name}" \
         if cause.name in (LATE, EARLY) else SAID[cause.name][0]
     more = f" ({cause.words})" if cause.words else ""
@@ -416,11 +416,6 @@ def of_one(cause: Cause, causes: Causes, option: str) -> str:
         TEXT, OTHER) else ""
     more += f', sent: "{sent}"' if sent and sent != text else ""
     return f"at {time_of(subtitle.begin)} {subtitle.name}, \"{text}\", {said}{more}"
-
-
-def due_text(causes: Causes, place: int, option: str) -> str:
-    """The text that is due of a subtitle."""
-    return page_text(causes.programme.pages[place], BY_WORD[option].bits)
 
 
 def of_several(causes: Sequence[Cause], subtitles: Sequence[Subtitle]) -> str:

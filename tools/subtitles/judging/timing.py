@@ -18,12 +18,13 @@ from ..recording.recording import Recording
 from ..request.commands import Listener
 from ..request.request import (
     NONE, ORIGIN_CHOICE, PACE_CHOICE, PES_CHOICE, Request, Selection, Unclear)
-from ..stream.gaps import (
+from ..stream.pace import (
     BY_EVERY, IRREGULAR, PAUSED, Pace, REGULAR, TOO_FEW, each_of, frame_rows, pace_of, pauses_of,
     unseen_from)
-from ..stream.packets import NO_RANGE, PACKET, PTSPair, Packets, Range, jumps_at, jumps_told
+from ..stream.packets import NO_RANGE, PTSPair, Range, announced_jumps
 from ..stream.ranges import Cut, cut_of
-from ..stream.survey import Departure, Survey, departures_of
+from ..stream.pictures import Departure, departures_of
+from ..stream.survey import Survey
 from .part import Part
 
 
@@ -46,13 +47,11 @@ class PartSearch(NamedTuple):
 
 class PartClocks(NamedTuple):
     """The parts that were found, each with its clock, and the programme with the PES packets that
-    may be judged then; by how much the first part is late, in words; whether subtitles are from
-    some time on."""
+    may be judged then; by how much the first part is late, in words."""
 
     programme: PartSearch
     alignments: list[Found]
     delay: list[str]
-    is_shifted: bool
 
 
 def parts_of(programme: PartSearch, recording: Recording, listener: Listener) -> PartClocks:
@@ -70,7 +69,7 @@ def parts_of(programme: PartSearch, recording: Recording, listener: Listener) ->
         clock, delay = with_delay(given, origin)
         alignments[0] = alignments[0]._replace(clock=clock)
         refuse_another_time(programme, recording, alignments[0])
-    return PartClocks(programme, alignments, delay, bool(origin.shifts))
+    return PartClocks(programme, alignments, delay)
 
 
 # What is known before.
@@ -100,28 +99,17 @@ def by_start(programme: PartSearch, recording: Recording, listener: Listener) ->
 
 # What is found.
 
-def search_in(programme: PartSearch, name: str, clock: Clock | None = None,
-              has_picture: bool = False) -> Sought:
-    """What is looked for in a recording by its name."""
-    request = programme.request
-    return Sought(request.stl_path, name, request.page, request.option, clock and clock.origin,
-                  request.within, request.breaks, programme.inside, request.between,
-                  programme.left_out, request.late, has_picture)
-
-
-def origin_in(packets: Packets, sought: Sought) -> Origin:
-    """What is found of the origin of a recording."""
-    try:
-        return find(sought, packets)
-    except (Stop, OSError) as reason:
-        return Origin(2, lines=[error_line(reason)])
-
-
 def fitted_origin(programme: PartSearch, recording: Recording, clock: Clock | None,
                   listener: Listener) -> Origin:
     """What is found of the clock, also compared with one that is known, which is said."""
-    origin = origin_in(recording.packets, search_in(programme, recording.shown, clock,
-                                                    recording.has_picture()))
+    request = programme.request
+    sought = Sought(request.stl_path, recording.shown, request.page, request.option,
+                    clock and clock.origin, request.within, request.breaks, programme.inside,
+                    request.between, programme.left_out, request.late, recording.has_picture())
+    try:
+        origin = find(sought, recording.packets)
+    except (Stop, OSError) as reason:
+        origin = Origin(2, lines=[error_line(reason)])
     for line in [*origin.printed, *(SAID + line for line in origin.lines)]:
         listener.said(line)
     return origin
@@ -198,12 +186,11 @@ def unclear_origin(origin: Origin, again: Iterable[str]) -> Unclear:
 
 def clock_options(recording: Recording, origin: Origin) -> Iterator[str]:
     """What a person may type where the origin is not clear."""
-    again = recording.again
     if origin.runs:
-        yield again("--pes", "I-J")
+        yield recording.again("--pes", "I-J")
     elif origin.breaks is None:
-        yield from () if origin.breaks is not None else (
-            again("--origin", "T"), *recording.other_pages([recording.packets]))
+        yield recording.again("--origin", "T")
+        yield from recording.other_pages([recording.packets])
 
 
 # What is taken of the recording.
@@ -278,9 +265,7 @@ def late_jumps(part: Part, pace: Pace) -> tuple[list[PTSPair], int]:
     (recording, _), inside = part.recorded, part.pes or NO_RANGE
     if not recording.is_stream:
         return [], 0
-    packets, usual = recording.packets, min(pace.apart, NEXT)
-    jumps = jumps_told(packets, inside, usual) if recording.survey.tells_seams else jumps_at(
-        packets, inside, usual, recording.path, recording.survey.size or PACKET)
+    jumps = announced_jumps(recording.packets, inside, min(pace.apart, NEXT))
     late = [pair for pair in jumps if ticks_between(*pair) > pace.apart * TICKS]
     return late, len(jumps) - len(late)
 

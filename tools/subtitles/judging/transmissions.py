@@ -17,7 +17,7 @@ from ..formats.teletext import (
     page_name)
 from ..request.request import Request, Unclear, Unsaid
 from ..stream.packets import CLOSED, HEADER, PES, Packets, Run, headers_in, subcode_of
-from ..stream.receiver import BLANK_PAGE, Held, LEAST, Rows, State, Timeline, national_option
+from ..stream.receiver import BLANK_PAGE, LEAST, Rows, State, Timeline, national_option
 from ..stream.survey import runs_told
 from .check import Answer
 from .pages import is_part, words_on
@@ -55,16 +55,11 @@ class Headed(NamedTuple):
     is_open: bool = False
 
 
-def headers_of(run: Run) -> list[bytes]:
-    """The eight numbers of each header of the page in a PES packet."""
-    return [*headers_in(run.control)]
-
-
 def headed(run: Run, state: State) -> list[Headed]:
     """The headers of the page in a PES packet, after what a receiver held before it."""
     heard: list[Headed] = []
     before, is_open = state.header, state.is_open
-    headers = iter(headers_of(run))
+    headers = iter(headers_in(run.control))
     for letter in run.does:
         if letter == HEADER:
             header = Headed(next(headers), before, is_open)
@@ -196,7 +191,7 @@ class DuePages(SubtitleList):
     `timeline` is what a receiver holds of it, `None` where there is no subtitle."""
 
     def __init__(self, subtitles: list[Subtitle], pages: list[Rows],
-                 timeline: Held | None = None) -> None:
+                 timeline: Timeline | None = None) -> None:
         super().__init__(subtitles)
         self.pages, self.timeline = pages, timeline
 
@@ -266,8 +261,7 @@ def due_pages_of(program: str, stl: str, subtitles: list[Subtitle], page: Page, 
         due = Timeline(Packets(PES), page, 0)
         for run, texts in runs_told(program, path, page):
             due.hear_run(run, texts)
-    return DuePages(subtitles, [due.page_at(subtitle.begin) for subtitle in subtitles],
-                    due.alone())
+    return DuePages(subtitles, [due.page_at(subtitle.begin) for subtitle in subtitles], due)
 
 
 # Which page transmission is of which subtitle.

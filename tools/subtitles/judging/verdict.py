@@ -8,7 +8,7 @@ from typing import Callable, Collection, Iterable, NamedTuple, Sequence
 from ..clock.start import FITTED, FITTED_LATER, clock_advice
 from ..common.command_line import range_words
 from ..common.files import SummedFile
-from ..common.times import FRAMES_OF_A_DAY, frame_in, time_of
+from ..common.times import time_in
 from ..formats.listing import FaultLine, NamedFault, STL_FAULTS, UNDECIDED
 from ..formats.stl import Subtitle
 from ..recording.recording import Recording
@@ -22,7 +22,6 @@ from .status import (
     ACCEPTED, Decision, Grounds, LOST, NOT_JUDGED, REFUSED, RELATIVE, Severity, WAIVED, WARNED,
     decide)
 from .subtitles import Counts, JudgedBeside
-from .transmissions import DuePages
 
 
 # After how many frames each subtitle was whole: what a house needs to choose --within N.
@@ -56,15 +55,9 @@ def spread_of(several: Iterable[int | None]) -> Spread | None:
     return Spread(known[0], known[len(known) // 2], known[-1], len(all_of) - len(known))
 
 
-def frames_of(programme: DuePages, held: Timeline, is_complete: bool) -> list[int | None]:
-    """After how many frames each subtitle was whole, and where complete pages are asked for
-    closed."""
-    return [frames_until(subtitle, page, held, is_complete)
-            for subtitle, page in zip(programme.subtitles, programme.pages)]
-
-
 def frames_until(subtitle: Subtitle, page: Rows, held: Timeline, is_complete: bool) -> int | None:
-    """The same of one; where nothing of the page was heard before its TCI nobody knows."""
+    """Return after how many frames a subtitle was whole, and where complete pages are asked for
+    closed; `None` if nothing of the page was heard before its TCI: nobody knows."""
     if held.first > subtitle.begin:
         return None
     for number in held.numbers(subtitle.begin, subtitle.end):
@@ -76,12 +69,6 @@ def frames_until(subtitle: Subtitle, page: Rows, held: Timeline, is_complete: bo
         if frame is not None and frame <= min(stretch.last, subtitle.end - 1):
             return frame - subtitle.begin
     return None
-
-
-def frames_in(is_known: bool, count: int, held: Timeline, due: Callable[[], DuePages],
-              is_complete: bool) -> list[int | None]:
-    """The same of so many subtitles, by what is held, and what is due where that is needed."""
-    return [0] * count if is_known else frames_of(due(), held, is_complete)
 
 
 def worst_of(parts: Sequence[Part], lead: Callable[[Part], Lead | None]) -> Part | None:
@@ -409,16 +396,9 @@ class Verdict:
 # Places at which something of a recording is missing, and of which parts that is.
 
 
-def gap_of(place: Place, origin: int, is_judged: bool) -> Gap:
-    """A place at which TS packets are missing, with its times."""
-    times = place_time(place.before, origin), place_time(place.after, origin)
-    return Gap(*times, what_of(place), place, is_judged)
-
-
 def gaps_in(recording: Recording, parts: Sequence[Part]) -> list[Gap]:
     """Return where something of a recording is missing, announced jumps of all parts included."""
-    jumps = [jump for part in parts for jump in part.jumps]
-    return gaps_of(recording.places(jumps), parts)
+    return gaps_of(recording.places([jump for part in parts for jump in part.jumps]), parts)
 
 
 def gaps_of(places: Sequence[Place], parts: Sequence[Part]) -> list[Gap]:
@@ -426,14 +406,8 @@ def gaps_of(places: Sequence[Place], parts: Sequence[Part]) -> list[Gap]:
     gaps = []
     for place in places:
         own = [part for part in parts if is_in(place, part)]
-        gaps.append(gap_of(place, (own or parts)[0].origin or 0, bool(own)))
+        origin = (own or parts)[0].origin or 0
+        after, before = (None if pts is None else time_in(pts, origin)
+                         for pts in (place.before, place.after))
+        gaps.append(Gap(after, before, what_of(place), place, bool(own)))
     return gaps
-
-
-def place_time(pts: int | None, origin: int) -> str | None:
-    """The time of a PTS, to the frame before it."""
-    if pts is None:
-        return None
-    frame = frame_in(pts, origin)
-    return time_of(frame) if frame < FRAMES_OF_A_DAY else None
-

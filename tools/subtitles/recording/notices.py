@@ -11,12 +11,13 @@ from ..common.command_line import counted, pid_name, shown
 from ..common.files import first_bytes
 from ..common.times import (
     FRAMES_OF_A_DAY, NO_FRAME, TICKS, frame_in, frames_at, pts_of, ticks_after, ticks_between,
-    ticks_within, time_of, wrapped)
+    ticks_within, time_in, time_of, wrapped)
 from ..formats.listing import NEVER_SENT, NamedFault
 from ..formats.stl import SubtitleFile
 from ..formats.teletext import BY_WORD, OTHER_REGIONS, Page, as_sent, of_track, page_name
 from ..request.request import LC, Request, Unclear
-from ..stream.gaps import SAID, SECOND, edges_of, jumps_of, repeat_distance, strange_of, why_refused
+from ..stream.gaps import SAID, SECOND, jumps_of, strange_of, why_refused
+from ..stream.repeats import edges_of, repeat_distance
 from ..stream.packets import HEADER, PES, Packets
 from ..stream.receiver import FEW, PAUSE
 from ..stream.survey import ANY, Announced, KINDS, ProgramMap, SUBTITLE_KINDS, Survey, names_of
@@ -42,8 +43,7 @@ class Notice(NamedTuple):
 def of_timing(packets: Packets, origin: int) -> Iterator[Notice]:
     """Where PTS and PCR do not go together."""
     for strange in strange_of(packets):
-        frame = frame_in(strange.pts, origin)
-        time = time_of(frame) if frame < FRAMES_OF_A_DAY else None
+        time = time_in(strange.pts, origin)
         where = f"from {time} on" if time else f"from PTS {strange.pts} on"
         yield Notice(f"pts_{strange.kind}", f"{where} PTS of the Teletext {SAID[strange.kind]}, "
                      f"by up to {abs(strange.worst) / SECOND:.2f} s: {strange.number} of "

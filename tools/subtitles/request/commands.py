@@ -8,7 +8,6 @@ import os
 import re
 import shutil
 import sys
-import threading
 import time
 from typing import Callable, TextIO
 
@@ -34,7 +33,6 @@ class CommandWords:
             folder = "."
         self.folder = folder
         self.program_word = program or self.beside()
-        self.program_words = ["-p", program] if program else []
         path = os.path.abspath(program or os.path.join(TOP, "subttx"))
         if os.path.isdir(path) or not os.access(path, os.X_OK):
             raise Stop(f"{self.program_word} is no program")
@@ -111,13 +109,6 @@ class NamesOfList:
     def line(self, number: int) -> str:
         """The name of a line that is no pair; in a list that is edited there may be others."""
         return self.numbered(f"line {number}")
-
-    def take(self, name: str) -> str:
-        """A name that was given before, and is given to nobody else; answers it."""
-        own, _, number = name.rpartition("~")
-        own, count = (own, int(number)) if own and number.isdecimal() else (name, 1)
-        self.counts[own] = max(self.counts[own], count)
-        return name
 
     def numbered(self, name: str) -> str:
         """A name, from the second one on with its number."""
@@ -272,15 +263,13 @@ class Speech:
         self.last, self.listed = "", 0
         self.is_quiet = False  # until the verdict comes
         self.at_end: Callable[[], None] = lambda: None  # what is done before the verdict's line
-        self.lock = threading.RLock()  # a feed is heard beside the program that judges it
 
     def say(self, line: str) -> None:
         """A line of what is done."""
-        with self.lock:
-            self.progress.clear()
-            self.last = line
-            if not self.is_quiet:
-                self.put(shown(line), self.out)
+        self.progress.clear()
+        self.last = line
+        if not self.is_quiet:
+            self.put(shown(line), self.out)
 
     @staticmethod
     def put(line: str, out: TextIO) -> None:
@@ -293,14 +282,12 @@ class Speech:
 
     def tell(self, line: str) -> None:
         """A line on standard error, under the name of the tool, after what was said before it."""
-        with self.lock:
-            self.progress.clear()
-            tell(line)
+        self.progress.clear()
+        tell(line)
 
     def show(self, make_line: Callable[[], str]) -> None:
         """Show the progress, on a terminal."""
-        with self.lock:
-            self.progress.show(make_line)
+        self.progress.show(make_line)
 
     def command(self, line: str) -> None:
         """A command, as it would be typed; what it lists is said then."""

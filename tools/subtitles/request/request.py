@@ -267,20 +267,6 @@ def option_words(asked: Any) -> list[list[str]]:
                       if asked.profile else one.default) for one in OPTIONS]
 
 
-def check_words(asked: Any, is_file: bool = False) -> list[str]:
-    """Those that `check` takes too, as a person would type them there; of a subtitle file alone
-    those that change the verdict on it."""
-    return [word for one in OPTIONS
-            if one.of_check is not NOT and (ALONE in one.modes or not is_file)
-            for word in one.words(one.value_in(asked), one.of_check)]
-
-
-def words_of_pages(asked: Any) -> list[str]:
-    """Those that change the pages that are due, for `schedule`."""
-    return [word for one in OPTIONS if one.of_pages
-            for word in one.words(one.value_in(asked), one.of_check)]
-
-
 def members() -> list[Member]:
     """Their members of a JSON result."""
     return [member for one in OPTIONS if (member := one.member)]
@@ -395,19 +381,21 @@ class Request:
                 and one.words(one.value_in(self), one.default) and self.profile
                 and self.profile.value(one.field, None) == one.value_in(self)]
 
-    def of_check(self) -> Request:
-        """The same as `check` is asked: for no pace it has no word."""
-        return dataclasses.replace(
-            self, pace_word=None if self.pace_word == NONE else self.pace_word)
-
     def words_of_pages(self) -> list[str]:
-        """The options of `check` that say how pages are drawn that are due."""
-        return words_of_pages(self.of_check())
+        """The options that change the pages that are due, for `schedule`."""
+        return self.words_of([one for one in OPTIONS if one.of_pages])
 
     def check_words(self, is_file: bool = False) -> list[str]:
-        """The options of `check` that a person would type, but for the origin; of a subtitle file
-        alone those that change the verdict on it."""
-        return check_words(self.of_check(), is_file)
+        """The options that `check` takes too, as a person would type them there, but for the
+        origin; of a subtitle file alone those that change the verdict on it."""
+        return self.words_of([one for one in OPTIONS if one.of_check is not NOT
+                              and (ALONE in one.modes or not is_file)])
+
+    def words_of(self, options: Iterable[Option]) -> list[str]:
+        """Some options for the program, which has no word for no pace."""
+        asked = dataclasses.replace(
+            self, pace_word=None if self.pace_word == NONE else self.pace_word)
+        return [word for one in options for word in one.words(one.value_in(asked), one.of_check)]
 
 
 def pair_options(names: argparse.Namespace) -> dict[str, Any]:

@@ -9,11 +9,11 @@ import json
 import os
 import time
 import xml.etree.ElementTree as tree
-from typing import Any, Collection, Iterable, Iterator, NamedTuple, Sequence
+from typing import Any, Callable, Iterable, Iterator, NamedTuple, Sequence
 
 from ..clock.start import RECORDING
 from ..common.command_line import Stop, error_line, shown_lines
-from ..common.files import bounded_bytes, first_bytes, is_replaced, result_file
+from ..common.files import bounded_bytes, first_bytes, is_replaced, result_file, whole_file
 from ..common.program import MadeWith
 from ..common.shapes import Listed, Member, Members
 from ..judging.status import ACCEPTED, NOT_JUDGED, RELATIVE, STATUSES, is_of_call
@@ -118,6 +118,13 @@ def may_take(path: str, begins: bytes = b"{") -> bool:
     if not is_replaced(path) or not os.path.exists(path):
         return True
     return first_bytes(path, len(begins)) in (begins, b"")
+
+
+def put_file(path: str | None, pieces: Callable[[], Iterable[bytes]]) -> None:
+    """Writes a file that is asked for, whole or not at all."""
+    if path is not None:
+        with whole_file(path) as file:
+            file.writelines(pieces())
 
 
 def object_text(known: dict[str, Any]) -> bytes:
@@ -228,14 +235,11 @@ def causes_in(known: dict[str, Any]) -> dict[str, int]:
     return {name: count for name, count in known["cause_counts"].items() if count} | dict(counts)
 
 
-def objects_in(folder: str, besides: Collection[str] = ()
-               ) -> Iterator[tuple[str, dict[str, Any] | None]]:
-    """The files of a folder that can hold an object, in the order of their names, besides those of
-    some pairs."""
+def objects_in(folder: str) -> Iterator[tuple[str, dict[str, Any] | None]]:
+    """The files of a folder that can hold an object, in the order of their names."""
     for file in sorted(os.listdir(folder)):
         path, name = os.path.join(folder, file), file.removesuffix(ENDING)
-        if name != file and name not in besides and not file.startswith(".") \
-                and os.path.isfile(path):
+        if name != file and not file.startswith(".") and os.path.isfile(path):
             yield path, object_at(path)
 
 

@@ -14,7 +14,7 @@ from ..judging.causes import NAMES, Wording, counts_of
 from ..judging.cues import RIGHT, UNSURE, WAIVED, WRONG, subtitle_values
 from ..judging.faults import faults_of
 from ..judging.part import Part
-from ..judging.status import ACCEPTED, NOT_JUDGED, POSSIBLE, RELATIVE, STATUSES, WAIVED
+from ..judging.status import ACCEPTED, NOT_JUDGED, POSSIBLE, RELATIVE, STATUSES
 from ..judging.verdict import Verdict
 from ..request.request import CHOICES, members
 

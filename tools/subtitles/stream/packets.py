@@ -5,7 +5,7 @@ import array
 import dataclasses
 import functools
 import itertools
-from typing import BinaryIO, Iterable, Iterator, NamedTuple, Sequence
+from typing import Iterable, Iterator, NamedTuple, Sequence
 
 from ..common.times import TICKS, count_until, ticks_between, wrapped
 
@@ -38,6 +38,16 @@ class Run(NamedTuple):
 
     def pts_of(self, number: int) -> int | None:
         return None if self.pts is None else wrapped(self.pts + self.step * (number - self.first))
+
+    def each_pts(self) -> Sequence[int]:
+        """The PTS of each of them; nothing where they have none."""
+        if self.pts is None or self.length == 1:  # as most have where PES packets differ
+            return [] if self.pts is None else [self.pts]
+        return [wrapped(self.pts + self.step * at) for at in range(self.length)]
+
+    def part(self, first: int, length: int) -> Run:
+        """Some of them, from one with a number on."""
+        return self._replace(first=first, length=length, pts=self.pts_of(first))
 
     @property
     def end(self) -> int:
@@ -132,7 +142,7 @@ class Packets:
             if begin == run.first and end == run.end:  # as most are
                 yield run
             elif begin < end:
-                yield run._replace(first=begin, length=end - begin, pts=run.pts_of(begin))
+                yield run.part(begin, end - begin)
 
     def pts_at(self, number: int) -> int | None:
         """The PTS of one of them, where it has one."""
@@ -147,8 +157,8 @@ class Packets:
     def pts(self, inside: Range | None = None, does: str = "") -> Iterator[int]:
         """The PTS of some of them, of those that do something."""
         for run in self.inside(*inside) if inside else self.runs:
-            if run.pts is not None and does in run.does:
-                yield from (wrapped(run.pts + run.step * at) for at in range(run.length))
+            if does in run.does:
+                yield from run.each_pts()
 
     def timed(self) -> Iterator[Run]:
         return (run for run in self.runs if run.pts is not None)
@@ -198,99 +208,15 @@ def subcode_words(subcodes: Sequence[str], page: str) -> str:
         f"{subcodes[-1]}"
 
 
-# Jumps of a counter that a transport stream announces (ISO/IEC 13818-1, discontinuity_indicator).
-#
-# There the counter of a PID tells no loss. A later `survey` tells the PES packets behind each; of
-# an earlier one, where more time passes than usual from a PES packet to the next one, the packets
-# of the PID are looked at themselves.
+# Jumps of a counter that a transport stream announces (ISO/IEC 13818-1, discontinuity_indicator):
+# there the counter of a PID shows no loss.
 
-SYNC, ADAPTATION, ANNOUNCED, BEGINS = 0x47, 0x20, 0x80, 0x40
-PACKET, HEAD, IN_A_ROW = 188, 14, 5
-AT_A_TIME = 1 << 22
-IN_A_PIECE = 4096  # TS packets, at most, that are looked at at once
-PTS_AT = slice(9, 14)  # in a PES header
-
-
-def late_pairs(packets: Packets, inside: Range, usual: int) -> dict[int, int]:
-    """Of each PES packet that comes more frames after the one before than is usual the PTS, with
-    that of the one before."""
+def announced_jumps(packets: Packets, inside: Range, usual: int) -> list[PTSPair]:
+    """Return the PTS before and after each announced jump of the counter at which a PES packet
+    comes more frames after the one before than is usual."""
     pts = array.array("q", packets.pts(inside))
-    return {after: before for before, after in zip(pts, itertools.islice(pts, 1, None))
+    late = {after: before for before, after in zip(pts, itertools.islice(pts, 1, None))
             if ticks_between(before, after) > usual * TICKS}
-
-
-def jumps_told(packets: Packets, inside: Range, usual: int) -> list[PTSPair]:
-    """Where a jump is announced of a PID, as it is told, and a PES packet comes more frames after
-    the one before than is usual: the PTS of both."""
-    late = late_pairs(packets, inside, usual)
     seams = (packets.pts_at(number) for number in packets.seams
              if inside[0] <= number <= inside[1])
     return [(late[one], one) for one in dict.fromkeys(seams) if one in late]
-
-
-def jumps_at(packets: Packets, inside: Range, usual: int, path: str, size: int) \
-        -> list[PTSPair]:
-    """The same where none is told, by the TS packets; `size` is from one to the next."""
-    late = late_pairs(packets, inside, usual)
-    if not late:
-        return []
-    with open(path, "rb") as file:
-        jumps = [one for one in announced_in(packets_in(file, size, packets.pid)) if one in late]
-    return [(late[one], one) for one in dict.fromkeys(jumps)]
-
-
-def announced_in(several: Iterator[bytes]) -> Iterator[int]:
-    """Of the TS packets of a PID the PTS of each PES packet that begins where a jump is announced,
-    or next."""
-    has_jump = False
-    for packet in several:
-        has_field = bool(packet[3] & ADAPTATION)
-        has_jump = has_jump or has_field and packet[4] > 0 and bool(packet[5] & ANNOUNCED)
-        begin = 5 + packet[4] if has_field else 4
-        if has_jump and packet[1] & BEGINS and begin + HEAD <= PACKET:
-            has_jump = False
-            yield pts_of(packet[begin:begin + HEAD])
-
-
-def pts_of(header: bytes) -> int:
-    """The PTS in a PES header."""
-    one, two, three, four, five = header[PTS_AT]
-    return (one >> 1 & 7) << 30 | two << 22 | three >> 1 << 15 | four << 7 | five >> 1
-
-
-def packets_in(file: BinaryIO, size: int, pid: int) -> Iterator[bytes]:
-    """The TS packets of a PID."""
-    is_low = bytes(byte == pid & 0xFF for byte in range(256))
-    data, is_over = b"", False
-    while not is_over:
-        more = file.read(AT_A_TIME)
-        is_over, data, at = not more, data + more, 0
-        while True:  # one row of packets after another, between which something is damaged
-            at = begin_of(data, size, at)
-            left = (len(data) - at) // size - (0 if is_over else IN_A_ROW)
-            count = min(max(left, 0), IN_A_PIECE)
-            syncs = data[at:at + count * size:size]
-            good = len(syncs) - len(syncs.lstrip(bytes([SYNC])))
-            low = data[at + 2:at + good * size:size].translate(is_low)
-            place = low.find(1)
-            while place >= 0:
-                begin = at + place * size
-                if data[begin + 1] & 0x1F == pid >> 8:
-                    yield data[begin:begin + PACKET]
-                place = low.find(1, place + 1)
-            if not count:
-                break
-            at += good * size + (good < count)
-        data = data[at:]
-
-
-def begin_of(data: bytes, size: int, at: int) -> int:
-    """Where the first of some TS packets in a row begins, from a place on; the end where none does.
-    """
-    at = data.find(SYNC, at)
-    while at >= 0:
-        row = data[at:at + size * IN_A_ROW:size]
-        if row == bytes([SYNC]) * len(row):
-            return at
-        at = data.find(SYNC, at + 1)
-    return len(data)

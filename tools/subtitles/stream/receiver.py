@@ -7,8 +7,8 @@ import functools
 import itertools
 from typing import Iterable, Iterator, NamedTuple, Sequence
 
-from ..common.times import FRAMES_OF_A_DAY, NO_FRAME, Span, count_until, frames_at, wrapped
-from ..formats.teletext import CONTROL_BITS, Page, has_bit
+from ..common.times import FRAMES_OF_A_DAY, NO_FRAME, Span, count_until, frames_at, rising_rows
+from ..formats.teletext import Page
 from .packets import (
     CLOSED, ERASE, HEADER, NO_RANGE, OPEN, Packets, Range, Run, STRAY, Texts, headers_in)
 from .ranges import cut_of
@@ -41,11 +41,6 @@ class State(NamedTuple):
 TUNED = State(False, False, None, OLD_PAGE, None)
 
 
-def control_bits(header: bytes) -> list[str]:
-    """The names of the control bits that are set, C4 to C14."""
-    return [f"C{bit}" for bit in CONTROL_BITS if has_bit(header, bit)]
-
-
 def national_option(header: bytes) -> int:
     """C12, C13 and C14 as a number: 0 is English, 4 German."""
     return header[7] >> 1
@@ -54,95 +49,6 @@ def national_option(header: bytes) -> int:
 # The pages that a receiver holds at the ends of frames, and when each is open.
 
 CLEARED = bytes(0x20 if code in (OLD, HIT) else code for code in range(256))
-
-
-class Held:
-    """The pages, each with the frame from whose end on it is held; frames rise. `states` are all
-    that a receiver holds, each after a PES packet: `stored` are their frames, and `behind` the
-    numbers of the PES packets. `turns` are the frames at whose ends the page turns open, or closed.
-    """
-
-    def __init__(self) -> None:
-        self.forget()
-
-    def forget(self) -> None:
-        """Holds nothing."""
-        self.frames, self.pages = array.array("i"), list[Rows]()
-        self.states, self.stored, self.behind = list[State](), array.array("i"), array.array("q")
-        self.turns = array.array("i")
-        self.__dict__.pop("when", None)
-
-    @functools.cached_property
-    def when(self) -> dict[Rows, array.array[int]]:
-        """The frames at which a page came."""
-        when: dict[Rows, array.array[int]] = {}
-        for frame, page in zip(self.frames, self.pages):
-            when.setdefault(page, array.array("i")).append(frame)
-        return when
-
-    def store(self, frame: int, number: int, state: State) -> None:
-        """That is held from the end of a frame on, after a PES packet with a number."""
-        self.stored.append(frame)
-        self.behind.append(number)
-        self.states.append(state)
-
-    def alone(self) -> Held:
-        """The same without what it was heard of."""
-        held = Held()
-        held.frames, held.pages, held.turns = self.frames, self.pages, self.turns
-        held.states, held.stored, held.behind = self.states, self.stored, self.behind
-        return held
-
-    def turn(self, frame: int) -> None:
-        """The page is open from the end of a frame on, or no more."""
-        if self.turns and self.turns[-1] == frame:
-            self.turns.pop()
-        else:
-            self.turns.append(frame)
-
-    def change(self, frame: int, page: Rows) -> None:
-        """Another page is held from a frame on, unless it is the same once more."""
-        self.__dict__.pop("when", None)
-        if self.frames and self.frames[-1] == frame:
-            self.frames.pop()
-            self.pages.pop()
-        if not self.pages or self.pages[-1] != page:
-            self.frames.append(frame)
-            self.pages.append(page)
-
-    def number_at(self, frame: int) -> int:
-        """The number of the page that is held at the end of a frame; -1 before the first."""
-        return bisect.bisect_right(self.frames, frame) - 1
-
-    def page_at(self, frame: int) -> Rows:
-        """That page; a blank one before the first."""
-        number = self.number_at(frame)
-        blank: Rows = BLANK_PAGE
-        return self.pages[number] if number >= 0 else blank
-
-    def state_at(self, frame: int) -> State:
-        """All that is held at the end of a frame."""
-        at = bisect.bisect_right(self.stored, frame) - 1
-        return self.states[at] if at >= 0 else TUNED
-
-    def state_after(self, number: int) -> State:
-        """All that is held after the PES packet with a number."""
-        at = bisect.bisect_right(self.behind, number) - 1
-        return self.states[at] if at >= 0 else TUNED
-
-    def numbers(self, begin: int, end: int) -> Iterator[int]:
-        """The numbers of the pages that are held at frames from `begin` to the one before `end`."""
-        number = max(self.number_at(begin), 0)
-        while number < len(self.frames) and self.frames[number] < end:
-            yield number
-            number += 1
-
-    def closed_from(self, frame: int) -> int | None:
-        """The first frame from one on at whose end the page is not open."""
-        at = bisect.bisect_right(self.turns, frame)
-        if at % 2 == 0:
-            return frame
-        return self.turns[at] if at < len(self.turns) else None
 
 
 def cleared(rows: Rows) -> Rows:
@@ -159,84 +65,64 @@ PAUSE = 2  # frames in a row without a PES packet: more are a pause of what send
 FEW = 20  # PES packets at least for each pause, of one that does
 
 
-class HeardRun(NamedTuple):
-    """PES packets that were heard one after another and do the same, with the frame of each."""
-
-    run: Run
-    frames: Sequence[int]
-
-
 class Meeting:
-    """Spans, of which some may meet: whether one of them has a frame of some. They are sorted once
-    for all questions, and again where there are more."""
+    """Spans, of which some may meet, sorted for questions whether one has a frame of some others.
+    """
 
-    def __init__(self) -> None:
-        self.begins, self.reach = list[int](), list[int]()  # of each, and of those before it
+    def __init__(self, spans: Iterable[Span]) -> None:
+        rising = sorted(spans)
+        self.begins = [span.first for span in rising]
+        lasts: list[int] = [span.last for span in rising]
+        self.reach = [*itertools.accumulate(lasts, lambda one, other: max(one, other))]
 
-    def has(self, spans: Sequence[Span], first: int, last: int) -> bool:
-        """Whether one of these has a frame from one to another."""
-        if len(spans) != len(self.begins):
-            rising = sorted(spans)
-            self.begins = [span.first for span in rising]
-            lasts: list[int] = [span.last for span in rising]
-            self.reach = list(itertools.accumulate(lasts, lambda one, other: max(one, other)))
+    def has(self, first: int, last: int) -> bool:
+        """Whether one of them has a frame from one to another."""
         at = bisect.bisect_right(self.begins, last)
         return at > 0 and self.reach[at - 1] >= first
 
 
-class Order:
+class ReceivedPackets:
     """The PES packets that are heard, run by run: `begins` and `ends` are the frames of the first
     and the last of each run, `first` and `last` those of all. `uneven` are all frames of a run, by
     its place, where these are not one after another.
 
     `doubts` are frames of which not all is known that was sent: from the PES packet before one that
     is not heard, as a mark is, to the next one; `lost` others. `halt` is the number of the first
-    PES packet whose frame is before that of the one before, or less than so many behind it:
-    `least`; from there on nothing is heard, and `falls` are the frames of all such.
+    PES packet whose frame is before that of the one before: from there on nothing is heard.
     """
 
-    def __init__(self, least: int = 0, lost: Iterable[Span] = ()) -> None:
-        self.least = least
-        self.lost = [*lost]  # frames of which something is lost, whoever knows it
-        self.of_lost, self.of_doubts = Meeting(), Meeting()
+    def __init__(self, lost: Iterable[Span] = ()) -> None:
+        self.lost = Meeting(lost)  # frames of which something is lost, whoever knows it
         self.forget()
 
     def forget(self) -> None:
         """Has heard nothing."""
-        self.heard: list[Run] = []
+        self.heard, self.uneven = list[Run](), dict[int, Sequence[int]]()
         self.begins, self.ends = array.array("i"), array.array("i")
-        self.uneven: dict[int, Sequence[int]] = {}
         self.count = 0  # PES packets that are heard
-        self.first = self.last = self.before = NO_FRAME
+        self.first = self.last = NO_FRAME
         self.halt: int | None = None
-        self.falls: list[int] = []
         self.is_doubted = False
-        self.doubts: list[Span] = []
-        self.pauses: list[Span] = []  # frames without a PES packet
+        self.doubts, self.pauses = list[Span](), list[Span]()  # pauses: without a PES packet
 
-    def goes_on(self, heard: HeardRun) -> bool:
+    def goes_on(self, run: Run, frames: Sequence[int]) -> bool:
         """Takes PES packets whose frames go on; whether they come after those before them."""
-        first = heard.frames[0]
-        if self.halt is None and first < self.last + self.least:
-            self.halt, self.before = heard.run.first, self.last
+        if self.halt is None and frames[0] < self.last:
+            self.halt = run.first
         if self.halt is not None:
-            if first < self.before + self.least:
-                self.falls.append(first)
-            self.before = heard.frames[-1]
             return False
         if self.is_doubted:
-            self.doubts.append(Span(max(self.last, 0), first))
+            self.doubts.append(Span(max(self.last, 0), frames[0]))
             self.is_doubted = False
-        if self.first == NO_FRAME:
-            self.first = first
-        self.pauses += pauses_in(self.last, heard.frames)
-        if not isinstance(heard.frames, range):
-            self.uneven[len(self.heard)] = heard.frames
-        self.heard.append(heard.run)
-        self.begins.append(first)
-        self.ends.append(heard.frames[-1])
-        self.count += len(heard.frames)
-        self.last = heard.frames[-1]
+        self.pauses += pauses_in(self.last, frames)
+        if not isinstance(frames, range):
+            self.uneven[len(self.heard)] = frames
+        self.heard.append(run)
+        self.begins.append(frames[0])
+        self.ends.append(frames[-1])
+        self.count += len(frames)
+        self.first = frames[0] if self.first == NO_FRAME else self.first
+        self.last = frames[-1]
         return True
 
     def frames_heard(self, at: int) -> Sequence[int]:
@@ -250,27 +136,22 @@ class Order:
         is_steady = len(self.pauses) * FEW <= self.count
         return self.pauses[at] if is_steady and at >= 0 and self.pauses[at].last >= frame else None
 
+    @functools.cached_property
+    def doubted(self) -> Meeting:
+        """The doubts, once all is heard."""
+        return Meeting(self.doubts)
+
     def is_seen(self, first: int, last: int) -> bool:
         """Whether all is known that was sent in some frames."""
         is_known = self.halt is None or last <= self.last
-        return is_known and not self.of_doubts.has(self.doubts, first, last) and \
-            not self.is_lost(first, last)
-
-    def is_lost(self, first: int, last: int) -> bool:
-        """Whether something of some frames is lost."""
-        return self.of_lost.has(self.lost, first, last)
+        return is_known and not self.doubted.has(first, last) and not self.lost.has(first, last)
 
     def members(self, frame: int) -> list[Run]:
         """The PES packets of a frame, each as a run of its own."""
-        at = bisect.bisect_right(self.begins, frame)
-        runs: list[Run] = []
-        while at and self.ends[at - 1] >= frame:
-            at -= 1
-            run, frames = self.heard[at], self.frames_heard(at)
-            places = range(bisect.bisect_left(frames, frame), bisect.bisect_right(frames, frame))
-            runs[:0] = [run._replace(first=run.first + place, length=1,
-                                     pts=run.pts_of(run.first + place)) for place in places]
-        return runs
+        first, end = bisect.bisect_left(self.ends, frame), bisect.bisect_right(self.begins, frame)
+        return [self.heard[at].part(self.heard[at].first + place, 1) for at in range(first, end)
+                for frames in [self.frames_heard(at)] for place in range(
+                    bisect.bisect_left(frames, frame), bisect.bisect_right(frames, frame))]
 
     def frame_before(self, number: int) -> int | None:
         """The frame that was heard last before a PES packet with a number."""
@@ -290,12 +171,10 @@ class Order:
 
 def pauses_in(before: int, frames: Sequence[int]) -> Iterator[Span]:
     """The frames without a PES packet up to each of some, where these are a pause."""
-    if before != NO_FRAME and frames[0] - before - 1 > PAUSE:
-        yield Span(before + 1, frames[0] - 1)
-    if not isinstance(frames, range):
-        for first, second in zip(frames, frames[1:]):
-            if second - first - 1 > PAUSE:
-                yield Span(first + 1, second - 1)
+    frames = frames[:1] if isinstance(frames, range) else frames
+    for first, second in zip([before if before != NO_FRAME else frames[0], *frames], frames):
+        if second - first - 1 > PAUSE:
+            yield Span(first + 1, second - 1)
 
 
 # What a receiver holds of a page at the ends of frames, by what `survey` tells of PES packets.
@@ -307,31 +186,35 @@ def pauses_in(before: int, frames: Sequence[int]) -> Iterator[Span]:
 LEAST = 250  # frames around those that are due in which more is looked for
 
 
-class Timeline(Order, Held):
-    """The pages that are held, by the PES packets that are heard; `sendings` are the frames with a
-    header of the page, `erasings` those with one that erases it. Where PES packets go back, what
-    came before the frame `begin`, near which a programme is due, is forgotten. Where each PES
-    packet `is_single` in its frame, one of the same frame goes back too.
+class Timeline(ReceivedPackets):
+    """The pages that are held, by the PES packets that are heard: `pages`, each with the one of
+    `frames` from whose end on it is held; `states` are all that a receiver holds, before the first
+    PES packet and after others, whose frames are `stored`, and whose numbers `behind`. `turns` are
+    the frames at whose ends the page turns open, or closed; `sendings` those with a header of the
+    page, `erasings` with one that erases it. Where PES packets go back, what came before the frame
+    `begin`, near which a programme is due, is forgotten. The first one came at `came`, where that
+    is known.
     """
 
     def __init__(self, packets: Packets, page: Page, origin: int, within: int = 0,
                  inside: Range | None = None, begin: int = NO_FRAME, came: int = NO_FRAME,
-                 is_single: bool = False, lost: Iterable[Span] = ()) -> None:
+                 lost: Iterable[Span] = ()) -> None:
         self.packets, self.page, self.origin, self.within = packets, page, origin, within
         self.inside = (0, packets.count - 1) if inside is None else inside
         self.begin, self.came = begin, came
         self.told: Rows = OLD_PAGE  # what is held by all that was told, of the whole recording
         self.is_erased = False  # some time
-        Order.__init__(self, int(is_single and not within), lost)
+        super().__init__(lost)
         self.hear_all(dict(packets.held), dict(packets.strays))
 
     def forget(self) -> None:
         """Holds nothing, and has heard nothing."""
-        Order.forget(self)
-        Held.forget(self)
-        self.state, self.is_behind = TUNED, False
+        super().forget()
+        self.frames, self.pages = array.array("i"), list[Rows]()
+        self.states, self.stored, self.behind = [TUNED], array.array("i"), array.array("q")
+        self.turns, self.sendings, self.erasings = (array.array("i") for _ in range(3))
         self.strays: list[tuple[Span, Texts]] = []  # rows for which the page was not open
-        self.sendings, self.erasings = array.array("i"), array.array("i")
+        self.is_behind = False
 
     # How it is heard.
 
@@ -348,51 +231,43 @@ class Timeline(Order, Held):
             self.hear_run(run, held.get(run.first), stray)
 
     def hear_run(self, run: Run, texts: Texts | None, stray: Texts = ()) -> None:
-        """Hears PES packets that do the same, with the rows that are told behind the first."""
+        """Hears PES packets that do the same, with the rows that are told behind the first. What is
+        told after one that is not heard need not be what is held."""
         is_told = texts is not None
         self.is_erased = self.is_erased or ERASE in run.does
         if texts is not None:
             self.told = held_rows(texts, self.is_erased)
-        if run.pts is None or run.fault:
-            self.pass_over(run, is_told)
-            return
-        for heard in heard_of(run, frames_of(run, self.origin, self.within), self.least):
-            if heard.frames[0] == NO_FRAME:
-                self.pass_over(heard.run, is_told)
+        all_frames = frames_at(() if run.fault else run.each_pts(), self.origin, self.within)
+        for place, frames in rising_rows(all_frames) or [(0, [NO_FRAME])]:
+            if frames[0] != NO_FRAME:
+                self.hear(run.part(run.first + place, len(frames)), frames, is_told, stray)
             else:
-                self.hear(heard, is_told, stray)
+                self.is_doubted = True
+                self.is_behind = self.is_behind or is_told or is_of_page(run)
 
-    def pass_over(self, run: Run, is_told: bool) -> None:
-        """Does not hear PES packets: what is told after them need not be what is held."""
-        self.is_doubted = True
-        self.is_behind = self.is_behind or is_told or HEADER in run.does or CLOSED in run.does
-
-    def hear(self, heard: HeardRun, is_told: bool, stray: Texts) -> None:
+    def hear(self, run: Run, frames: Sequence[int], is_told: bool, stray: Texts) -> None:
         """Hears PES packets whose frames go on, after others."""
-        first, last = heard.frames[0], heard.frames[-1]
-        if self.halt is None and first < self.last < self.begin:
+        if self.halt is None and frames[0] < self.last < self.begin:
             self.forget()
         is_first = self.first == NO_FRAME
-        if not self.goes_on(heard):
+        if not self.goes_on(run, frames):
             return
         if is_first and self.came != NO_FRAME:
             self.first = self.came
-        for letter, frames in ((HEADER, self.sendings), (ERASE, self.erasings)):
-            if letter in heard.run.does:
-                frames.extend(frame for frame in dict.fromkeys(heard.frames)
-                              if not frames or frame > frames[-1])
-        if STRAY in heard.run.does:
-            self.strays.append((Span(first, last), stray))
-        self.take(heard.run, first, is_told)
+        for letter, sent in ((HEADER, self.sendings), (ERASE, self.erasings)):
+            if letter in run.does:
+                sent.extend(frame for frame in dict.fromkeys(frames)
+                            if not sent or frame > sent[-1])
+        if STRAY in run.does:
+            self.strays.append((Span(frames[0], frames[-1]), stray))
+        if (self.states[-1].is_heard or HEADER in run.does) and (is_of_page(run) or is_told):
+            self.take(run, frames[0], is_told)
 
     def take(self, run: Run, frame: int, is_told: bool) -> None:
         """Takes what a PES packet does, as the first of some that do the same."""
-        before, is_of_page = self.state, HEADER in run.does or CLOSED in run.does
-        if not (before.is_heard or HEADER in run.does) or not (is_of_page or is_told):
-            return
+        before = self.states[-1]
         self.is_behind = self.is_behind and not (ERASE in run.does or is_told)
         rows = before.rows if self.is_behind else self.told
-        is_open = OPEN in run.does
         header, screen, held = before.header, before.screen, before.rows
         headers = iter(headers_in(run.control))
         for at, letter in enumerate(run.does):
@@ -402,19 +277,84 @@ class Timeline(Order, Held):
                 held = BLANK_PAGE
             elif letter == CLOSED and header:
                 screen = rows if at > run.does.rfind(HEADER) else held, header
-        self.state = State(True, is_open, header, rows, screen)
-        if self.state == before:
+        after = State(True, OPEN in run.does, header, rows, screen)
+        if after == before:
             return
-        self.store(frame, run.first, self.state)
-        if is_open != len(self.turns) % 2:
+        self.states.append(after)
+        self.stored.append(frame)
+        self.behind.append(run.first)
+        if after.is_open != len(self.turns) % 2:
             self.turn(frame)
         if rows != before.rows:
             self.change(frame, cleared(rows))
+
+    def turn(self, frame: int) -> None:
+        """The page is open from the end of a frame on, or no more."""
+        if self.turns and self.turns[-1] == frame:
+            self.turns.pop()
+        else:
+            self.turns.append(frame)
+
+    def change(self, frame: int, page: Rows) -> None:
+        """Another page is held from a frame on, unless it is the same once more."""
+        if self.frames and self.frames[-1] == frame:
+            self.frames.pop()
+            self.pages.pop()
+        if not self.pages or self.pages[-1] != page:
+            self.frames.append(frame)
+            self.pages.append(page)
+
+    # What is held.
+
+    @functools.cached_property
+    def when(self) -> dict[Rows, array.array[int]]:
+        """The frames at which a page came, once all is heard."""
+        when: dict[Rows, array.array[int]] = {}
+        for frame, page in zip(self.frames, self.pages):
+            when.setdefault(page, array.array("i")).append(frame)
+        return when
+
+    def number_at(self, frame: int) -> int:
+        """The number of the page that is held at the end of a frame; -1 before the first."""
+        return bisect.bisect_right(self.frames, frame) - 1
+
+    def page_at(self, frame: int) -> Rows:
+        """That page; a blank one before the first."""
+        number = self.number_at(frame)
+        blank: Rows = BLANK_PAGE
+        return self.pages[number] if number >= 0 else blank
+
+    def state_at(self, frame: int) -> State:
+        """All that is held at the end of a frame."""
+        return self.states[bisect.bisect_right(self.stored, frame)]
+
+    def state_after(self, number: int) -> State:
+        """All that is held after the PES packet with a number."""
+        return self.states[bisect.bisect_right(self.behind, number)]
+
+    def numbers(self, begin: int, end: int) -> Iterator[int]:
+        """The numbers of the pages that are held at frames from `begin` to the one before `end`."""
+        number = max(self.number_at(begin), 0)
+        while number < len(self.frames) and self.frames[number] < end:
+            yield number
+            number += 1
 
     def stretch(self, number: int) -> Span:
         """From when to when a page is held."""
         is_last = number + 1 == len(self.frames)
         return Span(self.frames[number], self.last if is_last else self.frames[number + 1] - 1)
+
+    def closed_from(self, frame: int) -> int | None:
+        """The first frame from one on at whose end the page is not open."""
+        at = bisect.bisect_right(self.turns, frame)
+        if at % 2 == 0:
+            return frame
+        return self.turns[at] if at < len(self.turns) else None
+
+
+def is_of_page(run: Run) -> bool:
+    """Whether PES packets have a header of the page, or one that closes it."""
+    return HEADER in run.does or CLOSED in run.does
 
 
 def timeline_near(packets: Packets, page: Page, origin: int, within: int, span: Span, every: int,
@@ -426,34 +366,6 @@ def timeline_near(packets: Packets, page: Page, origin: int, within: int, span: 
                  origin, None, within, inside)
     return Timeline(packets, page, origin, within, cut.range or NO_RANGE, span.first,
                     NO_FRAME if cut.came is None else cut.came, lost=lost)
-
-
-def frames_of(run: Run, origin: int, within: int) -> Sequence[int]:
-    """The frame of each PES packet of a run."""
-    assert run.pts is not None
-    pts = run.pts
-    return frames_at([wrapped(pts + run.step * at) for at in range(run.length)], origin, within)
-
-
-def heard_of(run: Run, frames: Sequence[int], least: int) -> Iterator[HeardRun]:
-    """A run in parts: in each all have a frame, at least so many after the one before, or none."""
-    begin = 0
-    if isinstance(frames, range):
-        yield HeardRun(run, frames)
-        return
-    for at in range(1, len(frames)):
-        before, frame = frames[at - 1], frames[at]
-        if NO_FRAME in (before, frame) and before != frame or frame < before + least > NO_FRAME:
-            yield part_of(run, frames, begin, at)
-            begin = at
-    yield part_of(run, frames, begin, len(frames))
-
-
-def part_of(run: Run, frames: Sequence[int], begin: int, end: int) -> HeardRun:
-    """Some PES packets of a run."""
-    first = run.first + begin
-    return HeardRun(run._replace(first=first, length=end - begin, pts=run.pts_of(first)),
-                 frames[begin:end])
 
 
 def held_rows(texts: Texts, is_erased: bool) -> Rows:

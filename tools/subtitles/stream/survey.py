@@ -2,120 +2,14 @@
 from __future__ import annotations
 
 import dataclasses
-import math
-import os
-import statistics
 import subprocess
 import sys
-from typing import Callable, IO, Iterable, Iterator, NamedTuple, Sequence
+from typing import Callable, Iterable, Iterator, NamedTuple
 
 from ..common.command_line import Unanswered, page_in, pid_name, shown, stream_words
-from ..common.times import TICKS, ticks_between, wrapped
 from ..formats.teletext import Page, page_name
 from .packets import Change, Clocked, Mark, PES, Packets, Run, Texts
-
-
-# Whether the pictures leave the Teletext.
-#
-# Once a second `survey` prints the lead of the Teletext: its PTS less the decoding time of the last
-# picture, with the number of that picture. If decoding times go on by more or less than the number
-# of pictures, and the lead changes by as much, the pictures leave the Teletext: viewers see what
-# follows early or late. If the lead stays, pictures were lost, or both clocks were set anew. If it
-# changes without such a step, the multiplexer changes its delay.
-#
-# A multiplexer sends Teletext sometimes before a picture and sometimes behind it. So the means of
-# some leads before and behind a step are compared, to a multiple of their standard error; if there
-# are many, also the least and the greatest.
-
-LOOKED_AT = (10, 30)  # lines on either side of a step; 30 only if 10 do not decide
-FEW = 5  # fewer lines tell less of their spread than the whole part does
-MANY = 20  # so many lines on either side are compared by least and greatest, too
-SURE = 2.5  # standard errors of a difference of means
-
-
-class VideoLead(NamedTuple):
-    """A PES packet of Teletext: its PTS, how many ticks that is ahead of the decoding time of the
-    last picture before it, and the number of that picture."""
-
-    pts: int
-    ticks: int
-    number: int
-
-
-class Departure(NamedTuple):
-    """A place where the pictures leave the Teletext, between the PES packets with PTS `since` and
-    `pts`: what follows is so many ticks early, or late if they are negative. `None`: unclear."""
-
-    pts: int
-    since: int
-    ticks: int | None
-
-
-def departures_of(leads: Sequence[VideoLead]) -> list[Departure] | None:
-    """Return where the pictures leave the Teletext, and where that is unclear, to a second; `None`
-    if their decoding times do not go on with their number."""
-    steps = steps_of(leads)
-    ends = [at for at, step in enumerate(steps, 1) if abs(step) * 4 >= TICKS]
-    if len(ends) * 2 > len(leads):
-        return None
-    rows = [[lead.ticks for lead in leads[begin:end]]
-            for begin, end in zip([0, *ends], [*ends, len(leads)])]
-    changes = [abs(after - before) for row in rows for before, after in zip(row, row[1:])]
-    typical = statistics.fmean(changes) if changes else TICKS
-    departures, before, between, ticks = [], rows[0], list[int](), 0
-    for end, row in zip(ends, rows[1:]):
-        ticks += steps[end - 1]
-        if len(row) == 1 and end != ends[-1]:
-            between += row
-            continue
-        left = left_by(before, row, ticks, typical)
-        if left == 0 and is_outside(between, before):
-            left = None  # they left and came back, or one time is damaged
-        if left != 0:
-            at = end - len(between)
-            departures.append(Departure(leads[end].pts, leads[at - 1].pts, left))
-        before, between, ticks = row, [], 0
-    return departures
-
-
-def steps_of(leads: Sequence[VideoLead]) -> list[int]:
-    """Return by how many ticks the decoding times go on more than usual for the number of pictures,
-    from each line to the next."""
-    times = [wrapped(lead.pts - lead.ticks) for lead in leads]
-    gone = [(ticks_between(first, second), after.number - before.number)
-            for first, second, before, after in zip(times, times[1:], leads, leads[1:])]
-    usual = statistics.median(ticks / count for ticks, count in gone) if gone else TICKS
-    return [round(ticks - usual * count) for ticks, count in gone]
-
-
-def is_outside(between: Iterable[int], before: Sequence[int]) -> bool:
-    """Return whether a lead is half a frame or more from all those before."""
-    half = TICKS // 2
-    return any(lead <= min(before) - half or lead >= max(before) + half for lead in between)
-
-
-def left_by(before: Sequence[int], after: Sequence[int], step: int, typical: float) -> int | None:
-    """Return by how many ticks the pictures leave the Teletext at a step of their clock, by the
-    leads before and behind it: nothing, the step, or the change of the leads if pictures were lost
-    there, too; `None` if that is unclear."""
-    limit, half = min(abs(step) or TICKS, TICKS) / 2, TICKS // 2
-    for most in LOOKED_AT:
-        old, new = before[-most:], after[:most]
-        moved = statistics.fmean(new) - statistics.fmean(old)
-        error = SURE * math.sqrt(sum(max(
-            statistics.variance(row) if len(row) > 1 else 0,
-            typical ** 2 if len(row) < FEW else 0) / len(row) for row in (old, new)))
-        for ticks in (0, step):
-            ends = [abs(end(new) - end(old) + ticks) * 2 for end in (min, max)]
-            is_sure = min(len(old), len(new)) >= MANY and max(ends) < limit
-            if abs(moved + ticks) + (0 if is_sure else error) < limit:
-                return ticks
-        if step and abs(moved) - error >= limit:
-            if abs(step + moved) <= min(limit + error, abs(step) / 4):
-                return step
-            if 0 <= step + moved <= abs(moved) / 2:
-                return -half * round(moved / half)
-    return None
+from .pictures import VideoLead
 
 
 # What `subttx survey` tells of a recording, a line for each fact, as values.
@@ -129,7 +23,6 @@ SUBTITLE_KINDS = (2, 5)
 KINDS = {1: "initial page", 2: "subtitles", 3: "additional information", 4: "programme schedule",
          5: "subtitles for the hard of hearing"}
 LATEST = 8  # PIDs of the PCR of a programme, at most, of which one tells when its PMT changes
-ENOUGH = 1 << 16  # bytes of lines that are taken at a time
 HIT = b"\xa0"  # a space whose byte had even parity
 NO_LETTERS = bytes(range(0x21))
 
@@ -207,7 +100,6 @@ class Survey:
         self.pcr_pids: dict[int, list[int]] = {}  # of a programme by its number, the latest last
         self.by_pid: dict[int, Packets] = {}
         self.videos: dict[int, Video] = {}
-        self.tells_seams = False  # by a line that no program had before one that tells them
         self.leads: dict[tuple[int, int], list[VideoLead]] = {}  # of a PID, over a PID of video
         self.clocks: dict[int, tuple[int, int]] = {}  # the first PCR and the last one
 
@@ -317,16 +209,13 @@ class Survey:
 
     def take_seam(self, pid: str, number: str, *_: str) -> None:
         self.of(pid).seams.append(int(number))
-        self.tells_seams = True
 
     def take_group(self, pid: str, flagged: str, least: str, form: str, *_: str) -> None:
         self.videos[int(pid)].form = form
-        self.tells_seams = True
 
     def take_lead(self, pid: str, pts: str, ticks: str, video: str, number: str, *_: str) -> None:
         self.leads.setdefault((int(pid), int(video)), []).append(
             VideoLead(int(pts), int(ticks), int(number)))
-        self.tells_seams = True
 
     def take_pictures(self, pid: str, lost: str, scrambled: str, passed: str = "",
                       *_: str) -> None:
@@ -370,24 +259,19 @@ class Survey:
                              f"{self.strange or 'it did not end'}, status {status}")
 
 
-def survey_call(program: str, name: str, page: Page, pid: int | None = None,
-                packet_size: int | None = None) -> list[str]:
-    """The call, of a file or of standard input."""
-    size = [] if packet_size is None else ["--packet-size", str(packet_size)]
-    return [program, "survey", "--page", page_name(*page), *stream_words(pid), *size, "--", name]
-
-
 def survey(program: str, name: str, page: Page, pid: int | None = None,
-           packet_size: int | None = None, look: Callable[[], None] = lambda: None) -> Survey:
-    """A recording that is a file, or standard input; after each line there is a look around."""
+           look: Callable[[], None] = lambda: None) -> Survey:
+    """Return what `survey` prints of a recording; `look` is called after each line."""
     answer = Survey()
-    for _ in taken(answer, survey_call(program, name, page, pid, packet_size)):
+    for _ in lines_taken(answer, program, name, page, pid):
         look()
     return answer
 
 
-def taken(answer: Survey, words: list[str]) -> Iterator[None]:
-    """Takes what a call tells, line by line; `Unanswered` where that is not all."""
+def lines_taken(answer: Survey, program: str, name: str, page: Page, pid: int | None = None) \
+        -> Iterator[None]:
+    """Take what `survey` prints of a recording, line by line; `Unanswered` if that is not all."""
+    words = [program, "survey", "--page", page_name(*page), *stream_words(pid), "--", name]
     with subprocess.Popen(words, stdout=subprocess.PIPE, encoding="ascii",
                           errors="replace") as process:
         assert process.stdout
@@ -402,7 +286,7 @@ def runs_told(program: str, name: str, page: Page) -> Iterator[tuple[Run, Texts 
     They are given as they are told, and not kept."""
     answer = Survey()
     packets = answer.of(str(PES))
-    for _ in taken(answer, survey_call(program, name, page)):
+    for _ in lines_taken(answer, program, name, page):
         if len(packets.runs) > 1:
             yield first_run(packets)
     if packets.runs:
@@ -415,25 +299,6 @@ def first_run(packets: Packets) -> tuple[Run, Texts | None]:
     packets.held.clear()
     del packets.changes[:-1]
     return run, held.get(run.first)
-
-
-class Lines:
-    """The lines that a call of `survey` prints of a feed, taken as they come; `has_ended` once no
-    more do."""
-
-    def __init__(self, out: IO[bytes], taken: Survey) -> None:
-        self.out, self.taken = out, taken
-        self.rest, self.has_ended = b"", False
-
-    def take(self) -> Iterator[str]:
-        """Takes those that have come, each before it is given."""
-        data = os.read(self.out.fileno(), ENOUGH)
-        *lines, self.rest = (self.rest + data).split(b"\n")
-        self.has_ended = not data
-        for line in lines:
-            text = line.decode("ascii", "replace")
-            self.taken.take(text)
-            yield text
 
 
 # Language codes of GSI blocks (EBU Tech 3264, field LC) as PMTs have them (ISO 639-2).
