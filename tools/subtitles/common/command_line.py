@@ -108,13 +108,18 @@ def time_word(text: str) -> int:
     return frame
 
 
+def number_word(text: str, least: int, most: int, refusal: str) -> int:
+    """Return a decimal number within bounds; leading zeros change nothing."""
+    digits = text.lstrip("0") or "0"
+    is_number = text.isascii() and text.isdecimal() and len(digits) <= len(str(most))
+    if not is_number or not least <= int(digits) <= most:
+        raise argparse.ArgumentTypeError(f"{text} is no {refusal}")
+    return int(digits)
+
+
 def origin_word(text: str) -> int:
     """The PTS of 00:00:00:00."""
-    digits = text.lstrip("0") or "0"
-    is_number = text.isascii() and text.isdecimal() and len(digits) <= len(str(CLOCK))
-    if not is_number or int(digits) >= CLOCK:
-        raise argparse.ArgumentTypeError(f"{text} is no PTS: 0 to {CLOCK - 1}")
-    return int(digits)
+    return number_word(text, 0, CLOCK - 1, f"PTS: 0 to {CLOCK - 1}")
 
 
 def range_word(text: str) -> tuple[int, int]:
@@ -125,27 +130,19 @@ def range_word(text: str) -> tuple[int, int]:
     return int(found[1]), int(found[2])
 
 
-def every_word(text: str, name: str = "repeat bound") -> int:
-    """The repeat bound in frames, or another number of them."""
-    digits = text.lstrip("0")
-    is_number = text.isascii() and text.isdecimal() and len(digits) <= len(str(MOST_EVERY))
-    if not is_number or not 1 <= int(digits or "0") <= MOST_EVERY:
-        raise argparse.ArgumentTypeError(f"{text} is no {name}: 1 to {MOST_EVERY} frames")
-    return int(digits)
+def every_word(text: str) -> int:
+    """The repeat bound in frames."""
+    return number_word(text, 1, MOST_EVERY, f"repeat bound: 1 to {MOST_EVERY} frames")
 
 
 def pace_word(text: str) -> int:
     """The frames from a PES packet to the next one at most."""
-    return every_word(text, "pace")
+    return number_word(text, 1, MOST_EVERY, f"pace: 1 to {MOST_EVERY} frames")
 
 
 def within_word(text: str) -> int:
     """The frames within which a page has to be whole."""
-    digits = text.lstrip("0") or "0"
-    is_number = text.isascii() and text.isdecimal() and len(digits) <= len(str(MOST_WITHIN))
-    if not is_number or int(digits) > MOST_WITHIN:
-        raise argparse.ArgumentTypeError(f"{text} is no number of frames: 0 to {MOST_WITHIN}")
-    return int(digits)
+    return number_word(text, 0, MOST_WITHIN, f"number of frames: 0 to {MOST_WITHIN}")
 
 
 def breaks_word(text: str) -> int:
