@@ -30,7 +30,8 @@ from .test_air_calls import ALL, LEAD, Feeds
 SEEDS = 12  # in the gate
 # Subtitle files, recordings, and the origins of these.
 PAIRS = [("hello", "hello.pes", 0), ("story", "story.pes", 0), ("story", "recording.ts", 5 * 10**9),
-         ("story", "five-faults.pes", 0), ("story", "late-rows.pes", 0), ("german", "german.pes", 0)]
+         ("story", "five-faults.pes", 0), ("story", "late-rows.pes", 0),
+         ("german", "german.pes", 0)]
 OTHERS = ("", "--within 1", "--severity severity", "--severity severity --strict", "--allow-lost",
           "--every 30", "--option auto")
 GOOD = {"accepted", "waived"}
