@@ -46,6 +46,8 @@ WRONG = {
     "accepted, status 1": Said(1, is_accepted=True),
     "accepted, status 2": Said(2, is_accepted=True),
     "accepted with faults": Said(0, is_accepted=True, faults=1, counted=1, numbers={WARNING}),
+    "accepted with a number alone": Said(0, is_accepted=True, numbers={WARNING}),
+    "accepted with a count alone": Said(0, is_accepted=True, faults=1),
     "refused, status 0": Said(0, faults=1, counted=1, numbers={ERROR}),
     "refused, status 2": Said(2, faults=1, counted=1, numbers={ERROR}),
     "a list without an end": Said(1, faults=2, counted=None, numbers={ERROR}),
