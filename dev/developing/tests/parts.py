@@ -22,7 +22,7 @@ from subtitles.request.request import Request, add_options, option_words, reques
 from subtitles.stream.gaps import Place
 from subtitles.stream.packets import Packets
 from subtitles.stream.receiver import Timeline
-from subtitles.stream.survey import survey
+from subtitles.stream.survey import Survey, survey
 from .bench import Case
 from .sent import PAGE
 
@@ -67,6 +67,14 @@ def part_with(begin: int | None, end: int | None, origin: int | None,
         held = Timeline(packets, known["request"].page, alignment.origin, 0, more["pes"])
         known["timeline"] = lambda: held
     return Part(number, answer=said or answer(), **known)
+
+
+def surveyed(*lines: str) -> Survey:
+    """What lines of `survey` tell."""
+    survey = Survey()
+    for line in lines:
+        survey.take(line)
+    return survey
 
 
 def asked_for(stl: str, recording: str | None, *words: str) -> Request:

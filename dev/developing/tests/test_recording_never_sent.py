@@ -20,21 +20,13 @@ from subtitles.stream.survey import Survey
 from .bench import Case
 from .judged import Judged, OfProgramme, judged
 from .muxed import Carried, NEW, OLD, Programme, VIDEO_PID, in_turn, shown
-from .parts import asked_for
+from .parts import asked_for, surveyed
 from .sent import CLOSING, Sent, joined, packets, programme
 from .test_judging_pairs import broken
 from .test_right_recordings import in_stream as in_pcr
 
 PAGE = (0, 0x88)
 ONE, TWO, THREE = 257, 258, 259
-
-
-def surveyed(*lines: str) -> Survey:
-    """What lines of `survey` tell."""
-    survey = Survey()
-    for line in lines:
-        survey.take(line)
-    return survey
 
 
 def heard(*lines: str) -> list[Announcement]:

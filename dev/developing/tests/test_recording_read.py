@@ -19,17 +19,9 @@ from subtitles.stream.gaps import SECOND
 from subtitles.stream.packets import Mark, PES, Packets, Run
 from subtitles.stream.survey import Survey
 from .bench import Case
-from .parts import asked_for
+from .parts import asked_for, surveyed
 
 ONE, TWO, THREE = 257, 258, 259
-
-
-def surveyed(*lines: str) -> Survey:
-    """What lines of `survey` tell."""
-    survey = Survey()
-    for line in lines:
-        survey.take(line)
-    return survey
 
 
 def recorded(survey: Survey, *words: str, name: str = "one.ts", kind: int = stat.S_IFREG,

@@ -21,6 +21,7 @@ from .muxed import (
     AHEAD, AUDIO_PID, CLOSED_GROUP, MPEG_2, PMT_PID, PRIVATE, RANDOM_ACCESS, SLICES, TELETEXT_PID,
     VIDEO_PID, Maker, Programme, components, filler, mpeg_2_picture, program_association,
     program_map, shown, spaced, teletext_descriptor, video_packet)
+from .parts import surveyed
 from .sent import CLOSING, HEADER, PAGE, row
 from .test_formats_letters import naming
 
@@ -696,9 +697,7 @@ class Answered(Case):
                 ([begin, "fault 2 Read", over], 2, "fault 2 Read, status 2"),
                 (["usage 0 Words"], 2, "usage 0 Words, status 2"),
                 ([begin, "refused 60 Empty", over], 0, "refused 60 Empty, status 0")):
-            heard = Survey()
-            for line in lines:
-                heard.take(line)
+            heard = surveyed(*lines)
             if why is None:
                 heard.refuse(status)
             else:
@@ -780,9 +779,7 @@ class Answered(Case):
              {(5, 9): [VideoLead(7, -9, 3), VideoLead(8, 0, 4)], (5, 8): [VideoLead(1, 2, 1)]})]
         for lines, known, wanted in rows:
             for more in ("", " more")[:1 if "sub" in lines or "pictures" in lines else 2]:
-                heard = Survey()
-                for line in lines.split("; "):
-                    heard.take(line + more)
+                heard = surveyed(*(line + more for line in lines.split("; ")))
                 self.must(f"{lines}{more}", known(heard) == wanted, known(heard))
 
     def test_clock_before_a_map(self) -> None:

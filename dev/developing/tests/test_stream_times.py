@@ -19,6 +19,7 @@ from subtitles.stream.gaps import (
 from subtitles.stream.packets import Change, Clocked, Mark, Packets, Run, Texts, headers_in
 from subtitles.stream.ranges import cut_of, is_outside
 from subtitles.stream.survey import Survey
+from .parts import surveyed
 
 
 def packets_with(pts: Sequence[int | None], **more: Any) -> Packets:
@@ -187,10 +188,7 @@ class Times(unittest.TestCase):
 
     def test_many_maps(self) -> None:
         """The PCR before a PMT is that of its PID, or of one before, however often it changes."""
-        survey = Survey()
-        survey.take("pcr 513 7")
-        for number in range(200):
-            survey.take(f"programme 1 {512 + number % 2}")
+        survey = surveyed("pcr 513 7", *(f"programme 1 {512 + at % 2}" for at in range(200)))
         self.assertEqual({one.after for one in survey.programmes[2:]}, {7})
         self.assertIsNone(survey.programmes[0].after)
 
@@ -216,12 +214,10 @@ class Times(unittest.TestCase):
 
     def test_clock_of_the_last_map(self) -> None:
         """Of several programmes with a PID the last one that was told."""
-        survey = Survey()
-        self.assertIsNone(survey.clock_of(257))
-        for line in ("programme 1 100", "stream 257 6", "programme 2 200", "stream 257 6",
-                     "programme 3 300", "stream 258 6", "pcr 100 5", "pcr 200 9", "pcr 300 1",
-                     "pcr 100 8", "pcr 200 11"):
-            survey.take(line)
+        self.assertIsNone(Survey().clock_of(257))
+        survey = surveyed("programme 1 100", "stream 257 6", "programme 2 200", "stream 257 6",
+                          "programme 3 300", "stream 258 6", "pcr 100 5", "pcr 200 9", "pcr 300 1",
+                          "pcr 100 8", "pcr 200 11")
         self.assertEqual([survey.clock_of(pid) for pid in (257, 258, 259)], [(9, 11), (1, 1), None])
 
     def test_finds_strange_pts_with_the_worst(self) -> None:
