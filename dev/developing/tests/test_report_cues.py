@@ -1,11 +1,14 @@
 """The cue list, the timeline, refused subtitles, and the box of a verdict."""
 from __future__ import annotations
 
+from types import SimpleNamespace
+from typing import Any
 
 from developing.stl import gsi_block
+from subtitles.common.times import Spans
 from subtitles.formats.stl import NamedSubtitle, Subtitle, SubtitleFile
-from subtitles.judging.causes import Cause, LATE, NEVER, TEXT
-from subtitles.judging.cues import Cue, decoded_cue
+from subtitles.judging.causes import Cause, LATE, NEVER, NOT_RECEIVED, TEXT, UNKNOWN
+from subtitles.judging.cues import Cue, CueJudge, decoded_cue
 from subtitles.judging.status import (
     ACCEPTED, LOST, NOT_JUDGED, REFUSED, RELATIVE, WAIVED, WARNED)
 from subtitles.judging.transmissions import DuePages
@@ -16,6 +19,7 @@ from subtitles.stream.packets import PES, Packets
 from subtitles.stream.receiver import BLANK_PAGE, Rows, Timeline
 from .bench import Case
 from .parts import fault_of, in_page
+from .test_judging_status import severity_of
 
 
 def page(text: bytes) -> Rows:
@@ -69,6 +73,40 @@ class Cues(Case):
         made = [decoded_cue(Cue(one, self.ONE, None), place, due, held, 0)
                 for place, one in enumerate(subtitles)]
         self.must("times", [(one.begin, one.end) for one in made] == [(100, 200), (200, 300)], made)
+
+
+class Judged(Case):
+    """The verdict on one subtitle, from frame 100 to 200, of a part that is refused."""
+
+    def test_decides_by_the_cause_and_by_other_faults_at_its_time(self) -> None:
+        """Nothing wrong is right or waived but by a severity file, and what nobody has seen is
+        neither right nor wrong."""
+        subtitle = Subtitle(1, 1, 100, 200, 20, 2, b"")
+        programme = DuePages([subtitle], [page(b"one")])
+        waived = severity_of("67 warning"), severity_of("72 warning"), severity_of("others warning")
+        rows: list[tuple[str | None, list[int], int, list[str]]] = [
+            # cause, the other numbers at its time, the first frame that is trusted; with the
+            # severities: 67 is a warning, 72 is, all are.
+            (None, [], 100, ["right", "right", "right"]),
+            (None, [], 101, ["not known", "not known", "not known"]),
+            (None, [67], 100, ["waived", "wrong", "waived"]),
+            (LATE, [], 100, ["wrong", "waived", "waived"]),
+            (LATE, [67], 100, ["wrong", "wrong", "waived"]),
+            (TEXT, [68], 100, ["wrong", "wrong", "waived"]),
+            (UNKNOWN, [], 100, ["not known", "waived", "waived"]),
+            (NOT_RECEIVED, [], 100, ["not known", "waived", "waived"]),
+            (UNKNOWN, [67], 100, ["wrong", "wrong", "waived"])]
+        for name, numbers, first, wanted in rows:
+            cause = name and Cause(0, name, 3, None, None, "", 0)
+            marks = {number: Spans([(150, 150)]) for number in numbers}
+            part: Any = SimpleNamespace(
+                causes=SimpleNamespace(programme=programme) if cause else None, losses=[],
+                request=SimpleNamespace(option="english"), trusted=Spans([(first, 199)]),
+                answer=SimpleNamespace(marks=marks, verdict=REFUSED,
+                                       numbers={*numbers, *[72] * bool(cause)}))
+            cue = Cue(subtitle, page(b"one"), cause or None)
+            found = [CueJudge(part, severity).verdict(cue).word for severity in waived]
+            self.check(f"{name}, {numbers}, trusted from {first} on", found, wanted)
 
 
 class Words(Case):
