@@ -1,0 +1,113 @@
+"""The PCR of a PID, jumps of it, and breaks of counters."""
+from __future__ import annotations
+
+from typing import Callable, NamedTuple
+
+from subtitles.common.times import ticks_between, wrapped
+from .packets import Packet
+
+SECOND, TENTH = 90_000, 9_000  # ticks
+MEDIANS, FEWEST = 100, 5  # distances of which medians are; with fewer no PCR comes late
+MOST_BREAKS = 256
+Say = Callable[[str], None]
+
+
+def number(value: int | None) -> str:
+    """A number as a line has it."""
+    return "-" if value is None else str(value)
+
+
+class Seconds:
+    """Times of which one a second is printed, and one that is before the last printed one."""
+
+    def __init__(self) -> None:
+        self.last: int | None = None
+
+    def is_next(self, time: int) -> bool:
+        is_next = self.last is None or wrapped(time - self.last) >= SECOND
+        self.last = time if is_next else self.last
+        return is_next
+
+
+class Jump(NamedTuple):
+    """A PCR that jumps: ticks and TS packets since the one before, the usual ones; the places of
+    both."""
+
+    ticks: int
+    packets: int
+    usual: int
+    usual_packets: int
+    first: int
+    last: int
+
+
+class Clock:
+    """A PCR_PID."""
+
+    def __init__(self, pid: int, say: Say) -> None:
+        self.pid, self.say = pid, say
+        self.seconds = Seconds()
+        self.last: int | None = None
+        self.place = 0
+        self.is_compared = False  # no jump was announced since the last PCR
+        self.distances: list[tuple[int, int]] = []
+
+    def take(self, pcr: int, place: int) -> Jump | None:
+        """Take a PCR; answers the jump."""
+        jump = None
+        if self.last is not None and self.is_compared:
+            jump = self.jump(ticks_between(self.last, pcr), place)
+        self.last, self.place, self.is_compared = pcr, place, True
+        if self.seconds.is_next(pcr):
+            self.say(f"pcr {self.pid} {pcr}")
+        return jump
+
+    def jump(self, ticks: int, place: int) -> Jump | None:
+        packets, half = place - self.place, len(self.distances) // 2
+        usual, usual_packets = (sorted(some)[half] for some in zip(*self.distances)) \
+            if self.distances else (0, 0)
+        is_late = len(self.distances) >= FEWEST and ticks > max(TENTH, 3 * usual)
+        if ticks < 0 or is_late:
+            return Jump(ticks, packets, usual, usual_packets, self.place, place)
+        self.distances = (self.distances + [(ticks, packets)])[-MEDIANS:]
+        return None
+
+
+class Break(NamedTuple):
+    """A break of a counter, between two TS packets of a PID."""
+
+    pid: int
+    first: int
+    last: int
+
+
+class Counters:
+    """The counters of all PIDs, by the places of their TS packets with a payload."""
+
+    def __init__(self) -> None:
+        self.first: dict[int, int] = {}
+        self.last: dict[int, tuple[int, int]] = {}  # counter and place
+        self.announced: set[int] = set()
+        self.breaks: list[Break] = []
+
+    def take(self, packet: Packet, place: int) -> None:
+        pid = packet.pid
+        if packet.announces_jump:
+            self.announced.add(pid)
+        if packet.has_error or not packet.has_payload:
+            return
+        counter, before = self.last.get(pid, (packet.counter, place))
+        is_break = packet.counter not in (counter, (counter + 1) % 16)
+        if is_break and pid not in self.announced:
+            self.breaks = (self.breaks + [Break(pid, before, place)])[-MOST_BREAKS:]
+        self.first.setdefault(pid, place)
+        self.last[pid] = packet.counter, place
+        self.announced.discard(pid)
+
+    def word(self, jump: Jump, pid: int) -> str:
+        """What the counters of other PIDs say of a jump."""
+        if any(one.pid != pid and one.first < jump.last and one.last > jump.first
+               for one in self.breaks):
+            return "broken"
+        return "whole" if any(other != pid and first < jump.first < self.last[other][1]
+                              for other, first in self.first.items()) else "unknown"

@@ -1,0 +1,194 @@
+"""All lines of a recording, in order."""
+from __future__ import annotations
+
+from developing.every_place.recordings import UNSEEN, Skipped
+from developing.every_place.reading import HEAD
+from subtitles.common.times import ticks_between
+from subtitles.formats.teletext import START, Page
+from .clocks import Clock, Counters
+from .packets import Packet, packets_of, size_of
+from .pictures import Video, is_video
+from .tables import PAT, PMT, Programme, Sections, pids_in, programme_of
+from .teletext import PesLines, Teletext
+
+HEAD_BYTES = 11
+NO_PCR = 0x1FFF
+DATA_IDENTIFIERS = range(0x10, 0x20)
+
+
+def survey(data: bytes, page: Page, pid: int | None = None, size: int | None = None) -> list[str]:
+    """The lines of `survey`; without a PID or a packet size these are looked for."""
+    lines = ["survey 1", f"head {data[:HEAD_BYTES].hex()}".rstrip()]
+    if data.startswith(START):
+        return lines + pes_file_lines(data, page)
+    size = size or size_of(data)
+    if size is None:
+        return [*lines, "nothing", f"over {len(data)} 0"]
+    return [*lines, f"size {size}", *Stream(page, pid, size).lines_of(data)]
+
+
+def pes_file_lines(data: bytes, page: Page) -> list[str]:
+    """The lines of a file of PES packets."""
+    lines = ["size 0"]
+    pes = PesLines(0, page, lines.append)
+    place, damage = 0, ""
+    while place < len(data) and not damage:
+        head = data[place:place + HEAD]
+        length = HEAD + int.from_bytes(head[4:], "big")
+        if len(head) == HEAD and not head.startswith(START):
+            damage = "start"
+        elif len(head) < HEAD or len(data) - place < length:
+            damage = "cut"
+        else:
+            pes.read(data[place:place + length])
+            place += length
+    pes.flush()
+    if damage:
+        lines.append(f"damaged 0 {pes.count} {damage}")
+    pes.end(last_pts=pes.last_pts)
+    return [*lines, "over 0 0"]
+
+
+class Stream:
+    """A transport stream."""
+
+    def __init__(self, page: Page, pid: int | None, size: int) -> None:
+        self.page, self.asked, self.size = page, pid, size
+        self.lines: list[str] = []
+        self.say = self.lines.append
+        self.place = 0  # of a TS packet
+        self.counters = Counters()
+        self.sections = {0: Sections()}
+        self.programmes: dict[int, Programme] = {}
+        self.clocks: dict[int, Clock] = {}
+        self.teletext: dict[int, Teletext] = {}
+        self.video: dict[int, Video] = {}
+        self.others: set[int] = set()  # PIDs that are known to be neither
+
+    def lines_of(self, data: bytes) -> list[str]:
+        if self.asked is not None:
+            self.follow(self.asked)
+        skipped = 0
+        for one in packets_of(data, self.size):
+            if isinstance(one, Skipped):
+                skipped += one.length
+                for teletext in self.teletext.values():
+                    teletext.stretch.is_hurt |= one.length >= UNSEEN * self.size
+            else:
+                self.take(one)
+        self.end()
+        return [*self.lines, f"over {skipped} {self.place}"]
+
+    def end(self) -> None:
+        for teletext in self.teletext.values():
+            teletext.lines.flush()
+        for teletext in self.teletext.values():
+            while teletext.waiting:
+                teletext.print_jump()
+        for video in self.video.values():
+            video.end()
+        for _, teletext in sorted(self.teletext.items()):
+            teletext.end()
+        for pid, clock in self.clocks.items():
+            if clock.last is not None:
+                self.say(f"pcr {pid} {clock.last}")
+
+    def follow(self, pid: int) -> None:
+        if pid not in self.teletext:
+            self.say(f"teletext {pid}")
+            self.teletext[pid] = Teletext(pid, self.page, self.say, self.counters)
+
+    def take(self, packet: Packet) -> None:
+        pid = packet.pid
+        self.place += 1
+        self.counters.take(packet, self.place)
+        if pid in self.clocks:
+            self.take_pcr(self.clocks[pid], packet)
+        if pid in self.sections:
+            for section in self.sections[pid].take(packet):
+                self.take_section(pid, section)
+        elif not {pid} & (self.teletext.keys() | self.video.keys() | self.others):
+            self.look_at(packet)
+        if pid in self.teletext:
+            pts = self.teletext[pid].take(packet)
+            if pts is not None:
+                self.compare(self.teletext[pid], pts)
+        elif pid in self.video:
+            self.video[pid].take(packet)
+
+    def look_at(self, packet: Packet) -> None:
+        """Find out whether a PID has Teletext or video."""
+        data = packet.payload
+        if packet.is_wrong or not packet.begins or not packet.has_payload or len(data) < 4 \
+                or not data.startswith(START[:3]):
+            return
+        if is_video(data):
+            self.video[packet.pid] = Video(packet.pid, self.say, self.kind_of)
+        elif not data.startswith(START):
+            self.others.add(packet.pid)
+        elif len(data) > 9 and len(data) > 9 + data[8]:
+            if data[9 + data[8]] in DATA_IDENTIFIERS and self.asked is None:
+                self.follow(packet.pid)
+            else:
+                self.others.add(packet.pid)
+
+    # Tables
+
+    def take_section(self, pid: int, section: bytes) -> None:
+        if pid == 0 and section[0] == PAT:
+            for one in pids_in(section):
+                self.sections.setdefault(one, Sections())
+        elif pid != 0 and section[0] == PMT and self.sections[pid].is_new(section):
+            programme = programme_of(section)
+            if programme:
+                self.take_programme(programme)
+
+    def take_programme(self, programme: Programme) -> None:
+        self.say(f"programme {programme.number} {programme.clock}")
+        self.programmes[programme.number] = programme
+        if programme.clock != NO_PCR:
+            self.clocks.setdefault(programme.clock, Clock(programme.clock, self.say))
+        for stream in programme.streams:
+            self.say(f"stream {stream.pid} {stream.kind}")
+            for page in stream.announced:
+                self.say(f"announce {stream.pid} {page}")
+            if stream.announced and self.asked is None:
+                self.follow(stream.pid)
+
+    def kind_of(self, pid: int) -> int | None:
+        """The stream_type of a PID."""
+        return next((stream.kind for programme in self.programmes.values()
+                     for stream in programme.streams if stream.pid == pid), None)
+
+    def programme_with(self, pid: int) -> Programme | None:
+        return next((programme for programme in self.programmes.values()
+                     if pid in [stream.pid for stream in programme.streams]), None)
+
+    # Clocks
+
+    def take_pcr(self, clock: Clock, packet: Packet) -> None:
+        if packet.announces_jump:
+            clock.is_compared = False
+        if packet.pcr is None:
+            return
+        jump = clock.take(packet.pcr, self.place)
+        for pid, teletext in sorted(self.teletext.items()):
+            programme = self.programme_with(pid)
+            if programme and programme.clock == clock.pid:
+                teletext.note_pcr(jump)
+
+    def compare(self, teletext: Teletext, pts: int) -> None:
+        """Compare a PTS with the programme's pictures and PCR."""
+        programme = self.programme_with(teletext.pid)
+        if not programme or programme.clock == NO_PCR:
+            return
+        pids = [stream.pid for stream in programme.streams]
+        video = next((one for pid, one in self.video.items() if pid in pids), None)
+        if video and video.decoding is not None and video.number != teletext.picture:
+            teletext.picture = video.number
+            if teletext.leads.is_next(pts):
+                self.say(f"lead {teletext.pid} {pts} {ticks_between(video.decoding, pts)} "
+                         f"{video.pid} {video.number}")
+        pcr = self.clocks[programme.clock].last
+        if pcr is not None and not teletext.is_behind_gap and teletext.aheads.is_next(pts):
+            self.say(f"ahead {teletext.pid} {pts} {ticks_between(pcr, pts)}")

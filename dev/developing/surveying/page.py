@@ -1,0 +1,97 @@
+"""The requested page as its packets come (EN 300 706)."""
+from __future__ import annotations
+
+from developing.pes import address_of, header_of, page_in
+from subtitles.formats.teletext import ERASE, Page, has_bit, is_odd
+
+SPACE, EVEN_SPACE = 0x20, 0xA0
+BLANK = bytes([SPACE]) * 40
+SERIAL = 11
+Rows = dict[int, bytes]
+
+
+def codes_of(data: bytes) -> bytes:
+    """The codes of a row; a space of its own for each byte of even parity."""
+    return bytes(byte & 0x7F if is_odd(byte) else EVEN_SPACE for byte in data[2:])
+
+
+def store(rows: Rows, number: int, codes: bytes) -> None:
+    rows.pop(number, None)
+    if codes != BLANK:
+        rows[number] = codes
+
+
+def shown(rows: Rows) -> str:
+    """Rows as a line has them."""
+    return ",".join(f"{row}:{codes.hex()}" for row, codes in sorted(rows.items())) or "-"
+
+
+def triplet(data: bytes) -> int | None:
+    """The 18 bits of a Hamming 24/18 word (8.3), one wrong bit corrected."""
+    word = int.from_bytes(data, "little") << 1  # bits count from 1
+    wrong = 0
+    for test in (1, 2, 4, 8, 16):
+        tested = sum(word >> bit & 1 for bit in range(1, 24) if bit & test)
+        wrong += test * (tested % 2 == 0)
+    is_even = bin(word).count("1") % 2 == 0
+    if wrong and (not is_even or wrong > 23):
+        return None
+    word ^= 1 << wrong if wrong else 0
+    places = [bit for bit in range(1, 24) if bit & bit - 1]
+    return sum((word >> bit & 1) << at for at, bit in enumerate(places))
+
+
+class DecodedPage:
+    """The page, and what the packets of one PES packet did to it."""
+
+    def __init__(self, page: Page) -> None:
+        self.magazine, self.number = page
+        self.rows: Rows = {}
+        self.is_open = self.is_received = False
+        self.is_last_of_magazine = False  # the last header of its magazine was of the page
+        self.begin()
+
+    def begin(self) -> None:
+        """A PES packet begins."""
+        self.does = ""
+        self.control: list[str] = []
+        self.strays: Rows = {}
+        self.is_opened_here = self.is_closed_here = self.has_strays = False
+
+    def take(self, data: bytes) -> None:
+        """Take a Teletext packet."""
+        address = address_of(data)
+        if address is None:
+            return
+        magazine, number = address
+        header = header_of(data) if number == 0 else None
+        if header is not None:
+            self.take_header(magazine, header)
+        elif magazine == self.magazine and 1 <= number <= 24:
+            if self.is_open:
+                store(self.rows, number, codes_of(data))
+            elif self.is_closed_here:
+                self.has_strays = True
+                store(self.strays, number, codes_of(data))
+
+    def take_header(self, magazine: int, header: bytes) -> None:
+        is_own = (magazine, page_in(header)) == (self.magazine, self.number)
+        if magazine == self.magazine:
+            self.is_last_of_magazine = is_own
+        if is_own:
+            self.is_open = self.is_received = self.is_opened_here = True
+            self.is_closed_here = False
+            self.does += "h"
+            self.control.append("".join(f"{number:X}" for number in header))
+            if has_bit(header, ERASE):
+                self.does += "e"
+                self.rows = {}
+        elif self.is_open and (magazine == self.magazine or has_bit(header, SERIAL)):
+            self.is_open, self.is_closed_here = False, self.is_opened_here
+            self.does += "c"
+
+    def done(self) -> str:
+        """What the PES packet did, DOES/CONTROL."""
+        is_blank = all(set(codes) <= {SPACE, EVEN_SPACE} for codes in self.rows.values())
+        does = self.does + "o" * self.is_open + "b" * is_blank + "s" * self.has_strays
+        return f"{does or '-'}/{'+'.join(self.control)}"

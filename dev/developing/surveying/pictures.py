@@ -1,0 +1,168 @@
+"""The lines of a PID with video: pictures, and the group that begins with random access."""
+from __future__ import annotations
+
+from typing import Callable
+
+from developing.every_place.recordings import Stretch
+from subtitles.common.times import ticks_between
+from .clocks import Say, number
+from .packets import Packet
+
+MOST_TICKS = 900_000  # of a group, 10 seconds
+VIDEO = 0xE0  # stream_id of video, with any lower four bits
+MPEG, H264, HEVC = (1, 2), 0x1B, 0x24  # stream_type
+GROUP = 0xB8  # start code of a group of pictures
+CLOSED_GOP = 0x40
+START = b"\0\0\1"
+
+
+def is_video(data: bytes) -> bool:
+    """Whether a PES packet of video begins, as far as its bytes are there."""
+    return data[:3] == START[:len(data)] and (len(data) < 4 or data[3] & 0xF0 == VIDEO)
+
+
+def time_in(data: bytes) -> int:
+    """The ticks of a PTS or DTS."""
+    return ((data[0] >> 1 & 7) << 30 | data[1] << 22 | data[2] >> 1 << 15 | data[3] << 7
+            | data[4] >> 1)
+
+
+def form_of(kind: int | None, data: bytes) -> str | None:
+    """The form of a group by the bytes of its first picture; `None` while it is not known."""
+    if kind == H264:
+        return "open"
+    if kind not in (*MPEG, HEVC):
+        return None
+    at = data.find(START)
+    while 0 <= at < len(data) - 3:
+        if kind == HEVC and data[at + 3] >> 1 & 63 < 32:  # nal_unit_type of a slice
+            unit = data[at + 3] >> 1 & 63
+            return "closed" if 17 <= unit <= 20 else "open" if unit in (16, 21) else "unknown"
+        if kind != HEVC and data[at + 3] == GROUP and at + 7 < len(data):
+            return "closed" if data[at + 7] & CLOSED_GOP else "open"
+        at = data.find(START, at + 3)
+    return None
+
+
+class Video:
+    """A PID with video."""
+
+    def __init__(self, pid: int, say: Say, kind_of: Callable[[int], int | None]) -> None:
+        self.pid, self.say, self.kind_of = pid, say, kind_of
+        self.stretch = Stretch(None)
+        self.header: bytes | None = None  # of a picture whose times are not known yet
+        self.is_flagged = False  # a random_access_indicator came for the next picture
+        self.count = self.passed = 0
+        self.decoding: int | None = None  # of the last picture with a time
+        self.number = 0  # of that picture
+        # The first group.
+        self.has_begun = self.has_ended = False
+        self.flagged: int | None = None
+        self.least: int | None = None
+        self.lost = self.scrambled = 0
+        self.kind: int | None = None
+        self.first: bytes | None = None  # of its first picture, after the header
+        self.form: str | None = None
+
+    @property
+    def is_in_group(self) -> bool:
+        return self.has_begun and not self.has_ended
+
+    def take(self, packet: Packet) -> None:
+        """Take a TS packet of the PID."""
+        if packet.has_error:
+            return
+        if not packet.has_payload:
+            self.stretch.has_jump |= packet.announces_jump
+            self.is_flagged |= packet.is_random_access
+        elif self.stretch.is_repeat(packet):
+            self.stretch.has_repeat = True
+        else:
+            self.count_lost(packet)
+            self.take_payload(packet)
+
+    def count_lost(self, packet: Packet) -> None:
+        """The rest of a header is lost at a break of the counter, or at an announced jump."""
+        before, is_announced = self.stretch.before, self.stretch.has_jump or packet.announces_jump
+        is_break = before is not None and packet.counter != (before.counter + 1) % 16
+        if is_break or is_announced or packet.is_wrong:
+            self.header = None
+        self.lost += self.is_in_group and is_break and not is_announced
+        self.scrambled += self.is_in_group and packet.is_scrambled
+        self.stretch = Stretch(packet)
+
+    def take_payload(self, packet: Packet) -> None:
+        if packet.begins and (packet.is_scrambled or not packet.is_wrong):
+            self.first, self.header = None, b""
+            self.is_flagged |= packet.is_random_access
+            self.is_next_flagged, self.is_flagged = self.is_flagged, False
+            if packet.is_scrambled:
+                self.header = None
+                self.begin(None, None)
+        if packet.is_wrong:
+            return
+        if self.header is not None:
+            self.header += packet.payload
+            self.read_header(self.header)
+        elif self.first is not None:
+            self.read_first(packet.payload)
+
+    def read_header(self, data: bytes) -> None:
+        """Begin a picture, once its header is there up to its times."""
+        if not is_video(data):
+            self.header = None
+            return
+        flags = data[7] >> 6 if len(data) > 8 else 3
+        if len(data) < {2: 14, 3: 19}.get(flags, 9):
+            return
+        has_times = flags >= 2 and data[6] != 0xFF
+        pts = time_in(data[9:14]) if has_times else None
+        self.header = None
+        is_first = self.begin(pts, time_in(data[14:19]) if has_times and flags == 3 else pts)
+        if is_first:
+            self.first, self.kind = b"", self.kind_of(self.pid)
+            self.read_first(data[9 + data[8]:])
+
+    def read_first(self, data: bytes) -> None:
+        """More bytes of the group's first picture."""
+        assert self.first is not None
+        self.first += data
+        self.form = self.form or form_of(self.kind, self.first)
+
+    def begin(self, pts: int | None, decoding: int | None) -> bool:
+        """A picture begins; answers whether it is the first of the group."""
+        if self.is_in_group and self.is_next_flagged:
+            self.end_group()
+        is_first = self.is_next_flagged and not self.has_begun
+        self.count += 1
+        if is_first:
+            self.say(f"video {self.pid} {self.passed}")
+            self.has_begun, self.flagged = True, pts
+        self.passed += not self.has_begun
+        if decoding is not None:
+            self.decoding, self.number = decoding, self.count
+        if self.is_in_group:
+            self.add(pts)
+        return is_first
+
+    def add(self, pts: int | None) -> None:
+        """A picture of the group."""
+        self.say(f"picture {self.pid} {number(pts)}")
+        if pts is None:
+            return
+        later = 0 if self.least is None else ticks_between(self.least, pts)
+        if later > MOST_TICKS:
+            self.end_group()
+        elif self.least is None or later < 0:
+            self.least = pts
+
+    def end_group(self, more: str = "") -> None:
+        if self.has_begun:
+            self.say(f"group {self.pid} {number(self.flagged)} {number(self.least)} "
+                     f"{self.form or 'unknown'}")
+        self.say(f"pictures {self.pid} {self.lost} {self.scrambled}{more}")
+        self.has_ended = True
+
+    def end(self) -> None:
+        if not self.has_ended:
+            self.end_group(f" {self.passed} {int(self.has_begun)}")

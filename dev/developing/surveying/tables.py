@@ -1,0 +1,115 @@
+"""PAT and PMT (ISO/IEC 13818-1, 2.4.4), and the Teletext that a PMT announces (EN 300 468)."""
+from __future__ import annotations
+
+from typing import Iterator, NamedTuple
+
+from developing.multiplex import crc
+from subtitles.formats.teletext import page_name
+from .packets import Packet
+
+PAT, PMT = 0, 2  # table_id
+ANNOUNCING = 0x56, 0x46  # Teletext descriptor, VBI Teletext descriptor
+
+
+class Stream(NamedTuple):
+    """An elementary stream of a PMT, with what announces Teletext on it, as ends of lines."""
+
+    pid: int
+    kind: int
+    announced: list[str]
+
+
+class Programme(NamedTuple):
+    number: int
+    clock: int
+    streams: list[Stream]
+
+
+class Sections:
+    """The sections that the TS packets of a PID carry."""
+
+    def __init__(self) -> None:
+        self.before: Packet | None = None
+        self.part: bytes | None = None  # of a section that has begun
+        self.has_jump = False  # a jump of the counter was announced since that packet
+        self.told: dict[tuple[int, int], bytes] = {}
+
+    def take(self, packet: Packet) -> Iterator[bytes]:
+        """The sections that end in a packet."""
+        self.has_jump |= packet.announces_jump
+        if packet.is_wrong or not packet.has_payload:
+            return
+        before, self.before = self.before, packet
+        if before and before.data[:4] == packet.data[:4] and before.payload == packet.payload:
+            return
+        if before and packet.counter != (before.counter + 1) % 16 and not self.has_jump:
+            self.part = None
+        self.has_jump = False
+        payload = packet.payload
+        if packet.begins:
+            if not payload:
+                self.part = None
+                return
+            pointer = payload[0]
+            if self.part is not None:
+                self.part += payload[1:1 + pointer]
+                yield from self.ended()
+            self.part, payload = b"", payload[1 + pointer:]
+        if self.part is not None:
+            self.part += payload
+            yield from self.ended()
+
+    def ended(self) -> Iterator[bytes]:
+        while self.part:
+            if self.part[0] == 0xFF:
+                self.part = None
+                return
+            length = 3 + (int.from_bytes(self.part[1:3], "big") & 0xFFF)
+            if len(self.part) < 3 or len(self.part) < length:
+                return
+            section, self.part = self.part[:length], self.part[length:]
+            if length >= 12 and crc(section) == 0:
+                yield section
+
+    def is_new(self, section: bytes) -> bool:
+        key = int.from_bytes(section[3:5], "big"), section[6]
+        old = self.told.get(key)
+        self.told[key] = section
+        return old != section
+
+
+def pids_in(section: bytes) -> Iterator[int]:
+    """The PIDs of PMTs that a section of the PAT names."""
+    body = section[8:-4]
+    for at in range(0, len(body) - 3, 4):
+        if body[at:at + 2] != b"\0\0":
+            yield int.from_bytes(body[at + 2:at + 4], "big") & 0x1FFF
+
+
+def announced_by(descriptors: bytes) -> Iterator[str]:
+    """What the descriptors of a stream announce."""
+    at = 0
+    while at + 2 <= len(descriptors):
+        tag, length = descriptors[at:at + 2]
+        body = descriptors[at + 2:at + 2 + length]
+        if tag in ANNOUNCING:
+            for place in range(0, len(body) - 4, 5):
+                language, kind, page = body[place:place + 3], body[place + 3], body[place + 4]
+                yield f"{page_name(kind & 7, page)} {language.hex()} {kind >> 3}"
+        at += 2 + length
+
+
+def programme_of(section: bytes) -> Programme | None:
+    """What a section of a PMT says."""
+    body = section[8:-4]
+    if len(body) < 4:
+        return None
+    number, clock = (int.from_bytes(part, "big") for part in (section[3:5], body[0:2]))
+    at = 4 + (int.from_bytes(body[2:4], "big") & 0xFFF)
+    streams = []
+    while at + 5 <= len(body):
+        kind, pid = body[at], int.from_bytes(body[at + 1:at + 3], "big") & 0x1FFF
+        end = at + 5 + (int.from_bytes(body[at + 3:at + 5], "big") & 0xFFF)
+        streams.append(Stream(pid, kind, list(announced_by(body[at + 5:end]))))
+        at = end
+    return Programme(number, clock & 0x1FFF, streams)

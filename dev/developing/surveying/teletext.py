@@ -1,0 +1,255 @@
+"""The lines of a PID with Teletext: its PES packets, gaps, pages."""
+from __future__ import annotations
+
+from typing import NamedTuple
+
+from developing.every_place.reading import LENGTH, START, head_fault, length_at, units_of
+from developing.every_place.recordings import Stretch
+from developing.pes import (address_of, data_field, has_pts, header_of, page_in, pts_in,
+                            teletext_packets)
+from subtitles.common.times import ticks_between
+from subtitles.formats.teletext import NUMBER, START as PES_START, SUBTITLE, Page, has_bit, \
+    page_name
+from .clocks import Counters, Jump, Say, Seconds, number
+from .packets import Packet
+from .page import DecodedPage, Rows, shown, triplet
+
+MARK = 45  # the refusal of a gap marker
+MOST_JUMPS = 4  # that wait for their line
+CHARACTER_SETS = 28, 29  # packets with them
+
+
+def fault_of(data: bytes) -> int:
+    """The refusal of `packets`; 0 if there is none."""
+    is_length = len(data) in range(184, 184 * 9 + 1, 184)
+    return (head_fault(data) or units_of(data)[1] or 0) if is_length else LENGTH
+
+
+class Run(NamedTuple):
+    """PES packets in a row with one line."""
+
+    first: int
+    count: int
+    pts: int | None
+    last: int | None  # PTS
+    step: int
+    rest: str
+
+    def line(self, pid: int) -> str:
+        return f"pes {pid} {self.first} {self.count} {number(self.pts)} {self.step} {self.rest}"
+
+    def joined(self, pts: int | None, rest: str) -> Run | None:
+        """The run with one more PES packet, if they have one line."""
+        if self.last is None or pts is None or rest != self.rest:
+            return None
+        step = ticks_between(self.last, pts)
+        if self.count > 1 and step != self.step:
+            return None
+        return self._replace(count=self.count + 1, last=pts, step=step)
+
+
+class PesLines:
+    """The lines of PES packets and gap markers."""
+
+    def __init__(self, pid: int, page: Page, say: Say) -> None:
+        self.pid, self.say = pid, say
+        self.count = self.marks = 0
+        self.page = DecodedPage(page)
+        self.run: Run | None = None
+        self.rows: Rows | None = None  # that were printed
+        self.strays: Rows = {}
+        self.subtitles: dict[Page, int] = {}
+        self.sets: set[str] = set()
+        self.last_pts: int | None = None  # of a PES packet that is complete
+
+    def flush(self) -> None:
+        if self.run:
+            self.say(self.run.line(self.pid))
+        self.run = None
+
+    def gap(self, lost: int = 0, scrambled: int = 0) -> None:
+        self.flush()
+        self.say(f"gap {self.pid} {self.count} {lost} {scrambled}")
+        self.count, self.marks = self.count + 1, self.marks + 1
+
+    def read(self, data: bytes) -> None:
+        """Read a PES packet."""
+        fault = fault_of(data)
+        if fault == MARK and len(data) == 184:
+            self.gap()
+            return
+        if not has_pts(data):
+            self.put(None, f"-/ 0 {fault}")
+            return
+        pts, page, packets = pts_in(data), self.page, teletext_packets(data_field(data))
+        self.last_pts = pts
+        page.begin()
+        for one in packets:
+            page.take(one)
+            self.note(one)
+        has_rows = page.is_received and page.rows != self.rows
+        has_strays = page.has_strays and page.strays != self.strays
+        if has_rows or has_strays:
+            self.flush()
+        self.put(pts, f"{page.done()} {len(packets)} {fault}")
+        if has_rows:
+            self.rows = dict(page.rows)
+            self.rest("rows", self.rows)
+        if has_strays:
+            self.strays = page.strays
+            self.rest("strays", self.strays)
+
+    def put(self, pts: int | None, rest: str) -> None:
+        """A PES packet in a line of its own, or in that of the one before it."""
+        joined = self.run and self.run.joined(pts, rest)
+        if not joined:
+            self.flush()
+        self.run = joined or Run(self.count, 1, pts, pts, 0, rest)
+        self.count += 1
+
+    def rest(self, word: str, rows: Rows) -> None:
+        self.flush()
+        self.say(f"{word} {self.pid} {self.count - 1} {shown(rows)}")
+
+    def note(self, data: bytes) -> None:
+        """The first subtitle header of each page, and character sets."""
+        address = address_of(data)
+        header = header_of(data) if address and address[1] == 0 else None
+        if address and header and has_bit(header, SUBTITLE):
+            page = address[0], page_in(header)
+            if page not in self.subtitles:
+                self.say(f"sub {self.pid} {page_name(*page)}")
+            self.subtitles[page] = self.subtitles.get(page, 0) + 1
+        if address and address[1] in CHARACTER_SETS and address[0] == self.page.magazine:
+            self.note_set(address[1], NUMBER[data[2]], triplet(data[3:6]))
+
+    def note_set(self, packet: int, designation: int | None, value: int | None) -> None:
+        is_of_page = self.page.is_last_of_magazine and not (value and value & 15)  # page function
+        if designation not in (0, 4) or packet == 28 and not is_of_page:
+            return
+        region, option = (value >> 10 & 15, value >> 7 & 7) if value is not None else "--"
+        line = f"set {self.pid} {packet} {designation} {region} {option}"
+        if line not in self.sets:
+            self.sets.add(line)
+            self.say(line)
+
+    def end(self, packets: int = 0, scrambled: int = 0, refusal: int = 0, is_cut: bool = False,
+            last_pts: int | None = None) -> None:
+        for page, count in sorted(self.subtitles.items()):
+            self.say(f"subs {self.pid} {page_name(*page)} {count}")
+        self.say(f"end {self.pid} {self.count} {self.marks} {packets} {scrambled} {refusal} "
+                 f"{int(is_cut)} {number(last_pts)}")
+
+
+class Waiting(NamedTuple):
+    """A jump of the PCR that waits for its line: the PTS before and after it."""
+
+    jump: Jump
+    before: int | None
+    after: int | None
+
+
+class Teletext:
+    """A PID with Teletext."""
+
+    def __init__(self, pid: int, page: Page, say: Say, counters: Counters) -> None:
+        self.pid, self.say, self.counters = pid, say, counters
+        self.lines = PesLines(pid, page, say)
+        self.packets = self.scrambled = 0
+        self.refusal = 0
+        # What the good packets carry, from one that begins, a break or a seam on.
+        self.stretch = Stretch(None)
+        self.part = b""
+        self.begins = self.is_given = self.is_timed = False
+        self.has_gap = self.has_seam = self.is_wrong_last = False
+        self.lost = self.scrambled_there = 0
+        # Of the PES packet that began last.
+        self.last_pts: int | None = None
+        self.is_behind_gap = False
+        # Beside other clocks.
+        self.aheads, self.leads, self.picture = Seconds(), Seconds(), 0
+        self.settled: int | None = None  # the last PTS before the last PCR
+        self.waiting: list[Waiting] = []
+
+    def take(self, packet: Packet) -> int | None:
+        """Take a TS packet of the PID; answers the PTS that is known now."""
+        self.packets += 1
+        self.scrambled += packet.is_scrambled
+        stretch = self.stretch
+        if packet.is_wrong:
+            stretch.is_hurt = self.is_wrong_last = True
+            self.scrambled_there += packet.is_scrambled
+        elif not packet.has_payload:
+            stretch.has_jump |= packet.announces_jump
+        elif stretch.is_repeat(packet):
+            stretch.has_repeat = True
+        else:
+            self.take_good(packet, stretch)
+            return self.time()
+        return None
+
+    def take_good(self, packet: Packet, stretch: Stretch) -> None:
+        good, before = stretch.good(packet), stretch.before
+        self.stretch, self.is_wrong_last = Stretch(packet), False
+        self.has_gap |= good.is_break
+        self.has_seam |= good.is_seam
+        if before and good.is_break and not (stretch.has_jump or packet.announces_jump):
+            self.lost += (packet.counter - before.counter - 1) % 16
+        if packet.begins or good.is_break or good.is_seam or not before:
+            self.has_gap |= self.part != b"" and not self.is_given
+            self.is_behind_gap = self.has_gap and not self.refusal and self.lines.count > 0
+            self.part, self.begins, self.is_given, self.is_timed = b"", packet.begins, False, False
+        self.part += packet.payload
+        if not self.refusal:
+            self.give(packet.payload)
+
+    def give(self, payload: bytes) -> None:
+        """Read the PES packet that these bytes end."""
+        length = length_at(self.part) if self.begins else None
+        if self.is_given:
+            self.has_gap |= payload != b""
+        elif length in (START, LENGTH):
+            self.mark()
+            self.refusal = length or 0
+        elif length is not None and len(self.part) >= length:
+            self.is_given = True
+            self.mark()
+            if self.has_seam:
+                self.say(f"seam {self.pid} {self.lines.count}")
+            self.has_seam, self.has_gap = False, len(self.part) > length
+            self.lines.read(self.part[:length])
+
+    def mark(self) -> None:
+        """A gap marker, if something is missing after a PES packet."""
+        if self.has_gap and self.lines.count:
+            self.lines.gap(self.lost, self.scrambled_there)
+        self.has_gap, self.lost, self.scrambled_there = False, 0, 0
+
+    def time(self) -> int | None:
+        """The PTS of the PES packet that began last, once it is known."""
+        if self.is_timed or not self.begins or self.part[:4] != PES_START or not has_pts(self.part):
+            return None
+        self.is_timed, self.last_pts = True, pts_in(self.part)
+        self.waiting = [one._replace(after=self.last_pts) if one.after is None else one
+                        for one in self.waiting]
+        return self.last_pts
+
+    def note_pcr(self, jump: Jump | None) -> None:
+        """A PCR of the programme came."""
+        if jump:
+            self.waiting.append(Waiting(jump, self.settled, None))
+            if len(self.waiting) > MOST_JUMPS:
+                self.print_jump()
+        self.settled = self.last_pts
+
+    def print_jump(self) -> None:
+        jump, before, after = self.waiting.pop(0)
+        self.say(f"clock {self.pid} {number(before)} {number(after)} {jump.ticks} {jump.packets} "
+                 f"{jump.usual} {jump.usual_packets} {self.counters.word(jump, self.pid)}")
+
+    def end(self) -> None:
+        self.has_gap |= self.is_wrong_last and self.stretch.before is not None
+        if not self.refusal:
+            self.mark()
+        self.lines.end(self.packets, self.scrambled, self.refusal,
+                       self.last_pts != self.lines.last_pts, self.last_pts)
