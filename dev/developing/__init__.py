@@ -25,6 +25,7 @@ trial         a run in which something fails, and what has to happen
 trial_inputs  the commands of such runs, and their input files
 trial_memory  runs with little memory
 every_place   the second implementation; on purpose it shares only codes, times and layouts
+surveying     the second implementation of `survey`, written from its manual page
 tests         the unittest modules of check-tools, one for each tool or idea
 
 It uses the packages of tools/subtitles, which do not use it. A script imports its module from here

@@ -17,7 +17,7 @@ class Packet(TransportPacket):
     def __init__(self, data: bytes) -> None:
         super().__init__(data)
         self.has_error = data[1] & 0x80 != 0  # transport_error_indicator
-        self.is_scrambled = not self.has_error and data[3] & 0xC0 != 0
+        self.is_scrambled = data[3] & 0xC0 != 0
         length = data[4] if data[3] & 0x20 else 0
         flags = data[5] if length else 0
         self.is_random_access = flags & RANDOM_ACCESS != 0

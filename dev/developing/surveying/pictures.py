@@ -52,6 +52,7 @@ class Video:
         self.stretch = Stretch(None)
         self.header: bytes | None = None  # of a picture whose times are not known yet
         self.is_flagged = False  # a random_access_indicator came for the next picture
+        self.is_next_flagged = False  # and for the picture that begins
         self.count = self.passed = 0
         self.decoding: int | None = None  # of the last picture with a time
         self.number = 0  # of that picture

@@ -2,6 +2,7 @@
 from __future__ import annotations
 
 import struct
+from functools import partial
 from random import Random
 from typing import Callable, NamedTuple
 
@@ -248,7 +249,7 @@ class Programme:
     def each(self, step: int, send: Callable[[int, int], None], first: int = 0) -> None:
         """What is sent each so many ticks, by its number and its time."""
         for number, time in enumerate(range(first, self.length, step)):
-            self.events.append((time, lambda number=number, time=time: send(number, time)))
+            self.events.append((time, partial(send, number, time)))
 
     def ticks(self, time: int, more: list[tuple[int, int]] | None = None) -> int:
         """The PTS of a time, after the jumps before it."""
@@ -446,8 +447,9 @@ def random_recording(seed: int) -> Recording:
     if chance.random() < 0.06:
         return Recording(random_pes_file(chance), page)
     units = random_units(chance)
-    for _ in range(min(len(units) // 2, chance.choice([0, 0, 1, 1, 3, 10, 40]))):
-        change(chance, units)
+    for _ in range(chance.choice([0, 0, 1, 1, 3, 10, 40])):
+        if units:
+            change(chance, units)
     size = chance.choice(SIZES)
     before, behind = (4, 0) if size == SIZES[1] else (0, size - PACKET)
     data = b"".join(bytes(before) + one + b"\xff" * behind for one in units)

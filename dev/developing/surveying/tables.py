@@ -31,20 +31,15 @@ class Sections:
     def __init__(self) -> None:
         self.before: Packet | None = None
         self.part: bytes | None = None  # of a section that has begun
-        self.has_jump = False  # a jump of the counter was announced since that packet
         self.told: dict[tuple[int, int], bytes] = {}
 
     def take(self, packet: Packet) -> Iterator[bytes]:
         """The sections that end in a packet."""
-        self.has_jump |= packet.announces_jump
         if packet.is_wrong or not packet.has_payload:
             return
         before, self.before = self.before, packet
         if before and before.data[:4] == packet.data[:4] and before.payload == packet.payload:
             return
-        if before and packet.counter != (before.counter + 1) % 16 and not self.has_jump:
-            self.part = None
-        self.has_jump = False
         payload = packet.payload
         if packet.begins:
             if not payload:

@@ -29,23 +29,23 @@ class Run(NamedTuple):
     """PES packets in a row with one line."""
 
     first: int
-    count: int
+    length: int
     pts: int | None
     last: int | None  # PTS
     step: int
     rest: str
 
     def line(self, pid: int) -> str:
-        return f"pes {pid} {self.first} {self.count} {number(self.pts)} {self.step} {self.rest}"
+        return f"pes {pid} {self.first} {self.length} {number(self.pts)} {self.step} {self.rest}"
 
     def joined(self, pts: int | None, rest: str) -> Run | None:
         """The run with one more PES packet, if they have one line."""
         if self.last is None or pts is None or rest != self.rest:
             return None
         step = ticks_between(self.last, pts)
-        if self.count > 1 and step != self.step:
+        if self.length > 1 and step != self.step:
             return None
-        return self._replace(count=self.count + 1, last=pts, step=step)
+        return self._replace(length=self.length + 1, last=pts, step=step)
 
 
 class PesLines:
