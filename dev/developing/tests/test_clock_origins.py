@@ -268,15 +268,16 @@ class Origins(Case):
         pes[6] = pes_packet(5000 + TICKS * 210, [HEADER, row(20, b"Another"), CLOSING])
         for some, agree, among, letters in ((pes, count, count, count - 1),
                                             (pes[:-3], count - 3, count - 3, count - 4),
-                                            (pes[:10] + pes[11:], count - 2, count, count - 3)):
+                                            (pes[:10] + pes[11:], count - 2, count, count - 3),
+                                            (pes[:11] + pes[12:], count - 1, count, count - 2)):
             found = self.find(self.own(), some)
             part, are_all = found.parts[0], agree == among
             self.must(f"{agree}", (part.agree, part.among, found.are_all) == (
                 agree, among, are_all) and f" {letters} with the letters " in part.line, found)
             others = [line for line in found.lines if line.startswith("the first cue that does")]
             self.must(f"{agree}: first", others == [
-                f"the first cue that does not agree is {time_of(FIRST + 350)}"] * (
-                    not are_all), others)
+                "the first cue that does not agree is "
+                f"{time_of(FIRST + 350 + 40 * (agree == count - 1))}"] * (not are_all), others)
 
     def test_what_is_sent(self) -> None:
         """What has no PTS, marks, another page: each is told, with how many they are."""

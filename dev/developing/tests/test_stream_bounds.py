@@ -237,6 +237,7 @@ class Received(unittest.TestCase):
             ("one not heard", "10:heo:a 15!:heo:b 30:ho", "10 a", [10], [10, 30]),
             ("nor one behind it", "10:heo:a 15!:heo:b 16!:- 30:ho", "10 a", [10], [10, 30]),
             ("one of no frame", "10:heo:a 15.5:heo:b 30:ho", "10 a", [10], [10, 30]),
+            ("one not heard, nor a header before it", "5:o:a 10!:h 20:ho", "", [20], [20]),
             ("then erased", "10:heo:a 15!:heo:b 30:heo", "10 a 30 b", [10], [10, 30]),
             ("then told", "10:heo:a 15!:heo:b 20:o:c 30:ho", "10 a 20 c", [10], [10, 30])]
         for name, sent, pages, turns, sendings in rows:
