@@ -226,6 +226,9 @@ class Fitted(Case):
             found, lines = with_delay(clock, Origin(status, away=away, printed=["--origin 5"]))
             self.must(f"{away} {status}", found == clock._replace(delay_frames=wanted) and lines ==
                       ([f"all subtitles are {said}"] if said else []), (found, lines))
+        for away, is_whole in ((0, True), (2 * TICKS, True), (2 * TICKS + 1, False)):
+            found, _ = with_delay(clock, Origin(0, away=away, is_each=True, printed=["--origin 5"]))
+            self.check(f"{away}: whole frames", found.is_delay_of_all, is_whole)
 
     def test_of_which(self) -> None:
         """All of the subtitles, or most; up to the first break, or to where they are later."""
