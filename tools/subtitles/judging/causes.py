@@ -1,4 +1,4 @@
-"""Why the content is refused: the cause of each subtitle, those of a list, and their words."""
+"""Classify why each subtitle differs from its expected page, and describe the causes."""
 from __future__ import annotations
 
 import collections
@@ -19,13 +19,13 @@ from .pages import (
 from .transmissions import DuePages, Sendings, left_at
 
 
-# Why a page is held otherwise than it is due: of each subtitle with such frames one cause.
+# Each subtitle with a wrong page at some frame has one cause.
 
 LATE, EARLY, NEVER, OTHER = "late", "early", "never sent", "another subtitle's text"
 TEXT, PLACE, ATTRIBUTE = "wrong text", "wrong place", "wrong colour or attribute"
 NOT_ERASED, IN_PART, UNKNOWN = "not erased", "not repeated whole", "unknown"
-# A header without rows came while it was due; others' text came in the pause behind it; TS packets
-# are lost at its time.
+# A header without rows came before its TCO; a text of no subtitle came in the pause after it; TS
+# packets are lost at its time.
 ERASED, IN_PAUSE, NOT_RECEIVED = "erased", "another text in a pause", "not received"
 NAMES = (LATE, EARLY, NEVER, OTHER, TEXT, PLACE, ATTRIBUTE, NOT_ERASED, IN_PART, ERASED, IN_PAUSE,
          NOT_RECEIVED, UNKNOWN)
@@ -37,9 +37,12 @@ EVEN = "a byte of its rows has even parity"
 
 
 class Cause(NamedTuple):
-    """The cause of a subtitle: its place in the file, a name, the frames that it is late or early,
-    the page that is sent, the place of the subtitle whose text that is, and what more there is to
-    say. `known` is the frame from which on the cause can't become another one."""
+    """Why a subtitle is refused.
+
+    `place` is its position in the file; `frames` says how late or early it is; `sent` is the
+    transmitted page, and `other` the position of the subtitle whose text that is. From frame
+    `known` on, more of the recording cannot change the cause.
+    """
 
     place: int
     name: str
@@ -51,21 +54,21 @@ class Cause(NamedTuple):
 
     @property
     def is_unseen(self) -> bool:
-        """Return whether nothing is known to be wrong with the subtitle: PES packets can't be read,
-        or it is the last one, and the next programme begins at its TCO."""
+        """Return whether the subtitle may be correct: PES packets can't be read, or it is the last
+        one and the next programme begins at its TCO."""
         return self.words in (UNSEEN, NEXT)
 
 
 class Faulty:
-    """The frames of a subtitle at which another page is held than the one that is due: the first
-    such stretch while it is due, and the first after its TCO."""
+    """The frames of a subtitle with a wrong page: the first such stretch before its TCO, and the
+    first after it."""
 
     def __init__(self) -> None:
         self.within: Span | None = None
         self.after: Span | None = None
 
     def add(self, span: Span, subtitle: Subtitle) -> None:
-        """Some more frames; the page that is held is the same at all."""
+        """Add frames during which the decoded page does not change."""
         if subtitle.begin <= span.first < subtitle.end:
             self.within = self.within or span
         elif span.first >= subtitle.end:
@@ -73,14 +76,16 @@ class Faulty:
 
 
 class Namer(Sendings):
-    """Names the causes of subtitles by what is held, and by what is told."""
+    """Classify the causes of subtitles, from the decoded pages and the faults that `check` reports.
+    """
 
     def __init__(self, programme: DuePages, held: Timeline, answer: Answer | None = None) -> None:
         super().__init__(programme, held)
         self.answer = answer
 
     def cause(self, place: int, faulty: Faulty) -> Cause:
-        """The cause of a subtitle; where no PES packet came it is that."""
+        """Return the cause of a subtitle; it is unknown if a pause in the PES packets explains it.
+        """
         cause, subtitle = self.cause_of_sendings(place, faulty), self.subtitles[place]
         pause = self.held.pause_at(subtitle.end if cause.name == NOT_ERASED else subtitle.begin)
         if pause is None:
@@ -96,7 +101,7 @@ class Namer(Sendings):
                             f"{time_of(pause.first)} on")
 
     def cause_of_sendings(self, place: int, faulty: Faulty) -> Cause:
-        """The cause of a subtitle, by what was sent when."""
+        """Return the cause of a subtitle from its page transmissions."""
         subtitle, came = self.subtitles[place], self.sending(place)
         if self.held.page_at(subtitle.begin) == self.pages[place]:
             if came is not None and came < subtitle.begin:
@@ -113,7 +118,7 @@ class Namer(Sendings):
         return self.never(place) if came is None else self.moved(place, came)
 
     def moved(self, place: int, came: int) -> Cause:
-        """It came late or early."""
+        """Return that the page came late or early, at frame `came`."""
         subtitle = self.subtitles[place]
         if came > subtitle.begin and not self.held.is_seen(subtitle.begin, came):
             return self.unknown(place, subtitle.begin, came,
@@ -126,29 +131,29 @@ class Namer(Sendings):
         return Cause(place, name, frames, self.pages[place], None, words, max(came, subtitle.begin))
 
     def is_in_time(self, place: int, came: int) -> bool:
-        """Whether a page came as many frames after its TCI as are allowed, and the page was whole
-        as many before that."""
+        """Return whether a page came after its TCI, but within the allowed number of frames, and so
+        was not incomplete for longer than that."""
         late = came - self.subtitles[place].begin
         return 0 < late <= self.held.within and \
             came - self.broken_since(came - 1) <= self.held.within
 
     def broken_since(self, frame: int) -> int:
-        """The first of the frames in a row, up to one, at whose ends another page is held than the
-        one that is due; it is not looked for farther back than 250 frames."""
+        """Return the first of the consecutive frames up to `frame` with a wrong page, searching
+        back at most 250 frames."""
         first = frame
         while frame - first < LEAST and first > 0 and not self.is_due(first - 1):
             first -= 1
         return first
 
     def row_words(self, came: int) -> str:
-        """For how many frames in a row the page was not whole when it came. Where it was not before
-        the TCI either these are more than it is late."""
+        """Return for how many consecutive frames the page was incomplete before it came. If it was
+        incomplete before the TCI too, these are more frames than it is late."""
         first = self.broken_since(came - 1)
         return f"the page is not whole for {counted(came - first, 'frame')} in a row, from " \
             f"{time_of(first)} on"
 
     def never(self, place: int) -> Cause:
-        """Its page came nowhere near."""
+        """Return the cause of a subtitle whose page was not transmitted near its time."""
         subtitle, window = self.subtitles[place], self.window(place)
         other = self.others_in(place)
         if other is not None:
@@ -171,18 +176,19 @@ class Namer(Sendings):
                      window.last)
 
     def came_closed(self, place: int) -> bool:
-        """Whether rows of a subtitle came in its time when the page was not open."""
+        """Return whether rows of a subtitle came in its time while the page was not open."""
         subtitle, page = self.subtitles[place], self.pages[place]
         return any(span.first < subtitle.end and subtitle.begin <= span.last and any(
             content == page[row - 1] for row, content in texts)
             for span, texts in self.held.strays)
 
     def closed_words(self) -> str:
-        """That in words."""
+        """Return that rows came while the page was not open."""
         return f"rows came while {page_name(*self.held.page)} was not open"
 
     def differs(self, place: int, number: int) -> Cause:
-        """Another page was sent at its time, which is that of no subtitle."""
+        """Return how the page sent at the time of a subtitle, which is no other subtitle's,
+        differs."""
         subtitle, due, sent = self.subtitles[place], self.pages[place], self.held.pages[number]
         words = words_on(sent)
         if words != words_on(due):
@@ -200,7 +206,8 @@ class Namer(Sendings):
         return Cause(place, OTHER, None, self.pages[other], other, "", known)
 
     def later(self, place: int, faulty: Faulty) -> Cause:
-        """It came at its TCI; something was wrong after that, or before."""
+        """Return the cause of a subtitle whose page came at its TCI; the fault is after or before
+        that."""
         subtitle = self.subtitles[place]
         span = faulty.within or faulty.after
         if span and self.is_due(span.first):
@@ -224,7 +231,7 @@ class Namer(Sendings):
                      self.gone_words(place, number), subtitle.end)
 
     def hidden_words(self, frame: int) -> str:
-        """Why `check` tells another page at a frame than the one that is held after it."""
+        """Return why `check` reports a wrong page at a frame that ends with the expected one."""
         if len(self.held.members(frame)) > 1:
             return IN_PARTS
         if not self.held.is_seen(frame, frame):
@@ -232,21 +239,24 @@ class Namer(Sendings):
         return EVEN if HIT in b"".join(self.held.state_at(frame).rows) else ""
 
     def rows_left(self, frame: int) -> str:
-        """Which rows of the page that is due at a frame a repeat left out, where that is why it is
-        told: all that was sent then is known, and within no frames it is one PES packet."""
+        """Return which rows of the expected page a repeat left out, if that explains the fault at a
+        frame: everything sent then can be read, and without --within it is one PES packet."""
         is_one = self.held.within or len(self.held.members(frame)) == 1
         return left_at(self.held, self.programme.page_at(frame), frame, self.answer) \
             if is_one and self.held.is_seen(frame, frame) else ""
 
     @functools.cached_property
     def subcode_words(self) -> str:
-        """That sub-pages alternate, where they do."""
+        """Return that sub-pages alternate, if they do."""
         subcodes = turns_of(self.held.packets, self.held.inside)
         return subcode_words(subcodes, page_name(*self.held.page)) if subcodes else ""
 
     def after(self, place: int, number: int, frame: int) -> Cause:
-        """A page is held after its TCO, and came not before that. One of no subtitle is another
-        text in the pause; but just at the last TCO it is no text of ours that stays."""
+        """Return the cause of a page sent after the TCO of a subtitle.
+
+        A page of no subtitle is another text in the pause, but at the last TCO it is the next
+        programme's.
+        """
         subtitle, page = self.subtitles[place], self.held.pages[number]
         is_other = page not in self.programme.by_page and page != BLANK_PAGE
         is_ours = words_on(page) in self.programme.by_words
@@ -258,8 +268,7 @@ class Namer(Sendings):
         return self.unknown(place, frame, subtitle.end, f"sent after its TCO, at {time_of(frame)}")
 
     def gone_words(self, place: int, number: int) -> str:
-        """How long after the TCO of a subtitle another page comes than the one that is held there;
-        or the next subtitle that has the same."""
+        """Return how long after its TCO a page stayed, or which next subtitle has the same page."""
         until, end = self.held.stretch(number).last, self.subtitles[place].end
         following = self.subtitles[place + 1:place + 2]
         if following and following[0].begin <= until and \
@@ -271,7 +280,7 @@ class Namer(Sendings):
         return f"gone {counted(until + 1 - end, 'frame')} later"
 
     def broken(self, place: int, span: Span) -> Cause:
-        """Its page was there, and another one came before its TCO."""
+        """Return the cause of a subtitle whose page came, and was replaced before its TCO."""
         subtitle, number = self.subtitles[place], self.held.number_at(span.first)
         page = self.held.pages[number]
         other = self.programme.of_page(page, span.first)
@@ -282,7 +291,7 @@ class Namer(Sendings):
             return self.of_other(place, other, subtitle.end)
         if page == BLANK_PAGE:
             erased = self.held.frames[number]
-            if erased < subtitle.begin:  # when it was not due yet
+            if erased < subtitle.begin:  # before its TCI
                 return self.unknown(place, span.first, subtitle.end,
                                     f"it has not come at {time_of(span.first)}")
             if self.is_erased(number):
@@ -293,13 +302,13 @@ class Namer(Sendings):
         return self.differs(place, number)
 
     def is_erased(self, number: int) -> bool:
-        """Whether a blank page is one whose header came without rows: the page that is held next
-        has a header of its own."""
+        """Return whether a header without rows erased the page: the next page must have its own
+        header."""
         begins = self.held.frames[number:number + 2]
         return all(any(HEADER in run.does for run in self.held.members(frame)) for frame in begins)
 
     def unseen_words(self, first: int, last: int) -> str:
-        """Why not all is known that was sent in some frames."""
+        """Return why it is not certain what was sent in some frames."""
         return NOT_RECEIVED if self.held.lost.has(first, last) else UNSEEN
 
     def unknown(self, place: int, frame: int, known: int, words: str) -> Cause:
@@ -308,17 +317,17 @@ class Namer(Sendings):
         return Cause(place, name, None, None if sent == BLANK_PAGE else sent, None, words, known)
 
 
-# The causes of a list of `check --all`.
+# The causes in a list of `check --all`
 
 BEFORE = f"its page transmission is before what was cut, so {BEGIN} is reported"
 
 
 class Causes:
-    """The causes of subtitles, by the lines of the list and by what is held.
+    """The causes of subtitles, from the list of `check --all` and the decoded pages.
 
-    `named` are those that are known, in order; `of_edge` is the subtitle whose fault a 63 or 74 is,
-    where the recording goes on there. `reach` are the frames of which the recording is, where that
-    is known of more than its PES packets.
+    `named` are the certain ones, in order; `of_edge` is the subtitle that a 63 or 74 is about, if
+    the recording continues there. `reach` are the frames that the recording covers, if its PCR
+    shows more than its PES packets.
     """
 
     def __init__(self, programme: DuePages, held: Timeline, reach: Span | None = None) -> None:
@@ -327,10 +336,10 @@ class Causes:
         self.named: dict[int, Cause] = {}
         self.of_edge: dict[int, int] = {}
         self.open: dict[int, Faulty] = {}
-        self.first_frames: dict[int, int] = {}  # by subtitle, at which another page is held
+        self.first_frames: dict[int, int] = {}  # by subtitle: its first frame with a wrong page
 
     def name(self, answer: Answer) -> None:
-        """Names the causes of all that is told."""
+        """Classify the causes of all reported faults."""
         self.namer.answer = answer
         begin, end = (answer.firsts.get(number) for number in (BEGIN, END))
         if begin and begin.frame is not None:
@@ -346,29 +355,30 @@ class Causes:
             self.name_first(begin.frame)
 
     def add(self, first: int, last: int) -> None:
-        """Takes frames at which another page is held than is due."""
+        """Add frames with a wrong page."""
         for span in self.namer.split(first, last):
             self.add_to(self.namer.owner(span.first), span)
 
     def add_to(self, place: int, span: Span) -> int:
-        """Takes such frames as those of a subtitle."""
+        """Add frames with a wrong page to those of a subtitle; return its position."""
         self.first_frames.setdefault(place, span.first)
         if place not in self.named:
             self.open.setdefault(place, Faulty()).add(span, self.programme.subtitles[place])
         return place
 
-    # What was sent before the first frame that is judged, and after the last one.
+    # Frames before the first one that is judged, and after the last one
 
     def reached(self) -> Span:
-        """The frames of which the recording is."""
+        """Return the frames that the recording covers."""
         first, last = self.held.first, self.held.last
         known = self.reach
         return Span(min(first, known.first), max(last, known.last)) if known else Span(first, last)
 
     def look_before(self, frame: int) -> None:
-        """Looks at what was sent up to a frame, the first that is judged, from the first TCI on,
-        where the recording has it; and what of the first subtitle came before that. One that is
-        late is known where the recording begins as long before its TCI: it was not early then.
+        """Compare the frames from the first TCI up to `frame`, the first one judged.
+
+        Do so only if the recording covers them, or begins as long before the first TCI as `frame`
+        is after it: then a late first subtitle was not early.
         """
         begin, held = self.programme.begins[0], self.held
         if not (held.frames and held.frames[0] <= begin or
@@ -380,8 +390,8 @@ class Causes:
         self.compare(BEGIN, begin, frame - 1)
 
     def name_first(self, frame: int) -> None:
-        """Name the first subtitle late if the recording begins with its page, and that begins or
-        ends as late as the next one begins: by itself it could have been cut off."""
+        """Classify the first subtitle as late if the recording begins with its page, and that
+        begins or ends as late as the next one begins: by itself it could have been cut off."""
         page, following = self.programme.pages[0], self.named.get(1)
         if following is None or following.name != LATE or BEGIN in self.of_edge \
                 or self.held.first != frame or self.held.page_at(frame) != page:
@@ -396,32 +406,30 @@ class Causes:
         self.named[0] = Cause(0, LATE, late, page, None, "", max(frame, first.begin + late))
 
     def look_after(self, frame: int) -> None:
-        """Looks at what was sent after a frame, the last that is judged, up to the last TCO, where
-        the recording has it."""
+        """Compare the frames from `frame`, the last one judged, to the last TCO, if recorded."""
         end = self.programme.subtitles[-1].end
         if self.reached().last >= end:
             self.compare(END, frame + 1, end)
 
     def compare(self, number: int, first: int, last: int) -> None:
-        """Takes those of some frames at which another page is held than is due, as what a 63 or 74
-        is."""
+        """Add the frames with a wrong page between two frames, as those of a 63 or 74."""
         for span in self.namer.split(first, last):
             if not self.namer.is_due(span.first):
                 place = self.add_to(self.namer.owner(span.first), span)
                 self.of_edge.setdefault(number, place)
 
     def named_by(self, place: int) -> Cause:
-        """The cause of a subtitle."""
+        """Return the cause of a subtitle."""
         cause = self.namer.cause(place, self.open[place])
         begin = self.programme.begins[place]
         if cause.name == LATE and begin + (cause.frames or 0) == self.held.first \
                 and begin < self.reached().first:
-            cause = self.namer.later(place, self.open[place])  # it may have come before that
+            cause = self.namer.later(place, self.open[place])  # it may have come earlier
         is_before = cause.name == EARLY and self.of_edge.get(BEGIN) == place
         return cause._replace(words=BEFORE) if is_before else cause
 
     def of(self, number: int, frame: int) -> Cause | None:
-        """The cause of a fault of a number at a frame."""
+        """Return the cause of a fault at a frame, or `None`."""
         if number == CONTENT:
             return self.named.get(self.namer.owner(frame))
         edge = self.of_edge.get(number)
@@ -436,23 +444,23 @@ class Causes:
         return self.held.number_at(came) + 1 < len(self.held.frames)
 
     def all(self) -> list[Cause]:
-        """All that are known, in the order of the subtitles."""
+        """Return all causes, in the order of the subtitles."""
         return [self.named[place] for place in sorted(self.named)]
 
 
 def counts_of(several: Iterable[Causes]) -> dict[str, int]:
-    """How many causes there are of each name."""
+    """Return the number of causes by name."""
     counted = collections.Counter(cause.name for one in several for cause in one.named.values())
     return {name: counted[name] for name in NAMES}
 
 
-# Causes as a person reads them, and as values for machines.
+# Text and JSON values of causes
 
 LINE = "cause: "  # before each
 
 
 class Wording:
-    """The words for the causes of a part, with the letters of a national option."""
+    """Describe the causes of a part, with the characters of a national option."""
 
     def __init__(self, causes: Causes, option: str) -> None:
         self.causes, self.subtitles = causes, causes.programme.subtitles
@@ -460,7 +468,7 @@ class Wording:
         self.option = BY_WORD[option].bits
 
     def values(self, cause: Cause) -> Members:
-        """A cause for machines."""
+        """Return a cause for the JSON result."""
         subtitle = self.subtitles[cause.place]
         other = None if cause.other is None else self.subtitles[cause.other]
         return {
@@ -474,11 +482,11 @@ class Wording:
         }
 
     def due_text(self, cause: Cause) -> str:
-        """The text that is due of the subtitle of a cause."""
+        """Return the expected text of the subtitle."""
         return page_text(self.pages[cause.place], self.option)
 
     def line(self, cause: Cause) -> str:
-        """The line of a cause."""
+        """Return the line of a cause."""
         subtitle = self.subtitles[cause.place]
         if cause.name == IN_PAUSE:  # no fault of the subtitle before it
             return f"{LINE}{self.said(cause)}"
@@ -486,7 +494,7 @@ class Wording:
                 f'"{self.due_text(cause)}": {self.said(cause)}')
 
     def said(self, cause: Cause, has_text: bool = True) -> str:
-        """What a cause is, in words, with the text that is sent where that is another one."""
+        """Return the cause with its details, and the transmitted text if it differs."""
         subtitle = self.subtitles[cause.place]
         words = cause.name
         if cause.name in (LATE, EARLY):
@@ -510,11 +518,11 @@ class Wording:
 
 
 def count_line(several: list[Causes]) -> str:
-    """How many subtitles have a cause, and how many of each name there are."""
+    """Return how many subtitles have a cause, and how many have each."""
     count = sum(len(one.named) for one in several)
     return f"causes of {counted(count, 'subtitle')}: {names_line(several)}"
 
 
 def names_line(several: list[Causes]) -> str:
-    """How many causes there are of each name."""
+    """Return how many subtitles have each cause."""
     return ", ".join(f"{count} {name}" for name, count in counts_of(several).items() if count)

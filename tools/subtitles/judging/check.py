@@ -1,4 +1,4 @@
-"""`check --all` called, and what its list comes to."""
+"""Run `check --all` and read its list."""
 from __future__ import annotations
 
 import bisect
@@ -20,12 +20,8 @@ from ..request.request import Request, Unsaid
 from .status import NOT_JUDGED, Said, UNSAID, word_of
 
 
-# What a list of `check --all` comes to: faults by their numbers, with where they ended.
-
-
 class End(NamedTuple):
-    """Where a fault ended that stood for some time: the time of the last frame, or the last PES
-    packet."""
+    """The last frame of a fault that lasted, or its last PES packet."""
 
     time: str | None
     pes: int | None
@@ -34,49 +30,47 @@ class End(NamedTuple):
 NO_END = End(None, None)
 
 
-# `subttx check --all`, asked about a pair, and all that its list comes to: it is read here alone.
-
 TIME = re.compile(r"\d\d:\d\d:\d\d:\d\d")
 
 
 class Answer:
-    """What `check --all` printed, line by line; all its lines stand in the file at `path`.
+    """The output of `check --all`; the file at `path` has all its lines.
 
-    `first` is the first fault, which is the line of `check` without `--all`. By number, `counts`
-    are how many there are, `firsts` the first of each, and `marks` the frames at which it is told,
-    or stands; `ends` are by the number of a fault in the list. `passed` are the numbers of the PES
-    packets that were passed over, `trusted` the frames that may be trusted.
+    `first` is the first fault, as `check` prints it without `--all`. By fault number, `counts` are
+    the faults, `firsts` the first of each, and `marks` the frames of faults, to their ends. `ends`
+    are by position of a fault in the list. `passed` are the numbers of skipped PES packets,
+    `trusted` the clean frames.
     """
 
     def __init__(self, path: str) -> None:
         self.path, self.last = path, ""
         self.status: int | None = None  # until it has ended
         self.is_accepted = False  # by the last line
-        self.strange: str | None = None  # the first line that is none of `check`
+        self.strange: str | None = None  # the first line that `check` does not print
         self.frames: int | None = None
         self.transmissions: int | None = None
         self.forget()
         self.file: BinaryIO = open(path, "wb")
 
     def forget(self) -> None:
-        """No fault was told."""
+        """Clear all faults."""
         self.count = 0
         self.counts: collections.Counter[int] = collections.Counter()
         self.firsts: dict[int, FaultLine] = {}
         self.first: FaultLine | None = None
         self.marks: dict[int, Spans] = {}
         self.ends: dict[int, End] = {}
-        self.latest: dict[str, int] = {}  # the number in the list of the last fault of a number
-        self.passing = ""  # the number of the PES packets that were passed over last
+        self.latest: dict[str, int] = {}  # position of the last fault, by its number
+        self.passing = ""  # the fault of the PES packets skipped last
         self.passed, self.trusted = Spans(), Spans()
 
     @property
     def numbers(self) -> set[int]:
-        """The numbers of the faults."""
+        """Return the fault numbers."""
         return set(self.counts)
 
     def take_fault(self, line: str, words: list[str]) -> None:
-        """A line `refused`."""
+        """Read a line `refused`."""
         number, place = int(words[1]), words[3:5]
         if number not in self.counts:
             fault = fault_of_line(line)
@@ -94,7 +88,7 @@ class Answer:
             self.passed.add(int(place[1]), int(place[1]))
 
     def take_end(self, words: list[str]) -> None:
-        """A line `ended`: what stood up to a frame, or for PES packets in a row."""
+        """Read a line `ended`: a fault lasted up to a frame, or for consecutive PES packets."""
         number, (kind, value) = int(words[1]), words[3:5]
         index = self.latest.pop(words[1], None)
         if index is None:
@@ -110,12 +104,12 @@ class Answer:
 
     @property
     def count_sent(self) -> int:
-        """How many faults of the transmission there are."""
+        """Return the number of faults of the transmission."""
         return sum(count for number, count in self.counts.items()
                    if number not in STL_FAULTS | {UNDECIDED})
 
     def take(self, line: str) -> None:
-        """Takes a line as it comes."""
+        """Read one line, and append it to the file."""
         with naming(self.path):
             self.file.write(line.encode() + b"\n")
         self.last, self.is_accepted = line, False
@@ -133,7 +127,7 @@ class Answer:
             self.strange = line
 
     def end(self, status: int) -> None:
-        """Takes the status; what is no answer is `Unsaid`."""
+        """Store the exit status; raise `Unsaid` if the output is not a verdict."""
         with naming(self.path):
             self.file.close()
         self.status = status
@@ -142,42 +136,41 @@ class Answer:
             raise Unsaid(f"{UNSAID}: {line or 'it printed nothing'}, status {status}")
 
     def stop(self) -> None:
-        """Takes that nothing more is told: what was told so far is no answer."""
+        """Close the file of an incomplete list."""
         with naming(self.path):
             self.file.close()
 
     @functools.cached_property
     def rows(self) -> list[tuple[int, int]]:
-        """The frames at which the content of a row is told, each with the row."""
+        """Return frame and row of each content fault, sorted."""
         return sorted((fault.frame, fault.row) for fault, _ in self.told()
                       if fault.frame is not None and fault.row is not None)
 
     def row_at(self, frame: int) -> int | None:
-        """The row that was told last up to a frame."""
+        """Return the row of the last content fault up to a frame."""
         at = bisect.bisect_right(self.rows, (frame, FRAMES_OF_A_DAY)) - 1
         return self.rows[at][1] if at >= 0 else None
 
     def told_up_to(self) -> str | None:
-        """The last time that a line has: what is before it was told."""
+        """Return the time of the last line, up to which faults were reported."""
         times: list[str] = TIME.findall(self.last)
         return times[-1] if times else None
 
     def move(self, path: str) -> None:
-        """Moves the file of its lines."""
+        """Move the file of its lines."""
         with naming(path):
             shutil.move(self.path, path)
         self.path = path
 
     def accept(self, line: str) -> None:
-        """Takes a subtitle file without faults, which is all that was asked about."""
+        """Accept a subtitle file without faults that has no recording."""
         self.last, self.status, self.is_accepted = line, 0, True
         self.forget()
         with open(self.path, "wb"):
             pass
 
     def said(self, is_read: bool = True) -> Said:
-        """What the program said, as what decides the verdict; a line that is none of `check` makes
-        it no answer."""
+        """Return what decides the verdict; a line that is not of `check` makes it not judged."""
         is_clear = self.strange is None
         is_list = is_clear and self.first is not None and self.frames is None
         counted = count_of(self.last) if is_list else None
@@ -186,11 +179,11 @@ class Answer:
 
     @property
     def verdict(self) -> str:
-        """Its verdict in one word."""
+        """Return the verdict in one word."""
         return word_of(self.said())
 
     def without(self, number: int, path: str) -> Answer:
-        """The same without the faults of a number."""
+        """Return a copy at `path` without the faults of a number."""
         made = Answer(path)
         for line in self.lines():
             if count_of(line) is not None:
@@ -202,28 +195,28 @@ class Answer:
 
     @property
     def line(self) -> str:
-        """The line of `check` without `--all`."""
+        """Return the line that `check` prints without `--all`."""
         return self.first.line if self.first else self.last
 
     def raw(self) -> Iterator[bytes]:
-        """All that is told, as it is."""
+        """Yield the list as bytes."""
         return pieces_of(self.path)
 
     def lines(self) -> Iterator[str]:
-        """All lines once more."""
+        """Yield the lines of the list."""
         with open(self.path, encoding="utf-8") as file:
             for line in file:
                 yield line.rstrip("\n")
 
     def told(self) -> Iterator[tuple[FaultLine, End]]:
-        """The faults in order, each with where it ended."""
+        """Yield the faults in order, each with its end."""
         faults = (fault for fault in map(fault_of_line, self.lines()) if fault and fault.is_fault)
         return ((fault, self.ends.get(index, NO_END)) for index, fault in enumerate(faults))
 
 
 def check(command: list[str], answer: Answer, hear: Callable[[str], None]) -> Answer:
-    """Runs `check --all`; `hear` gets each line as it comes, a line `accepted` once the status says
-    so too."""
+    """Run `check --all` and return its output. `hear` gets each line at once, but a line `accepted`
+    only after the exit status confirms it."""
     with subprocess.Popen(command, stdin=subprocess.DEVNULL, stdout=subprocess.PIPE,
                           encoding="utf-8", errors="replace") as process:
         assert process.stdout
@@ -241,18 +234,18 @@ def check(command: list[str], answer: Answer, hear: Callable[[str], None]) -> An
     return answer
 
 
-# Its call for a subtitle file alone: there is no PES packet.
+# A subtitle file alone: `check` gets no PES packets.
 
 NO_PES = os.devnull
 
 
 def check_alone(request: Request, program: str, names: Names) -> Answer:
-    """What is wrong with the subtitle file; nothing is said of it yet."""
+    """Check the subtitle file without PES packets, and report nothing."""
     return check([program, "check", *request.check_words(True), "--all", "--", names.given, NO_PES],
                  Answer(names.temporary("alone.txt")), lambda line: None)
 
 
 def say_alone(request: Request, typed: CommandWords, listener: Listener) -> None:
-    """Says the command for that."""
+    """Report the command that checks the subtitle file alone."""
     listener.written(typed.program_word, "check", request.stl, NO_PES, *request.check_words(True),
                      "--all")

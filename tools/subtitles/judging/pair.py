@@ -1,4 +1,4 @@
-"""A pair judged, from a recording to a verdict."""
+"""Judge a pair of subtitle file and recording, step by step."""
 from __future__ import annotations
 
 import contextlib
@@ -35,11 +35,12 @@ from .transmissions import DuePages, due_pages_of, kept_in, subtitles_in
 from .verdict import MOVED, Verdict, frames_until, gaps_in
 
 
-# Why `check` refuses a part, and what else follows of its answer.
+# Explaining why `check` refuses a part
 
 
 def explained(part: Part, verdict: Verdict, listener: Listener, is_summed: bool) -> Part:
-    """Return a part with what explains the answer of `check`. `is_summed`: results are written."""
+    """Return a part with the explanation of its faults. `is_summed`: results are written, so the
+    delays are computed even if --within is 0."""
     request, numbers = verdict.request, part.answer.numbers
     causes = part_causes(part) if numbers & WITH_CAUSE else None
     if causes:
@@ -56,7 +57,7 @@ def explained(part: Part, verdict: Verdict, listener: Listener, is_summed: bool)
 
 
 def drawn_otherwise(part: Part, causes: Causes, option: str) -> str:
-    """Return what is drawn otherwise if all characters are right and the content is refused."""
+    """Return how receivers draw a refused page otherwise though all characters are right."""
     if CONTENT not in part.answer.numbers:
         return ""
     due = part.due()
@@ -65,7 +66,7 @@ def drawn_otherwise(part: Part, causes: Causes, option: str) -> str:
 
 def delays_in(part: Part, causes: Causes | None, request: Request, is_summed: bool) \
         -> Sequence[int | None]:
-    """Return after how many frames each subtitle was whole; nothing if nobody asks."""
+    """Return the delay of each subtitle in frames, or nothing if no output has it."""
     held = causes.held if causes else part.held
     if not (is_summed or request.within) or not held:
         return ()
@@ -77,15 +78,15 @@ def delays_in(part: Part, causes: Causes | None, request: Request, is_summed: bo
 
 
 def hint_of(lead: Lead | None, part: Part, verdict: Verdict) -> str:
-    """Return what to know of the fault that is reported first."""
+    """Return the hint on the fault to report first."""
     return lead_words(lead.fault, part, verdict) if lead else ""
 
 
-# The call of `check` for a part.
+# Calling `check` for a part
 
 
 def part_options(part: Part) -> list[str]:
-    """The options by which the program judges a part."""
+    """Return the options of `check` for a part."""
     recording, alignment = part.recorded
     first, last = part.pes or (0, 0)
     return [*recording.words(), "--pes", f"{first}-{last}", *part.request.check_words(),
@@ -93,7 +94,7 @@ def part_options(part: Part) -> list[str]:
 
 
 def check_part(part: Part, typed: CommandWords, listener: Listener) -> None:
-    """Tells all that is broken in the PES packets of a part."""
+    """List all faults of the PES packets of a part."""
     recording, words = part.recorded[0], [*part_options(part), "--all"]
     listener.written(typed.program_word, "check", part.request.stl, recording.shown, *words)
     check([typed.program_path, "check", *words, "--", part.names.given, recording.path],
@@ -101,7 +102,7 @@ def check_part(part: Part, typed: CommandWords, listener: Listener) -> None:
     listener.speech.end_list(part.answer.last)
 
 
-# A pair, step by step.
+# The steps of judging
 
 
 class Located(NamedTuple):
@@ -113,7 +114,7 @@ class Located(NamedTuple):
 
 
 def adjoining_at(part: Part) -> int | None:
-    """The last TCO of a part of which nothing else is refused than what is shown there."""
+    """Return the last TCO of a part if its only fault is the page shown then, or `None`."""
     fault, (_, alignment) = part.answer.first, part.recorded
     is_alone = part.answer.count == 1 and fault is not None and fault.number == CONTENT
     frame = fault.frame if fault else None
@@ -122,8 +123,8 @@ def adjoining_at(part: Part) -> int | None:
 
 
 def pauses_near(subtitles: Sequence[Subtitle], at: int) -> list[int]:
-    """The last TCO before a frame behind which there is a pause, and the first behind it; the end
-    of the file is one."""
+    """Return the last TCO before frame `at` that a pause follows, and the first after it. The end
+    of the file counts as a pause."""
     ends = [subtitle.end for subtitle, other in zip(subtitles, subtitles[1:])
             if subtitle.end < other.begin]
     ends += [subtitles[-1].end] if subtitles else []
@@ -131,7 +132,7 @@ def pauses_near(subtitles: Sequence[Subtitle], at: int) -> list[int]:
 
 
 class Pair:
-    """A pair that is judged step by step; what is known so far stands in the verdict."""
+    """Judge one pair step by step, and collect the results in `verdict`."""
 
     def __init__(self, verdict: Verdict, typed: CommandWords, names: Names, listener: Listener,
                  is_summed: bool) -> None:
@@ -139,14 +140,14 @@ class Pair:
         self.typed, self.names, self.listener = typed, names, listener
         self.is_summed = is_summed
         self.recording: Recording | None = None
-        self.begun: Part | None = None  # that is being judged, or was last
+        self.begun: Part | None = None  # the part that is being judged, or was last
 
     def again(self, *more: str) -> str:
-        """The call of this tool, with more words."""
+        """Return the command line of this call with more arguments."""
         return again(self.request, self.typed, *more)
 
     def judge(self) -> None:
-        """Judges the pair; `Unclear` where a step is not clear."""
+        """Judge the pair; raise `Unclear` if something must be settled first."""
         request = self.request
         refuse_files(request)
         if request.language is not None:
@@ -166,7 +167,7 @@ class Pair:
 
     @contextlib.contextmanager
     def naming_faults(self) -> Iterator[None]:
-        """Takes the fault of a page that is never sent: then nothing more is judged."""
+        """Add the fault of a page that is never sent, after which nothing more can be judged."""
         try:
             yield
         except NeverSent as never:
@@ -177,7 +178,7 @@ class Pair:
                 self.listener.said(line)
 
     def stop(self, now: str) -> str:
-        """Takes what was told before a signal came; at which time that was, and up to where the
+        """Keep the faults reported before a signal came. Return `now` with the time up to which the
         recording was judged."""
         part = self.begun
         if part is None or any(known.answer is part.answer for known in self.verdict.parts):
@@ -190,8 +191,8 @@ class Pair:
     # The subtitle file.
 
     def judge_file(self) -> Answer:
-        """What is told of the subtitle file alone; which subtitles are judged beside others of it
-        stands in the verdict."""
+        """Return the faults of the subtitle file alone. If some subtitles are refused, store in the
+        verdict which of the others are judged."""
         request, verdict = self.request, self.verdict
         if self.is_summed:
             verdict.stl = file_of(request.stl_path, request.stl)
@@ -205,7 +206,7 @@ class Pair:
         return answer
 
     def look_at_rows(self) -> None:
-        """Takes what no set shows of the subtitle file, and what some sets do not."""
+        """Add faults of rows that no receiver shows, and warnings of rows that some hide."""
         request, file = self.request, SubtitleFile(self.names.given)
         if not may_hide(subtitles_read(file.data), bool(request.layout)):
             return
@@ -216,15 +217,15 @@ class Pair:
         self.verdict.warn(hidden.warnings)
 
     def check_alone(self) -> Answer:
-        """What is wrong with the subtitle file; at least there is no PES packet."""
+        """Return the faults of the subtitle file, and that there is no PES packet."""
         answer = check_alone(self.request, self.typed.program_path, self.names)
         if answer.verdict != REFUSED or not answer.numbers <= STL_FAULTS | {EMPTY}:
             raise Unsaid(f"{UNSAID}: {answer.last}, where there is no PES packet")
         return answer
 
     def take_beside(self, answer: Answer) -> Answer:
-        """Takes what is judged beside the subtitles that are refused; answers what is told of the
-        file alone."""
+        """Store which subtitles are judged though others are refused. Return the faults of the file
+        alone."""
         if self.request.recording is not None:
             file = SubtitleFile(self.names.given, self.request.between)
             faults = (fault for fault, _ in answer.told())
@@ -233,11 +234,11 @@ class Pair:
 
     @property
     def left_out(self) -> frozenset[int]:
-        """The subtitles that are not judged, by their places."""
+        """Return the positions of the subtitles that are not judged."""
         return self.verdict.beside.left_out if self.verdict.beside else frozenset()
 
     def judge_alone(self, answer: Answer, is_refused: bool) -> None:
-        """Ends with the subtitle file, which is refused or is all that there is."""
+        """Finish with the subtitle file, which is refused or has no recording."""
         say_alone(self.request, self.typed, self.listener)
         answer.move(self.names.list_path)
         if is_refused:
@@ -257,7 +258,7 @@ class Pair:
                 of_block=block_words(answer.first, part.subtitle_file()))
 
     def subtitles(self) -> list[Subtitle]:
-        """The subtitles that are judged."""
+        """Return the subtitles to judge; raise `Unclear` if there are none between the times."""
         between = self.request.between
         if self.verdict.beside:
             return self.verdict.beside.judged
@@ -272,7 +273,7 @@ class Pair:
 
     @functools.cached_property
     def located(self) -> Located:
-        """The recording, which is read once, and its parts."""
+        """Read the recording, once, and find its parts; raise `Unclear` if that fails."""
         request = self.request
         subtitles = self.subtitles()
         self.verdict.count = len(subtitles)
@@ -299,7 +300,7 @@ class Pair:
         return Located(recording, clocks, subtitles)
 
     def is_continued(self, first: Subtitle) -> bool:
-        """Whether one of the file that is not judged adjoins the first subtitle, and has its text.
+        """Return whether a subtitle that is not judged adjoins the first one and has the same text.
         """
         request, option = self.request, BY_WORD[self.request.option]
         if not request.between.begin and not self.left_out:
@@ -309,7 +310,7 @@ class Pair:
                    for one in subtitles_read(SubtitleFile(self.names.given).data))
 
     def refuse_range(self, recording: Recording) -> None:
-        """A range that has none of the PES packets is told so."""
+        """Raise `Unclear` if the recording has none of the PES packets of --pes."""
         count, pes = recording.packets.count, self.request.pes
         if pes and count and pes[0] >= count:
             has = f"{counted(count, 'PES packet')}, 0-{count - 1}"
@@ -317,8 +318,8 @@ class Pair:
                           self.again("--pes", f"0-{count - 1}"))
 
     def judge_beside(self, answer: Answer) -> None:
-        """Judges how the subtitles were sent that are not refused. Where that can't be judged the
-        subtitle file is refused all the same, and a note says why."""
+        """Judge the transmission of the subtitles that are not refused. If that fails, the file is
+        refused all the same, and a note says why."""
         try:
             with self.naming_faults():
                 self.judge_transmission()
@@ -334,7 +335,7 @@ class Pair:
         self.judge_alone(answer, True)
 
     def judge_transmission(self) -> None:
-        """Judges what was recorded, part by part."""
+        """Judge the recording, part by part."""
         recording, clocks, subtitles = self.located
         programme = clocks.programme._replace(left_out=self.left_out)
         if self.verdict.beside:
@@ -353,7 +354,7 @@ class Pair:
 
     def parts_in(self, recording: Recording, alignments: list[Found], programme: PartSearch,
                  subtitles: list[Subtitle]) -> list[Part]:
-        """What is judged, one after another, with its frames and their clock."""
+        """Return the parts to judge, with their frames and clocks."""
         request = self.request
         alignments = parted(alignments, programme.whole)
         if len(alignments) > 1:
@@ -368,8 +369,8 @@ class Pair:
         return parts
 
     def judge_part(self, part: Part, programme: PartSearch, subtitles: list[Subtitle]) -> None:
-        """Judges a part: the PES packets of its time, their pace, what `check` says of them, and
-        why."""
+        """Judge a part: cut its PES packets, measure their pace, run `check` and explain its
+        faults."""
         listener, request, (recording, _) = self.listener, part.request, part.recorded
         own = [subtitle for subtitle in subtitles if request.between.has(subtitle.begin)]
         due = functools.lru_cache(maxsize=None)(lambda: self.due_of(request, own))
@@ -388,8 +389,8 @@ class Pair:
         self.warn_of(part, subtitles)
 
     def refuse_middle(self, part: Part) -> None:
-        """`Unclear` where nothing is refused but that the next subtitle of the file comes at the
-        last TCO, as it does: --to stands where subtitles adjoin, and nothing ends there."""
+        """Raise `Unclear` if the only fault is that the next subtitle comes at the last TCO: --to
+        cuts the file where subtitles adjoin."""
         at = adjoining_at(part) if self.request.to_time and not self.verdict.beside else None
         if at is None or part.held is None:
             return
@@ -400,7 +401,7 @@ class Pair:
         fault = part.answer.first
         if not due.pages or not fault or part.held.page_at(fault.frame or at) != due.pages[0]:
             return
-        # Another range than the whole day takes the subtitles of a file that has a refused one.
+        # With any range but the whole day refused subtitles are skipped, not an error.
         subtitles = subtitles_in(program, given, Between(0, FRAMES_OF_A_DAY + 1), request.is_open)
         raise Unclear(f"at {time_of(at)}, where --to cuts the file, the next subtitle adjoins: all "
                       "before it is as it is due, and nothing ends there",
@@ -408,7 +409,7 @@ class Pair:
                         for end in pauses_near(subtitles, at)))
 
     def look_at_pictures(self, part: Part) -> None:
-        """Takes where the pictures leave the subtitles of a part."""
+        """Add faults of pictures that drift from the subtitles of a part."""
         recording, alignment = part.recorded
         faults, notes = left_by_pictures(recording.survey, recording.packets.pid, alignment,
                                          part.request.within, part.number)
@@ -416,18 +417,18 @@ class Pair:
         self.listener.noted(*notes)
 
     def due_of(self, request: Request, subtitles: list[Subtitle]) -> DuePages:
-        """The pages that are due of a part; beside subtitles that are refused those of the others.
-        """
+        """Return the expected pages of a part; in a file with refused subtitles, those of the
+        others."""
         if self.verdict.beside:
             layout = layout_of(request.layout or "") or PLAIN
             return due_beside(subtitles, request.page, request.option, layout)
         return due_pages_of(self.typed.program_path, self.names.given, subtitles, request.page,
                             request.option, request.between, request.words_of_pages())
 
-    # What is strange, and breaks no rule.
+    # Anomalies that break no rule
 
     def warn(self, recording: Recording, origin: int, part: Found) -> None:
-        """Takes what is strange of a recording, or of what is on a PID."""
+        """Add warnings about the recording and the PID."""
         warnings, packets, survey = list[Notice](), recording.packets, recording.survey
         warnings += recording.strange()
         if recording.is_stream:
@@ -437,7 +438,7 @@ class Pair:
         self.verdict.warn([*warnings, *notices.of_character_sets(packets, self.request)])
 
     def warn_of(self, part: Part, subtitles: list[Subtitle]) -> None:
-        """Takes where a part has pauses, and how often its page is repeated."""
+        """Add warnings about pauses in a part, and about how often it repeats its page."""
         origin = part.recorded[1].origin
         times = [(subtitle.begin, subtitle.end) for subtitle in subtitles]
         self.verdict.warn([

@@ -1,4 +1,4 @@
-"""A part of a pair: what is judged by itself, which subtitles it has, and why they are refused."""
+"""The parts of a pair that are judged separately: their subtitles, and why they are refused."""
 from __future__ import annotations
 
 import array
@@ -29,19 +29,19 @@ from .transmissions import DuePages, Kept
 
 
 def nothing_due() -> DuePages:
-    """Of a file that is refused no page is due."""
+    """Return no pages: a file that is refused has no expected pages."""
     return DuePages([], [])
 
 
 @dataclasses.dataclass(frozen=True)
 class Part:
-    """What is judged by itself: all of a pair, or the subtitles of one clock. Each step of judging
-    returns it with what it found.
+    """What is judged separately: the whole pair, or the subtitles of one clock. Each step of
+    judging returns a part with more fields.
 
-    First the frames and their clock are known, `alignment`; a subtitle file alone has none. Then
-    the PES packets, `pes`, with the file that is `judged` if they came through a pipe; then the
-    pace, an option of the request, and the PTS between which a jump of the counter is announced and
-    more time passes than usual, `jumps`. Then `check` answers. The rest explains its answer.
+    `alignment`, the frames and their clock, comes first; a subtitle file alone has none. Then come
+    `pes`, the PES packets, with the file `judged` if they came through a pipe; then an option of
+    the request for the pace, and `jumps`, the PTS around announced jumps of the counter during
+    which more time passes than usual. Then `check` fills `answer`, and the rest explains that.
     """
 
     number: int
@@ -57,19 +57,19 @@ class Part:
     due: Callable[[], DuePages] = nothing_due
     timeline: Callable[[], Timeline | None] = lambda: None
     severity: Severity | None = None
-    causes: Causes | None = None  # why its content is refused
-    delays: Sequence[int | None] = ()  # after how many frames each subtitle was whole
-    was_read: bool = False  # whether something of its recording was, or it has none
+    causes: Causes | None = None  # of its refused content
+    delays: Sequence[int | None] = ()  # frames until each subtitle was complete
+    was_read: bool = False  # also if it has no recording
     hint: str = ""  # on the fault that is reported first
-    of_block: str = ""  # the subtitle of its block
+    of_block: str = ""  # the subtitle of the refused block
     sent_hint: str = ""  # on the first fault of its transmission
     of_header: str = ""  # what is wrong with its PES headers
-    otherwise: str = ""  # what is drawn otherwise where all characters are right
-    kept: Kept | None = None  # how many headers keep the page, if nothing else is wrong with them
+    otherwise: str = ""  # what receivers draw otherwise though all characters are right
+    kept: Kept | None = None  # headers that don't erase the page, if that is their only fault
 
     @property
     def packets(self) -> Packets:
-        """Those of its recording, on its PID."""
+        """Return the packets on the PID of its recording."""
         return self.recording.packets if self.recording else Packets(PES)
 
     @property
@@ -82,50 +82,51 @@ class Part:
 
     @property
     def stream(self) -> tuple[int, int] | None:
-        """The PID, and the bytes from a TS packet to the next one, of a transport stream."""
+        """Return the PID and the TS packet size in bytes, or `None` unless it is a transport
+        stream."""
         return self.recording.stream() if self.recording else None
 
     @property
     def recorded(self) -> tuple[Recording, Found]:
-        """Its recording and its frames, of one that has these."""
+        """Return the recording and the frames; only for parts that have them."""
         assert self.recording and self.alignment
         return self.recording, self.alignment
 
     @property
     def waived(self) -> set[int]:
-        """The numbers that a severity file names warnings; none of them if all are: then the
-        verdict is about them."""
+        """Return the fault numbers that the severity file makes warnings, or none if it makes all
+        of them warnings: then the verdict is about them."""
         numbers = {number for number in self.answer.numbers
                    if self.severity and not self.severity.is_error(number)}
         return numbers if numbers != self.answer.numbers else set()
 
     @functools.cached_property
     def worst(self) -> Lead | None:
-        """The fault to report first, if something is refused; a waived one never comes first."""
+        """Return the fault to report first, if any; a waived one never comes first."""
         return lead_of(self.answer, self.causes, self.waived)
 
     @functools.cached_property
     def worst_sent(self) -> Lead | None:
-        """The same of its transmission, beside subtitles that are refused."""
+        """Return the first fault of the transmission, in a file with refused subtitles."""
         return lead_of(self.answer, self.causes, STL_FAULTS | {UNDECIDED} | self.waived)
 
     @property
     def leading(self) -> FaultLine | None:
-        """The fault that is said first."""
+        """Return the fault line to report first."""
         return self.worst.fault if self.worst else None
 
     @property
     def lead(self) -> str:
-        """The line that is said first."""
+        """Return the text to report first."""
         return self.worst.fault.line if self.worst else self.answer.last
 
     @property
     def held(self) -> Timeline | None:
-        """What a receiver holds of what is judged."""
+        """Return the pages that a receiver decodes from what is judged."""
         return self.timeline()
 
     def with_range(self, pes: Range, judged: SummedFile | None = None) -> Part:
-        """Return the part with the PES packets that are judged, and what a receiver holds then."""
+        """Return the part with the PES packets to judge, and the pages decoded from them."""
         recording, alignment = self.recorded
         request = self.request
 
@@ -136,24 +137,24 @@ class Part:
                                    timeline=functools.lru_cache(maxsize=None)(timeline))
 
     def subtitle_file(self) -> SubtitleFile:
-        """Its subtitles by their blocks and frames."""
+        """Return its subtitle file, to look up subtitles by block or frame."""
         return SubtitleFile(self.names.given, self.request.between, self.left_out)
 
     def said(self) -> Said:
-        """What the program said of it."""
+        """Return what decides its verdict."""
         return self.answer.said(self.was_read)
 
     @property
     def is_refused(self) -> bool:
-        """Whether it has faults, of any severity."""
+        """Return whether it has faults, of any severity."""
         return self.answer.verdict == REFUSED
 
     def is_read(self) -> bool:
-        """Whether one of its PES packets at least could be read."""
+        """Return whether at least one of its PES packets could be read."""
         if self.pes is None:
             return False
         numbers = self.answer.numbers - STL_FAULTS
-        if not numbers:  # beside refused subtitles it was read where something is told of it
+        if not numbers:  # with refused subtitles, faults of the transmission show that it was read
             return not self.answer.numbers or len(self.trusted) > 0
         if numbers - PASSED_OVER - {EMPTY}:
             return True
@@ -161,13 +162,13 @@ class Part:
         return count > self.answer.passed.total()
 
     def places(self) -> list[Place]:
-        """Where something of its recording is missing."""
+        """Return the places of its recording where packets are missing."""
         return self.recording.places(self.jumps) if self.recording else []
 
     @functools.cached_property
     def losses(self) -> list[Span]:
-        """The frames in which packets are missing that have no gap marker, which `check` would
-        report: the PCR alone shows that."""
+        """Return the frames that miss packets without a gap marker, which `check` would report:
+        only the PCR shows these losses."""
         if self.alignment is None:
             return []
         places = [place for place in self.places() if place.mark is None and is_in(place, self)]
@@ -175,21 +176,21 @@ class Part:
 
     @functools.cached_property
     def trusted(self) -> Spans:
-        """The frames that may stay on air: of lost ones nothing is known."""
+        """Return the clean frames, without those that lost packets."""
         return self.answer.trusted.without(self.losses)
 
     def pts(self, does: str = "") -> array.array[int]:
-        """The PTS of its PES packets, of those that do something."""
+        """Return the PTS of its PES packets, or of those with some of the flags `does`."""
         return array.array("q", self.packets.pts(self.pes, does) if self.pes else ())
 
     def options_sent(self) -> set[str]:
-        """The national options of its headers of the page."""
+        """Return the national options of the headers of the page."""
         bits = {national_option(header) for run in self.packets.inside(*self.pes or NO_RANGE)
                 for header in headers_in(run.control)}
         return {BY_BITS[one].word for one in bits if one != RESERVED}
 
     def headers_sent(self) -> collections.Counter[bytes]:
-        """How many there are of each of its headers that `check` hears."""
+        """Count each of the headers that `check` reads."""
         counts: collections.Counter[bytes] = collections.Counter()
         for run in self.packets.inside(*self.pes or NO_RANGE):
             if run.pts is not None and not run.fault:
@@ -199,18 +200,18 @@ class Part:
 
     @property
     def pes_name(self) -> str | None:
-        """The numbers of its PES packets as the program takes them."""
+        """Return the range of its PES packets as an argument of --pes."""
         return self.pes and f"{self.pes[0]}-{self.pes[1]}"
 
     def times(self) -> tuple[str, str] | tuple[None, None]:
-        """Its first and its last frame as times."""
+        """Return its first and last frame as time codes."""
         alignment = self.alignment
         return (time_of(alignment.begin), time_of(alignment.end)) if alignment else (None, None)
 
 
 def is_in(place: Place, part: Part) -> bool:
-    """Whether a mark is one of those that are judged with a part; or where none stands, whether
-    frames of the part may lack what is missing there."""
+    """Return whether packets missing at a place belong to a part: the gap marker is one of its PES
+    packets, or without one its frames may lack packets."""
     if part.alignment is None:
         return False
     if place.mark is not None and part.pes is not None:
@@ -222,12 +223,12 @@ def is_in(place: Place, part: Part) -> bool:
     return not is_before and not is_after
 
 
-# Which subtitles are judged in which part.
+# The subtitles of each part
 
 
 def parted(alignments: Sequence[Found], whole: Found) -> list[Found]:
-    """Return what is judged, part by part: a single part is the whole file, and each of several has
-    the subtitles that come in its frames."""
+    """Return the parts to judge: the whole file, or if there are several parts, each with the
+    subtitles that begin in its frames."""
     if len(alignments) == 1:
         return [whole._replace(clock=alignments[0].clock, packets=alignments[0].packets)]
     return [alignment._replace(between=Between(alignment.begin, alignment.end))
@@ -235,8 +236,7 @@ def parted(alignments: Sequence[Found], whole: Found) -> list[Found]:
 
 
 def refuse_others(parts: Sequence[Found], subtitles: Sequence[Subtitle], stl: str) -> None:
-    """`Unclear` where a subtitle of the file `stl` is in none of several parts, or they have others
-    than it has, or in another order."""
+    """Raise `Unclear` unless the parts together have the subtitles of `stl`, in their order."""
     own = [subtitle for part in parts for subtitle in subtitles if part.between.has(subtitle.begin)]
     left = len(subtitles) - len(own)
     if left > 0:
@@ -246,11 +246,11 @@ def refuse_others(parts: Sequence[Found], subtitles: Sequence[Subtitle], stl: st
         raise Unclear(f"the parts of {stl} would hold other subtitles than it has")
 
 
-# Why the content of a part is refused: its causes, by what is held of the recording around it.
+# The causes of a part, by the pages decoded around it
 
 
 def part_causes(part: Part) -> Causes | None:
-    """The causes of a part that was judged; `None` where there are none."""
+    """Return the causes of a part that was judged, or `None` if there are none."""
     request, (recording, alignment) = part.request, part.recorded
     lost = part.places() if recording.is_stream else []
     held = timeline_near(part.packets, request.page, alignment.origin, request.within,
@@ -263,8 +263,7 @@ def part_causes(part: Part) -> Causes | None:
 
 
 def reach(pts: tuple[int, int] | None, alignment: Found) -> Span | None:
-    """The frames of which all that was sent from a PTS to another one is, where PTS do not go back.
-    """
+    """Return the frames between two PTS, all of which were recorded, or `None` if PTS go back."""
     if pts is None or alignment.packets:
         return None
     first, last = (ticks_within(pts_of(alignment.begin, alignment.origin),
@@ -274,7 +273,8 @@ def reach(pts: tuple[int, int] | None, alignment: Found) -> Span | None:
 
 def unseen(places: Sequence[Place], origin: int, within: int, is_with_next: bool = True) \
         -> Iterator[Span]:
-    """The frames of which something is lost, with that of the next PES packet or without."""
+    """Return the frames that may lack packets at some places, with the frame of the next PES packet
+    or without."""
     for place in places:
         first, last = (None if pts is None else frame_in(pts, origin, within)
                        for pts in (place.before, place.after))
@@ -283,7 +283,7 @@ def unseen(places: Sequence[Place], origin: int, within: int, is_with_next: bool
 
 
 def tell_causes(listener: Listener, causes: Causes, option: str) -> None:
-    """Says the first causes, and how many more there are."""
+    """Report the first causes, and how many more there are."""
     wording, every = Wording(causes, option), causes.all()
     for cause in every[:MOST_LINES]:
         listener.said(wording.line(cause))

@@ -1,4 +1,4 @@
-"""What is said first of what is refused, and the sentence of a verdict, before the last line."""
+"""Choose the fault to report first, and write the sentence of a verdict."""
 from __future__ import annotations
 
 import collections
@@ -22,14 +22,12 @@ from .pages import page_text
 from .status import ACCEPTED, LOST, NOT_JUDGED, REFUSED, RELATIVE, WAIVED, WARNED
 
 
-# What is said first of what is refused: the worst that a viewer sees, and its first place.
-#
-# How bad something is. This table alone says what stands first, in the sentence of a verdict, in
-# its `lead`, in a report and in the table of many pairs.
+# The fault to report first, in the sentence, in `lead`, in reports and in batch tables, is the one
+# of the worst rank.
 
 
 class Rank(enum.IntEnum):
-    """How bad something is, the worst first."""
+    """Severity of a fault for viewers, worst first."""
 
     FILE = 0  # the subtitle file itself is refused: nothing of it should be sent
     NEVER = 1  # viewers see nothing of a subtitle
@@ -48,9 +46,8 @@ OF_CAUSE = {
     LATE: Rank.MOVED, EARLY: Rank.MOVED,
     ATTRIBUTE: Rank.COLOUR,
     NOT_RECEIVED: Rank.UNSEEN}
-# Of a refusal by its number: 31 to 40 are of PES packets that receivers drop, 60 to 62 of their
-# times, 67 and 68 of headers and letters. 63 and 74 without a cause are of a recording that begins
-# too late or ends too early.
+# Receivers drop PES packets with 31 to 40; 60 to 62 are faults of times, 67 and 68 of headers and
+# characters. Without a cause 63 and 74 mean that the recording begins too late or ends too early.
 OF_NUMBER = {
     **dict.fromkeys(STL_FAULTS, Rank.FILE),
     CONTENT: Rank.WRONG, INCOMPLETE: Rank.WRONG,
@@ -58,36 +55,34 @@ OF_NUMBER = {
     **dict.fromkeys((*ENDS_READING - {31, 32}, *LOSSES, BEGIN, END, UNDECIDED), Rank.UNSEEN),
     **dict.fromkeys((64, 65, 66, 69, 70, 71, 73), Rank.LATER)}
 
-
-# Of a fault that has a name in the place of a number.
 OF_NAME = {NEVER_SENT: Rank.NEVER, NOT_SHOWN: Rank.WRONG, PICTURES_LEFT: Rank.MOVED}
 
 
 def worst_name(faults: Sequence[NamedFault], than: Rank | None) -> NamedFault | None:
-    """The first of the worst faults with a name, where it is as bad as what else is refused."""
+    """Return the first of the worst named faults, or `None` if `than` is worse."""
     worst = min(faults, key=lambda fault: OF_NAME[fault.name]) if faults else None
     return worst if worst and (than is None or OF_NAME[worst.name] <= than) else None
 
 
 def rank_of(number: int) -> Rank:
-    """How bad a fault is, by its number."""
+    """Return the rank of a fault number."""
     return OF_NUMBER.get(number, Rank.LATER)
 
 
 def rank_of_cause(cause: Cause) -> Rank:
-    """Return how bad a cause is. Faults that are known come before one of which nothing is, as of
-    PES packets that can't be read (33 to 40, 61, 62)."""
+    """Return the rank of a cause. Faults that nobody could see come after those that are certain.
+    """
     return Rank.UNSEEN if cause.is_unseen else OF_CAUSE[cause.name]
 
 
 def worst_cause(causes: Iterable[Cause]) -> Cause | None:
-    """The first one of those that are the worst."""
+    """Return the first of the worst causes."""
     several = [*causes]
     return min(several, key=lambda cause: (rank_of_cause(cause), cause.place)) if several else None
 
 
 class Lead(NamedTuple):
-    """What is said first: how bad it is, where it stands among those of its rank, and its line."""
+    """The fault to report first: its rank, its position among those of its rank, and its line."""
 
     rank: Rank
     place: int
@@ -96,8 +91,7 @@ class Lead(NamedTuple):
 
 
 def lead_of(answer: Answer, causes: Causes | None, left_out: Collection[int] = ()) -> Lead | None:
-    """What is said first of some faults but those of some numbers: the first one of those that are
-    the worst."""
+    """Return the first of the worst faults, except those with numbers in `left_out`."""
     is_caused = bool(causes and causes.named)
     leads = [Lead(rank_of(number), at, told)
              for at, (number, told) in enumerate(answer.firsts.items())
@@ -110,8 +104,8 @@ def lead_of(answer: Answer, causes: Causes | None, left_out: Collection[int] = (
 
 
 def line_of(answer: Answer, causes: Causes, cause: Cause) -> FaultLine | None:
-    """The first fault of the subtitle of a cause: the last one up to the frame from which on
-    another page is held than is due, or else the first one."""
+    """Return the fault line of a cause: the last one up to the first frame with a wrong page, or
+    else the first one."""
     edge = next((number for number in (BEGIN, END) if causes.of_edge.get(number) == cause.place
                  and number in answer.firsts), None)
     first = causes.first_frames.get(cause.place)
@@ -126,10 +120,7 @@ def line_of(answer: Answer, causes: Causes, cause: Cause) -> FaultLine | None:
     return last
 
 
-# A fault of each number as a sentence: what stands behind `Refused: at TIME`.
-#
-# The manual's tables say it with all its cases; here is one clause, with its verb, for a person who
-# reads nothing else.
+# A clause for each fault number, after `Refused: at TIME`; the manual's tables have all its cases.
 
 WORDS = {
     10: "the file ends within the GSI block (1024 bytes) or within a TTI block (128 bytes)",
@@ -193,9 +184,9 @@ WORDS = {
 }
 
 
-# A verdict in one sentence for a person: what is wrong, from when on, of how many subtitles.
+# The sentence of a verdict: what is wrong, from when on, and with how many subtitles
 
-# What is said of one subtitle with a cause, and of several.
+# The predicate of a cause, for one subtitle and for several.
 SAID = {
     NEVER: ("was never sent", "were never sent"),
     OTHER: ("has another subtitle's text", "have other subtitles' texts"),
@@ -207,9 +198,9 @@ SAID = {
     ERASED: ("is erased while it is due", "are erased while they are due"),
     NOT_RECEIVED: ("was not received", "were not received"),
     UNKNOWN: ("is not held as it is due", "are not held as they are due")}
-OF_ALL = {GAP, OFF_FRAME}  # of which what is known is said of all that is judged
-BY_HINT = {CONTROL, PARITY}  # for which what is known stands alone
-MOST_NUMBERS = 4  # that are named
+OF_ALL = {GAP, OFF_FRAME}  # their hint is about everything that was judged
+BY_HINT = {CONTROL, PARITY}  # their hint replaces the clause
+MOST_NUMBERS = 4  # listed in a sentence
 
 
 class Count(NamedTuple):
@@ -221,11 +212,12 @@ class Count(NamedTuple):
 
 
 class Facts(NamedTuple):
-    """All that the sentence is made of: the verdict in one word, how many subtitles there are, the
-    fault that is said first, whether its cause is said, how many there are, in all and of each
-    number, what to know of the first, and the causes; `lost` are the lines of what is missing,
-    `warnings` the kinds of those that count; `named` is what is wrong by the first fault without a
-    number."""
+    """Everything that the sentence is made of.
+
+    `word` is the verdict and `first` the fault to report first. `hint` explains that fault,
+    `counts` has all faults by number, `lost` the lines of gaps, `warnings` the kinds of warnings
+    that count, and `named` the text of the first fault without a number.
+    """
 
     word: str
     subtitles: int
@@ -241,17 +233,17 @@ class Facts(NamedTuple):
     warnings: Sequence[str] = ()
     reason: str | None = None
     is_file: bool = False  # a subtitle file alone
-    refused: str = ""  # which subtitles are refused, beside which the others are judged
+    refused: str = ""  # which subtitles are refused, if the others are judged
     within: int = 0
     named: str = ""
     waived: Sequence[Count] = ()  # if something else is refused
     parts: int = 1  # each with its own clock
-    delay: int = 0  # frames by which all subtitles are later than by the clock that was given
+    delay: int = 0  # frames by which all subtitles are later than the given clock has them
     has_picture: bool = False  # one that `--start` can be the time code of
 
 
 def sentence_of(seen: Facts) -> str:
-    """The sentence."""
+    """Return the sentence of a verdict."""
     if seen.word == NOT_JUDGED:
         return f"Not judged: {(seen.reason or 'check was not answered').splitlines()[0]}."
     if seen.word == REFUSED:
@@ -275,7 +267,7 @@ def sentence_of(seen: Facts) -> str:
 
 
 def waived_words(seen: Facts) -> str:
-    """Return what is wrong of a verdict that is refused by nothing but warnings."""
+    """Return the clause on faults that are all warnings."""
     return f"Waived, since these faults are named warnings: {what_is_wrong(seen)}"
 
 
@@ -296,7 +288,7 @@ def relative_words(seen: Facts) -> str:
 
 
 def what_is_good(seen: Facts) -> str:
-    """What is said of subtitles of which nothing is wrong."""
+    """Return the clause on subtitles without a fault."""
     subtitles = counted(seen.subtitles, "subtitle")
     if seen.is_file:
         return f"nothing is wrong with {subtitles}"
@@ -306,7 +298,7 @@ def what_is_good(seen: Facts) -> str:
 
 
 def beside_refused(seen: Facts) -> str:
-    """Which subtitles are refused, and how the others stand, which are judged."""
+    """Return which subtitles are refused, and the result of judging the others."""
     others = f"{counted(seen.subtitles, 'other subtitle')} " \
         f"{'was' if seen.subtitles == 1 else 'were'} judged"
     sent = seen._replace(refused="")
@@ -319,13 +311,13 @@ def beside_refused(seen: Facts) -> str:
 
 
 def since(seen: Facts) -> str:
-    """Return from when to when a subtitle has to have its text."""
+    """Return during which frames subtitles must have their text."""
     return f"within {counted(seen.within, 'frame')}" if seen.within else \
         "from the first frame to the last"
 
 
 def what_is_wrong(seen: Facts) -> str:
-    """What is wrong: the worst with its first place, then how many of what else."""
+    """Return the worst fault with its first place, then counts of the others."""
     if seen.refused:
         return beside_refused(seen)
     words = fault_clause(seen)
@@ -343,8 +335,7 @@ def delay_words(subtitles: int, delay: int) -> str:
 
 
 def fault_clause(seen: Facts) -> str:
-    """The first fault, with its place, in the words for it alone or those of the manual, and how
-    many there are of each number."""
+    """Return the first fault with its place, and the number of faults by fault number."""
     fault = seen.first
     if fault is None and seen.named:
         return seen.named + (f"; in all {counted(seen.faults, 'fault')}" * (seen.faults > 1))
@@ -368,8 +359,7 @@ def fault_clause(seen: Facts) -> str:
 
 
 def also(seen: Facts) -> str:
-    """How many faults there are that are none of the content, and not of the number that is said
-    first."""
+    """Return counts of the faults other than content faults and the first fault's number."""
     first = seen.first.number if seen.first else None
     others = [count for count in seen.counts
               if count.number not in WITH_CAUSE and count.number != first]
@@ -377,7 +367,7 @@ def also(seen: Facts) -> str:
 
 
 def numbers_words(several: Sequence[Count]) -> str:
-    """How many faults there are of each number, the worst first, of many the first ones."""
+    """Return counts by fault number, worst first; only the first few if there are many."""
     rising = sorted(several, key=lambda count: (rank_of(count.number), count.number))
     words = [f"{count.number} {count.name}" + (f" ({count.faults:,})" if count.faults > 1 else "")
              for count in rising]
@@ -387,7 +377,7 @@ def numbers_words(several: Sequence[Count]) -> str:
 
 
 def of_causes(causes: Causes, option: str) -> str:
-    """The worst cause, of the first subtitle that has it; how many have which other one."""
+    """Return the worst cause with its first subtitle, and counts of the other causes."""
     every = causes.all()
     worst = worst_cause(every)
     assert worst
@@ -403,7 +393,7 @@ def of_causes(causes: Causes, option: str) -> str:
 
 
 def of_one(cause: Cause, causes: Causes, option: str) -> str:
-    """The cause of a subtitle."""
+    """Return the clause on the cause of one subtitle."""
     subtitle = causes.programme.subtitles[cause.place]
     if cause.name == IN_PAUSE:
         return f"another text was sent in a pause, {cause.words}" + (
@@ -419,7 +409,7 @@ def of_one(cause: Cause, causes: Causes, option: str) -> str:
 
 
 def of_several(causes: Sequence[Cause], subtitles: Sequence[Subtitle]) -> str:
-    """A cause that some subtitles have: how many of all, and the first and the last of them."""
+    """Return the clause on a cause that several subtitles share: their count, first and last."""
     first, last = subtitles[causes[0].place], subtitles[causes[-1].place]
     name = causes[0].name
     if name == IN_PAUSE:

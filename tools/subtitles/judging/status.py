@@ -1,4 +1,4 @@
-"""The verdict in one word and its exit status, and which faults count: decided here alone."""
+"""Decide the verdict, its exit status, and which faults count as errors; nothing else does."""
 from __future__ import annotations
 
 from typing import Collection, Iterable, NamedTuple, Sequence
@@ -9,20 +9,23 @@ from ..formats.listing import ENDS_READING, FAULT_NAMES, LOST_PACKETS, SILENT
 from ..request.lines import MOST_OF_PROFILE, text_in
 
 
-# Which faults count for the exit status.
+# Severities
 
 ERROR, WARNING = "error", "warning"
-OTHERS = "others"  # the word for all numbers and names that are not named
-# The numbers that a command of the program refuses by: packets and files, texts, transmissions.
+OTHERS = "others"  # all numbers and names that the severity file does not list
+# The fault numbers of all commands: packets and files, texts, transmissions.
 REFUSALS = {3, 4, *range(10, 26), *range(30, 41), 44, LOST_PACKETS, *range(50, 58), *range(60, 75),
             *range(76, 80), 82}
-OF_CHECK = REFUSALS - {3, 4, 82}  # of these, what `check` refuses by
+OF_CHECK = REFUSALS - {3, 4, 82}  # those that `check` reports
 
 
 class Severity:
-    """The severity of each number, and of each name that a fault without one has: an error, but for
-    what a file says. `is_loss_allowed` names lost packets a warning; `others` in a file never does.
-    Where they are one, a silence that a file does not name is one too."""
+    """Severity of each fault number or fault name: an error, unless the severity file at `path`
+    says otherwise.
+
+    `is_loss_allowed` (--allow-lost) makes lost packets a warning; `others` in the file never does.
+    If lost packets are a warning, so is a silence, unless the file names it.
+    """
 
     def __init__(self, path: str | None, is_loss_allowed: bool = False) -> None:
         self.named: dict[int | str, str] = {}
@@ -34,7 +37,7 @@ class Severity:
                 self.take(path, at, line.partition("#")[0].split())
 
     def take(self, path: str, at: int, words: list[str]) -> None:
-        """Takes a line; an empty one says nothing."""
+        """Read the words of one line of the file; raise `Stop` if it is malformed."""
         if not words:
             return
         *names, severity = words
@@ -52,7 +55,7 @@ class Severity:
             raise Stop(f"{path}, line {at}: no refusal has the number {name}")
 
     def of(self, number: int | str) -> str:
-        """The severity of a number, or of a name."""
+        """Return the severity of a fault number or name."""
         if number in ENDS_READING:
             return ERROR
         if number == LOST_PACKETS:
@@ -61,20 +64,20 @@ class Severity:
         return self.named.get(number, WARNING if is_loss else self.others)
 
     def is_error(self, number: int | str) -> bool:
-        """Whether a number counts, or a name."""
+        """Return whether a fault number or name is an error."""
         return self.of(number) == ERROR
 
 
-# The verdict in one word and its exit status: this is the one place that decides them.
+# Verdicts and exit statuses
 
-ACCEPTED, WAIVED = "accepted", "waived"  # waived: refused by nothing but warnings
-RELATIVE = "relative"  # else accepted or waived, but no clock was given
+ACCEPTED, WAIVED = "accepted", "waived"  # waived: all faults are warnings
+RELATIVE = "relative"  # would be accepted or waived, but no clock was given
 REFUSED = "refused"
-LOST = "lost"  # all that was seen is accepted or waived, and TS packets are lost
-WARNED = "warned"  # accepted or waived, and there are warnings, which count by --strict
+LOST = "lost"  # would be accepted or waived, but TS packets are lost
+WARNED = "warned"  # would be accepted or waived, but there are warnings and --strict
 NOT_JUDGED = "not judged"
 STATUSES = {ACCEPTED: 0, WAIVED: 0, REFUSED: 1, LOST: 1, WARNED: 1, NOT_JUDGED: 2, RELATIVE: 3}
-POSSIBLE = [*STATUSES.items(), (RELATIVE, 0)]  # the last one by --relative
+POSSIBLE = [*STATUSES.items(), (RELATIVE, 0)]  # the last pair with --relative
 WORST_FIRST = (2, 1, 3, 0)
 
 UNSAID = "check was not answered"
@@ -82,12 +85,12 @@ UNREAD = "nothing of the recording was read, and --severity leaves no fault an e
 
 
 class Said(NamedTuple):
-    """What the program said of a part, and the status that it ended with: below 0 where a signal
-    ended it, `None` where it has not ended.
+    """What the program reported on one part.
 
-    `is_accepted`: its last line accepts. `faults` is how many it told, of these `numbers`,
-    and `counted` how many there are by its last line. `is_read`: it read something of a recording,
-    or there is none.
+    `status` is its exit status: negative if a signal ended it, `None` if it has not ended.
+    `is_accepted`: its last line accepts. `faults` is the number of reported faults, `numbers` are
+    their fault numbers, and `counted` is the total on its last line. `is_read`: it read some of the
+    recording, or there is none.
     """
 
     status: int | None
@@ -99,16 +102,15 @@ class Said(NamedTuple):
 
 
 class Grounds(NamedTuple):
-    """All that decides a verdict.
+    """Everything that decides a verdict.
 
-    `losses` are the places at which TS packets are lost by the PCR alone: for each, whether the
-    verdict speaks of frames there. Such a place counts as a 45 does, which `check` tells of all
-    others: `severity` says whether that is an error, by its file and by --allow-lost. `warnings`
-    are the kinds of what is strange and breaks no rule. `reasons` say why it was not judged, and
-    `failed` which outputs could not be written, or would describe other files. `names` are those of
-    faults without a number.
-    `has_clock`: the clock of the recording was given, or there is no recording. Without it a delay
-    that all subtitles share is not seen, so the best verdict is `relative`.
+    `losses` has an entry for each place where only the PCR shows that TS packets are lost: whether
+    the verdict covers frames there. `check` reports all other losses as 45, and these count in the
+    same way. `warnings` are the kinds of anomalies that break no rule. `reasons` say why the pair
+    was not judged. `failed` names outputs that could not be written, or that would describe other
+    files. `names` are the faults without a number. `has_clock`: the clock of the recording was
+    given, or there is no recording. Without a given clock a delay that all subtitles share cannot
+    be seen, so the best verdict is `relative`.
     """
 
     parts: Sequence[Said]
@@ -120,11 +122,11 @@ class Grounds(NamedTuple):
     failed: Sequence[str] = ()
     names: Sequence[str] = ()
     has_clock: bool = False
-    is_relative_allowed: bool = False  # by --relative
+    is_relative_allowed: bool = False  # --relative
 
 
 class Decision(NamedTuple):
-    """A verdict in one word; `reason` is why it is not judged, where nobody has said that yet."""
+    """A verdict in one word; `reason` says why it is not judged, if `Grounds` has no reason."""
 
     word: str
     reason: str | None = None
@@ -132,12 +134,12 @@ class Decision(NamedTuple):
 
     @property
     def status(self) -> int:
-        """The exit status."""
+        """Return the exit status."""
         return 0 if self.word == RELATIVE and self.is_relative_allowed else STATUSES[self.word]
 
 
 def word_of(said: Said) -> str:
-    """The verdict on a part: only what the program says in so many words, with that status."""
+    """Return the verdict on one part. Its last line, faults and exit status must all agree."""
     if said.status == 0 and said.is_accepted and not said.faults and not said.numbers:
         return ACCEPTED
     if said.status == 1 and said.numbers and said.faults == said.counted and \
@@ -147,10 +149,12 @@ def word_of(said: Said) -> str:
 
 
 def decide(seen: Grounds) -> Decision:
-    """The verdict on all parts. What nobody said or read, or could write, is not judged; then an
-    error counts before a loss, a loss before a warning, and a warning before a clock that was not
-    given. A fault without a number counts too where there is no part, as of a page that is never
-    sent."""
+    """Return the verdict on all parts.
+
+    Anything missing, unread or unwritten makes the pair not judged. After that an error counts
+    before a loss, a loss before a warning, and a warning before a clock that was not given. A fault
+    without a number, as of a page that is never sent, counts even if there are no parts.
+    """
     words = [word_of(part) for part in seen.parts]
     if seen.reasons or seen.failed:
         return Decision(NOT_JUDGED)
@@ -171,13 +175,13 @@ def decide(seen: Grounds) -> Decision:
 
 
 def is_of_call(word: str, status: int, ended: int) -> bool:
-    """Return whether a call for a pair ended with the status of its JSON result, one that its
-    verdict can have."""
+    """Return whether a call ended with the status of its JSON result, and the verdict can have that
+    status."""
     return status == ended and (word, status) in POSSIBLE
 
 
 def of_all(statuses: Iterable[int], is_stopped: bool = False) -> int:
-    """Return the exit status of several verdicts: the worst one, or 2 if there is none, or some
+    """Return the exit status of several verdicts: the worst one, or 2 if there is none or some
     pairs are missing."""
     found = {*statuses}
     if is_stopped or not found or not found <= {*WORST_FIRST}:

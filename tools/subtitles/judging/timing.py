@@ -1,5 +1,5 @@
-"""The parts of a recording in time: their clocks, their PES packets, the pace of these, and whether
-the pictures go with them."""
+"""Find the parts of a recording in time: their clocks, PES packets and pace, and whether pictures
+drift."""
 from __future__ import annotations
 
 import dataclasses
@@ -28,15 +28,17 @@ from ..stream.survey import Survey
 from .part import Part
 
 
-NO_CLOCK = Clock(0, RECORDING)  # stands for one that is not found yet
-SAID = "origin: "  # before what is said of it
+NO_CLOCK = Clock(0, RECORDING)  # before one is found
+SAID = "origin: "  # prefix of lines about it
 
 
 class PartSearch(NamedTuple):
-    """What is looked for in a recording: the first and the last frame of its subtitles, with the
-    clock where one was given, and which of the file are left out, by their places; `inside` are the
-    PES packets that may be judged; `is_continued`: the first subtitle has the text of one that is
-    not judged and adjoins it."""
+    """What to search for in a recording.
+
+    `whole` has the first and the last frame of the subtitles, and the clock if one was given.
+    `inside` are the PES packets that may be judged, `left_out` the positions of subtitles to skip.
+    `is_continued`: a subtitle that is not judged adjoins the first one and has its text.
+    """
 
     request: Request
     whole: Found
@@ -46,8 +48,7 @@ class PartSearch(NamedTuple):
 
 
 class PartClocks(NamedTuple):
-    """The parts that were found, each with its clock, and the programme with the PES packets that
-    may be judged then; by how much the first part is late, in words."""
+    """The parts with their clocks, and notes on the delay of the first one."""
 
     programme: PartSearch
     alignments: list[Found]
@@ -55,8 +56,8 @@ class PartClocks(NamedTuple):
 
 
 def parts_of(programme: PartSearch, recording: Recording, listener: Listener) -> PartClocks:
-    """The parts with their clocks; the first one has the one that was given, or that the first
-    picture tells."""
+    """Find the parts and their clocks. The first part has the clock that was given, or that of the
+    first picture."""
     request, whole = programme.request, programme.whole
     given = given_clock(request) or by_start(programme, recording, listener)
     origin = fitted_origin(programme, recording, given, listener)
@@ -72,15 +73,15 @@ def parts_of(programme: PartSearch, recording: Recording, listener: Listener) ->
     return PartClocks(programme, alignments, delay)
 
 
-# What is known before.
+# The clock that was given
 
 def given_clock(request: Request) -> Clock | None:
-    """The clock that was given, `None` where it is to be found."""
+    """Return the clock of --origin, or `None`."""
     return None if request.origin is None else Clock(request.origin, GIVEN)
 
 
 def by_start(programme: PartSearch, recording: Recording, listener: Listener) -> Clock | None:
-    """The clock that the first picture tells, where it is asked."""
+    """Return the clock by the first picture, or `None` without --start."""
     request, whole = programme.request, programme.whole
     if request.start is None:
         return None
@@ -97,11 +98,11 @@ def by_start(programme: PartSearch, recording: Recording, listener: Listener) ->
     return begin.clock
 
 
-# What is found.
+# The clock that is estimated
 
 def fitted_origin(programme: PartSearch, recording: Recording, clock: Clock | None,
                   listener: Listener) -> Origin:
-    """What is found of the clock, also compared with one that is known, which is said."""
+    """Estimate the origin, compare it with a given clock, and report both."""
     request = programme.request
     sought = Sought(request.stl_path, recording.shown, request.page, request.option,
                     clock and clock.origin, request.within, request.breaks, programme.inside,
@@ -116,7 +117,7 @@ def fitted_origin(programme: PartSearch, recording: Recording, clock: Clock | No
 
 
 def found_in(origin: Origin, whole: Found) -> list[Found]:
-    """The parts that are clear, as they were found; none where that is not clear."""
+    """Return the parts, or none if the origin is not clear."""
     if origin.status:
         return []
     return [Found(*(part.frames or (whole.begin, whole.end)), fitted_clock(part), part.packets)
@@ -124,14 +125,13 @@ def found_in(origin: Origin, whole: Found) -> list[Found]:
 
 
 def fitted_clock(part: OfPart) -> Clock:
-    """The clock that was found for a part."""
+    """Return the estimated clock of a part."""
     return Clock(part.origin, RECORDING, evidence=Selection(
         ORIGIN_CHOICE, str(part.origin), f"{SAID}{part.line}", part.agree, part.among))
 
 
 def with_delay(clock: Clock, origin: Origin) -> tuple[Clock, list[str]]:
-    """A clock that was given, with the delay that the edges of the first part measure, and what is
-    said of that."""
+    """Return a given clock with the delay of the cues of the first part, and notes on it."""
     if origin.away is None or origin.status:
         return clock, []
     frames, ticks = divmod(abs(origin.away), TICKS)
@@ -151,8 +151,8 @@ def with_delay(clock: Clock, origin: Origin) -> tuple[Clock, list[str]]:
 
 
 def refuse_another_time(programme: PartSearch, recording: Recording, part: Found) -> None:
-    """`Unclear` if the recording has nothing at the time of the subtitles, by the clock that was
-    given, and has them at another time: so the page is right, and the clock is wrong."""
+    """Raise `Unclear` if the given clock is wrong: by it the recording has nothing at the time of
+    the subtitles, but it has them at another time."""
     clock = part.clock
     if not clock.delay_frames or cut_within(programme, recording, part,
                                             programme.request.within).range is not None:
@@ -161,8 +161,7 @@ def refuse_another_time(programme: PartSearch, recording: Recording, part: Found
 
 
 def another_time_words(request: Request, clock: Clock, delay: int) -> str:
-    """Return by how much a clock that was given differs from the subtitles in the recording, which
-    come so many frames later than by it."""
+    """Return how far a given clock is from the subtitles, which are `delay` frames late."""
     if clock.source == GIVEN:
         return f"by --origin {clock.origin} all subtitles come {length_words(abs(delay))} too " \
             f"{'late' if delay > 0 else 'early'}: none is in the recording at its time"
@@ -177,7 +176,7 @@ def another_time_words(request: Request, clock: Clock, delay: int) -> str:
 
 
 def unclear_origin(origin: Origin, again: Iterable[str]) -> Unclear:
-    """Why the origin is not clear, with what there is; `again` is what to type then."""
+    """Return why the origin is not clear, with the commands `again`."""
     is_said = origin.runs or origin.breaks is not None
     reason = "\n".join(origin.lines) if is_said else \
         f"the origin is not clear: {'; '.join(origin.lines)}"
@@ -185,7 +184,7 @@ def unclear_origin(origin: Origin, again: Iterable[str]) -> Unclear:
 
 
 def clock_options(recording: Recording, origin: Origin) -> Iterator[str]:
-    """What a person may type where the origin is not clear."""
+    """Yield what the operator may type if the origin is not clear."""
     if origin.runs:
         yield recording.again("--pes", "I-J")
     elif origin.breaks is None:
@@ -193,17 +192,17 @@ def clock_options(recording: Recording, origin: Origin) -> Iterator[str]:
         yield from recording.other_pages([recording.packets])
 
 
-# What is taken of the recording.
+# The PES packets of a part
 
 def cut_within(programme: PartSearch, recording: Recording, alignment: Found, within: int) -> Cut:
-    """The PES packets of the time of the subtitles, within so many frames."""
+    """Cut the PES packets of the time of the subtitles, allowing some frames of delay."""
     return cut_of(recording.packets, alignment.begin, alignment.end, alignment.origin,
                   programme.request.every, within, alignment.packets or programme.inside,
                   programme.is_continued and alignment.begin == programme.whole.begin)
 
 
 def cut_part(programme: PartSearch, part: Part, listener: Listener) -> Range:
-    """The same of a part by their numbers, which is said."""
+    """Return the range of the PES packets of a part, and report it."""
     recording, alignment = part.recorded
     cut = cut_within(programme, recording, alignment, programme.request.within)
     damage, line = recording.packets.damage, f"cut: {cut.words()}"
@@ -222,15 +221,17 @@ def cut_part(programme: PartSearch, part: Part, listener: Listener) -> Range:
     return cut.range
 
 
-# The pace by which a part is judged, where its PES packets are regular; else what is unseen.
+# The pace of PES packets if they are regular; else the losses that nothing shows
 
 NEXT = 1  # frame from a PES packet to one that comes in the next frame
-UNCHECKED = "not checked: whether"  # begins the note on what nothing tells
+UNCHECKED = "not checked: whether"  # prefix of a note
 
 
 def paced_part(part: Part, times: Sequence[tuple[int, int]], listener: Listener) -> Part:
-    """A part with the pace of the PES packets that are judged, where they are regular and none is
-    asked for, by the frames of the subtitles. Where holes may be unseen notes say so."""
+    """Return a part with the pace of its PES packets if it is regular and not configured.
+
+    Add notes on losses that nothing would show. `times` are the frames of the subtitles.
+    """
     number, request, (recording, _) = part.number, part.request, part.recorded
     pace, unseen = measured_pace(part, times)
     jumps, count = late_jumps(part, pace)
@@ -242,15 +243,14 @@ def paced_part(part: Part, times: Sequence[tuple[int, int]], listener: Listener)
         if pace.frames:
             listener.chosen(chosen_of(pace, recording.is_stream, number))
             request = dataclasses.replace(request, pace_word=str(pace.frames))
-        elif note:  # which is told with the verdict
+        elif note:  # reported with the verdict
             listener.chosen(Selection(PACE_CHOICE, None, note, part=number), is_said=False)
     listener.noted(*notes)
     return dataclasses.replace(part, request=request, jumps=jumps)
 
 
 def measured_pace(part: Part, times: Sequence[tuple[int, int]]) -> tuple[Pace, int | None]:
-    """How far apart the PES packets of a part come; and from how many frames on a hole of them is
-    one that the counter may not show."""
+    """Return the pace of a part, and from how many frames on the counter may not show a loss."""
     request, (recording, alignment), pes = part.request, part.recorded, part.pes or NO_RANGE
     size = None if recording.is_stream else os.path.getsize(recording.path)
     rows = frame_rows(recording.packets, pes, alignment.origin, request.within)
@@ -260,8 +260,8 @@ def measured_pace(part: Part, times: Sequence[tuple[int, int]]) -> tuple[Pace, i
 
 
 def late_jumps(part: Part, pace: Pace) -> tuple[list[PTSPair], int]:
-    """The jumps of the counter that a stream announces where a PES packet comes later than is
-    usual; and at how many others there is a frame for one that may be missing."""
+    """Return the announced jumps of the counter where the next PES packet comes late, and the
+    number of other jumps that could hide a PES packet."""
     (recording, _), inside = part.recorded, part.pes or NO_RANGE
     if not recording.is_stream:
         return [], 0
@@ -271,20 +271,19 @@ def late_jumps(part: Part, pace: Pace) -> tuple[list[PTSPair], int]:
 
 
 def jump_words(count: int, recording: Recording) -> str:
-    """That nothing tells what is missing at so many jumps of the counter; nothing of none."""
+    """Return that losses are invisible at some jumps of the counter, if there are any."""
     return f"{UNCHECKED} some of {pid_name(recording.packets.pid)} is missing at " \
         f"{counted(count, 'place')} where a jump of its counter is announced" if count else ""
 
 
 def chosen_of(pace: Pace, is_stream: bool, part: int) -> Selection:
-    """A pace that is asked for, by at how many places a loss takes longer, of all that there are.
-    """
+    """Return the pace as a choice, with the number of places where it would show a loss."""
     return Selection(PACE_CHOICE, str(pace.frames), regular_words(pace, is_stream),
                      pace.among - pace.closer, pace.among, part)
 
 
 def regular_words(pace: Pace, is_stream: bool) -> str:
-    """What PES packets are like that are regular, and the pace that comes of it."""
+    """Return how regular the PES packets are, and the pace chosen from that."""
     more = ", and so may three" if pace.is_dense else \
         f", and in {pace.lost} at best where 16 TS packets are lost" if is_stream else ""
     return f"pace: a PES packet comes within {counted(pace.apart, 'frame')} of the one before" \
@@ -292,8 +291,7 @@ def regular_words(pace: Pace, is_stream: bool) -> str:
 
 
 def unseen_words(pace: Pace, unseen: int | None, recording: Recording) -> str:
-    """What nothing tells of holes, which no counter shows from so many frames on; nothing where
-    `--every` or the pace tells them."""
+    """Return which losses nothing shows, or nothing if --every or the pace shows all."""
     if pace.kind == BY_EVERY or pace.kind == REGULAR and not pace.closer:
         return ""
     if without := clock_words(recording):
@@ -315,20 +313,20 @@ def unseen_words(pace: Pace, unseen: int | None, recording: Recording) -> str:
 
 
 def clock_words(recording: Recording) -> str:
-    """That no PCR tells a hole, where there is none."""
+    """Return that no PCR shows losses, if there is none."""
     if not recording.is_stream or recording.survey.clock_of(recording.packets.pid) is not None:
         return ""
     return f"there is no PCR of the programme of {pid_name(recording.packets.pid)}: a hole that " \
         "its counter does not show, as one of 16 TS packets, can't be seen"
 
 
-# Where the pictures leave the subtitles within a part: faults for viewers, which no PTS shows.
+# Pictures that drift from the subtitles: a fault for viewers that no PTS of Teletext shows
 
 NOT_CHECKED = "not checked: whether the pictures leave the subtitles"
 
 
 class PicturesFound(NamedTuple):
-    """What is wrong, and what is said beside: what `--within` allows, and what is not checked."""
+    """Faults of pictures, and notes: on what --within allows, and on what is not checked."""
 
     faults: list[NamedFault]
     notes: list[str]
@@ -336,7 +334,7 @@ class PicturesFound(NamedTuple):
 
 def left_by_pictures(survey: Survey, pid: int, alignment: Found, within: int, number: int
                      ) -> PicturesFound:
-    """Return what the pictures leave of a part by its number, whose Teletext is on a PID."""
+    """Return where pictures drift from part `number`, whose Teletext is on PID `pid`."""
     kinds = {pid for programme in survey.programmes_of(pid) for pid in programme.kinds}
     faults, notes = list[NamedFault](), list[str]()
     for (own, video), leads in survey.leads.items():
@@ -351,8 +349,8 @@ def left_by_pictures(survey: Survey, pid: int, alignment: Found, within: int, nu
 
 
 def departures_in(several: Sequence[Departure], alignment: Found) -> list[Departure]:
-    """Return those within the time of a part, or from its first picture on if its clock is that of
-    the picture. One that may lie outside is unclear."""
+    """Return the departures within a part, or from its first picture on if its clock is that of the
+    picture. One that may lie outside is unclear."""
     first = pts_of(alignment.begin, alignment.origin)
     length = TICKS * (alignment.end - alignment.begin)
     is_of_picture = alignment.clock.source in (START, TCP)
@@ -366,15 +364,15 @@ def departures_in(several: Sequence[Departure], alignment: Found) -> list[Depart
 
 
 class Away(NamedTuple):
-    """From one frame of a part up to the one before another subtitles come so many ticks early for
-    viewers, late where it is less than nothing."""
+    """Frames from `first` up to `end` at which subtitles come `ticks` early for viewers, or late if
+    negative."""
 
     first: int
     end: int
     ticks: int
 
     def words(self) -> str:
-        """It in words."""
+        """Return the fault as a clause."""
         count = counted(abs(self.ticks) // TICKS, "frame") if self.ticks % TICKS == 0 else \
             f"{abs(self.ticks) / TICKS:.1f} frames"
         return f"from {time_of(self.first)} on subtitles come {count} " \
@@ -382,7 +380,7 @@ class Away(NamedTuple):
 
 
 def aways_of(several: Sequence[Departure], alignment: Found) -> Iterator[Away]:
-    """From when to when subtitles are away from the pictures, by all departures before."""
+    """Yield when subtitles are apart from the pictures, adding up all departures."""
     first = pts_of(alignment.begin, alignment.origin)
     length, total = alignment.end - alignment.begin, 0
     frames = [alignment.begin + max(ticks_within(first, TICKS * length, one.pts), 0) // TICKS
@@ -394,27 +392,26 @@ def aways_of(several: Sequence[Departure], alignment: Found) -> Iterator[Away]:
 
 
 def is_allowed(ticks: int, within: int) -> bool:
-    """Whether what is so early may be: late by no more frames than that."""
+    """Return whether subtitles are late, and by no more than `within` frames."""
     return -TICKS * within <= ticks < 0
 
 
 def faults_of(several: Sequence[Departure], alignment: Found, within: int, number: int) \
         -> list[NamedFault]:
-    """Where subtitles come early, or later than is allowed."""
+    """Return faults where subtitles come early, or later than allowed."""
     return [NamedFault(PICTURES_LEFT, away.words(), time_of(away.first), time_of(away.end - 1),
                        part=number)
             for away in aways_of(several, alignment) if not is_allowed(away.ticks, within)]
 
 
 def late_notes(several: Sequence[Departure], alignment: Found, within: int) -> list[str]:
-    """Where they are late as `--within` allows."""
+    """Return notes where subtitles are late as --within allows."""
     return [f"{away.words()}, as --within {within} allows"
             for away in aways_of(several, alignment) if is_allowed(away.ticks, within)]
 
 
 def unclear_notes(is_steady: bool, count: int) -> list[str]:
-    """Return what is not checked of the pictures, by whether their decoding times go on with their
-    number, and at how many places that is unclear."""
+    """Return what is not checked: everything unless `is_steady`, or `count` places."""
     if not is_steady:
         return [f"{NOT_CHECKED}: their decoding times have no usual step"]
     return [f"{NOT_CHECKED} at {counted(count, 'place')} where their decoding times step: the "

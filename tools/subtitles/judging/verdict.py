@@ -1,4 +1,4 @@
-"""The verdict on a pair: all that is written of it, what is lost, when pages were whole."""
+"""The verdict on a pair: its parts, gaps, warnings, texts, and the delays of its subtitles."""
 from __future__ import annotations
 
 import collections
@@ -24,15 +24,14 @@ from .status import (
 from .subtitles import Counts, JudgedBeside
 
 
-# After how many frames each subtitle was whole: what a house needs to choose --within N.
+# Delays until subtitles are complete, by which a broadcaster chooses --within N
 
-# Where none of these is told, within 0, each page is whole at the end of the frame of its TCI.
+# With --within 0 and none of these faults, each page is complete in the frame of its TCI.
 MOVED = {*range(30, 33), 44, 45, 60, 62, 63, 71, 72, 74, 77}
 
 
 class Spread(NamedTuple):
-    """The least of some numbers of frames, the one in the middle, and the greatest; how many
-    subtitles nobody saw whole."""
+    """Minimum, median and maximum of delays in frames; `never` counts subtitles never complete."""
 
     least: int
     middle: int
@@ -40,14 +39,14 @@ class Spread(NamedTuple):
     never: int
 
     def words(self) -> str:
-        """All that in a line."""
+        """Return the delays as one clause."""
         middle = "" if self.least == self.greatest else f", {self.middle} in the middle"
         never = f"; {self.never} not seen whole" if self.never else ""
         return f"subtitles are whole after {range_words(self.least, self.greatest)}{middle}{never}"
 
 
 def spread_of(several: Iterable[int | None]) -> Spread | None:
-    """That of some subtitles; `None` where none is whole."""
+    """Return the spread of delays, `None` being a subtitle that was never complete."""
     all_of = list(several)
     known = sorted(frames for frames in all_of if frames is not None)
     if not known:
@@ -56,8 +55,9 @@ def spread_of(several: Iterable[int | None]) -> Spread | None:
 
 
 def frames_until(subtitle: Subtitle, page: Rows, held: Timeline, is_complete: bool) -> int | None:
-    """Return after how many frames a subtitle was whole, and where complete pages are asked for
-    closed; `None` if nothing of the page was heard before its TCI: nobody knows."""
+    """Return the delay in frames until the page of a subtitle is complete, and closed if
+    `is_complete`. Return `None` if that never happens, or if nothing was received before its TCI.
+    """
     if held.first > subtitle.begin:
         return None
     for number in held.numbers(subtitle.begin, subtitle.end):
@@ -72,7 +72,7 @@ def frames_until(subtitle: Subtitle, page: Rows, held: Timeline, is_complete: bo
 
 
 def worst_of(parts: Sequence[Part], lead: Callable[[Part], Lead | None]) -> Part | None:
-    """The first part of those that have the worst to say first."""
+    """Return the first of the parts whose `lead` is the worst."""
     def rank(part: Part) -> Rank:
         worst = lead(part)
         return worst.rank if worst else Rank.LATER
@@ -81,12 +81,12 @@ def worst_of(parts: Sequence[Part], lead: Callable[[Part], Lead | None]) -> Part
 
 
 def with_lead(said: Facts, lead: Lead | None) -> Facts:
-    """The same with the fault that is said first."""
+    """Return the facts with the fault to report first."""
     return said._replace(first=lead.fault, is_caused=lead.is_caused) if lead else said
 
 
 def counts_of_numbers(parts: Sequence[Part], left_out: Collection[int] = ()) -> list[Count]:
-    """How many faults there are of each number in all parts, but for some numbers."""
+    """Return how many faults of each number all parts have, except those in `left_out`."""
     counts: collections.Counter[int] = collections.Counter()
     names: dict[int, str] = {}
     for part in parts:
@@ -96,16 +96,18 @@ def counts_of_numbers(parts: Sequence[Part], left_out: Collection[int] = ()) -> 
             if number not in left_out]
 
 
-# A verdict on a pair: its parts, what was lost, what it was made with.
+# The verdict
 
-ESTIMATED = "estimated"  # a warning if warnings count: the clock after a break was estimated
+ESTIMATED = "estimated"  # a kind of warning: the clock after a break was estimated
 
 
 @dataclasses.dataclass
 class Gap:
-    """A place at which something is missing: the times before and after it, what is missing, and
-    whether the verdict speaks of frames between. Where a mark stands in what is judged `check` has
-    told it, as 45."""
+    """A place where packets are missing: the times before and after it, and a description.
+
+    `is_judged`: the verdict covers frames between. `check` has already reported a gap marker in
+    what is judged, as 45.
+    """
 
     after: str | None
     before: str | None
@@ -114,14 +116,17 @@ class Gap:
     is_judged: bool
 
     def line(self) -> str:
-        """Where it is, and what is missing."""
+        """Return where the gap is, and what is missing."""
         return f"between {self.after or 'the beginning'} and {self.before or 'the end'}: " \
             f"{self.words}"
 
 
 class Unjudged(NamedTuple):
-    """Why a pair is not judged, in lines, and what a person may type then. `is_passing`: that is a
-    failure of the machine, and another time it may be judged; `is_stopped`: by a signal."""
+    """Why a pair is not judged, in lines, and what the operator may type then.
+
+    `is_passing`: the cause is a failure of the machine, so another run may judge it. `is_stopped`:
+    a signal stopped it.
+    """
 
     reason: str
     to_type: tuple[str, ...] = ()
@@ -131,20 +136,22 @@ class Unjudged(NamedTuple):
 
 @dataclasses.dataclass
 class Verdict:
-    """All there is to say of a pair; `notes` are what else was seen, a line each, `hints` what to
-    know of the first letter and of the first header that are refused. `files` is what its files
-    were like when judging began, `seconds` how long it took.
+    """The result of judging a pair.
 
-    The texts that are made of it, and who takes each of them:
+    `notes` are other observations, one line each; `hints` explain the first character and the first
+    header that are refused. `files` describes the files when judging began; `seconds` is the time
+    it took.
 
-        word      JSON, CSV, JUnit, reports; the exit status goes with it
+    The texts computed from it, and where each of them appears:
+
+        word      JSON, CSV, JUnit, reports; decides the exit status
         line      the last line on standard output; JSON, CSV
         lead      reports, tables of many pairs, JUnit, JSON: `line` with the worst fault
         sentence  standard output, before the last line; reports, JSON, CSV
         lines     standard output, before all that: a line for each of several parts
-        said      reports and JSON, as notes; of these standard error has `notes` alone
-        fitted    standard output; in `said` the others have it
-        why_not   where nothing is judged: standard error, reports, JUnit; JSON and CSV as `reason`
+        said      reports and JSON, as notes; standard error has only `notes`
+        fitted    standard output; elsewhere it is in `said`
+        why_not   if nothing is judged: standard error, reports, JUnit; JSON and CSV as `reason`
         to_type   then too: standard error, reports
     """
 
@@ -160,9 +167,9 @@ class Verdict:
     chosen: list[Selection] = dataclasses.field(default_factory=list)
     stl: SummedFile | None = None
     recording: SummedFile | None = None
-    is_kept: bool = False  # what was judged stays in the folder
-    unjudged: Unjudged | None = None  # where it is not judged
-    # Why outputs are not written, or would describe other files than were judged.
+    is_kept: bool = False  # the judged files stay in the folder
+    unjudged: Unjudged | None = None  # if it is not judged
+    # Outputs that could not be written, or would describe other files than were judged.
     failed: list[str] = dataclasses.field(default_factory=list)
     files: dict[str, object] = dataclasses.field(default_factory=dict)
     seconds: float = 0.0
@@ -176,35 +183,35 @@ class Verdict:
         return any(gap.is_judged for gap in self.gaps)
 
     def warn(self, notices: Iterable[Notice]) -> None:
-        """Takes warnings that are not known yet."""
+        """Add warnings that are not listed yet."""
         self.warnings += [notice for notice in dict.fromkeys(notices)
                           if notice not in self.warnings]
 
     def said(self) -> list[str]:
-        """What the report and the object say beside the verdict."""
+        """Return the notes for the report and the JSON result."""
         return [*self.notes, *([self.fitted] if self.fitted and self.word != RELATIVE else [])]
 
     @property
     def fitted(self) -> str | None:
-        """Return that the clock was estimated, or that of the parts after a break."""
+        """Return a note that the clock, or the clock after a break, was estimated."""
         if not any(part.clock and part.clock.is_fitted for part in self.parts):
             return None
         return FITTED_LATER if self.has_clock else f"{FITTED}: {clock_advice(self.has_picture)}"
 
     @property
     def has_picture(self) -> bool:
-        """Whether the recording has a picture that `--start` can be the time code of."""
+        """Return whether the recording has a picture whose time code `--start` can give."""
         recording = self.parts[0].recording if self.parts else None
         return recording is not None and recording.has_picture()
 
     @property
     def has_clock(self) -> bool:
-        """Whether the clock of the recording was given, or there is no recording."""
+        """Return whether the clock of the recording was given, or there is no recording."""
         clocks = [part.clock for part in self.parts if part.clock]
         return self.request.has_clock and not (clocks and clocks[0].is_fitted)
 
     def seen(self) -> Grounds:
-        """All that decides it."""
+        """Return everything that decides the verdict."""
         is_later = bool(self.fitted) and self.has_clock
         kinds = [*(warned.kind for warned in self.warnings), *[ESTIMATED] * is_later]
         return Grounds([part.said() for part in self.parts], self.severity,
@@ -215,39 +222,38 @@ class Verdict:
 
     @property
     def decision(self) -> Decision:
-        """What comes of that."""
         return decide(self.seen())
 
     @property
     def is_final(self) -> bool:
-        """Whether it would be the same another time: the machine did what was asked of it."""
+        """Return whether another run would give the same verdict: nothing failed or was stopped."""
         known = self.unjudged
         return not (known and (known.is_passing or known.is_stopped) or self.failed)
 
     @property
     def is_stopped(self) -> bool:
-        """Whether a signal ended it."""
+        """Return whether a signal stopped it."""
         return bool(self.unjudged and self.unjudged.is_stopped)
 
     @property
     def to_type(self) -> tuple[str, ...]:
-        """What a person may type where it is not judged."""
+        """Return what the operator may type if the pair is not judged."""
         return self.unjudged.to_type if self.unjudged else ()
 
     @property
     def word(self) -> str:
-        """The verdict in one word."""
+        """Return the verdict in one word."""
         return self.decision.word
 
     @property
     def why_not(self) -> str | None:
-        """Why it is not judged, in lines; `None` where it is."""
+        """Return why the pair is not judged, in lines, or `None` if it is."""
         reasons = [*([self.unjudged.reason] if self.unjudged else []), *self.failed]
         return "\n".join(reasons) if reasons else self.decision.reason
 
     @property
     def sentence(self) -> str:
-        """It in one sentence for a person."""
+        """Return the verdict as one sentence."""
         refused, waived = self.leading, self.waived
         said = Facts(
             self.word, self.count, option=self.request.option,
@@ -268,15 +274,15 @@ class Verdict:
 
     @property
     def delay_of_all(self) -> int:
-        """How many frames all subtitles are later than by the clock that was given; 0 if they have
-        no delay in common, or may be late."""
+        """Return by how many frames all subtitles are later than the given clock has them; 0 if
+        they have no delay in common, or --within allows delays."""
         clock = self.parts[0].clock if len(self.parts) == 1 else None
         is_measured = clock and clock.is_delay_of_all and not self.request.within
         return clock.delay_frames or 0 if clock and is_measured else 0
 
     def sent_beside(self, said: Facts, beside: JudgedBeside) -> Facts:
-        """What the sentence is made of where subtitles are refused: that of the transmission, of
-        the first part of which something is."""
+        """Return the facts about the transmission, for a file with refused subtitles: those of its
+        worst part."""
         answers = [part.answer for part in self.parts]
         parts = [part for part in self.parts if part.worst_sent]
         part = worst_of(parts, lambda one: one.worst_sent)
@@ -288,8 +294,7 @@ class Verdict:
 
     @property
     def counts(self) -> Counts | None:
-        """How many subtitles were judged, and how many are refused; `None` where neither is known.
-        """
+        """Return how many subtitles were judged and how many are refused, or `None` if unknown."""
         if self.word == NOT_JUDGED or not self.parts:
             return None
         if self.beside:
@@ -298,28 +303,31 @@ class Verdict:
         return None if is_refused else Counts(self.count, 0)
 
     def of_part(self, part: Part, gaps: list[Gap]) -> Verdict:
-        """The verdict on a part alone, with what is missing of it."""
+        """Return the verdict on one part alone, with its gaps."""
         return dataclasses.replace(self, parts=[part], gaps=gaps)
 
     @property
     def delays(self) -> Spread | None:
-        """After how many frames subtitles were whole."""
+        """Return the spread of the delays until subtitles are complete."""
         return spread_of(frames for part in self.parts for frames in part.delays)
 
     @property
     def faults(self) -> int:
-        """How many faults there are in all parts."""
+        """Return the number of faults in all parts."""
         return sum(part.answer.count for part in self.parts) + len(self.named)
 
     @property
     def status(self) -> int:
-        """The exit status."""
+        """Return the exit status."""
         return self.decision.status
 
     @property
     def line(self) -> str | None:
-        """The last line on standard output: the first fault that counts, else the first one that
-        is waived, as `check` prints it; without a fault the line of the only part, or of all."""
+        """Return the last line on standard output.
+
+        It is the first error as `check` prints it, or else the first waived fault. Without a fault
+        it is the line of the only part, or sums over all parts.
+        """
         faults: list[FaultLine | NamedFault] = [
             fault for part in self.parts for fault in part.answer.firsts.values()]
         faults += self.named
@@ -329,15 +337,14 @@ class Verdict:
 
     @property
     def lead(self) -> str | None:
-        """The same with the worst fault that counts: reports, and tables of many pairs, begin
-        with it."""
+        """Return the first line of reports and batch tables: `line` with the worst error."""
         if self.first_named:
             return self.line_of(self.first_named.line)
         return self.line_of(self.leading.lead if self.leading else None)
 
     @property
     def first_named(self) -> NamedFault | None:
-        """The fault with a name that is said first, where it is as bad as what else is refused."""
+        """Return the worst fault without a number, if no other fault is worse."""
         worst = self.leading.worst if self.leading else None
         errors = [fault for fault in self.named if self.severity.is_error(fault.name)]
         named = errors if errors or self.word == REFUSED else self.named
@@ -345,21 +352,21 @@ class Verdict:
 
     @property
     def leading(self) -> Part | None:
-        """The part that has the worst of what is refused."""
+        """Return the part that has the worst fault."""
         refused = [part for part in self.parts if part.is_refused]
         errors = [part for part in refused if any(map(self.severity.is_error, part.answer.numbers))]
         return worst_of(errors or refused, lambda part: part.worst)
 
     @property
     def waived(self) -> set[int]:
-        """The numbers that a severity file names warnings, if something else is refused."""
+        """Return the fault numbers that are only warnings, if the pair is refused for others."""
         numbers = {number for part in self.parts for number in part.answer.numbers}
         left_out = STL_FAULTS | {UNDECIDED} if self.beside else set[int]()
         return {number for number in numbers - left_out if not self.severity.is_error(number)} \
             if self.word == REFUSED else set()
 
     def line_of(self, refused: str | None) -> str | None:
-        """A line of `check`, with what became of it; `None` where nothing is judged."""
+        """Return a line of `check` with the verdict before it, or `None` if not judged."""
         word = self.word
         if word == NOT_JUDGED:
             return None
@@ -378,8 +385,8 @@ class Verdict:
         return line
 
     def good_line(self) -> str:
-        """Return the line of the only part, or the sums of all; without a clock none of them says
-        `accepted`."""
+        """Return the line of the only part, or sums over all parts. It begins with `relative` if no
+        clock was given."""
         answers = [part.answer for part in self.parts]
         line = answers[0].line if len(answers) == 1 else (
             f"{ACCEPTED} {sum(answer.frames or 0 for answer in answers)} frames "
@@ -388,21 +395,22 @@ class Verdict:
         return line if self.has_clock else f"{RELATIVE}{line.removeprefix(ACCEPTED)}"
 
     def lines(self) -> list[str]:
-        """A line for each of several parts: from when to when it is, and what is said of it."""
+        """Return a line for each of several parts: its times and its last line."""
         return [f"part {part.number}, from {' to '.join(map(str, part.times()))}: "
                 f"{part.answer.line}" for part in self.parts] if len(self.parts) > 1 else []
 
 
-# Places at which something of a recording is missing, and of which parts that is.
+# Gaps in the recording
 
 
 def gaps_in(recording: Recording, parts: Sequence[Part]) -> list[Gap]:
-    """Return where something of a recording is missing, announced jumps of all parts included."""
+    """Return the gaps of a recording, including those that announced jumps of a part hide."""
     return gaps_of(recording.places([jump for part in parts for jump in part.jumps]), parts)
 
 
 def gaps_of(places: Sequence[Place], parts: Sequence[Part]) -> list[Gap]:
-    """Places with the times of the first of these parts of which they are, else of the first."""
+    """Return gaps at these places, with times by the clock of the first part that contains them, or
+    else of the first part."""
     gaps = []
     for place in places:
         own = [part for part in parts if is_in(place, part)]
