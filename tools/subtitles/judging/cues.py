@@ -23,7 +23,7 @@ from .subtitles import JudgedBeside
 from .transmissions import DuePages
 
 
-# When a receiver had the page of each subtitle.
+# Cues of the decoded pages
 
 REPLACED = {TEXT, PLACE, ATTRIBUTE, OTHER}  # causes with another page in place of the expected one
 
@@ -117,7 +117,7 @@ def is_variant(page: Rows, decoded: Rows, expected: DuePages) -> bool:
     return 2 * differing < sum(code > SPACE for code in b"".join(decoded))
 
 
-# The verdict on each subtitle: the one place that decides it, for reports and results.
+# The verdict on each subtitle, for reports and results
 
 RIGHT, WRONG, WAIVED, UNSURE = "right", "wrong", "waived", "not known"
 NOT_ALL_RECEIVED = "not received completely"
@@ -145,7 +145,7 @@ class CueJudge:
 
     @functools.cached_property
     def is_cause_waived(self) -> bool:
-        """Whether the faults that have causes are warnings."""
+        """Return whether all faults that have causes are warnings."""
         numbers = WITH_CAUSE & self.part.answer.numbers
         return bool(numbers) and not any(map(self.severity.is_error, numbers))
 
@@ -187,9 +187,9 @@ class CueJudge:
         return "; ".join(filter(None, [verdict.cause, *faults, verdict.unsure]))
 
 
-# The subtitles that the subtitle file has wrong, which are not judged.
+# Refused subtitles, which are not judged
 
-MOST_REFUSED = 20_000  # faults of a subtitle file that are looked at
+MOST_REFUSED = 20_000  # faults of a subtitle file to read at most
 AFTER_IT = "not judged: the next subtitle is refused"
 
 
@@ -239,7 +239,7 @@ def block_text(file: SubtitleFile, block: int) -> bytes:
     return file.text(last)
 
 
-# Where a frame is in the recording.
+# Position of a frame in the recording
 
 LONGEST = 3600 * 90_000  # ticks: a longer step, or one back, is a jump of the clock
 
@@ -274,7 +274,7 @@ def text_spans(timeline: Timeline) -> Iterator[Span]:
             yield timeline.stretch(number)
 
 
-# All subtitles of a part as values for machines.
+# The subtitles of a part for results
 
 
 def subtitle_values(part: Part, severity: Severity, beside: JudgedBeside | None) \

@@ -1,4 +1,4 @@
-"""Faults with their places and all that is known of them, and hints on some numbers."""
+"""Faults with their places and details, and hints on some numbers."""
 from __future__ import annotations
 
 import itertools
@@ -29,12 +29,12 @@ from .transmissions import Headed, effect_of, headed, header_words
 from .verdict import Verdict
 
 
-# The cells that are held, and the PES packets, at the places that faults name.
+# Cells and PES packets at the places of faults
 
 
 class FaultPlace(NamedTuple):
-    """A PES packet, `None` in a gap between two, its PTS, and the page that is held then; of one
-    whose control bits are refused (67) each header of the page."""
+    """A PES packet (`None` between two), its PTS, and the page decoded then; for refused control
+    bits (67) each header of the page."""
 
     pes: int | None
     pts: int | None
@@ -47,7 +47,7 @@ NOWHERE = FaultPlace(None, None, None)
 
 def fault_place(fault: FaultLine, packets: Packets, held: Timeline | None,
                 due: Rows | None = None) -> FaultPlace:
-    """The place of a fault of a transmission; of a cell that is not as it is due."""
+    """Return the place of a fault of a transmission; `due` is the expected page."""
     if fault.pes is not None:
         return FaultPlace(fault.pes, packets.pts_at(fault.pes), None)
     if fault.frame is None or held is None:
@@ -55,7 +55,7 @@ def fault_place(fault: FaultLine, packets: Packets, held: Timeline | None,
     members = held.members(fault.frame)
     if not members:
         return FaultPlace(None, None, held.state_at(fault.frame).rows)
-    if not held.within and fault.number == GAP:  # told before others of that frame, which are 62
+    if not held.within and fault.number == GAP:  # reported before others of the frame, which are 62
         members = members[:1]
     if due:
         members = [next((one for one in reversed(members) if code_of(fault, due) != code_of(
@@ -66,37 +66,36 @@ def fault_place(fault: FaultLine, packets: Packets, held: Timeline | None,
 
 
 def member_of(members: Sequence[Run], packet: int) -> Run:
-    """The PES packet of a frame with a Teletext packet, which are counted on from one to the next.
-    """
+    """Return the PES packet of a frame that has a Teletext packet; their numbers run on."""
     ends = itertools.accumulate(run.units for run in members)
     return next((run for run, end in zip(members, ends) if packet < end), members[-1])
 
 
 def code_of(fault: FaultLine, rows: Rows) -> int | None:
-    """The code of the cell that a fault names, where it names one."""
+    """Return the code of the cell that a fault names, or `None`."""
     return None if fault.row is None or fault.column is None else \
         code_at(rows, fault.row, fault.column)
 
 
 def code_at(rows: Rows | None, row: int, column: int) -> int | None:
-    """The code of a cell; `None` for one of the old page, which nobody sent."""
+    """Return the code of a cell, or `None` if it is left from a page before the recording."""
     if rows is None or rows[row - 1][column] == OLD:
         return None
     return rows[row - 1][column] & 0x7F
 
 
-# What a person should know of the first fault of some numbers, beside its place.
+# Hints on the first fault of some numbers
 
 HINTED = {EMPTY_TIME, CHARACTER, OUT_OF_ORDER, OFF_FRAME, CONTROL, GAP, PARITY, SILENT}
-NAMED = {DISPLAY, CONTENT}  # for which what helps is named, or what differs
-OF_HEADERS = {32, 35}  # of PES packets: their length, and that of their headers
-OF_ENDS = {BEGIN, END}  # where the recording begins late or ends early
+NAMED = {DISPLAY, CONTENT}  # their hint names the option, or the difference
+OF_HEADERS = {32, 35}  # lengths of PES packets and of their headers
+OF_ENDS = {BEGIN, END}  # the recording begins late or ends early
 HINTS = HINTED | NAMED | OF_HEADERS | OF_ENDS
 DSC = slice(11, 12)  # the field in the GSI block
 
 
 def hints_of(verdict: Verdict) -> Iterator[str]:
-    """The lines for the first fault of each of these numbers, in the order of the list."""
+    """Yield a line on the first fault of each number with a hint, in the order of the list."""
     for part in verdict.parts:
         for number, fault in part.answer.firsts.items():
             if number in HINTS and (words := hint_words(fault, part, verdict)):
@@ -104,7 +103,7 @@ def hints_of(verdict: Verdict) -> Iterator[str]:
 
 
 def hint_words(fault: FaultLine, part: Part, verdict: Verdict) -> str:
-    """What is to be said of such a fault; nothing where it is not known."""
+    """Return the hint on a fault, or nothing."""
     request = verdict.request
     if fault.number == CHARACTER:
         if not fault.block or fault.at is None:
@@ -138,8 +137,8 @@ def hint_words(fault: FaultLine, part: Part, verdict: Verdict) -> str:
 
 
 def lead_words(fault: FaultLine, part: Part, verdict: Verdict) -> str:
-    """What is said of the fault that is said first: of a header of the page also of which subtitle
-    it is, and what it does there."""
+    """Return the hint on the fault to report first. For a header it begins with its subtitle and
+    its effect on receivers."""
     words = hint_words(fault, part, verdict)
     if fault.number != CONTROL or not words or fault.frame is None:
         return words
@@ -148,8 +147,8 @@ def lead_words(fault: FaultLine, part: Part, verdict: Verdict) -> str:
 
 
 def whose_words(frame: int, part: Part) -> str:
-    """The subtitle that is due at a frame with its text, or else behind which one the page comes.
-    """
+    """Return the expected subtitle at a frame with its text, or else the page and the subtitle
+    before."""
     due = part.due()
     count, is_due = due.due(frame)
     if not is_due:
@@ -159,7 +158,7 @@ def whose_words(frame: int, part: Part) -> str:
 
 
 def letter_words(fault: FaultLine, part: Part) -> str:
-    """Which letter of which subtitle comes with even parity; nothing where that is not known."""
+    """Return which character of which subtitle has even parity, or nothing."""
     rows = fault_place(fault, part.packets, part.held).rows
     if fault.frame is None or rows is None:
         return ""
@@ -177,7 +176,7 @@ def letter_words(fault: FaultLine, part: Part) -> str:
 
 
 def end_words(part: Part) -> str:
-    """Return why the PID has no more Teletext behind the last PES packet that is judged, if so."""
+    """Return why the PID has no Teletext after the last PES packet judged, or nothing."""
     is_last = part.pes is not None and part.pes[1] == part.packets.count - 1
     return (why_refused(part.packets) or "") if is_last and part.packets.refusal else ""
 
@@ -203,8 +202,7 @@ def unrecorded_words(fault: FaultLine, part: Part) -> str:
 
 
 def block_words(fault: FaultLine, subtitles: SubtitleFile) -> str:
-    """Return the subtitle of the block that a fault names, with its time and its text; nothing of
-    another block."""
+    """Return the subtitle of the block of a fault, with its time and text, or nothing."""
     subtitle = subtitles.at_block(fault.block) if fault.block else None
     if subtitle is None or not fault.block:
         return ""
@@ -213,8 +211,7 @@ def block_words(fault: FaultLine, subtitles: SubtitleFile) -> str:
 
 
 def stored_text(text: bytes) -> str:
-    """Return the text of a subtitle file as it is read: its characters, and lines behind a slash.
-    """
+    """Return the text of a subtitle as readable characters, its lines separated by slashes."""
     lines = list[str]()
     for line in text.split(NEW_LINE):
         at, characters = 0, ""
@@ -228,13 +225,13 @@ def stored_text(text: bytes) -> str:
 
 
 def open_words(subtitles: SubtitleFile) -> str:
-    """What takes a file whose display standard code is that of open subtitles, or none."""
+    """Return how to accept a display standard code of open subtitles, or of none."""
     kind = {b"0": "0, open subtitles", b" ": "a space, none"}.get(subtitles.data[DSC])
     return f"its DSC is {kind}: --open takes it" if kind else ""
 
 
 def silent_words(fault: FaultLine, part: Part) -> str:
-    """From when on, and for how long, no PES packet came."""
+    """Return from when on, and for how long, no PES packet came."""
     request, pes, origin = part.request, part.pes, part.origin
     if request is None or request.pace is None or pes is None or origin is None \
             or fault.frame is None:
@@ -248,8 +245,8 @@ def silent_words(fault: FaultLine, part: Part) -> str:
 
 def gap_words(sent: tuple[Sequence[int], Sequence[int]], origin: int, request: Request,
               numbers: set[int], times: Sequence[tuple[int, int]]) -> str:
-    """The longest gap between headers of the page, or behind the last one, where all that was sent
-    can be read. What was sent are the PTS of headers, and that of the last PES packet."""
+    """Return the longest gap between headers of the page, or after the last one, if all PES packets
+    can be read. `sent` has the PTS of headers, and that of the last PES packet."""
     headers, last = ([frame for pts in some if (frame := frame_at(pts, origin, request.within))
                       is not None] for some in sent)
     end = last[0] + 1 if last else 0
@@ -261,11 +258,11 @@ def gap_words(sent: tuple[Sequence[int], Sequence[int]], origin: int, request: R
     return f"{words}, and {usual} are usual" if usual and usual <= request.every else words
 
 
-# The faults of a verdict with all that is known of them, one after another.
+# The faults of a verdict
 
 
 class PartFaults:
-    """The faults of one part."""
+    """The faults of one part with their details."""
 
     def __init__(self, verdict: Verdict, part: Part) -> None:
         self.verdict, self.part, self.request = verdict, part, verdict.request
@@ -280,7 +277,7 @@ class PartFaults:
         return itertools.starmap(self.fault, self.part.answer.told())
 
     def fault(self, fault: FaultLine, end: End) -> Members:
-        """All that is known of a fault."""
+        """Return the details of a fault."""
         is_stl = fault.number in STL_FAULTS
         due = self.part.due().page_at(fault.frame) if fault.number == CONTENT and \
             fault.frame is not None else None
@@ -313,27 +310,27 @@ class PartFaults:
         }
 
     def cause_of(self, fault: FaultLine) -> Members | None:
-        """The cause of the subtitle whose fault a 63, 72 or 74 is."""
+        """Return the cause of the subtitle of a 63, 72 or 74."""
         if self.wording is None or fault.number not in WITH_CAUSE or fault.frame is None:
             return None
         cause = self.wording.causes.of(fault.number, fault.frame)
         return self.wording.values(cause) if cause else None
 
     def subtitle_of(self, fault: FaultLine) -> NamedSubtitle | None:
-        """The subtitle of a block, or the one that is due at a frame."""
+        """Return the subtitle of a block, or the latest one at a frame."""
         if fault.block is not None:
             return self.subtitles.at_block(fault.block)
         return self.subtitles.at_frame(fault.frame) if fault.frame is not None else None
 
     def time_at(self, pts: int | None) -> str | None:
-        """The time of a PTS that is one of a frame of the day."""
+        """Return the time code of a PTS, or `None` if it is not that of a frame."""
         if pts is None or self.part.origin is None:
             return None
         frame = frame_at(pts, self.part.origin, self.request.within)
         return None if frame is None else time_of(frame)
 
     def cell(self, rows: Rows | None, fault: FaultLine) -> Members | None:
-        """The cell that a fault names."""
+        """Return the cell that a fault names."""
         if fault.row is None or fault.column is None:
             return None
         code = code_at(rows, fault.row, fault.column)
@@ -342,19 +339,19 @@ class PartFaults:
         return {"code": f"{code:02X}", "character": self.letters[code] if code >= 0x20 else None}
 
 
-# What a fault without a number does not have.
+# Details that a fault without a number lacks.
 NO_NUMBER = ("number", "byte", "character", "text_at", "pes", "pes_pts", "pes_time", "packet",
              "row", "column", "due", "held", "until_pes", "cause")
 
 
 def words_of_subtitle(subtitle: NamedSubtitle) -> Members:
-    """A subtitle for machines."""
+    """Return a subtitle for the JSON result."""
     return {"position": subtitle.position, "number": subtitle.number, "begin": subtitle.begin,
             "end": subtitle.end}
 
 
 def named_fault(verdict: Verdict, fault: NamedFault) -> Members:
-    """All that is known of a fault without a number."""
+    """Return the details of a fault without a number."""
     part = next((part for part in verdict.parts if part.number == fault.part), None)
     file = part.subtitle_file() if part else None
     frame = frame_of(fault.time) if fault.time else None
@@ -370,7 +367,7 @@ def named_fault(verdict: Verdict, fault: NamedFault) -> Members:
 
 
 def faults_of(verdict: Verdict) -> Iterator[Members]:
-    """The faults of all parts; before them those without a number."""
+    """Yield the faults without a number, then those of all parts."""
     yield from (named_fault(verdict, fault) for fault in verdict.named)
     for part in verdict.parts:
         if part.answer.count:

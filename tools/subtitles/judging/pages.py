@@ -1,4 +1,4 @@
-"""Pages as a person reads them: their words, in which cells two differ, which rows no set shows."""
+"""Text of pages, differences between two pages, and rows that no receiver shows."""
 from __future__ import annotations
 
 import enum
@@ -15,7 +15,7 @@ from ..stream.layout import sent_in
 from ..stream.receiver import Rows, Timeline
 
 
-# What a person reads on a page, and in which cells two pages with the same words differ.
+# Text of pages, and differences between pages with the same text
 
 ATTRIBUTES = (
     "alpha black", "alpha red", "alpha green", "alpha yellow", "alpha blue", "alpha magenta",
@@ -29,7 +29,7 @@ SPACES = bytes(max(code, SPACE) for code in range(256))  # spacing attributes ar
 
 
 class LetteredRow(NamedTuple):
-    """A row that has letters: its number, the column of the first, its words, its attributes."""
+    """A row with characters: its number, the column of the first, its text and attributes."""
 
     row: int
     column: int
@@ -39,7 +39,7 @@ class LetteredRow(NamedTuple):
 
 @functools.lru_cache(maxsize=1 << 12)
 def lettered_rows(rows: Rows) -> tuple[LetteredRow, ...]:
-    """The rows of a page that have letters."""
+    """Return the rows of a page that have characters."""
     lettered = []
     for number, row in enumerate(rows, 1):
         words = row.translate(SPACES)
@@ -51,19 +51,19 @@ def lettered_rows(rows: Rows) -> tuple[LetteredRow, ...]:
 
 
 def words_on(rows: Rows) -> str:
-    """The words of a page, wherever they stand."""
+    """Return the text of a page, wherever it stands."""
     return " ".join(b" ".join(line.words for line in lettered_rows(rows)).decode("latin-1").split())
 
 
 def page_text(rows: Rows, option: int) -> str:
-    """The words of a page as a person reads them, row after row."""
+    """Return the text of a page row by row, with the characters of a national option."""
     table = letters(option)
     return " / ".join("".join(table[code & 0x7F] for code in line.words)
                       for line in lettered_rows(rows))
 
 
 def cells_text(rows: Rows) -> str:
-    """The rows of a page that have cells: codes in hexadecimal, letters as they are."""
+    """Return the rows that have cells: attributes in hexadecimal, characters as they are."""
     lines = []
     for number, row in enumerate(rows, 1):
         cells = row.strip(b" ")
@@ -76,20 +76,20 @@ def cells_text(rows: Rows) -> str:
 
 
 def first_letters(rows: Rows) -> list[int]:
-    """The column of the first letter of each row that has one."""
+    """Return the column of the first character of each row that has one."""
     return [next(at for at, cell in enumerate(row) if cell > SPACE) for row in rows
             if any(cell > SPACE for cell in row)]
 
 
 def code_words(code: int) -> str:
-    """A cell's code as a person reads it."""
+    """Return the name of an attribute, or the code of a cell."""
     if code == SPACE:
         return "a space"
     return ATTRIBUTES[code] if code < SPACE else f"{code:02X}"
 
 
 def moved_words(due: Rows, sent: Rows) -> str:
-    """In what place words are sent, beside the one where they are due: the first that differs."""
+    """Return the first difference in the places of the same text."""
     for row, other in zip(lettered_rows(due), lettered_rows(sent)):
         if row.row != other.row:
             return f"row {other.row} instead of {row.row}"
@@ -99,7 +99,7 @@ def moved_words(due: Rows, sent: Rows) -> str:
 
 
 def attribute_words(due: Rows, sent: Rows) -> str:
-    """The first cell that differs, and by how far its row begins or ends elsewhere."""
+    """Return the first differing cell, and how far its row begins or ends elsewhere."""
     for number, (row, other) in enumerate(zip(due, sent), 1):
         for column, (code, held) in enumerate(zip(row, other)):
             if code != held:
@@ -109,7 +109,7 @@ def attribute_words(due: Rows, sent: Rows) -> str:
 
 
 def ends_words(due: bytes, sent: bytes) -> str:
-    """How many columns a row begins or ends early or late, with its attributes."""
+    """Return by how many columns a row begins or ends early or late, attributes included."""
     (first, end), (begins, ends) = extent(due), extent(sent)
     words = [] if begins == first else [columns_words("begins", begins - first)]
     words += [] if ends == end else [columns_words("ends", ends - end)]
@@ -117,19 +117,19 @@ def ends_words(due: bytes, sent: bytes) -> str:
 
 
 def extent(row: bytes) -> tuple[int, int]:
-    """The columns of the first cell of a row that is no space, and of the one after the last."""
+    """Return the columns of the first cell that is no space, and after the last one."""
     return len(row) - len(row.lstrip(b" ")), len(row.rstrip(b" "))
 
 
 def columns_words(what: str, columns: int) -> str:
-    """`begins a column early`, of columns to the right."""
+    """Return `begins a column early` or the like; positive columns are late."""
     count = "a column" if abs(columns) == 1 else counted(abs(columns), "column")
     return f"{what} {count} {'late' if columns > 0 else 'early'}"
 
 
 def is_moved(due: Rows, sent: Rows) -> bool:
-    """Whether pages with the same words have these in other places, and not since one has another
-    attribute: that takes a cell too."""
+    """Return whether the same text is in other places for another reason than a different
+    attribute, which takes a cell too."""
     rows, other = lettered_rows(due), lettered_rows(sent)
     if [line.row for line in rows] != [line.row for line in other]:
         return True
@@ -138,8 +138,7 @@ def is_moved(due: Rows, sent: Rows) -> bool:
 
 
 def beside_words(due: Rows, sent: Rows) -> str:
-    """Which rows with letters a page has beside those that are due; nothing where it has none, or
-    one of those is not as it is due."""
+    """Return the rows that a page has in addition to the expected ones, if these are all right."""
     if any(row != other for row, other in zip(due, sent) if row.strip()):
         return ""
     *others, last = ["", *(str(line.row) for line in lettered_rows(sent)
@@ -151,16 +150,16 @@ def beside_words(due: Rows, sent: Rows) -> str:
 
 
 def is_part(sent: Rows, due: Rows) -> bool:
-    """Whether a page has some rows of another one, and nothing else."""
+    """Return whether a page has some rows of another one, and nothing else."""
     return all(row == wanted or not row.strip() for row, wanted in zip(sent, due))
 
 
-# Subtitles whose letters are right, and that are drawn otherwise than is due: in which cells.
+# Subtitles with the right characters that are drawn otherwise
 
 
 class LetterRow(NamedTuple):
-    """A row with letters: its number, the column of its first cell, the codes before its letters,
-    what stands from the first letter to the last one, the codes behind."""
+    """A row with characters: its number, the column of its first cell, the codes before the first
+    character, the cells up to the last one, and the codes after it."""
 
     row: int
     column: int
@@ -170,7 +169,7 @@ class LetterRow(NamedTuple):
 
 
 def lines_of(rows: Rows) -> Iterator[LetterRow]:
-    """The rows of a page that have letters."""
+    """Yield the rows of a page that have characters."""
     for number, row in enumerate(rows, 1):
         cells = row.strip(b" ")
         at = [place for place, cell in enumerate(cells) if cell > SPACE]
@@ -181,8 +180,8 @@ def lines_of(rows: Rows) -> Iterator[LetterRow]:
 
 def otherwise(subtitles: Sequence[Subtitle], pages: Sequence[Rows], held: Timeline,
               option: NationalOption) -> str:
-    """How many subtitles were sent with their letters and drawn otherwise, and in which cells the
-    first one; nothing where none was."""
+    """Return how many subtitles were sent with the right characters and drawn otherwise, and the
+    difference of the first."""
     differing = [(subtitle, page, sent.rows) for subtitle, page in zip(subtitles, pages)
                  for sent in sent_in([subtitle], held, option) if sent.rows != page]
     if not differing:
@@ -195,8 +194,8 @@ def otherwise(subtitles: Sequence[Subtitle], pages: Sequence[Rows], held: Timeli
 
 
 def cells_words(due: Rows, sent: Rows) -> str:
-    """In which cells a page with the same letters differs from the one that is due: of the first
-    line that does its row, its column, and what stands before and behind its letters."""
+    """Return the first differing row of a page with the right characters: its row, column and
+    codes."""
     lines, others = [*lines_of(due)], [*lines_of(sent)]
     if len(lines) != len(others):
         return f"in {counted(len(others), 'row')}, where {len(lines)} are due"
@@ -213,25 +212,25 @@ def cells_words(due: Rows, sent: Rows) -> str:
 
 
 def codes_words(codes: bytes) -> str:
-    """Codes in hexadecimal; spaces too, by their code."""
+    """Return codes in hexadecimal, spaces included."""
     return " ".join(f"{code:02X}" for code in codes) or "nothing"
 
 
-# Rows of a subtitle file that no set shows, or of which some sets show nothing.
+# Rows that all receivers hide, or some
 #
-# Receivers show of a subtitle page what stands in a box. libzvbi opens a box at two start boxes in
-# a row (0B 0B), ffmpeg shows what stands behind one too; two end boxes (0A 0A) close it. Nobody
-# sees letters in the colour of their background. docs/FIELD.md has a table of both.
+# Receivers show only the boxes of a subtitle page. libzvbi opens a box at two start boxes in a row
+# (0B 0B), ffmpeg at the first; two end boxes (0A 0A) close it. Characters in the colour of their
+# background are invisible. docs/FIELD.md has a table of both decoders.
 
 START_BOX, END_BOX, BLACK_BACKGROUND, NEW_BACKGROUND = 0x0B, 0x0A, 0x1C, 0x1D
 WHITE, BLACK = 7, 0
-HIDING = bytes((START_BOX, END_BOX, NEW_BACKGROUND))  # codes of a text that may hide letters
-HIDDEN = "hidden"  # the kind of the warning
+HIDING = bytes((START_BOX, END_BOX, NEW_BACKGROUND))  # codes of a text that may hide characters
+HIDDEN = "hidden"  # kind of a warning
 
 
 class Cell(NamedTuple):
-    """A letter of a row: where it is, its code, whether its box is opened by two start boxes, or by
-    one at least, and whether it has the colour of its background."""
+    """A character of a row: its column and code; whether two start boxes open its box, or at least
+    one does; and whether it has the colour of its background."""
 
     column: int
     code: int
@@ -241,17 +240,17 @@ class Cell(NamedTuple):
 
     @property
     def is_seen(self) -> bool:
-        """Whether libzvbi shows it."""
+        """Return whether libzvbi shows it."""
         return self.is_boxed and not self.is_alike
 
     @property
     def is_seen_somewhere(self) -> bool:
-        """Whether a decoder that was tried shows it."""
+        """Return whether any of the tested decoders shows it."""
         return self.is_begun and not self.is_alike
 
 
 class Sight(enum.Enum):
-    """What is seen of a row; most are blank."""
+    """How much of a row receivers show."""
 
     ALL = "all of it, or it has no letters"
     SOME = "some letters, or all by some receivers"
@@ -259,7 +258,7 @@ class Sight(enum.Enum):
 
 
 def letters_in(cells: bytes) -> Iterator[Cell]:
-    """The letters of a row."""
+    """Yield the characters of a row."""
     ink, paper, is_boxed, is_begun, last = WHITE, BLACK, False, False, SPACE
     for column, byte in enumerate(cells):
         code = byte & 0x7F
@@ -273,14 +272,14 @@ def letters_in(cells: bytes) -> Iterator[Cell]:
             paper = ink
         if code > SPACE:
             yield Cell(column, code, is_boxed, is_begun, ink == paper)
-        elif code < 8 or 0x10 <= code < 0x18:  # of the cells behind it
+        elif code < 8 or 0x10 <= code < 0x18:  # for the cells after it
             ink = code & 7
         last = code
 
 
 @functools.lru_cache(maxsize=1000)
 def sight_of(cells: bytes) -> Sight:
-    """What is seen of a row; most are blank."""
+    """Return how much of a row receivers show; cached, since most rows are blank."""
     drawn_cells = [*letters_in(cells)]
     if all(cell.is_seen for cell in drawn_cells):
         return Sight.ALL
@@ -288,7 +287,7 @@ def sight_of(cells: bytes) -> Sight:
 
 
 def hidden_words(cells: bytes, option: str) -> str:
-    """Which letters of a row are not shown, by whom, and why."""
+    """Return which characters of a row which decoders hide, and why."""
     table = letters(BY_WORD[option].bits)
 
     def text(several: Sequence[Cell]) -> str:
@@ -306,21 +305,21 @@ def hidden_words(cells: bytes, option: str) -> str:
 
 
 class HiddenRows(NamedTuple):
-    """What is wrong with the rows of a file: those that no set shows, and warnings of others."""
+    """Faults of rows that no receiver shows, and warnings of rows that some hide."""
 
     faults: list[NamedFault]
     warnings: list[Notice]
 
 
 def may_hide(subtitles: Sequence[Subtitle], has_layout: bool) -> bool:
-    """Whether a row of a file may be hidden: only codes of a text, or of a layout, do that."""
+    """Return whether a row may be hidden: only codes of a text or a layout can do that."""
     return has_layout or any(bytes([code]) in subtitle.text
                              for subtitle in subtitles for code in HIDING)
 
 
 def hidden_rows(subtitles: Sequence[Subtitle], pages: Sequence[Rows], file: SubtitleFile,
                 option: str) -> HiddenRows:
-    """What is wrong with the rows of a programme."""
+    """Return the faults and warnings of the rows of all subtitles."""
     hidden = HiddenRows([], [])
     for subtitle, page in zip(subtitles, pages):
         for row, cells in enumerate(page, 1):

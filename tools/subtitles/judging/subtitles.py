@@ -1,4 +1,5 @@
-"""Subtitles that are refused themselves: midnight, letters, and what is judged beside them."""
+"""Refused subtitles of a file: advice on midnight and characters, and which of the others are
+judged."""
 from __future__ import annotations
 
 import functools
@@ -20,8 +21,7 @@ from .sentence import WORDS
 from .transmissions import DuePages
 
 
-# Subtitle files that go on beyond midnight: their times fall, and nothing is to be sorted; and
-# files that begin with a title at 00:00:00:00.
+# Subtitle files that continue after midnight, or begin with a title at 00:00:00:00
 
 HOUR = 3600 * FRAMES_A_SECOND
 TCI, TCO = slice(5, 9), slice(9, 13)  # of a TTI block
@@ -29,7 +29,7 @@ AT_MIDNIGHT = "midnight: cut the file there"
 
 
 def midnight_words(fault: FaultLine, subtitles: SubtitleFile) -> str:
-    """What to do about times that fall from over 23:00 to under 01:00; nothing where others do."""
+    """Return advice on times that fall from over 23:00 to under 01:00, or nothing."""
     if fault.block is None or fault.number not in (EMPTY_TIME, OUT_OF_ORDER):
         return ""
     if fault.number == EMPTY_TIME:
@@ -43,8 +43,7 @@ def midnight_words(fault: FaultLine, subtitles: SubtitleFile) -> str:
 
 
 def title_words(subtitles: SubtitleFile) -> str:
-    """How to leave out what comes at 00:00:00:00, an hour before all else; nothing where it does
-    not."""
+    """Return how to skip a first subtitle at 00:00:00:00 an hour before all others, or nothing."""
     rest = min((frame for frame in subtitles.begins if frame), default=0)
     if not rest >= HOUR or subtitles.begins[0]:
         return ""
@@ -53,36 +52,37 @@ def title_words(subtitles: SubtitleFile) -> str:
 
 
 def falls_at_midnight(earlier: bytes, later: bytes) -> bool:
-    """Whether a time is in the last hour of the day, and the one after it in the first."""
+    """Return whether a time is in the last hour of a day, and the next in the first."""
     first, second = frame_of_code(earlier), frame_of_code(later)
     return first is not None and second is not None and \
         first >= FRAMES_OF_A_DAY - HOUR and second < HOUR
 
 
-# What to do about a letter that the national option lacks (50).
+# Characters that the national option lacks (50)
 
 
 class OptionAdvice:
-    """The advice for the letters of one subtitle file, which is judged by a national option."""
+    """Advice on characters of a subtitle file that the national option lacks."""
 
     def __init__(self, subtitles: SubtitleFile, option: str) -> None:
         self.subtitles, self.option = subtitles, option
 
     @functools.cached_property
     def drawing(self) -> list[NationalOption]:
-        """The other options that have each letter of the whole file."""
+        """Return the other options that have every character of the file."""
         texts = {self.subtitles.text(block) for block in self.subtitles.lasts()}
         return [option for option in OPTIONS if option.word != self.option
                 and all(has_characters(text, option) for text in texts)]
 
     def of(self, block: int, at: int) -> str:
-        """What to do about the byte at a place of the text whose last block that is."""
+        """Return advice on byte `at` of the text that ends in a block."""
         text = self.subtitles.text(block)
         return "" if at >= len(text) else advice_of(letter_at(text, at), self.drawing)
 
 
 def advice_of(letter: bytes, drawing: list[NationalOption]) -> str:
-    """What to do about a letter that the option lacks, where these options draw the whole file."""
+    """Return advice on a missing character; the options `drawing` have every character of the file.
+    """
     if drawing:
         return f"the whole file draws in {listed(drawing)}"
     character = character_of(letter)
@@ -96,39 +96,37 @@ def advice_of(letter: bytes, drawing: list[NationalOption]) -> str:
 
 
 def listed(options: list[NationalOption]) -> str:
-    """Some options, as words to type."""
+    """Return options as an argument to type."""
     return "--option " + ", ".join(option.word for option in options)
 
 
-# What is judged beside subtitles that are refused: the subtitles that can be relied on.
+# The subtitles that are judged though others are refused
 #
-# `check --all` tells all that is refused in the subtitle file, and beside it what was sent from
-# each subtitle that can be relied on to the next. Which these are follows from its lines: no line
-# names one, and the next subtitle that is compared with it, by time, is not told to be out of order
-# or to overlap it. Where it does not judge beside them, none of this is asked.
+# `check --all` judges the transmission from each subtitle without a fault to the next such one. No
+# line names such a subtitle, and none says that the next one compared with it is out of order or
+# overlaps it.
 
-# Faults of a subtitle by its first block, with which it is no record that others are compared with.
+# Subtitles with these faults are not compared with others.
 NO_RECORD = {16, *range(18, 22)}
-COMPARED = {56, 57}  # with the record before
+COMPARED = {56, 57}  # faults of comparing with the subtitle before
 MOST_NAMED = 3  # refused subtitles in the sentence
-OPENS, ERASES = "heo", "heb"  # what a PES packet does that sends a page, or a blank one
+OPENS, ERASES = "heo", "heb"  # flags of a PES packet with a page, or a blank one
 
 
 class Counts(NamedTuple):
-    """How many subtitles were judged, and how many are refused or can't be relied on."""
+    """How many subtitles were judged, and how many are refused or skipped with them."""
 
     judged: int
     refused: int
 
     def words(self) -> str:
-        """Both, where some are refused."""
+        """Return both as a clause, or nothing if none is refused."""
         return f"{counted(self.judged, 'subtitle')} judged, {self.refused:,} refused" \
             if self.refused else ""
 
 
 class RefusedSubtitle(NamedTuple):
-    """A subtitle that is refused, with the first line that names it; its letter, where that is
-    refused, and what to do."""
+    """A refused subtitle, the first fault line that names it, its refused character, and advice."""
 
     subtitle: NamedSubtitle
     fault: FaultLine
@@ -136,36 +134,36 @@ class RefusedSubtitle(NamedTuple):
     do: str
 
     def name(self) -> str:
-        """It as all tools name it, with its time."""
+        """Return its name, as all tools print it, and its time."""
         subtitle = self.subtitle
         return f"{subtitle_name(subtitle.position, subtitle.number)} at {subtitle.begin}"
 
     def why(self) -> str:
-        """The number and the name of its fault, its letter, or what that means, and what to do."""
+        """Return the fault with its character or meaning, and the advice."""
         more = self.letter or WORDS.get(self.fault.number, "")
         do = f": {self.do}" if self.do else ""
         return f"{self.fault.number} {self.fault.name}, {more}{do}"
 
     def line(self) -> str:
-        """All that, and up to when it would be due."""
+        """Return its line for the output."""
         return f"undecided: {self.name()}, to {self.subtitle.end}, is refused by {self.why()}"
 
 
 class JudgedBeside(NamedTuple):
-    """The subtitles that are judged, and those that are refused, by their places in the file."""
+    """The subtitles that are judged, those that are refused, and the positions of all skipped."""
 
     judged: list[Subtitle]
     refused: list[RefusedSubtitle]
     left_out: frozenset[int]
 
     def lines(self) -> Iterator[str]:
-        """A line for each that is refused, of many for the first ones."""
+        """Yield a line for each refused subtitle, up to a limit."""
         yield from (refused.line() for refused in self.refused[:MOST_LINES])
         if len(self.refused) > MOST_LINES:
             yield f"undecided: {counted(len(self.refused) - MOST_LINES, 'more subtitle')}"
 
     def words(self) -> str:
-        """Which are refused: the first ones, and how many more."""
+        """Return the first refused subtitles, and how many more there are."""
         if len(self.refused) == 1:
             return f"{self.refused[0].name()} is refused by {self.refused[0].why()}"
         named = [f"{refused.name()} by {refused.why()}" for refused in self.refused[:MOST_NAMED]]
@@ -176,13 +174,13 @@ class JudgedBeside(NamedTuple):
 
 
 def is_judged_beside(numbers: set[int]) -> bool:
-    """Whether the program judges beside what it refused of a subtitle file: it read the recording
-    too, which had nothing."""
+    """Return whether the program judges the others though it refused some subtitles: it then
+    reports that there was no PES packet, too."""
     return EMPTY in numbers and bool(numbers & STL_FAULTS)
 
 
 def beside_of(file: SubtitleFile, faults: Iterable[FaultLine], option: str) -> JudgedBeside:
-    """What is judged of a file beside what is told of it."""
+    """Return which subtitles of a file can be judged, by its faults."""
     by_position: dict[int, list[FaultLine]] = {}
     for fault in faults:
         subtitle = file.at_block(fault.block) if fault.block is not None else None
@@ -202,7 +200,7 @@ def beside_of(file: SubtitleFile, faults: Iterable[FaultLine], option: str) -> J
 
 
 def positions_in(file: SubtitleFile) -> Iterator[int]:
-    """The places of the subtitles that are asked for: not of those that come in other frames."""
+    """Yield the positions of the subtitles between --from and --to."""
     for place, block in enumerate(file.starts, 1):
         begin = frame_of_code(file.block(block)[5:9])
         if begin is None or file.between.has(begin):
@@ -211,7 +209,7 @@ def positions_in(file: SubtitleFile) -> Iterator[int]:
 
 def refused_of(file: SubtitleFile, fault: FaultLine, advice: OptionAdvice,
                known: dict[int, Meaning]) -> RefusedSubtitle:
-    """A subtitle by the first line that names it."""
+    """Return a refused subtitle, by the first line that names it."""
     assert fault.block is not None
     subtitle = file.at_block(fault.block)
     assert subtitle
@@ -226,8 +224,7 @@ def refused_of(file: SubtitleFile, fault: FaultLine, advice: OptionAdvice,
 
 def due_beside(subtitles: Sequence[Subtitle], page: Page, option: str, layout: Layout = PLAIN) \
         -> DuePages:
-    """The pages of the subtitles that are judged; `schedule` refuses their file, so they are drawn
-    here."""
+    """Return the pages of the judged subtitles, drawn here since `schedule` refuses the file."""
     pages = [page_drawn(one, option, layout) for one in subtitles]
     packets = Packets(PES)
     for place, (subtitle, rows) in enumerate(zip(subtitles, pages)):
@@ -239,14 +236,14 @@ def due_beside(subtitles: Sequence[Subtitle], page: Page, option: str, layout: L
 
 
 def page_drawn(subtitle: Subtitle, option: str, layout: Layout) -> Rows:
-    """The page of a subtitle."""
+    """Return the page of a subtitle."""
     lines = drawn(subtitle.text, subtitle.row, subtitle.justify, layout, BY_WORD[option])
     assert not isinstance(lines, Refused)
     return page_rows(lines)
 
 
 def send(packets: Packets, frame: int, rows: Rows, page: Page, option: str) -> None:
-    """A PES packet that sends a page at a frame."""
+    """Add a PES packet that sends a page at a frame."""
     number = packets.count
     header = (page[1] & 15, page[1] >> 4, 0, 8, 0, 8, 1, BY_WORD[option].bits << 1)
     packets.runs.append(Run(number, 1, TICKS * frame, 0, ERASES if rows == BLANK_PAGE else OPENS,

@@ -1,4 +1,4 @@
-"""Page transmissions: their headers, which pages are due, which subtitle each is of."""
+"""Page transmissions: their headers, the expected pages, and the subtitle of each."""
 from __future__ import annotations
 
 import bisect
@@ -23,19 +23,18 @@ from .check import Answer
 from .pages import is_part, words_on
 
 
-# What is wrong with the control bits of headers of the page.
+# Faults of the control bits of headers
 
 CLEAR = "C4 (erase page) is clear"
 REPEATS = f"{CLEAR}: a repeat that does not erase"
-# The other control bits that a header of subtitles has set, or clear, and what it is where they are
-# not.
+# The other control bits of a subtitle header, whether each must be set, and the fault if not.
 ASKED = (
     (SUBTITLE, True, "C6 (subtitle) is clear"),
     (SUPPRESS, True, "C7 (suppress header) is clear"),
     (NEWSFLASH, False, "C5 (newsflash) is set"),
     (INHIBIT, False, "C10 (inhibit display) is set"),
 )
-# What the page does on sets that heed such a bit, the worst first.
+# What receivers that use such a bit do, worst first.
 EFFECTS = (
     (INHIBIT, False, "is not shown"),
     (SUBTITLE, True, "hides the picture"),
@@ -47,8 +46,7 @@ OTHER_LETTERS = "has other letters"
 
 
 class Headed(NamedTuple):
-    """A header of the page by its eight numbers, with those of the one before it, and whether the
-    page was open then."""
+    """A header of the page, the one before it, and whether the page was open when it came."""
 
     numbers: bytes
     before: bytes | None = None
@@ -56,7 +54,7 @@ class Headed(NamedTuple):
 
 
 def headed(run: Run, state: State) -> list[Headed]:
-    """The headers of the page in a PES packet, after what a receiver held before it."""
+    """Return the headers of the page in a PES packet; `state` is what was decoded before it."""
     heard: list[Headed] = []
     before, is_open = state.header, state.is_open
     headers = iter(headers_in(run.control))
@@ -71,12 +69,12 @@ def headed(run: Run, state: State) -> list[Headed]:
 
 
 def keeps(header: bytes) -> bool:
-    """Whether a header keeps the page."""
+    """Return whether a header keeps the page, with C4 clear."""
     return not has_bit(header, ERASE)
 
 
 def unerased_words(headed: Headed, request: Request) -> str:
-    """Why a header has to erase the page and does not; nothing where it need not, or does."""
+    """Return why a header should erase the page but does not, or nothing."""
     if not keeps(headed.numbers):
         return ""
     if not request.may_keep:
@@ -90,8 +88,7 @@ def unerased_words(headed: Headed, request: Request) -> str:
 
 
 def control_words(header: bytes, option: str, unerased: str = "") -> list[str]:
-    """What is wrong with the control bits of a header of the page, with its national option. What
-    is wrong with C4 is known."""
+    """Return the faults of the control bits of a header, beginning with that of C4, `unerased`."""
     faults = [unerased] if unerased else []
     faults += [words for bit, is_set, words in ASKED if has_bit(header, bit) != is_set]
     bits = national_option(header)
@@ -103,7 +100,7 @@ def control_words(header: bytes, option: str, unerased: str = "") -> list[str]:
 
 
 def effect_of(headers: Sequence[Headed], request: Request) -> str:
-    """What the page does on some sets, by the first header of some of which something is wrong."""
+    """Return what some receivers do with the page, by the first header with a fault."""
     numbers = next((header.numbers for header in headers if control_words(
         header.numbers, request.option, unerased_words(header, request))), b"")
     wrong = (words for bit, is_set, words in EFFECTS if numbers and has_bit(numbers, bit) != is_set
@@ -112,32 +109,30 @@ def effect_of(headers: Sequence[Headed], request: Request) -> str:
 
 
 def header_words(headers: Sequence[Headed], request: Request) -> str:
-    """What is wrong with the control bits of the first header of some of which something is."""
+    """Return the faults of the first header with any."""
     wrong = (control_words(header.numbers, request.option, unerased_words(header, request))
              for header in headers)
     return "; ".join(next(filter(None, wrong), []))
 
 
-# Headers that keep the page (C4 clear): how many do, and which rows they leave out.
-#
-# A receiver that keeps the page holds what was sent before. So the page may be held as it is due,
-# and `check` tells 72 all the same: behind the last header a row of it did not come.
+# Headers that keep the page (C4 clear). A receiver then still has the earlier rows, so the decoded
+# page may be right though `check` reports 72: a row did not come after the last header.
 
 
 class Kept(NamedTuple):
-    """How many headers of the page there are, and how many keep it."""
+    """How many headers of the page there are, and how many of them keep it."""
 
     headers: int
     keeping: int
 
     def words(self) -> str:
-        """It in words."""
+        """Return both as a clause."""
         return f"{CLEAR} in {self.keeping} of {counted(self.headers, 'header')}"
 
 
 def kept_in(headers: Mapping[bytes, int], option: str) -> Kept | None:
-    """How many headers keep the page, of so many of each; `None` where none does, or another
-    control bit of one is wrong too."""
+    """Return how many headers keep the page, or `None` if none does or some header has another
+    fault too."""
     keeping = sum(count for one, count in headers.items() if keeps(one))
     if not keeping or any(control_words(one, option) for one in headers):
         return None
@@ -145,9 +140,11 @@ def kept_in(headers: Mapping[bytes, int], option: str) -> Kept | None:
 
 
 def left_at(held: Timeline, due: Rows, frame: int, answer: Answer | None) -> str:
-    """Which rows are left out behind the last header up to a frame, at which the content of a row
-    is told; nothing where that header erases, another page is held than is due, or a row has come
-    otherwise since the page was erased."""
+    """Return which rows the last header up to a frame left out, or nothing if they came.
+
+    They came if that header erases, if the decoded page is not the expected one, or if a row
+    changed after the page was last erased.
+    """
     header = held.state_at(frame).header
     at = bisect.bisect_right(held.sendings, frame) - 1
     if header is None or not keeps(header) or at < 0 or held.page_at(frame) != due:
@@ -166,8 +163,8 @@ def left_at(held: Timeline, due: Rows, frame: int, answer: Answer | None) -> str
 
 
 def left_rows_words(rows: Sequence[int], row: int | None, came: int) -> str:
-    """Which of the rows with text are left out, where so many packets came beside headers: all, or
-    the one that is told, and how many more there are at least."""
+    """Return which rows are missing if only `came` packets followed the header: all of them, or
+    `row`, where `check` reports the fault, and how many more at least."""
     if not rows:
         return ""
     if came <= 0:
@@ -178,17 +175,15 @@ def left_rows_words(rows: Sequence[int], row: int | None, came: int) -> str:
     return f"{first} and {more} more" if more > 0 else first
 
 
-# The subtitles of a file with the pages that are due, as the program's own schedule sends them.
-#
-# This is the one home of what is due: causes, delays, faults and reports read it.
+# The expected pages of subtitles, for causes, delays, faults and reports
 
-NOTHING = 82  # the number where there is no subtitle
+NOTHING = 82  # the fault number of a file without subtitles
 EVERY = "1500"  # frames: the fewest repeats
 
 
 class DuePages(SubtitleList):
-    """A programme with the page that is due of each subtitle; which have the same page or words.
-    `timeline` is what a receiver holds of it, `None` where there is no subtitle."""
+    """The subtitles of a programme with their expected pages. `timeline` has the pages that a
+    receiver decodes, or is `None` without subtitles."""
 
     def __init__(self, subtitles: list[Subtitle], pages: list[Rows],
                  timeline: Timeline | None = None) -> None:
@@ -197,7 +192,7 @@ class DuePages(SubtitleList):
 
     @functools.cached_property
     def by_page(self) -> dict[Rows, list[int]]:
-        """The places of the subtitles with a page."""
+        """Return the positions of the subtitles by page."""
         by_page: dict[Rows, list[int]] = {}
         for place, page in enumerate(self.pages):
             by_page.setdefault(page, []).append(place)
@@ -205,26 +200,26 @@ class DuePages(SubtitleList):
 
     @functools.cached_property
     def by_words(self) -> dict[str, list[int]]:
-        """The places of the subtitles with some words."""
+        """Return the positions of the subtitles by text."""
         by_words: dict[str, list[int]] = {}
         for place, page in enumerate(self.pages):
             by_words.setdefault(words_on(page), []).append(place)
         return by_words
 
     def of_page(self, page: Rows, frame: int) -> int | None:
-        """The subtitle with a page that begins nearest to a frame; none has a blank one."""
+        """Return the subtitle with a page that begins nearest to a frame; none for a blank page."""
         places = self.by_page.get(page)
         return self.nearest(places, frame) if places and page != BLANK_PAGE else None
 
     def page_at(self, frame: int) -> Rows:
-        """The page that is due at a frame."""
+        """Return the expected page at a frame."""
         count, is_due = self.due(frame)
         blank: Rows = BLANK_PAGE
         return self.pages[count - 1] if is_due else blank
 
 
 def program_answer(program: str, *words: str) -> list[str]:
-    """What the program at a path answers."""
+    """Return the output lines of the program; raise `Unsaid` if it fails."""
     done = subprocess.run([program, *words], stdin=subprocess.DEVNULL, check=False,
                           stdout=subprocess.PIPE, encoding="utf-8", errors="replace")
     lines = done.stdout.splitlines()
@@ -235,8 +230,10 @@ def program_answer(program: str, *words: str) -> list[str]:
 
 def subtitles_in(program: str, stl: str, between: Between = ALL_DAY,
                  is_open: bool = False) -> list[Subtitle]:
-    """The subtitles of a file that come in some frames, as the program shows them. It shows a whole
-    file or none, and no open one: where another subtitle is refused they are read here."""
+    """Return the subtitles that begin in some frames, as `subttx show` prints them.
+
+    It refuses a file with any refused or open subtitle; then they are parsed here.
+    """
     try:
         subtitles = subtitles_read(stl_bytes(stl)) if is_open else \
             subtitles_shown(program_answer(program, "show", "--", stl))
@@ -249,9 +246,8 @@ def subtitles_in(program: str, stl: str, between: Between = ALL_DAY,
 
 def due_pages_of(program: str, stl: str, subtitles: list[Subtitle], page: Page, option: str,
                  between: Between = ALL_DAY, words: Sequence[str] = ()) -> DuePages:
-    """Those of the subtitles of a file that come in some frames, by the program at a path and the
-    options that say how pages are drawn. What the schedule sends is heard as it is told, and not
-    kept."""
+    """Return the expected pages of the subtitles of a file, decoded from what `subttx schedule`
+    transmits; `words` are options for drawing pages."""
     if not subtitles:
         return DuePages([], [])
     with temporary_folder("subttx-qc-") as folder:
@@ -264,27 +260,25 @@ def due_pages_of(program: str, stl: str, subtitles: list[Subtitle], page: Page, 
     return DuePages(subtitles, [due.page_at(subtitle.begin) for subtitle in subtitles], due)
 
 
-# Which page transmission is of which subtitle.
-#
-# One is of the subtitle with its page that begins nearest to it. It is looked for from the TCO
-# before the subtitle to the TCI after it, and 250 frames before and after its own TCI at least.
+# A page transmission belongs to the nearest subtitle with this page. The search is from the TCO
+# before the subtitle to the TCI after it, and at least 250 frames before and after its own TCI.
 
 
 class Sendings:
-    """The page transmissions of subtitles, by what is held."""
+    """The page transmissions of subtitles among the decoded pages."""
 
     def __init__(self, programme: DuePages, held: Timeline) -> None:
         self.programme, self.held = programme, held
         self.subtitles, self.pages = programme.subtitles, programme.pages
 
-    # Whose the faults are.
+    # The subtitle of a fault
 
     def is_due(self, frame: int) -> bool:
-        """Whether at a frame the page is held that is due."""
+        """Return whether the decoded page at a frame is the expected one."""
         return self.held.page_at(frame) == self.programme.page_at(frame)
 
     def split(self, first: int, last: int) -> list[Span]:
-        """Faulty frames, so that in each stretch one page is due and one is held."""
+        """Split frames with a fault so that neither page changes within a span."""
         begins = {first, *self.programme.edges(first, last)}
         begins.update(self.held.frames[number] for number in self.held.numbers(first, last + 1)
                       if self.held.frames[number] > first)
@@ -292,8 +286,8 @@ class Sendings:
         return [Span(begin, end - 1) for begin, end in zip(rising, [*rising[1:], last + 1])]
 
     def owner(self, frame: int) -> int:
-        """The subtitle whose fault it is that another page is held at a frame than is due: the one
-        that is due or was the last to be, or the one that was sent at another time."""
+        """Return the subtitle to which a wrong page at a frame belongs: the latest one expected, or
+        the one that was sent at another time."""
         place = self.programme.place_at(frame)
         number = self.held.number_at(frame)
         if place < 0 or number < 0:
@@ -312,15 +306,15 @@ class Sendings:
         return sent
 
     def has_come(self, place: int) -> bool:
-        """Return whether the page of a subtitle came in time, or before that."""
+        """Return whether the page of a subtitle came early or in time."""
         came = self.sending(place)
         begin = self.subtitles[place].begin
         return came is not None and came <= begin + self.held.within or \
             self.held.page_at(begin) == self.pages[place]
 
     def is_left_over(self, number: int, place: int, frame: int) -> bool:
-        """Return whether a page stays for frames that are allowed to be late, up to a page that
-        comes in the time of a subtitle: what is wrong with it was wrong before."""
+        """Return whether a page stays for an allowed delay, until the page of the next subtitle:
+        then its fault is that of the subtitle before."""
         begin, following = self.subtitles[place].begin, number + 1
         limit = begin + self.held.within
         return self.held.frames[number] < begin <= frame < limit and \
@@ -328,8 +322,8 @@ class Sendings:
             not self.is_due(begin - 1)
 
     def is_ahead(self, number: int, place: int) -> bool:
-        """Return whether a page that no subtitle has came behind the page of a subtitle, for the
-        next one: it is held for longer in the time of that."""
+        """Return whether a page of no subtitle is meant for the next one: it came after the
+        subtitle's own page, and lasts longer in the time of the next."""
         if place + 1 >= len(self.subtitles) or not self.is_strange(number, place):
             return False
         one, following = self.subtitles[place], self.subtitles[place + 1]
@@ -337,24 +331,26 @@ class Sendings:
             self.length(number, following.begin, following.end) > \
             self.length(number, one.begin, one.end)
 
-    # What was sent.
+    # Transmissions
 
     def window(self, place: int) -> Span:
-        """The frames in which the sending of a subtitle is looked for."""
+        """Return the frames in which to search for the transmission of a subtitle."""
         begin = self.subtitles[place].begin
         return Span(min(self.programme.before(place), begin - LEAST),
                     max(self.programme.after(place), begin + LEAST))
 
     def sending(self, place: int) -> int | None:
-        """The frame at which the page of a subtitle came, the nearest one to its TCI. What comes at
-        the TCI of another subtitle, or in time behind it, stands in the place of that one, unless
-        both are moved by as many frames."""
+        """Return the frame nearest to its TCI at which the page of a subtitle came, or `None`.
+
+        A page at the TCI of another subtitle replaces that one, unless both are moved by as many
+        frames.
+        """
         numbers = [frame for frame in self.sendings(place) if self.in_place_of(frame)
                    in (None, place) or self.are_moved(place, frame)]
         return nearest(numbers, self.subtitles[place].begin)
 
     def sendings(self, place: int) -> list[int]:
-        """All frames of those looked at at which the page of a subtitle came as its own."""
+        """Return all frames of the window at which the page of a subtitle came as its own."""
         page, window = self.pages[place], self.window(place)
         frames = self.held.when.get(page)
         if not frames or page == BLANK_PAGE:
@@ -365,14 +361,14 @@ class Sendings:
                 if self.programme.of_page(page, frame) == place]
 
     def in_place_of(self, frame: int) -> int | None:
-        """Return the subtitle whose page may come at a frame: at its TCI, or in time behind it."""
+        """Return the subtitle whose page may come at a frame, at its TCI or within the delay."""
         place = self.programme.place_at(frame)
         is_in_time = place >= 0 and frame <= self.subtitles[place].begin + self.held.within
         return place if is_in_time else None
 
     def are_moved(self, place: int, frame: int) -> bool:
-        """Return whether the subtitle that is expected at a frame is moved as one is that came
-        then, give or take what is allowed."""
+        """Return whether the subtitle expected at a frame is moved as far as the one that came
+        then, allowing for delays."""
         other = self.programme.place_at(frame)
         begin = self.subtitles[other].begin
         came = nearest(self.sendings(other), begin)
@@ -380,8 +376,8 @@ class Sendings:
         return came is not None and abs(came - begin - moved) <= self.held.within
 
     def strange(self, place: int, came: int | None) -> int | None:
-        """The number of the page, of no subtitle, that is held for longest of the time of one,
-        or of that up to where its own page came: before the first one that is an older one."""
+        """Return the number of the page of no subtitle that lasts longest in the time of a
+        subtitle, before its own page came, or `None`. Pages from before that time don't count."""
         subtitle = self.subtitles[place]
         end = subtitle.end if came is None or came <= subtitle.begin else min(came, subtitle.end)
         least = subtitle.begin if place == 0 and came is not None else 0
@@ -403,12 +399,12 @@ class Sendings:
             not is_part(page, self.pages[place])
 
     def length(self, number: int, begin: int, end: int) -> int:
-        """For how many of some frames a page is held."""
+        """Return for how many of some frames a page is decoded."""
         stretch = self.held.stretch(number)
         return min(stretch.last + 1, end) - max(stretch.first, begin)
 
     def other_at(self, place: int) -> int | None:
-        """Return another subtitle whose page came at the TCI of one, or in time behind it, unless
+        """Return another subtitle whose page came at the TCI of one, or within the delay, unless
         both are moved by as many frames."""
         subtitle = self.subtitles[place]
         limit = min(subtitle.begin + self.held.within + 1, subtitle.end)
@@ -421,7 +417,7 @@ class Sendings:
         return None
 
     def others_in(self, place: int) -> int | None:
-        """Another subtitle whose page came in the time of one, but not for its own."""
+        """Return another subtitle whose page came in the time of one, but not at its own."""
         subtitle = self.subtitles[place]
         for number in self.held.numbers(subtitle.begin, subtitle.end):
             frame = self.held.frames[number]
@@ -433,5 +429,5 @@ class Sendings:
 
 
 def nearest(frames: list[int], wanted: int) -> int | None:
-    """Which of some frames is the nearest to one."""
+    """Return the frame nearest to `wanted`, or `None`."""
     return min(frames, key=lambda frame: abs(frame - wanted)) if frames else None
