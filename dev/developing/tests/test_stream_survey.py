@@ -9,7 +9,7 @@ import os
 import random
 from typing import Callable, Iterable, NamedTuple, Sequence
 
-from developing.multiplex import ADAPTATION_ALONE, BEGINS, PACKET, head
+from developing.multiplex import ADAPTATION_ALONE, BEGINS, PACKET, head, section
 from developing.pes import packet, pes_packet, pts_bytes
 from subtitles.common.command_line import Unanswered
 from subtitles.common.times import CLOCK, TICKS
@@ -327,6 +327,21 @@ class Tables(Case):
             self.check(name, told(self, maker.data, *self.kinds),
                        ["programme 1 8191", *row.wanted])
 
+    def test_reads_a_pmt_among_other_sections(self) -> None:
+        """Behind the rest of a section, and behind a section of another table; sent twice, it is
+        printed once."""
+        table = program_map(1, [(TELETEXT_PID, PRIVATE, teletext_descriptor())], 0x1FFF)
+        rows = {"the rest of a section": [b"\x1e" + b"\x55" * 30 + table[1:]],
+                "a private section": [section(0xFE, 9, bytes(5)) + table[1:]],
+                "sent twice": [table, table]}
+        for name, several in rows.items():
+            maker = Maker([])
+            for pid, data in [maker.tables[0], *((PMT_PID, one) for one in several)]:
+                maker.put_packet(pid, BEGINS, data.ljust(PACKET - 4, b"\xff"))
+            maker.packets += [filler(AUDIO_PID, maker.counters).data] * 5
+            self.check(name, told(self, maker.data, *self.kinds), [
+                "programme 1 8191", "stream 257 6", "announce 257 888 656e67 2", "teletext 257"])
+
     def test_reads_the_last_of_twenty_programmes(self) -> None:
         """Twenty programmes, of which the last has Teletext and a PCR of its own."""
         maker, pids = Maker([]), range(0x400, 0x414)
@@ -407,8 +422,8 @@ class Clocks(Case):
             ("late", [*usual, (10_801, 12)], ["10801 12 3600 5"]),
             ("not late", [*usual, (10_800, 12)], []),
             ("back", [*usual, (-7200, 7)], ["-7200 7 3600 5"]),
-            ("two", [*usual, (20_000, 9), (30_000, 8), *usual[:50]],
-             ["20000 9 3600 5", "30000 8 3600 5"]),
+            ("three", [*usual, (20_000, 9), (30_000, 8), (25_000, 7), *usual[:50]],
+             ["20000 9 3600 5", "30000 8 3600 5", "25000 7 3600 5"]),
             ("0.1 s", [*[(1800, 2)] * 300, (9000, 9)], []),
             ("over 0.1 s", [*[(1800, 2)] * 300, (9001, 9)], ["9001 9 1800 2"]),
             ("half", [*[(1800, 2)] * 300, *[(3600, 5)] * 50, (20_000, 9)], ["20000 9 3600 5"]),
@@ -421,6 +436,11 @@ class Clocks(Case):
             lines = told(self, with_pcr(intervals, 2), "clock")
             self.must(name, lines == [f"clock {TELETEXT_PID} {FIRST} {LAST} {one} whole"
                                       for one in wanted], lines)
+        data = with_pcr([*usual, (20_000, 9)], 2)
+        place = len(data) - 3 * PACKET  # of the late PCR
+        twice = data[:place] + data[place - PACKET:place] + data[place:]
+        self.check("audio sent twice", told(self, twice, "clock"),
+                   [f"clock {TELETEXT_PID} {FIRST} {LAST} 20000 10 3600 5 whole"])
 
     def test_samples_pts_against_pcr_once_a_second(self) -> None:
         """Once a second, by the last PCR, of a clock that runs fast or slow against the PTS."""
@@ -436,6 +456,18 @@ class Clocks(Case):
                 self.must(f"{first} {drift}", lines == [
                     f"ahead {TELETEXT_PID} {(first + TICKS * frame) % CLOCK} "
                     f"{AHEAD - drift * frame}" for frame in (10, 35, 60, 85)], lines)
+
+    def test_samples_no_pts_behind_a_loss(self) -> None:
+        """The PES packet behind a gap marker is passed over, and the next one sampled."""
+        maker = Maker(components())
+        maker.put_tables()
+        for frame, one in enumerate(each_frame(30)):
+            maker.put_pcr(FIRST + TICKS * frame - AHEAD)
+            maker.put(TELETEXT_PID, one)
+            if frame == 24:
+                maker.packets.pop()
+        self.check("frames", told(self, maker.data, "ahead"), [
+            f"ahead {TELETEXT_PID} {FIRST + TICKS * frame} {AHEAD}" for frame in (0, 26)])
 
     def test_ahead_of_none(self) -> None:
         """Not where the last PCR came four times as many TS packets before as is usual, or 256."""
@@ -572,6 +604,11 @@ def without_second(packets: list[bytes]) -> list[bytes]:
     return [packets[0], *packets[2:]]
 
 
+def repeat_first_for_second(packets: list[bytes]) -> list[bytes]:
+    """In place of the second one, which is lost, the first is sent again."""
+    return [packets[0], packets[0], *packets[2:]]
+
+
 def scramble_second(packets: list[bytes]) -> list[bytes]:
     first, second, *rest = packets
     return [first, second[:3] + bytes([second[3] | 0x80]) + second[4:], *rest]
@@ -602,7 +639,7 @@ class Listings(Case):
 
     def test_prints_all_lines_of_a_programme(self) -> None:
         """Of a programme with video and Teletext whose PES packets are those of a row."""
-        other = packet(1, 0, [0, 5, 0, 8, 0, 8, 1, 0], b" " * 32)  # page 150
+        other = packet(7, 0, [0, 5, 0, 8, 0, 8, 1, 0], b" " * 32)  # page 750
         held = "0b0b4869" + "20" * 36
         begun = f"pes 257 0 1 {FIRST} 0 heob/88080810 1 0"
         rows: dict[str, tuple[bytes, str]] = {
@@ -621,9 +658,9 @@ class Listings(Case):
                                 "pes 257 0 1 1000000 0 b/ 0 0; end 257 1 0 1 0 0 0 1000000; "
                                 "over 0 3"),
             "two pages": (of_teletext(saying([HEADER], [other], [HEADER])),
-                          f"sub 257 888; {begun}; rows 257 0 -; sub 257 150; "
+                          f"sub 257 888; {begun}; rows 257 0 -; sub 257 750; "
                           "pes 257 1 1 1003600 0 ob/ 1 0; pes 257 2 1 1007200 0 heob/88080810 1 0; "
-                          "subs 257 888 2; subs 257 150 1; end 257 3 0 3 0 0 0 1007200; over 0 5"),
+                          "subs 257 888 2; subs 257 750 1; end 257 3 0 3 0 0 0 1007200; over 0 5"),
             "character sets": (
                 of_teletext(saying([HEADER, naming(28, 0x24)], [naming(29, 0x11, 4)],
                                    [naming(29, 0x11, 1)])),
@@ -633,6 +670,10 @@ class Listings(Case):
             "a loss": (of_teletext(each_frame(3), without_second),
                        "pes 257 0 1 1000000 0 b/ 1 0; gap 257 1 1 0; "
                        "pes 257 2 1 1007200 0 b/ 1 0; end 257 3 1 2 0 0 0 1007200; over 0 4"),
+            "a loss behind a repeat": (
+                of_teletext(each_frame(3), repeat_first_for_second),
+                "pes 257 0 1 1000000 0 b/ 1 0; gap 257 1 1 0; "
+                "pes 257 2 1 1007200 0 b/ 1 0; end 257 3 1 3 0 0 0 1007200; over 0 5"),
             "a scrambled packet": (
                 of_teletext(each_frame(3), scramble_second),
                 "pes 257 0 1 1000000 0 b/ 1 0; gap 257 1 1 1; pes 257 2 1 1007200 0 b/ 1 0; "
