@@ -1,7 +1,7 @@
-"""The origin of the clock: which one agrees, which one is given.
+"""Estimate the origin of the clock, or compute it from `--start`.
 
-alignment      subtitles held against what is sent: origins that agree, the one that delays tell
-stretches      origins one after another: the parts that breaks make, and airings
-origin         the origin of a recording, found and told
-start          the clock of a part, `--start` by the first picture, and PTS that are no whole frames
+alignment      compare subtitles with the transmission: origins that agree, delays, drift
+stretches      origins in sequence: the parts between breaks, and repeated airings
+origin         estimate the origin of a recording, and describe it
+start          the clock of a part, `--start` by the first picture, PTS between frames
 """

@@ -1,4 +1,5 @@
-"""Subtitles held against what is sent: the origins that agree, and which one delays tell."""
+"""Compare subtitles with the transmission: origins that agree, and which clock the delays suggest.
+"""
 from __future__ import annotations
 
 import bisect
@@ -17,20 +18,20 @@ from ..common.times import EARLY, TICKS, wrapped
 from ..stream.packets import Change, HEADER, Packets, Range, Texts
 
 
-# An edge is a frame at which the due page changes; a change is where the page's text does. Both
-# agree for an origin where they are at the same frame, within N where the letters that are due come
-# at most N frames later.
+# A cue is a frame at which the expected page changes; a change is one of the transmitted page. They
+# agree for an origin if they are at the same frame; with --within N, also if the expected characters
+# come at most N frames later.
 
-VOTES = 1_000_000  # pairs of edges and changes; of longer files some changes vote for all
-REPEATED = 20  # subtitles with the same letters; where there are more, their text does not vote
-TRIED = 64  # origins that are held against all edges
-MOST_APART = 50  # frames between all beginnings and all ends
-MOST_BASES = 32  # time bases, in which the page changes most, that are looked at
-AGAIN = 5  # frames, at most, in which a page that is erased to be sent again is whole
+VOTES = 1_000_000  # pairs of cues and changes; of longer files only some changes vote
+REPEATED = 20  # subtitles with the same characters; the text of more does not vote
+TRIED = 64  # origins that are compared with all cues
+MOST_APART = 50  # frames between in-cues and out-cues that are apart
+MOST_BASES = 32  # time bases to search, those in which the page changes most
+AGAIN = 5  # frames at most until a page that was erased to be repeated is complete
 
 
 class Shown(NamedTuple):
-    """A subtitle that is due from one frame to the one before another: its look, its letters."""
+    """A subtitle from its first frame up to `end`: its look and its characters."""
 
     begin: int
     end: int
@@ -39,7 +40,8 @@ class Shown(NamedTuple):
 
 
 class Edge(NamedTuple):
-    """A frame at which the due page changes: its letters then, and whether a subtitle comes."""
+    """A cue, at which the expected page changes: its new characters, and whether a subtitle begins.
+    """
 
     frame: int
     letters: bytes
@@ -47,9 +49,13 @@ class Edge(NamedTuple):
 
 
 class Fit(NamedTuple):
-    """An origin: how many cues agree, how many of these with their letters, with those of a text,
-    with the very PTS; of how many in the time in which the page was sent; the first of these that
-    does not; the frame at the first PTS; how late each is."""
+    """An origin and the cues that agree with it.
+
+    `agree` counts these cues, `letters` those with the right characters, `texts` those with a text,
+    `exact` those at the very PTS, and `among` all cues while the page was sent. `first` is the
+    first cue with its text, `first_other` the first that does not agree, `start` the frame at the
+    first PTS, `late` the delay of each.
+    """
 
     origin: int
     agree: int
@@ -63,14 +69,13 @@ class Fit(NamedTuple):
     late: Sequence[int] = ()
 
     def points(self, has_erased: bool = True) -> int:
-        """What origins are compared by: an edge with its letters, or with those of a text, counts
-        twice."""
+        """Return the score of an origin: a cue with its characters, or with its text, counts twice.
+        """
         return self.agree + (self.letters if has_erased else self.texts)
 
 
 class Apart(NamedTuple):
-    """Beginnings or ends that all are late by the same number of frames compared with the others:
-    how many of how many."""
+    """In-cues or out-cues that are all late by as many frames compared with the others."""
 
     is_begin: bool
     late: int
@@ -79,7 +84,7 @@ class Apart(NamedTuple):
 
 
 class Agreed(NamedTuple):
-    """A change with which a cue agrees: how many frames late, its letters, ticks off."""
+    """A page change that agrees with a cue: frames late, its characters, ticks off."""
 
     late: int
     letters: bytes
@@ -87,7 +92,7 @@ class Agreed(NamedTuple):
 
 
 def edges_of(subtitles: Sequence[Shown]) -> list[Edge]:
-    """The edges of subtitles, where another look is due than before."""
+    """Return the cues of subtitles, where another look is expected than before."""
     looks: dict[int, Shown | None] = {shown.end: None for shown in subtitles}
     looks.update((shown.begin, shown) for shown in subtitles)
     edges: list[Edge] = []
@@ -100,8 +105,8 @@ def edges_of(subtitles: Sequence[Shown]) -> list[Edge]:
 
 
 class Base:
-    """A time base of a recording: at how many frames after its first header the page changes to
-    which letters, and how many ticks that is off a frame."""
+    """A time base of a recording: the page changes by frames after its first header, each with its
+    characters and its distance from a whole frame in ticks."""
 
     def __init__(self, edges: Sequence[Edge], changes: Sequence[Change], first: int, last: int,
                  packets: Range, within: int) -> None:
@@ -123,7 +128,7 @@ class Base:
         self.length = self.distance(last)[0]
 
     def at_ends(self, changes: Sequence[Change]) -> Iterator[Change]:
-        """The changes from the end of one frame to that of another."""
+        """Yield the changes between the ends of frames."""
         before: Texts | None = None
         for change in {self.distance(one.pts)[0]: one for one in changes}.values():
             if change.rows != before or not change.letters:
@@ -131,13 +136,13 @@ class Base:
             before = change.rows
 
     def distance(self, pts: int) -> tuple[int, int]:
-        """From the first PTS to another: frames, and the rest in ticks."""
+        """Return the frames from the first PTS to another, and the rest in ticks."""
         early = EARLY if self.within else TICKS // 2
         frames, ticks = divmod(wrapped(pts - self.first + early), TICKS)
         return frames, ticks - early
 
     def limited(self, edges: Sequence[Edge], low: int, high: int) -> Base:
-        """Some of the edges, and the changes between two distances."""
+        """Return a copy with some of the cues, and the changes between two distances."""
         base = copy.copy(self)
         base.__dict__.pop("fits", None)
         base.edges, base.frames = edges, [edge.frame for edge in edges]
@@ -145,7 +150,8 @@ class Base:
         return base
 
     def agreed(self, edge: Edge, start: int) -> Agreed | None:
-        """The change with which a cue agrees, where the first PTS has a frame."""
+        """Return the change that agrees with a cue if the first PTS is at frame `start`, or `None`.
+        """
         if not self.within:
             return self.changes.get(edge.frame - start)
         for late in range(self.within + 1):
@@ -156,8 +162,8 @@ class Base:
 
     @functools.cached_property
     def fits(self) -> list[Fit]:
-        """The best origins, falling: of two that are as good, the one with more texts. Of several
-        that are the best, the one of the earliest text is the first."""
+        """Return the best origins, best first: of equals, the one with more texts. If several are
+        best, the one with the earliest text comes first."""
         if not self.edges or not self.changes:
             return []
         votes = self.votes()
@@ -168,7 +174,7 @@ class Base:
             votes = collections.Counter({start: sum(known.get(start - late, 0) for late in range(
                 self.within + 1)) for start in known})
         best = heapq.nlargest(TRIED + 4 * self.within, votes, key=lambda one: (votes[one], -one))
-        # Where all subtitles are alike, the first and the last tell more than those between.
+        # If all subtitles are alike, the first and the last show more than those between.
         starts = {*best, self.edges[0].frame, self.edges[-1].frame - max(self.changes)}
         fits = [fit for fit in map(self.fit, starts) if fit.agree]
         first = min(fits, default=None, key=lambda fit: (
@@ -177,7 +183,7 @@ class Base:
             fit is not first, -fit.points(), -fit.texts, fit.start))
 
     def votes(self) -> collections.Counter[int]:
-        """How often each start is that of an edge and a change, of some changes where there are too
+        """Count the pairs of a cue and a change by their start; only some changes if there are too
         many."""
         places = sorted(self.changes)
         voting = places[::len(places) * len(self.edges) // VOTES + 1]
@@ -185,7 +191,7 @@ class Base:
             self.frames, voting)))
 
     def alike(self) -> collections.Counter[int]:
-        """How often each start is that of an edge and a change with the same letters."""
+        """Count the pairs of a cue and a change with the same characters by their start."""
         frames = collections.defaultdict(list)
         for edge in self.edges:
             frames[edge.letters].append(edge.frame)
@@ -194,18 +200,18 @@ class Base:
             if letters and len(frames[letters]) <= REPEATED for frame in frames[letters])
 
     def has(self, edge: Edge, start: int) -> bool:
-        """Whether the letters of a cue come at the very frame."""
+        """Return whether the characters of a cue come at its very frame."""
         change = self.changes.get(edge.frame - start)
         return change is not None and change.letters == edge.letters
 
     def fit(self, start: int) -> Fit:
-        """How the cues agree with an origin: what all share is no delay, but of the origin."""
+        """Return how the cues agree with a start, moved so that the least late cue is not late."""
         fit = self.fit_at(start)
         least = min(fit.late, default=0)
         return self.fit(start - least) if least else fit
 
     def fit_at(self, start: int) -> Fit:
-        """How they agree with just that origin."""
+        """Return how the cues agree with a start."""
         inside = self.edges[bisect.bisect_left(self.frames, start):
                             bisect.bisect_right(self.frames, start + self.length)]
         pairs = [(edge, change) for edge in inside if (change := self.agreed(edge, start))]
@@ -222,7 +228,7 @@ class Base:
                    next(others, None) if len(pairs) < len(inside) else None, start, late)
 
     def apart(self, fit: Fit) -> Apart | None:
-        """Whether beginnings and ends agree, but a constant number of frames apart."""
+        """Return whether in-cues and out-cues agree, but a constant number of frames apart."""
         for is_begin in (True, False):
             now = self.late_by(fit, is_begin, 0)
             if now.of and now.agree * 2 >= now.of:
@@ -230,14 +236,14 @@ class Base:
             best = max((self.late_by(fit, is_begin, late)
                         for late in range(-MOST_APART, MOST_APART + 1)),
                        key=lambda apart: (apart.agree, -abs(apart.late)))
-            least = 1 if is_begin or fit.texts else 2  # one that is erased may be any
+            least = 1 if is_begin or fit.texts else 2  # any page may be erased
             if abs(best.late) > self.within and best.agree >= least and \
                     best.agree * 10 >= best.of * 9:
                 return best
         return None
 
     def late_by(self, fit: Fit, is_begin: bool, late: int) -> Apart:
-        """How many beginnings, or ends, are late by so many frames, of those that may be."""
+        """Return how many in-cues or out-cues are late by some frames, of all that may be."""
         own = [(at, edge.letters) for edge in self.edges if edge.is_begin == is_begin
                and 0 <= (at := edge.frame - fit.start + late) <= self.length]
         agree = sum(at in self.changes and self.changes[at].letters == letters
@@ -245,13 +251,13 @@ class Base:
         return Apart(is_begin, late, agree, len(own))
 
     def by_beginnings(self, fit: Fit) -> Fit:
-        """An origin, or the one of the beginnings, where these are apart from the ends."""
+        """Return an origin, or that of the in-cues if these are apart from the out-cues."""
         apart = self.apart(fit)
         return self.fit(fit.start - apart.late) if apart and apart.is_begin else fit
 
 
 def without_repeats(changes: Sequence[Change], most: int) -> Iterator[Change]:
-    """The changes, without those of a page that is erased and back in so many frames."""
+    """Yield the changes without those of a page that is erased and back within `most` frames."""
     at = 0
     while at < len(changes):
         yield changes[at]
@@ -262,7 +268,7 @@ def without_repeats(changes: Sequence[Change], most: int) -> Iterator[Change]:
 
 
 def back_at(changes: Sequence[Change], at: int, most: int) -> int | None:
-    """Where the text of a change is back that was erased so many frames before at most."""
+    """Return where the text of a change is back after it was erased for at most `most` frames."""
     text, after = changes[at], changes[at + 1:at + 26]
     if not text.letters or not after or after[0].letters:
         return None
@@ -274,7 +280,7 @@ def back_at(changes: Sequence[Change], at: int, most: int) -> int | None:
 
 def bases_of(subtitles: Sequence[Shown], packets: Packets, within: int,
              inside: Range | None = None) -> list[Base]:
-    """The time bases in which there is something of the page, of PES packets with some numbers."""
+    """Return the time bases with something of the page, among the PES packets `inside`."""
     edges, bases = edges_of(subtitles), []
     firsts = [run.first for run in packets.runs]
     for base, changes in most_changed(packets, inside or (0, packets.count - 1)):
@@ -288,8 +294,8 @@ def bases_of(subtitles: Sequence[Shown], packets: Packets, within: int,
 
 
 def most_changed(packets: Packets, inside: Range) -> list[tuple[range, Sequence[Change]]]:
-    """The time bases of PES packets with some numbers in which the page changes, each with the
-    changes; where PTS go back more often, those alone in which it changes most."""
+    """Return the time bases in which the page changes, each with its changes; if PTS go back often,
+    only those with most changes."""
     numbers = [change.number for change in packets.changes]
     candidates = []
     for whole in packets.bases():
@@ -302,24 +308,23 @@ def most_changed(packets: Packets, inside: Range) -> list[tuple[range, Sequence[
     return [candidate for candidate in candidates if candidate[0] in kept]
 
 
-# What the delays of cues tell: which clock is meant within N frames, and whether it drifts.
+# The clock that the delays suggest
 #
-# Within N frames the clock of the earliest cue would take early subtitles for the others' delay,
-# and that of most cues would refuse an inserter that is late for some. So where the house does not
-# know its delays, a clock is one that is usual, of begins or of ends: rows need time, an erasure
-# none. Few cues before it are early subtitles; many may mean an inserter that is late for all
-# others, so of these nothing is judged until the clock is given.
+# With --within N the clock of the earliest cue would make early subtitles a delay of all others,
+# and that of most cues would refuse an inserter that is late for some. So unless the delays are
+# configured, choose a usual clock of in-cues or out-cues: rows need time, an erasure does not. A
+# few cues before it are early subtitles. Many may mean an inserter that is late for all others, so
+# nothing is judged until the clock is given.
 
-COMMON = 2  # a delay is usual that one in so many have, compared with the commonest of its kind
-FEW_CUES = 3  # and so many, where the commonest has
-FEW_ENDS = 10  # ends that are fewer than one in so many cues tell nothing
-RARE = 20  # cues before that clock are early, where they are fewer than one in so many
-UNSEEN_SHARE = 0.002  # of a delay that a profile does not have, and of a cue that does not agree
+COMMON = 2  # a usual delay has at least 1/2 as many cues as the commonest
+FEW_CUES = 3  # and at least as many, if the commonest one has
+FEW_ENDS = 10  # out-cues count if they are at least 1/10 of all cues
+RARE = 20  # cues before that clock are early if they are less than 1/20 of all
+UNSEEN_SHARE = 0.002  # of delays missing in a profile, and of cues that do not agree
 
 
 class Early(NamedTuple):
-    """Cues that come before the clock that was taken: how many of how many, and by how many frames
-    at most."""
+    """Cues before the chosen clock: how many, of how many, and by how many frames at most."""
 
     cues: int
     among: int
@@ -327,14 +332,13 @@ class Early(NamedTuple):
 
     @property
     def are_many(self) -> bool:
-        """Whether they may be how the inserter works."""
+        """Return whether there are too many to be exceptions: the inserter may work like that."""
         return self.cues * RARE >= self.among
 
 
 def settled(base: Base, fit: Fit, late: Lateness | None) -> tuple[Fit, Early | None]:
-    """The clock that is meant by one that was fitted, of which the earliest cue is not late: by the
-    shares of delays, where these are known, else by the delays themselves, with the cues that come
-    before it."""
+    """Return the intended clock, near an estimated one whose earliest cue is not late, and the cues
+    before it. Use the shares of delays if they are configured, or else the delays themselves."""
     if not base.within or not fit.agree:
         return fit, None
     if late:
@@ -350,7 +354,7 @@ def settled(base: Base, fit: Fit, late: Lateness | None) -> tuple[Fit, Early | N
 
 
 def delays_of(base: Base, fit: Fit) -> tuple[collections.Counter[int], collections.Counter[int]]:
-    """How many begins, and how many ends, come how many frames late."""
+    """Count the in-cues, and the out-cues, by their delay in frames."""
     kinds: tuple[collections.Counter[int], collections.Counter[int]] = (
         collections.Counter(), collections.Counter())
     for edge in base.edges:
@@ -360,7 +364,7 @@ def delays_of(base: Base, fit: Fit) -> tuple[collections.Counter[int], collectio
 
 
 def usual_delay(begins: Mapping[int, int], ends: Mapping[int, int]) -> int:
-    """The earliest delay that half as many begins, or ends, have as have the commonest of their
+    """Return the earliest delay that at least half as many cues have as the commonest of their
     kind."""
     count = sum(begins.values()) + sum(ends.values())
     kinds = [kind for kind in (begins, ends) if kind and (
@@ -371,8 +375,8 @@ def usual_delay(begins: Mapping[int, int], ends: Mapping[int, int]) -> int:
 
 
 def likeliest(base: Base, fit: Fit, late: Lateness) -> Fit:
-    """The clock by which the delays are the likeliest, of those near one that was fitted: of two
-    that are as likely the later one."""
+    """Return the clock near an estimated one with the likeliest delays; of equals, the later one.
+    """
     near = range(-base.within, 2 * base.within + 1)
     patterns = collections.Counter(
         (edge.is_begin, tuple(by for by in near if base.has(edge, fit.start - by)))
@@ -381,7 +385,7 @@ def likeliest(base: Base, fit: Fit, late: Lateness) -> Fit:
               for delay, share in kind.items()} for kind in late]
 
     def likelihood(by: int) -> float:
-        """Of the clock that is so many frames later."""
+        """Return the log-likelihood of the clock `by` frames later."""
         return sum(count * math.log(next((
             kinds[not is_begin].get(delay - by, UNSEEN_SHARE) for delay in delays
             if 0 <= delay - by <= base.within), UNSEEN_SHARE))
@@ -390,18 +394,18 @@ def likeliest(base: Base, fit: Fit, late: Lateness) -> Fit:
     return base.fit_at(fit.start - max(range(base.within, -base.within - 1, -1), key=likelihood))
 
 
-# A clock that drifts: what is sent comes later and later, or earlier, as by another frame rate.
+# A clock that drifts: subtitles come later and later, or earlier, as by another frame rate
 
-FEW_TEXTS = 6  # that tell a drift, each of which is due once and sent once
-LEAST_DRIFT = 2  # frames: one is a delay from somewhere on
-OFF = 1.5  # frames that they may be off the line
-MOST_OFF = 10  # no more than one in so many
-LEFT = 5  # off the line is no more than a fifth of what they vary: of one delay it is a fourth
+FEW_TEXTS = 6  # least number of texts, each expected once and sent once
+LEAST_DRIFT = 2  # frames; less is a delay from some place on
+OFF = 1.5  # frames off the line at most
+MOST_OFF = 10  # at most 1/10 may be farther off
+LEFT = 5  # the rest is at most 1/5 of the variance; a single step would leave 1/4
 
 
 class Drift(NamedTuple):
-    """From which frame to which subtitles come later and later by so many frames, less than none
-    where they come earlier."""
+    """The frames between which subtitles come later and later by `frames`, or earlier if negative.
+    """
 
     first: int
     last: int
@@ -409,9 +413,8 @@ class Drift(NamedTuple):
 
 
 def drift_of(edges: Sequence[Edge], changes: Mapping[int, Agreed]) -> Drift | None:
-    """The drift of what is sent, by texts that are due once and sent once: `changes` are at frames
-    after the first PTS. `None` where delays do not grow steadily, as they do not where they grow
-    once."""
+    """Return the drift of the transmission, by texts that are expected once and sent once, or
+    `None` if delays do not grow steadily. `changes` are by frames after the first PTS."""
     due = single_texts((edge.frame, edge.letters) for edge in edges)
     sent = single_texts((at, change.letters) for at, change in changes.items())
     frames = sorted(frame for letters, frame in due.items() if letters in sent)
@@ -433,7 +436,7 @@ def drift_of(edges: Sequence[Edge], changes: Mapping[int, Agreed]) -> Drift | No
 
 
 def near_a_line(delays: Sequence[tuple[int, int]]) -> list[tuple[int, int]]:
-    """Those of some delays, each at a frame, that lie near one line."""
+    """Return the delays, each at a frame, that lie near one line."""
     half = len(delays) // 2
     slope = statistics.median((late - early) / (last - first) for (first, early), (last, late)
                               in zip(delays, delays[half:]))
@@ -443,7 +446,7 @@ def near_a_line(delays: Sequence[tuple[int, int]]) -> list[tuple[int, int]]:
 
 
 def single_texts(several: Iterable[tuple[int, bytes]]) -> dict[bytes, int]:
-    """Where each text is that is there once."""
+    """Return the place of each text that occurs once."""
     places_of: dict[bytes, list[int]] = {}
     for at, letters in several:
         if letters:

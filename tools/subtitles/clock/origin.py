@@ -1,4 +1,4 @@
-"""The origin of a recording, found and told."""
+"""Estimate the origin of a recording, and describe it."""
 from __future__ import annotations
 
 import dataclasses
@@ -16,16 +16,19 @@ from .stretches import (
     Airing, FittedPart, IN_A_ROW, Stretch, by_breaks, find_row, others_of, parts_of, runs_of)
 
 
-NEAR = 10 * FRAMES_A_SECOND  # to the origin 0
-NAMED = 5  # origins that are as good, or other pages
-LISTED = 20  # places at which subtitles begin to be late
+NEAR = 10 * FRAMES_A_SECOND  # frames from the origin 0
+NAMED = 5  # equally good origins, or other pages, to list
+LISTED = 20  # places to list at which subtitles begin to be late
 
 
 class Sought(NamedTuple):
-    """What is looked for: the subtitle file, and the page with its national option, in a recording
-    by its name; the origin that is known, the frames within which a page has to be whole, and how
-    many breaks there are; of the PES packets with some numbers alone, and of the subtitles that
-    come in some frames, but for those that are left out, by their places in the file."""
+    """What to search for: the subtitles of a file, on a page with a national option, in a
+    recording.
+
+    `origin` is the known origin, `within` the allowed delay in frames, and `breaks` the number of
+    breaks. Only the PES packets `inside` count, and only subtitles that begin `between` and are not
+    `left_out` (positions).
+    """
 
     stl: str
     name: str
@@ -37,14 +40,13 @@ class Sought(NamedTuple):
     inside: Range | None = None
     between: Between = ALL_DAY
     left_out: Collection[int] = ()
-    late: Lateness | None = None  # the shares of the inserter's delays, where they are known
+    late: Lateness | None = None  # the shares of the inserter's delays, if configured
     has_picture: bool = False  # one that `--start` can be the time code of
 
 
 class OfPart(NamedTuple):
-    """The origin of a part, its PES packets where PTS go back, and of one of several parts its
-    first and its last frame; how many cues agree with it, among how many, and the line that says
-    so."""
+    """The origin of a part, its PES packets if PTS go back, and its first and last frame if there
+    are several parts; how many cues agree, among how many, and the line about that."""
 
     origin: int
     packets: Range | None = None
@@ -56,12 +58,14 @@ class OfPart(NamedTuple):
 
 @dataclasses.dataclass
 class Origin:
-    """What is found: a status, 0 where it is clear; `parts`, where they are clear; the PES
-    packets of each time that the programme is there, where that is more than once; how many breaks,
-    where others were said; by how many ticks the first part is later than the origin that is known;
-    whether `are_all` of its cues agree, but where all beginnings are late compared with the ends,
-    or all ends with them; from when on subtitles are late, first, and in words. `printed` and
-    `lines` are all that is told."""
+    """The estimated origin; `status` is 0 if it is clear, and then `parts` are the parts.
+
+    `runs` are the PES packets of each airing if there are several; `breaks` is the number found if
+    it differs from --breaks. `away` says by how many ticks the first part is later than the known
+    origin, and `are_all` whether all its cues agree, even if in-cues and out-cues are a constant
+    number of frames apart. Subtitles are late from frame `shifted_from` on, as `shifts` says.
+    `printed` and `lines` are the output.
+    """
 
     status: int = 1
     parts: list[OfPart] = dataclasses.field(default_factory=list)
@@ -69,7 +73,7 @@ class Origin:
     breaks: int | None = None
     away: int | None = None
     are_all: bool = True
-    is_each: bool = False  # each cue of the file agrees, with its text
+    is_each: bool = False  # every cue of the file agrees, with its text
     shifted_from: int | None = None
     shifts: list[str] = dataclasses.field(default_factory=list)
     printed: list[str] = dataclasses.field(default_factory=list)
@@ -78,7 +82,7 @@ class Origin:
 
 def subtitles_between(path: str, option: str, between: Between,
                       left_out: Collection[int] = ()) -> list[Shown]:
-    """The subtitles of a file that come in some frames, and go within the day."""
+    """Return the subtitles of a file that begin in some frames and end within the day."""
     shown = []
     for place, stored in enumerate(readable(path, stl_bytes(path)), 1):
         begin, end = subtitle_times(stored)
@@ -92,7 +96,7 @@ def subtitles_between(path: str, option: str, between: Between,
 
 
 def find(sought: Sought, packets: Packets) -> Origin:
-    """The origin of a recording, or why it is not clear."""
+    """Return the origin of a recording, or why it is not clear."""
     origin = Origin()
     subtitles = subtitles_between(sought.stl, sought.option, sought.between, sought.left_out)
     if not is_sent(packets, sought, origin.lines):
@@ -120,7 +124,7 @@ def find(sought: Sought, packets: Packets) -> Origin:
 
 
 def is_sent(packets: Packets, sought: Sought, lines: list[str]) -> bool:
-    """Whether there is something of the page; else what there is, is told."""
+    """Return whether anything of the page was sent; if not, add lines on what was."""
     count, marks = packets.count, len(packets.marks)
     timed = sum(run.length for run in packets.timed())
     if packets.damage:
@@ -148,7 +152,7 @@ def is_sent(packets: Packets, sought: Sought, lines: list[str]) -> bool:
 
 def take_one(origin: Origin, sought: Sought, bases: Sequence[Base],
              row: Sequence[Stretch], parts: Sequence[FittedPart]) -> None:
-    """Takes one origin, that of the first part, where it is clear."""
+    """Store the origin of the first part, if it is clear."""
     if not parts:
         origin.lines.append("no cue agrees with any origin")
         return
@@ -173,10 +177,10 @@ def take_one(origin: Origin, sought: Sought, bases: Sequence[Base],
 
 
 def by_known(part: FittedPart, known: int | None) -> FittedPart:
-    """Return a part with the origin that is known, if no cue agrees with the best one but the page
-    with which the recording begins, and one agrees with that. A recording that begins within a
-    subtitle has its text from the first header on, which looks like a late in-cue."""
-    sent = part.sent.limited(part.sent.edges, 0, part.sent.length + 1)  # without that page
+    """Return a part with the known origin if the best one rests only on the first page of the
+    recording, and a cue agrees with the known one. A recording that begins within a subtitle has
+    its text from the first header on, which looks like a late in-cue."""
+    sent = part.sent.limited(part.sent.edges, 0, part.sent.length + 1)  # without its first page
     if known is None or sent.fit_at(part.best.start).agree:
         return part
     start = round(ticks_after(known, sent.first) / TICKS)
@@ -187,7 +191,7 @@ def by_known(part: FittedPart, known: int | None) -> FittedPart:
 
 def take_parts(origin: Origin, sought: Sought, bases: Sequence[Base],
                parts: Sequence[FittedPart]) -> None:
-    """Takes all parts, where they are as many as there are to be, and clear."""
+    """Store all parts if they are as many as --breaks says, and clear."""
     if len(parts) != sought.breaks + 1:
         origin.breaks = max(len(parts) - 1, 0)
         breaks = counted(origin.breaks, "break") if origin.breaks else "no break"
@@ -212,7 +216,7 @@ def take_parts(origin: Origin, sought: Sought, bases: Sequence[Base],
 
 def add(origin: Origin, part: FittedPart, packets: Range | None,
         frames: tuple[int, int] | None, count: int) -> None:
-    """Takes a part that is clear; the file has so many edges."""
+    """Store a clear part; the file has `count` cues."""
     between = f"--from {time_of(frames[0])} --to {time_of(frames[1])} " if frames else ""
     pes = f"--pes {packets[0]}-{packets[1]} " if packets else ""
     best = part.best
@@ -222,8 +226,8 @@ def add(origin: Origin, part: FittedPart, packets: Range | None,
 
 
 def measure(origin: Origin, known: int | None, part: FittedPart) -> None:
-    """Takes how the first part agrees with its origin, and how late it is compared with one that
-    is known, or with 0 near that."""
+    """Store how the first part agrees with its origin, and its distance from the known origin or
+    from 0."""
     best, apart = part.best, part.sent.apart(part.best)
     origin.are_all = best.agree == best.among or bool(apart and apart.agree == apart.of)
     away = ticks_between(known or 0, part.origin)
@@ -234,10 +238,10 @@ def measure(origin: Origin, known: int | None, part: FittedPart) -> None:
                             f"that is {which}")
 
 
-# ---- words
+# ---- text
 
 def other_words(packets: Packets, page: Page) -> Iterator[str]:
-    """What may be why edges do not agree: rows that no receiver of the page takes, or sub-pages."""
+    """Yield why cues may not agree: rows while the page was not open, or sub-pages."""
     name = page_name(*page)
     if packets.strays:
         count = sum(run.length for run in packets.runs if STRAY in run.does)
@@ -248,15 +252,15 @@ def other_words(packets: Packets, page: Page) -> Iterator[str]:
 
 
 def frames_words(ticks: int) -> str:
-    """`2 frames late`, of the ticks between what is due and what is sent."""
+    """Return `2 frames late` or the like, for ticks from expected to sent."""
     frames, rest = divmod(abs(ticks), TICKS)
     more = f" and {rest} ticks" if rest else ""
     return f"{counted(frames, 'frame')}{more} {'late' if ticks > 0 else 'early'}"
 
 
 def as_good(part: FittedPart) -> list[Fit]:
-    """The origins that are as good as the best of a part, but where beginnings and ends are apart
-    the one of the ends, and those with which nothing is but erased."""
+    """Return the origins as good as the best of a part, without those of its out-cues if these are
+    apart, and those with which only erasures agree."""
     best, apart = part.best, part.sent.apart(part.best)
     ways = (True,) if best.agree >= IN_A_ROW else (True, False)
     return [fit for fit in part.others if any(fit.points(one) >= best.points(one) for one in ways)
@@ -264,15 +268,15 @@ def as_good(part: FittedPart) -> list[Fit]:
 
 
 def is_clear(part: FittedPart, is_known: bool = False) -> bool:
-    """Whether the origin of a part is clear. Where it is known, cues before the fitted one are
-    early, however many they are."""
+    """Return whether the origin of a part is clear. If it is known, cues before the estimated one
+    are early, however many there are."""
     is_open = part.early is not None and part.early.are_many and not is_known
     return not as_good(part) and not is_open and (
         part.best.agree * 2 >= part.best.among or bool(part.sent.apart(part.best)))
 
 
 def agree_line(part: FittedPart, count: int) -> str:
-    """How many cues of a part agree with its best origin; the file has so many edges."""
+    """Return how many cues of a part agree with its best origin; the file has `count` cues."""
     best, others, edges = part.best, part.others, len(part.sent.edges)
     following = f"--origin {others[0].origin} with {others[0].agree}" if others else "none"
     return (f"{best.agree} of {counted(best.among, 'cue')} "
@@ -282,8 +286,7 @@ def agree_line(part: FittedPart, count: int) -> str:
 
 
 def part_lines(part: FittedPart, count: int, has_picture: bool = False) -> Iterator[str]:
-    """What there is to know of the best origin of a part; the file has so many edges, and the
-    recording a first picture or none."""
+    """Yield the lines on the best origin of a part; the file has `count` cues."""
     best = part.best
     yield agree_line(part, count)
     if part.sent.within:
@@ -312,7 +315,7 @@ def part_lines(part: FittedPart, count: int, has_picture: bool = False) -> Itera
 
 
 def early_line(early: Early, has_picture: bool) -> str:
-    """How many cues come before the clock that was taken, and what that may be."""
+    """Return how many cues come before the chosen clock, and why that may be."""
     count = f"{early.cues} of {counted(early.among, 'cue')} " \
         f"{'comes' if early.cues == 1 else 'come'} up to {counted(early.frames, 'frame')} before " \
         "what is usual for the others"
@@ -322,7 +325,7 @@ def early_line(early: Early, has_picture: bool) -> str:
 
 
 def drift_line(drift: Drift) -> str:
-    """That what is sent comes later and later, or earlier."""
+    """Return that subtitles come later and later, or earlier."""
     way = "later and later" if drift.frames > 0 else "earlier and earlier"
     by = counted(abs(drift.frames), "frame")
     return f"from {time_of(drift.first)} to {time_of(drift.last)} subtitles come {way}, by {by}: " \
@@ -330,7 +333,7 @@ def drift_line(drift: Drift) -> str:
 
 
 def shift_lines(row: Sequence[Stretch], parts: Sequence[FittedPart], known: int) -> list[str]:
-    """From when on subtitles are late, compared with an origin."""
+    """Return from when on subtitles are late compared with a known origin."""
     lines = []
     for stretch, before, part in zip(row[1:], parts, parts[1:]):
         late = ticks_between(known, part.origin)
@@ -347,7 +350,7 @@ def shift_lines(row: Sequence[Stretch], parts: Sequence[FittedPart], known: int)
 
 
 def break_lines(parts: Sequence[FittedPart]) -> Iterator[str]:
-    """Where parts begin, and how much longer the recording is there than the file."""
+    """Yield where parts begin, and how much longer the recording is there than the file."""
     for number, (before, part) in enumerate(zip(parts, parts[1:]), 2):
         frames, rest = divmod(abs(away := ticks_between(before.origin, part.origin)), TICKS)
         length = time_of(frames) + (f" and {rest} ticks" if rest else "")
@@ -358,8 +361,8 @@ def break_lines(parts: Sequence[FittedPart]) -> Iterator[str]:
 
 def packets_of(runs: Sequence[Airing], number: int, bases: Sequence[Base],
                packets: Packets) -> Range:
-    """The PES packets of a run, and all beside it up to the last of the run before and the first of
-    the next one."""
+    """Return the PES packets of an airing, and those around it up to the last of the airing before
+    and the first of the next."""
     first, last = bases[0].packets[0], bases[-1].packets[1]
     if number:
         first = number_of_place(runs[number - 1].last, bases, packets) + 1
@@ -369,7 +372,8 @@ def packets_of(runs: Sequence[Airing], number: int, bases: Sequence[Base],
 
 
 def number_of_place(place: tuple[int, int], bases: Sequence[Base], packets: Packets) -> int:
-    """The number of the PES packet at a place; a base may be longer than half of the clock."""
+    """Return the number of the PES packet at a place; a base may be longer than half the PTS range.
+    """
     base = bases[place[0]]
     length, least = TICKS * base.length, TICKS * place[1] - TICKS // 2
 

@@ -1,4 +1,4 @@
-"""The clock of a part, `--start` by the first picture, and PTS that are no whole frames."""
+"""The clock of a part, `--start` by the first picture, and PTS between frames."""
 from __future__ import annotations
 
 import collections
@@ -15,7 +15,7 @@ from ..stream.packets import Packets, Range
 from ..stream.survey import Survey
 
 
-# The clock of a part: its origin, where that is from, and the delay measured against it.
+# The clock of a part
 
 RECORDING, GIVEN, START, TCP = "recording", "given", "start", "tcp"
 SOURCES = {RECORDING: "fitted to the recording", GIVEN: "given", START: "by the first picture",
@@ -26,12 +26,14 @@ FITTED_LATER = "the clock after a break was estimated, so a delay that all subti
 
 
 class Clock(NamedTuple):
-    """An origin and its `source`: fitted to the recording, given as `--origin`, or as `--start` by
-    a time or by the TCP of the GSI block. `delay_frames` is how many frames later than by it the
-    edges of the subtitles came, `None` where nothing can tell: a clock that was fitted to the
-    recording has the delay in it. `is_delay_of_all`: each cue of the file has that delay.
-    `evidence` is by what this call has fitted it. `away` is by how many frames the clock is later
-    if the time code is that of another picture, where it may be."""
+    """An origin and its source.
+
+    `source`: estimated from the recording, given by `--origin`, or by `--start` as a time or the
+    TCP of the GSI block. `delay_frames` is how late the cues are by that clock, or `None` for an
+    estimated clock, which includes the delay. `is_delay_of_all`: every cue of the file has that
+    delay. `evidence` says how the clock was estimated. `away` is how many frames later the clock is
+    if the time code is that of another picture.
+    """
 
     origin: int
     source: str
@@ -41,22 +43,22 @@ class Clock(NamedTuple):
     is_delay_of_all: bool = False
 
     def chosen(self, part: int | None) -> Selection | None:
-        """It as what is chosen for a part; `None` where it was given."""
+        """Return the clock as a choice for a part, or `None` if it was given."""
         evidence = self.evidence or Selection(ORIGIN_CHOICE, str(self.origin), FITTED)
         return evidence._replace(part=part) if self.is_fitted else None
 
     @property
     def is_fitted(self) -> bool:
-        """Whether it was found in the recording that it judges."""
+        """Return whether the clock was estimated from the recording that it judges."""
         return self.source == RECORDING
 
     def words(self) -> str:
-        """The origin, and where it is from."""
+        """Return the origin and its source."""
         return f"origin {self.origin}, {SOURCES[self.source]}"
 
     def question(self) -> str:
-        """What a delay asks that is just as long as from the first picture to another one that the
-        time code may be of; nothing of any other."""
+        """Ask whether the time code is that of another picture if the delay is just the distance to
+        that; return nothing otherwise."""
         if not self.away or self.delay_frames != self.away:
             return ""
         return "is the time code that of the GOP header? That is of the first picture in the " \
@@ -66,8 +68,8 @@ class Clock(NamedTuple):
 
 
 class Found(NamedTuple):
-    """What is judged by one clock: its frames, its PES packets where PTS go back, and the frames in
-    which its subtitles come."""
+    """What is judged by one clock: its frames, its PES packets if PTS go back, and the frames in
+    which its subtitles begin."""
 
     begin: int
     end: int
@@ -80,29 +82,29 @@ class Found(NamedTuple):
         return self.clock.origin
 
 
-# The clock of a recording by the time code of its first picture, `--start`.
+# The clock by the time code of the first picture, `--start`
 
 NAMES = {0x01: "MPEG-1", 0x02: "MPEG-2", 0x1B: "H.264", 0x24: "HEVC"}  # stream_type
-# Other video, whose pictures are not looked for.
+# Video whose pictures are not read.
 OTHERS = {0x10: "MPEG-4 part 2", 0x1E: "MPEG-C", 0x1F: "SVC", 0x20: "MVC", 0x21: "JPEG 2000",
           0x25: "HEVC sub-bitstream", 0x32: "JPEG XS", 0x33: "VVC", 0x35: "EVC", 0x42: "AVS",
           0xD1: "Dirac", 0xD2: "AVS2", 0xD4: "AVS3", 0xEA: "VC-1"}
-TCP_PLACE = slice(256, 264)  # of a GSI block
+TCP_PLACE = slice(256, 264)  # in the GSI block
 FRAMES_NEAR = 25  # frames that the last PCR of a recording may be before its last picture
 PTS_LOOKED_AT = 1000  # PTS
-REORDERED = 16  # pictures, at most, that are sent before one that is shown before them
-LONGEST = 10 * 90_000  # ticks after which pictures are no longer listed
-CLOSED = "closed"  # a group of pictures that needs none before it
+REORDERED = 16  # pictures at most that are sent before one shown earlier
+LONGEST = 10 * 90_000  # ticks of pictures to list
+CLOSED = "closed"  # a closed group of pictures
 
 
 class NoFirst(Exception):
-    """There is no first picture, or it is not clear which one it is; the text says why."""
+    """There is no first picture, or it is not clear which it is; the text says why."""
 
 
 class First(NamedTuple):
-    """The first picture of a recording: the PID of its video, what kind that is, its PTS, and how
-    many PES packets before it were passed over; and the PTS of another one, that with the flag or
-    the least of its group, where that is not the same."""
+    """The first picture of a recording: its video PID and stream type, its PTS, and the number of
+    PES packets skipped before it. `other` is the PTS of the picture with the
+    random_access_indicator, or the smallest of its group, if that is another picture."""
 
     pid: int
     kind: int
@@ -112,7 +114,7 @@ class First(NamedTuple):
 
     @property
     def away(self) -> int:
-        """By how many frames the other one is later."""
+        """Return by how many frames the other picture is later."""
         return 0 if self.other is None else round(ticks_between(self.pts, self.other) / TICKS)
 
     def line(self) -> str:
@@ -128,7 +130,7 @@ class First(NamedTuple):
 
 
 class Began(NamedTuple):
-    """The clock that the first picture tells: what is said of it, and the frame of that picture."""
+    """The clock by the first picture, lines about it, and the frame of that picture."""
 
     clock: Clock
     lines: list[str]
@@ -136,7 +138,8 @@ class Began(NamedTuple):
 
 
 def video_of(survey: Survey, teletext: int) -> tuple[int, int]:
-    """The video PID of the programme of a Teletext PID, and its kind."""
+    """Return the video PID and stream type for a Teletext PID; raise `NoFirst` unless there is just
+    one."""
     programmes = survey.programmes_of(teletext)
     if not programmes:
         raise NoFirst(f"no PMT names {pid_name(teletext)}")
@@ -155,9 +158,12 @@ def video_of(survey: Survey, teletext: int) -> tuple[int, int]:
 
 
 def first_picture(survey: Survey, teletext: int) -> First:
-    """The first picture of the programme whose PMT names a Teletext PID: the first with the
-    random_access_indicator. Where those of its group can be decoded that are shown before it, or
-    nothing tells whether they can, it is the one with the smallest PTS up to the next such flag."""
+    """Return the first picture of the programme of a Teletext PID; raise `NoFirst` if unclear.
+
+    It is the first one with the random_access_indicator. If pictures of its group that are shown
+    before it can be decoded, or nothing says that they can't, it is the one with the smallest PTS
+    up to the next such flag.
+    """
     pid, kind = video_of(survey, teletext)
     name, video = f"{NAMES[kind]} of {pid_name(pid)}", survey.videos.get(pid)
     if video is None and not survey.is_whole:
@@ -185,8 +191,8 @@ def first_picture(survey: Survey, teletext: int) -> First:
 
 
 def left_out(pts: list[int], is_cut: bool) -> int:
-    """How many frames the PTS of pictures leave out, of which each has one where a PES packet has
-    one picture. Of pictures that are cut off, some that are shown before the last are not told."""
+    """Return how many frames the PTS of pictures skip. If the pictures are cut off, ignore the last
+    ones: others shown between them may be missing."""
     shown_at = sorted(ticks_between(pts[0], one) for one in pts)
     if is_cut or shown_at[-1] - shown_at[0] > LONGEST:
         del shown_at[-REORDERED:]
@@ -195,7 +201,7 @@ def left_out(pts: list[int], is_cut: bool) -> int:
 
 
 def has_first_picture(survey: Survey, teletext: int) -> bool:
-    """Return whether `--start` can tell the clock of a Teletext PID."""
+    """Return whether `--start` can give the clock of a Teletext PID."""
     try:
         first_picture(survey, teletext)
     except NoFirst:
@@ -211,8 +217,8 @@ def clock_advice(has_picture: bool) -> str:
 
 
 def after_frame(packets: Packets, pts: int, within: int) -> int:
-    """How many ticks after a frame that begins at a PTS most PTS of the Teletext are, less than a
-    frame; within 1 and more, where there are some, of those that are near it: fields have two."""
+    """Return by how many ticks, less than a frame, most PTS of Teletext are after the frames of a
+    PTS. If `within` is not 0, prefer PTS near it, if there are any: fields have two PTS."""
     ticks: collections.Counter[int] = collections.Counter()
     for _, (sent, _) in zip(range(PTS_LOOKED_AT), ((sent, 0) for sent in packets.pts())):
         ticks[ticks_after(pts, sent) % TICKS] += 1
@@ -222,10 +228,10 @@ def after_frame(packets: Packets, pts: int, within: int) -> int:
 
 
 def start_frame(request: Request) -> int:
-    """The frame of the first picture, as it was given or as the GSI block has it."""
+    """Return the frame of the first picture, from --start or the TCP of the GSI block."""
     if request.start != TCP:
         frame = frame_of(request.start or "")
-        assert frame is not None  # the words of the command line were looked at
+        assert frame is not None  # the command line was checked
         return frame
     code = first_bytes(request.stl_path, GSI)[TCP_PLACE].decode("latin-1")
     is_code = code.isascii() and code.isdecimal() and len(code) == 8
@@ -236,7 +242,8 @@ def start_frame(request: Request) -> int:
 
 
 def began(request: Request, survey: Survey, packets: Packets) -> Began:
-    """The clock, moved to the PTS of the Teletext by less than half a frame."""
+    """Return the clock by the first picture, moved by less than half a frame to the PTS of
+    Teletext."""
     first, frame = first_picture(survey, packets.pid), start_frame(request)
     after = after_frame(packets, first.pts, request.within)
     if after * 2 == TICKS:
@@ -254,8 +261,8 @@ def began(request: Request, survey: Survey, packets: Packets) -> Began:
 
 
 def refuse_outside(request: Request, began: Began, begin: int, end: int, last: int | None) -> None:
-    """Subtitles that lie outside of a recording which begins with the programme's first picture;
-    `last` is its last PTS."""
+    """Raise `Unclear` if subtitles lie outside of a recording that begins at its TCP; `last` is its
+    last PTS."""
     if begin < began.frame:
         raise Unclear(f"the first subtitle of {request.stl} comes at {time_of(begin)}, before its "
                       f"TCP {time_of(began.frame)}, at which the recording would begin")
@@ -265,19 +272,19 @@ def refuse_outside(request: Request, began: Began, begin: int, end: int, last: i
                       f"the recording ends at {time_of(over)}")
 
 
-# How far PTS lie off that are no whole frames from the origin (61).
+# PTS that are not whole frames from the origin (61)
 
 MILLISECOND = 90  # ticks
 MOST_PTS = 100_000  # PTS
 
 
 def most_off(several: Sequence[int], origin: int) -> int:
-    """Return by how many ticks some PTS are off their nearest frames at most."""
+    """Return the maximum distance in ticks from PTS to their nearest frames."""
     rests = (ticks_after(origin, pts) % TICKS for pts in several[:MOST_PTS])
     return max((min(rest, TICKS - rest) for rest in rests), default=0)
 
 
 def off_words(most: int) -> str:
-    """Return how far PTS are off, in ticks and in time; nothing if they are not."""
+    """Return how far PTS are off, in ticks and in time, or nothing if they are not."""
     return f"PTS are up to {counted(most, 'tick')} ({most / MILLISECOND:.2f} ms) off the frame" \
         if most else ""

@@ -1,5 +1,4 @@
-"""Origins one after another: which stretches of a programme agree with one each, the parts that
-breaks make of it, and how often it is there."""
+"""Origins in sequence: the parts between breaks, and repeated airings."""
 from __future__ import annotations
 
 import collections
@@ -12,22 +11,21 @@ from ..common.command_line import Lateness
 from ..common.times import FRAMES_A_SECOND, FRAMES_OF_A_DAY
 from .alignment import Base, Early, Edge, Fit, Shown, TRIED, edges_of, settled
 
-LEADERS = 8  # ways, the best of those up to an edge, that go on with another track
-IN_A_ROW = 5  # edges that have to agree with an origin of their own
-NEW_TRACK = IN_A_ROW - 1  # points that another origin costs
-LEAST_BREAK = 5 * FRAMES_A_SECOND  # frames; what is later by less is a delay
-LACKED = 60 * FRAMES_A_SECOND  # frames, at least, by which the file's clock jumps on at a break
-OF_TEXT = 3  # points of an edge whose text is there
-ALIKE = 500  # frames, at most, that are compared with each other
-TRIED_TIMES = 8  # origins that are held against the times of all edges
-AS_MANY = 10  # edges, at least, that are an airing by their times; within N frames twice as many
-Place = tuple[int, int]  # in a recording: a time base, and frames after its first PTS
+LEADERS = 8  # the best ways up to a cue, which may change track
+IN_A_ROW = 5  # cues that must agree with another origin
+NEW_TRACK = IN_A_ROW - 1  # points that a change of track costs
+LEAST_BREAK = 5 * FRAMES_A_SECOND  # frames; less is a delay
+LACKED = 60 * FRAMES_A_SECOND  # frames at least by which the file's clock jumps forward at a break
+OF_TEXT = 3  # points of a cue with its text
+ALIKE = 500  # frames at most to compare with each other
+TRIED_TIMES = 8  # origins to compare with the times of all cues
+AS_MANY = 10  # cues at least for an airing by times alone; twice as many with --within N
+Place = tuple[int, int]  # a time base of a recording, and frames after its first PTS
 
 
 class Track:
-    """An origin that may be, in the time base with a number: of each edge its points (1 that the
-    page changes, 2 that it is erased as is due, 3 that the text comes that is due), and its place.
-    """
+    """A possible origin in the time base `base`: for each cue its place and points: 1 if the page
+    changes, 2 if it is erased as expected, 3 if the expected text comes."""
 
     def __init__(self, number: int, start: int, base: Base) -> None:
         self.base, self.start, self.within, self.edges = number, start, base.within, base.edges
@@ -40,38 +38,37 @@ class Track:
 
     @functools.cached_property
     def in_a_row(self) -> list[int]:
-        """How many cues agree one after another, from each one on."""
+        """Return how many consecutive cues agree, from each one on."""
         rows = itertools.accumulate(reversed(self.points), lambda row, one: row + 1 if one else 0,
                                     initial=0)
         return list(rows)[:0:-1]
 
     def rank(self) -> tuple[int, int, int]:
-        """By what the best comes first: of several that are as good, the one of the earliest text.
-        """
+        """Return the sort key, best first: of equals, the one with the earliest text."""
         first = self.points.index(OF_TEXT) if OF_TEXT in self.points else len(self.edges)
         return -sum(self.points), self.late, first
 
     def may_follow(self, before: Track, frames: int) -> bool:
-        """Whether what is due so many frames later is sent later."""
+        """Return whether what is expected `frames` later is sent later."""
         return self.base > before.base or \
             self.base == before.base and frames > self.start - before.start
 
 
 class Stretch(NamedTuple):
-    """The edges from one number on, up to another, which is not of them; and their track."""
+    """The cues from number `first` up to `end`, and their track."""
 
     track: Track
     first: int
     end: int
 
     def agreeing(self) -> list[int]:
-        """The places of the edges that agree."""
+        """Return the places of the cues that agree."""
         return [self.track.places[at] for at in range(self.first, self.end)
                 if self.track.points[at]]
 
 
 def find_row(bases: Sequence[Base]) -> list[Stretch]:
-    """The stretches of all edges; none where five in a row agree with no origin."""
+    """Return the stretches of all cues, or none if no origin has five agreeing cues in a row."""
     long = [(number, base) for number, base in enumerate(bases) if len(base.changes) >= IN_A_ROW]
     for number, base in long:
         best = base.by_beginnings(base.fits[0]) if base.fits else None
@@ -93,8 +90,8 @@ def find_row(bases: Sequence[Base]) -> list[Stretch]:
 
 
 class Way(NamedTuple):
-    """A row of tracks up to an edge: its points, the less the farther apart its tracks are, and
-    from which edge on, by its number, it is on which track."""
+    """A sequence of tracks up to a cue. `nearness` is less the farther apart its tracks are;
+    `turns` has the number of the cue from which each track is used."""
 
     points: int
     nearness: int
@@ -102,22 +99,25 @@ class Way(NamedTuple):
 
     @property
     def rank(self) -> tuple[int, int]:
-        """Of two ways the one of the higher rank is better."""
+        """Return the sort key, worst first."""
         return self[:2]
 
     def turned(self, edge: int, track: Track) -> Way:
-        """The way that goes on with another track from an edge on."""
+        """Return the way that continues with another track from a cue on."""
         before = self.turns[-1][1]
         apart = abs(track.start - before.start) + FRAMES_OF_A_DAY * (track.base - before.base)
         return Way(self.points - NEW_TRACK, self.nearness - apart, (*self.turns, (edge, track)))
 
 
 def best_row(edges: Sequence[Edge], tracks: Sequence[Track]) -> list[Stretch]:
-    """The stretches of the way through all edges with the most points, where another track is begun
-    by five edges that agree; what is nearer is taken of two that are as good. From edge to edge the
-    best way that ends on each track is known, and only the best of these turn. Where two stretches
-    meet, as many edges as can go with the second."""
-    best: dict[Track, Way] = {}  # by the track that it is on
+    """Return the stretches of the way through all cues with the most points, and among equals with
+    the nearest tracks.
+
+    Another track begins with five agreeing cues. For each cue the best way that ends on each track
+    is known, and only the best of these change track. Where two stretches meet, the second gets as
+    many cues as agree with it.
+    """
+    best: dict[Track, Way] = {}  # by its last track
     for at, edge in enumerate(edges):
         gap = edge.frame - edges[at - 1].frame if at else 0
         leaders = heapq.nlargest(LEADERS, best.items(), key=lambda item: item[1].rank)
@@ -143,8 +143,8 @@ def best_row(edges: Sequence[Edge], tracks: Sequence[Track]) -> list[Stretch]:
 
 
 def border_of(edges: Sequence[Edge], before: Stretch, own: Stretch) -> int:
-    """The number of the first edge that goes with the second of two stretches. What agrees with
-    none goes with the one before."""
+    """Return the number of the first cue of the second of two stretches. A cue that agrees with
+    neither belongs to the first."""
     best, most, gained = own.first, 0, 0
     for border in range(own.first - 1, before.first + IN_A_ROW - 1, -1):
         gained += own.track.points[border] - before.track.points[border]
@@ -157,9 +157,9 @@ def border_of(edges: Sequence[Edge], before: Stretch, own: Stretch) -> int:
 # ---- parts of a programme
 
 class FittedPart(NamedTuple):
-    """A part: the first TCI and the last TCO of its subtitles, its origin and others by what is
-    sent in its time, the number of its time base; the subtitles that reach into the next part; the
-    cues that come before its origin, where there are some."""
+    """A part: the first TCI and the last TCO of its subtitles, its origin and alternatives, and the
+    time base that was sent in its time. `over` are subtitles that reach into the next part, `early`
+    cues before its origin."""
 
     begin: int
     end: int
@@ -177,8 +177,8 @@ class FittedPart(NamedTuple):
 
 def parts_of(subtitles: Sequence[Shown], bases: Sequence[Base], row: Sequence[Stretch],
              late: Lateness | None = None) -> list[FittedPart]:
-    """The parts of a row of stretches, within some frames by the shares of delays where these are
-    known; of an empty row the part of all subtitles, none where no cue agrees with any origin."""
+    """Return the parts of a row of stretches. An empty row gives one part with all subtitles, or
+    none if no cue agrees with any origin. `late` are the shares of delays, if configured."""
     if len(row) > 1:
         return [part_of(subtitles, bases, row, number, late) for number in range(len(row))]
     number = row[0].track.base if row else max(
@@ -194,14 +194,14 @@ def parts_of(subtitles: Sequence[Shown], bases: Sequence[Base], row: Sequence[St
 
 
 def others_of(base: Base, *starts: int) -> list[Fit]:
-    """The origins beside some."""
+    """Return the origins other than some."""
     return [fit for fit in base.fits if all(
         abs(fit.start - start) > base.within for start in starts)]
 
 
 def part_of(subtitles: Sequence[Shown], bases: Sequence[Base], row: Sequence[Stretch],
             number: int, late: Lateness | None) -> FittedPart:
-    """One of several parts, by the changes between those of its neighbours."""
+    """Return one of several parts, from the changes between those of its neighbours."""
     track, first, end = row[number]
     whole = bases[track.base]
     begin = whole.edges[first].frame if number else 0
@@ -213,7 +213,7 @@ def part_of(subtitles: Sequence[Shown], bases: Sequence[Base], row: Sequence[Str
         high = row[number + 1].agreeing()[0]
     inside = [shown for shown in subtitles if begin <= shown.begin and shown.end <= stop]
     over = [shown for shown in subtitles if begin <= shown.begin < stop < shown.end]
-    # Where subtitles adjoin at the end of a part, its last one is erased there.
+    # Even if the next part's first subtitle adjoins, the last one is erased there.
     own = whole.limited(edges_of(inside) or whole.edges[first:end], low, high)
     best, early = settled(own, own.fit(track.start), late)
     return FittedPart(min((shown.begin for shown in inside), default=begin),
@@ -222,10 +222,13 @@ def part_of(subtitles: Sequence[Shown], bases: Sequence[Base], row: Sequence[Str
 
 
 def by_breaks(row: Sequence[Stretch]) -> list[Stretch]:
-    """The row as breaks part it: PTS have gone back, the origin is later by five seconds at least
-    than that of the part before, and than just before, or the file's clock jumps on. Subtitles that
-    are late by less, and those that are early and come back, go with what was before: a delay looks
-    as a break does, and two delays of three seconds are none."""
+    """Return the row divided at breaks.
+
+    At a break PTS go back, the origin is at least five seconds later than before the part and just
+    before, or the file's clock jumps. Shorter delays, and subtitles that are early for a while,
+    stay in the part before: a delay looks like a break, and two delays of three seconds are not
+    one.
+    """
     parted = list(row[:1])
     for before, stretch in zip(row, row[1:]):
         track = stretch.track
@@ -241,21 +244,23 @@ def by_breaks(row: Sequence[Stretch]) -> list[Stretch]:
 # ---- the programme more than once
 
 class Airing(NamedTuple):
-    """The programme once: the places of its first and its last change."""
+    """One airing of the programme: the places of its first and last change."""
 
     first: Place
     last: Place
 
 
 def runs_of(bases: Sequence[Base], has_clock: bool = False) -> list[Airing]:
-    """The runs of the programme, in their order: the one with which the most cues agree, and those
-    outside of its time with which enough of them do; or as many by their times alone, whose texts
-    may all be wrong: else the other run would be judged, and nobody would hear of this one. These
-    are not looked for where the clock is known, nor where the cues are like a grid, of which any
-    part looks like another."""
+    """Return the airings of the programme, in order.
+
+    First comes the one with which most cues agree. Others lie outside of its time and have enough
+    agreeing cues, or as many by their times alone, whose texts may all be wrong: else another
+    airing would be judged and this one missed. Times alone do not count if the clock is known, or
+    if the cues are regular, so that any part looks like another.
+    """
     row = find_row(bases)
     has_times = not has_clock and not are_alike([edge.frame for edge in bases[0].edges])
-    if len(row) > 1:  # the end of another run may be taken for the end of the first
+    if len(row) > 1:  # the end of another airing may look like that of the first
         whole, *others = sorted((Stretch(track, 0, row[-1].end) for track in dict.fromkeys(
             stretch.track for stretch in row)), key=lambda one: -sum(one.track.points))
         if places := sightings([whole]):
@@ -282,20 +287,20 @@ def runs_of(bases: Sequence[Base], has_clock: bool = False) -> list[Airing]:
 
 
 def sightings(row: Sequence[Stretch]) -> dict[int, Place]:
-    """Where the edges of a row are whose letters agree."""
+    """Return where the cues of a row with the right characters are."""
     return {at: (stretch.track.base, stretch.track.places[at]) for stretch in row
             for at in range(stretch.first, stretch.end) if stretch.track.points[at] > 1}
 
 
 def airing_of(places: Mapping[int, Place]) -> Airing:
-    """The first and the last of some places."""
+    """Return the first and the last of some places."""
     return Airing(min(places.values()), max(places.values()))
 
 
 def is_again(bases: Sequence[Base], first: dict[int, Place], some: dict[int, Place]) -> bool:
-    """Whether edges, outside of the time of the first run, are the programme once more: half of
-    all, and half of those with a text; or a quarter of these, over half of the programme. Most of
-    them are in the first run too."""
+    """Return whether cues outside of the first airing are the programme again: half of all, and
+    half of those with a text; or a quarter of these, spread over half of the programme. Most of
+    them are in the first airing too."""
     edges = bases[0].edges
     texts = [at for at in some if edges[at].letters]
     count = sum(1 for edge in edges if edge.letters)
@@ -306,7 +311,7 @@ def is_again(bases: Sequence[Base], first: dict[int, Place], some: dict[int, Pla
 
 
 def are_alike(frames: Sequence[int]) -> bool:
-    """Whether half of some frames, of so many at most, are others of them moved by a distance."""
+    """Return whether half of the first frames are other ones of them, moved by one distance."""
     frames = frames[:ALIKE]
     counts = collections.Counter(second - first for first, second in itertools.combinations(
         frames, 2))
@@ -314,8 +319,8 @@ def are_alike(frames: Sequence[int]) -> bool:
 
 
 def by_times(bases: Sequence[Base], count: int) -> dict[int, Place]:
-    """Where nine in ten of so many edges, and three quarters of all, have a change of the page,
-    whatever its letters are; nothing where none has."""
+    """Return where the page changes at nine in ten of `count` cues and three quarters of all,
+    whatever its characters, or nothing."""
     for number, base in enumerate(bases):
         if not base.changes or count < AS_MANY * (2 if base.within else 1):
             continue
@@ -327,7 +332,7 @@ def by_times(bases: Sequence[Base], count: int) -> dict[int, Place]:
 
 
 def changes_at(base: Base, number: int, start: int) -> dict[int, Place]:
-    """Of each edge, by an origin, the place of a change that comes no more than N frames later."""
+    """Return for each cue the place of a change within the allowed delay, by an origin."""
     return {at: (number, place) for at, edge in enumerate(base.edges)
             for place in [next((place for place in range(
                 edge.frame - start, edge.frame - start + base.within + 1)
@@ -335,7 +340,7 @@ def changes_at(base: Base, number: int, start: int) -> dict[int, Place]:
 
 
 def sent_between(bases: Sequence[Base], low: Place, high: Place) -> list[Base]:
-    """What is sent between two places."""
+    """Return the parts of time bases between two places."""
     return [base.limited(base.edges,
                          -1 if number > low[0] else low[1] if number == low[0] else base.length + 1,
                          base.length + 1 if number < high[0] else high[1] if number == high[0]
