@@ -19,8 +19,8 @@ from ..stream.packets import Change, HEADER, Packets, Range, Texts
 
 
 # A cue is a frame at which the expected page changes; a change is one of the transmitted page. They
-# agree for an origin if they are at the same frame; with --within N, also if the expected characters
-# come at most N frames later.
+# agree for an origin if they are at the same frame; with --within N, also if the expected
+# characters come at most N frames later.
 
 VOTES = 1_000_000  # pairs of cues and changes; of longer files only some changes vote
 REPEATED = 20  # subtitles with the same characters; the text of more does not vote

@@ -1,12 +1,12 @@
-"""What is sent, by what `subttx survey` tells. Nothing here judges.
+"""Read what a recording transmits, from the output of `subttx survey`. Nothing here judges.
 
-packets        PES packets of a PID with Teletext, and jumps that are announced of its counter
-pictures       whether the pictures leave the Teletext
-survey         what `subttx survey` tells of a recording: maps, pictures, languages
-gaps           where something is missing, and how late PTS are
-repeats        how often a page comes
-pace           how far apart PES packets come, and which pace shows a loss
-ranges         which PES packets are of some frames
-receiver       what a receiver holds of a page at the end of each frame
-layout         the layout by which subtitles were drawn, looked for in what was sent
+packets        PES packets of a Teletext PID, and announced jumps of its counter
+pictures       pictures that drift from Teletext
+survey         the output of `subttx survey`: maps, pictures, languages
+gaps           places with missing packets, and how late PTS are
+repeats        how often a page is repeated
+pace           the distances of PES packets, and the pace that shows any loss
+ranges         the PES packets of some frames
+receiver       the page that a receiver has decoded at the end of each frame
+layout         find the layout that draws subtitles as they were sent
 """

@@ -1,4 +1,4 @@
-"""Where something of a recording is missing, and how late PTS are, by the PCR."""
+"""Places of a recording with missing packets, and how late PTS are, by the PCR."""
 from __future__ import annotations
 
 import dataclasses
@@ -11,20 +11,19 @@ from .packets import Clocked, PTSPair, Packets
 from .survey import Survey
 
 
-# Where something of a PID is missing, and where its clock jumps, in words.
-
 SECOND = 90_000  # ticks
-TOLD = 20  # places that are told one by one
-PAUSE = 10  # times as few packets as that time has usually are still a pause of the PCR
+TOLD = 20  # places to list
+PAUSE = 10  # a pause of the PCR has less than 1/10 of the usual packets
 
 
 @dataclasses.dataclass
 class Place:
-    """A place at which something is missing, between the PTS of two PES packets: `lost` TS packets
-    by their counters, some that are `scrambled`, and those of `missing` ticks by the PCR. A counter
-    goes up to 15: of more packets it tells what is left of them behind 16, 32 and so on; where a
-    jump of it is announced it tells nothing. `mark` is the number of the mark that stands there,
-    where one does."""
+    """A place between the PTS of two PES packets where packets are missing.
+
+    `lost` TS packets are missing by the counters, `scrambled` ones cannot be read, and `missing` is
+    the time lost by the PCR in ticks. A counter counts modulo 16, and shows nothing if a jump of it
+    is announced. `mark` is the number of the gap marker there, if any.
+    """
 
     before: int | None
     after: int | None = None
@@ -36,15 +35,15 @@ class Place:
 
 
 class ClockJump(NamedTuple):
-    """The clock goes on by some ticks more, or less, after a PTS of the PID."""
+    """A place after PTS `before` where the clock jumps forward by some ticks, or back."""
 
     before: int | None
     ticks: int
 
 
 def places_of(packets: Packets, announced: Iterable[PTSPair] = ()) -> list[Place]:
-    """Where a mark stands, where the PCR and the counters of other PIDs alone tell it, and where a
-    jump of the counter is announced that hides it."""
+    """Return the places with gap markers, with losses that only the PCR and the counters of other
+    PIDs show, and with announced jumps of the counter."""
     following: dict[int, int | None] = {}
     pts = None
     for run in reversed(packets.runs):
@@ -63,14 +62,14 @@ def places_of(packets: Packets, announced: Iterable[PTSPair] = ()) -> list[Place
 
 
 def hole_of(clocked: Clocked) -> Place | None:
-    """The hole that a PCR tells which comes late, where the counters of other PIDs are broken."""
+    """Return the loss that a late PCR shows if the counters of other PIDs are broken."""
     if clocked.counters != "broken" or clocked.ticks <= 0:
         return None
     return Place(clocked.before, clocked.after, missing=clocked.ticks - round(clocked.usual))
 
 
 def jumps_of(packets: Packets) -> Iterator[ClockJump]:
-    """Where nothing is missing and the clock was set anew."""
+    """Yield where nothing is missing and the clock was set again."""
     for clocked in packets.clocked:
         if clocked.counters == "whole" and clocked.packets * PAUSE * clocked.usual < \
                 clocked.usual_packets * abs(clocked.ticks):
@@ -78,13 +77,13 @@ def jumps_of(packets: Packets) -> Iterator[ClockJump]:
 
 
 def is_within(ticks: int, place: Place) -> bool:
-    """Whether so much may be missing at a place: of more the clock went on elsewhere."""
+    """Return whether so much can be missing at a place: any more is a jump of the clock."""
     return place.before is None or place.after is None or \
         ticks <= ticks_between(place.before, place.after)
 
 
 def overlap(place: Place, other: Place) -> bool:
-    """Whether two places lie where the same PES packets are."""
+    """Return whether two places may be among the same PES packets."""
     return not is_after(place, other) and not is_after(other, place)
 
 
@@ -94,7 +93,7 @@ def is_after(place: Place, other: Place) -> bool:
 
 
 def what_of(place: Place) -> str:
-    """What is missing at a place."""
+    """Return what is missing at a place."""
     said = [f"{counted(place.lost, 'TS packet')} lost"] if place.lost and not place.missing else []
     by = f"their counter tells {place.lost} of them" if place.lost else \
         "and the counters of other PIDs"
@@ -107,7 +106,7 @@ def what_of(place: Place) -> str:
 
 
 def place_line(place: Place, first: int | None) -> str:
-    """What a place is told as."""
+    """Return the line of a place."""
     known = [pts for pts in (place.before, place.after) if pts is not None]
     names = " and ".join(map(str, known))
     times = " and ".join(time_of(wrapped(pts - (first or 0)) // TICKS) for pts in known)
@@ -116,13 +115,13 @@ def place_line(place: Place, first: int | None) -> str:
 
 
 def first_lines(lines: Sequence[str]) -> list[str]:
-    """A line for each place; where they are many the first, and how many more there are."""
+    """Return the first lines, and how many more there are."""
     more = len(lines) - TOLD
     return [*lines[:TOLD], *([f"and at {counted(more, 'more place')}"] if more > 0 else [])]
 
 
 def marks_told(packets: Packets) -> list[str]:
-    """A line for each place with a mark, the last of them for all that are too many."""
+    """Return a line for each place with a gap marker, and one for all further ones."""
     first = next(packets.pts(), None)
     lines = [place_line(place, first) for place in places_of(packets) if place.mark is not None]
     if len(lines) > TOLD:
@@ -131,7 +130,7 @@ def marks_told(packets: Packets) -> list[str]:
 
 
 def why_refused(packets: Packets) -> str | None:
-    """Why nothing of a PID is given, or nothing more; `None` where all is."""
+    """Return why a PID has no Teletext, or none from some PES packet on, or `None`."""
     name = pid_name(packets.pid)
     if not packets.refusal and packets.count:
         return None
@@ -150,16 +149,16 @@ def why_refused(packets: Packets) -> str | None:
         f"{packets.refusal} {word} pes {packets.count}"
 
 
-# How far the PTS of a PID are ahead of the PCR of its programme, by a look each second.
+# How far PTS are ahead of the PCR of the programme, sampled once a second
 
-MOST_LATE = 60  # samples, of which the latest PTS tells how late others may be
+MOST_LATE = 60  # samples that show how late PTS may be
 SAID = {"behind": "are behind the PCR", "early": "are more than a second ahead of the PCR",
         "changed": "moved against the PCR by more than half a second"}
 
 
 class Strange(NamedTuple):
-    """What is wrong with some of the samples: what, the first PTS, how many they are, `among` how
-    many, and how far off the worst one is, in ticks."""
+    """An anomaly of samples: its kind, the first PTS, how many of how many, and the worst distance
+    in ticks."""
 
     kind: str
     pts: int
@@ -169,7 +168,7 @@ class Strange(NamedTuple):
 
 
 def strange_of(packets: Packets) -> Iterator[Strange]:
-    """What is wrong with the PTS; what is usual is the median of the first minute."""
+    """Yield the anomalies of PTS, compared with the median of the first minute."""
     samples = packets.samples
     first = [ahead for pts, ahead in samples
              if 0 <= ticks_between(samples[0][0], pts) <= 60 * SECOND]
@@ -185,12 +184,12 @@ def strange_of(packets: Packets) -> Iterator[Strange]:
 
 
 def late_of(packets: Packets) -> int:
-    """By how many ticks PTS were behind the PCR lately, at most."""
+    """Return the maximum number of ticks by which recent PTS were behind the PCR."""
     return max([0, *(-ahead for _, ahead in packets.samples[-MOST_LATE:])])
 
 
 def reach_of(survey: Survey, packets: Packets) -> tuple[int, int] | None:
-    """From which PTS to which all is in the recording that was sent of the PID, by the PCR."""
+    """Return the PTS between which the recording has everything sent on the PID, by the PCR."""
     clock = survey.clock_of(packets.pid)
     if clock is None:
         return None

@@ -1,4 +1,4 @@
-"""The layout by which subtitles were drawn, looked for in what was sent, with its evidence."""
+"""Find the layout that draws subtitles as they were sent, with evidence."""
 from __future__ import annotations
 
 import itertools
@@ -15,24 +15,21 @@ from ..formats.teletext import COMMON, NationalOption
 from .receiver import Rows, Timeline
 
 
-# Which layout draws subtitles as they were sent.
-#
-# A layout changes rows, columns and codes alone, so a subtitle is *found* where a page was sent
-# whose letters are those of its text, in their order. Each item of a layout decides one of three
-# things: the cells of a line, its row, its column. So each is looked for by itself among what was
-# sent, and what was found is drawn whole in the end.
+# A layout changes only rows, columns and codes, so a subtitle is *found* if a page was sent that
+# has the characters of its text in order. Each item of a layout decides the cells of a line, its
+# row, or its column. So search for each of these separately, and in the end draw the subtitles.
 
-REFUSED = {code for code in CODES if code not in COMMON}  # where they are not left out
+REFUSED = {code for code in CODES if code not in COMMON}  # unless they are left out
 BOX_CODES, LINE_CODES = b"\x0a\x0b", b"\x0a\x0b\x0d"
-FEWEST, TENTHS = 10, 9  # subtitles that say something; of ten of them as many have to be drawn
-MOST_STRIPPED = 5  # codes at the ends of lines of which each choice is tried
-MOST_KEPT = 6  # of the ways to draw a line, those that draw most lines
+FEWEST, TENTHS = 10, 9  # subtitles at least; 9 of 10 must be drawn as sent
+MOST_STRIPPED = 5  # codes at the ends of lines of which to try each choice
+MOST_KEPT = 6  # ways to draw a line, best first, to keep
 Element = TypeVar("Element")
 
 
 class Sent(NamedTuple):
-    """A subtitle and the page that was sent at its frames: the text as it stands in the file, the
-    row of its first line (VP), its justification code (JC), rows 1 to 24."""
+    """A subtitle and the page sent at its frames: its text in the file, the row of its first line
+    (VP), its justification code (JC), and rows 1 to 24."""
 
     text: bytes
     row: int
@@ -41,8 +38,8 @@ class Sent(NamedTuple):
 
 
 class SentLine(NamedTuple):
-    """A line with letters as it was sent: the subtitle's place, the line's number, all its cells
-    with each code that stands there, its row of the page and the cells of that."""
+    """A line with characters: the subtitle's position, the line's number, its cells with all codes,
+    and the row of the page that was sent, with its cells."""
 
     place: int
     number: int
@@ -52,13 +49,13 @@ class SentLine(NamedTuple):
 
 
 def is_found(sent: Sent, option: NationalOption) -> bool:
-    """Whether the letters of a subtitle were sent, and it has some."""
+    """Return whether a subtitle has characters, and they were sent."""
     letters = letters_of_text(sent.text, option)
     return bool(letters) and letters_on(sent.rows) == letters
 
 
 def pairs_of(place: int, lines: Sequence[bytes], rows: Sequence[bytes]) -> list[SentLine]:
-    """The lines with letters of a found subtitle; none where they are other lines on the page."""
+    """Return the lines with characters of a found subtitle, or none if the page has others."""
     said = [(number, line) for number, line in enumerate(lines) if letter_cells(line)]
     shown = [(number, row) for number, row in enumerate(rows, 1) if letter_cells(row)]
     if [letter_cells(line) for _, line in said] != [letter_cells(row) for _, row in shown]:
@@ -68,8 +65,8 @@ def pairs_of(place: int, lines: Sequence[bytes], rows: Sequence[bytes]) -> list[
 
 
 def strips(pairs: Sequence[SentLine]) -> Iterator[bytes]:
-    """The codes that may be left out of texts: all that a page can't have, those that lines lack
-    between their letters, and of the others at the ends of lines each choice or the usual ones."""
+    """Yield the codes that a layout may leave out of texts: those that a page can't have, those
+    missing between characters, and of those at the ends of lines each choice, or the usual ones."""
     lacks, has, ends = set[int](), set[int](), set[int]()
     for cells, sent in {(pair.cells, pair.sent) for pair in pairs}:
         said, shown = Counter(inner(cells)), Counter(inner(sent))
@@ -90,14 +87,14 @@ def strips(pairs: Sequence[SentLine]) -> Iterator[bytes]:
 
 
 def most(counts: Counter[Element], size: int) -> list[Element]:
-    """Those that were counted most often."""
+    """Return those that were counted most often."""
     return [one for one, _ in counts.most_common(size)]
 
 
 def befores(lines: Counter[tuple[bytes, bytes]], trim: bool) -> list[tuple[bool, bytes, bytes]]:
-    """What stands before lines, by most of them: `white`, and the codes before and behind a line's
-    own leading codes."""
-    seen = Counter[tuple[bytes, bytes]]()  # a line's own leading codes, and those that were sent
+    """Return what most lines begin with: `white`, and the codes before and after a line's own
+    leading codes."""
+    seen = Counter[tuple[bytes, bytes]]()  # a line's leading codes, and those sent
     for (cells, sent), count in lines.items():
         shown = sent.lstrip(b" ")
         cells = cells.strip(b" ") if trim else cells
@@ -119,7 +116,7 @@ def befores(lines: Counter[tuple[bytes, bytes]], trim: bool) -> list[tuple[bool,
 
 
 def afters(lines: Counter[tuple[bytes, bytes]]) -> list[bytes]:
-    """What stands behind lines, by most of them."""
+    """Return what most lines end with."""
     votes = Counter[bytes]()
     for (cells, sent), count in lines.items():
         own, shown = (one.rstrip(b" ")[::-1] for one in (cells, sent))
@@ -133,7 +130,7 @@ def afters(lines: Counter[tuple[bytes, bytes]]) -> list[bytes]:
 
 
 def ways_to_prepare(pairs: Sequence[SentLine]) -> list[Layout]:
-    """Layouts that say what a line becomes, those first that give most lines as they were sent."""
+    """Return layouts by the lines that they draw as they were sent, most first."""
     scores = Counter[Layout]()
     for strip, trim in itertools.product(strips(pairs), (False, True)):
         all_lines = Counter((stripped(pair.cells, strip), pair.sent) for pair in pairs)
@@ -156,7 +153,7 @@ def ways_to_prepare(pairs: Sequence[SentLine]) -> list[Layout]:
 
 
 def as_bits(places: Iterable[int]) -> int:
-    """A set of places as a number."""
+    """Return a set of positions as a number."""
     bits = 0
     for place in places:
         bits |= 1 << place
@@ -165,8 +162,7 @@ def as_bits(places: Iterable[int]) -> int:
 
 def placed(layout: Layout, pairs: Sequence[SentLine], all_lines: Sequence[Sequence[bytes]],
            subtitles: Sequence[Sent]) -> Iterator[tuple[Layout, int]]:
-    """Layouts with these cells that say where rows are, each with the subtitles of which no line
-    stands elsewhere."""
+    """Yield layouts with the rows of lines, each with the subtitles whose rows are right."""
     lines = [[prepared(stripped(line, layout.strip), layout) for line in one] for one in all_lines]
     for double, pack, last in itertools.product((False, True), repeat=3):
         shape = layout._replace(double=double, pack=pack, last=last)
@@ -182,8 +178,7 @@ def placed(layout: Layout, pairs: Sequence[SentLine], all_lines: Sequence[Sequen
 
 def justified(layout: Layout, pairs: Sequence[SentLine], subtitles: Sequence[Sent]
               ) -> Iterator[tuple[Layout, int]]:
-    """Layouts with these cells that say where columns are, each with the subtitles of which a line
-    stands elsewhere or has other cells."""
+    """Yield layouts with the columns of lines, each with the subtitles that have a wrong line."""
     wrong, kinds = set[int](), dict[tuple[bytes, int, int], set[int]]()
     for pair in pairs:
         cells = prepared(stripped(pair.cells, layout.strip), layout)
@@ -210,20 +205,19 @@ def justified(layout: Layout, pairs: Sequence[SentLine], subtitles: Sequence[Sen
 
 
 def draws(layout: Layout, sent: Sent, option: NationalOption) -> bool:
-    """Whether a layout draws a subtitle as it was sent."""
+    """Return whether a layout draws a subtitle as it was sent."""
     lines = drawn(sent.text, sent.row, sent.justify, layout, option)
     return not isinstance(lines, Refused) and page_rows(lines) == sent.rows
 
 
 def missed(layout: Layout, subtitles: Sequence[Sent], option: NationalOption, most: int) -> int:
-    """How many subtitles a layout draws otherwise than they were sent; of more than some no more
-    are looked for."""
+    """Return how many subtitles a layout draws otherwise, counting no further than `most`."""
     others = (sent for sent in subtitles if not draws(layout, sent, option))
     return sum(1 for _ in itertools.islice(others, most + 1))
 
 
 def simplest(layout: Layout, subtitles: Sequence[Sent], option: NationalOption) -> Layout:
-    """A layout that draws as many, with each item left out that changes nothing."""
+    """Return a layout that draws as many, without each item that changes nothing."""
     most = missed(layout, subtitles, option, len(subtitles))
     for names in (("strip",), ("before", "behind"), ("behind",), ("after",), *(
             (name,) for name in Layout._fields[4:])):
@@ -236,8 +230,8 @@ def simplest(layout: Layout, subtitles: Sequence[Sent], option: NationalOption) 
 
 
 def candidates(subtitles: Sequence[Sent], option: NationalOption) -> list[Layout]:
-    """Some layouts of which one draws the most of the found subtitles as they were sent; the one
-    without an item is one of them."""
+    """Return layouts of which one draws most of the found subtitles as they were sent; one of them
+    has no items."""
     all_lines = [raw_lines(sent.text, option) for sent in subtitles]
     pairs = [pair for place, sent in enumerate(subtitles)
              for pair in pairs_of(place, all_lines[place], sent.rows)]
@@ -257,35 +251,33 @@ def candidates(subtitles: Sequence[Sent], option: NationalOption) -> list[Layout
     return [PLAIN, *(simplest(one, subtitles, option) for one in near[:MOST_KEPT])]
 
 
-# Which items of a layout are seen in what was sent, and the layout of these alone.
+# The items of a layout for which there is evidence
 #
-# The layout that draws the most draws a wrong page too, where an item of it is for that page alone.
-# So an item counts where it is seen: in the subtitles that the layout draws otherwise without it.
-# Items can undo each other, as `last` and `row=1` do for a text of two lines; so it is asked of
-# each group of items too. And what takes from a page something that a viewer sees is a person's to
-# say.
+# The layout that draws most subtitles may also draw a wrong page, by an item for that page alone.
+# So an item needs evidence: subtitles that the layout draws otherwise without it. Items can undo
+# each other, as `last` and `row=1` do for a text of two lines, so each group of items needs
+# evidence too. Items that remove something visible from a page need the operator's decision.
 
-STAR = "*"  # an item of its own: that codes stand behind a line's own
+STAR = "*"  # an item: codes come after a line's own
 SINGLE = ("after", "fit", "white", "trim", "text", "up", "left", "right", "free", "double", "pack",
           "last", "row")
-MOST_ITEMS = 12  # of which all groups are looked at
-# Codes of a text that a viewer sees: colours other than white, flash, backgrounds.
+MOST_ITEMS = 12  # items of which to try all groups
+# Visible codes of a text: colours other than white, flash, backgrounds.
 SEEN_CODES = (*range(0x01, 0x07), 0x08, 0x1C, 0x1D)
-BROUGHT = (DOUBLE, START_BOX)  # those that `before` may put back
-# Behind a line's own codes: another colour than its own, steady in the place of its flash, normal
-# in the place of its double height.
+BROUGHT = (DOUBLE, START_BOX)  # those that `before` may restore
+# After a line's own codes these replace its colour, its flash or its double height.
 OVERRULING = (*COLOURS, 0x09, 0x0C)
 FLASH = 0x08
-BOXES_SHOWN = 2  # start boxes before a line: of one alone libzvbi shows nothing
-MOST_MOVED = 2  # rows by which a house may have all lines elsewhere
+BOXES_SHOWN = 2  # start boxes before a line: after one alone libzvbi shows nothing
+MOST_MOVED = 2  # rows by which a broadcaster may move all lines
 LayoutItem = tuple[str, int]  # its name, and of `strip` the code
 Group = frozenset[LayoutItem]
-Page = Optional[Rows]  # what a layout draws of a text, if it does
+Page = Optional[Rows]  # as a layout draws a text, if it can
 
 
 class Rest(NamedTuple):
-    """Items of a layout, as a TEXT, with the subtitles on which they rest: those that are drawn
-    otherwise without them, and how many of these were sent as they draw them."""
+    """Items of a layout, as a TEXT, and the subtitles drawn otherwise without them: how many, and
+    how many of these were sent as drawn."""
 
     text: str
     decides: int
@@ -293,13 +285,13 @@ class Rest(NamedTuple):
 
     @property
     def is_seen(self) -> bool:
-        """Whether that is evidence enough."""
+        """Return whether that is enough evidence."""
         return self.decides >= FEWEST and self.drawn * 10 >= self.decides * TENTHS
 
 
 class Left(NamedTuple):
-    """Items that are not taken, as a TEXT; how many more subtitles they would draw as they were
-    sent, and the whole TEXT with them."""
+    """Items that are not accepted, as a TEXT; how many more subtitles they would draw as sent, and
+    the whole TEXT with them."""
 
     text: str
     more: int
@@ -307,8 +299,8 @@ class Left(NamedTuple):
 
 
 class Choice(NamedTuple):
-    """A layout, how many of how many found subtitles it draws as they were sent, on what its items
-    rest, and which others would draw more."""
+    """A layout, how many of the found subtitles it draws as they were sent, the evidence for its
+    items, and other items that would draw more."""
 
     layout: Layout
     drawn: int
@@ -318,15 +310,15 @@ class Choice(NamedTuple):
 
     @property
     def is_clear(self) -> bool:
-        """Whether it may be taken for the house's."""
+        """Return whether it can be taken for the broadcaster's layout."""
         return self.total >= FEWEST and self.drawn * 10 >= self.total * TENTHS
 
 
 # ---- items, one by one
 
 def items_in(layout: Layout) -> list[LayoutItem]:
-    """The items of a layout: each code that is left out is one, and so is the place of codes behind
-    a line's own."""
+    """Return the items of a layout: each code left out is one, and so is the place of codes after a
+    line's own."""
     items = [("strip", code) for code in layout.strip]
     if (layout.before, layout.behind) != (PLAIN.before, PLAIN.behind):
         items.append(("before", 0))
@@ -336,7 +328,7 @@ def items_in(layout: Layout) -> list[LayoutItem]:
 
 
 def without(layout: Layout, group: Iterable[LayoutItem]) -> Layout:
-    """A layout without some items."""
+    """Return a layout without some items."""
     gone = {*group}
     layout = layout._replace(strip=bytes(
         code for code in layout.strip if ("strip", code) not in gone))
@@ -348,7 +340,7 @@ def without(layout: Layout, group: Iterable[LayoutItem]) -> Layout:
 
 
 def with_items(layout: Layout, group: Iterable[LayoutItem], other: Layout) -> Layout:
-    """A layout with some items as another one has them."""
+    """Return a layout with some items of another one."""
     codes = {code for name, code in group if name == "strip"}
     layout = layout._replace(strip=bytes(sorted({*layout.strip, *codes})))
     names = {name for name, _ in group}
@@ -358,13 +350,13 @@ def with_items(layout: Layout, group: Iterable[LayoutItem], other: Layout) -> La
 
 
 def items_text(group: Iterable[LayoutItem], layout: Layout) -> str:
-    """Items of a layout as a TEXT."""
+    """Return items of a layout as a TEXT."""
     return layout_text(with_items(PLAIN, group, layout))
 
 
 def taken_from(layout: Layout) -> Group:
-    """The items of a layout that no house draws by, or that take from a page what a viewer sees and
-    do not put it back."""
+    """Return the items of a layout that no broadcaster uses, or that remove something visible from
+    a page."""
     brought = layout.before + layout.behind
     gone = {*SEEN_CODES, *({*BROUGHT} - {*brought})}
     taken: set[LayoutItem] = {("strip", code) for code in layout.strip if code in gone}
@@ -380,30 +372,29 @@ def taken_from(layout: Layout) -> Group:
 # ---- evidence
 
 class Evidence:
-    """Found subtitles, and what layouts draw of them."""
+    """Found subtitles, and how layouts draw them."""
 
     def __init__(self, subtitles: Sequence[Sent], option: NationalOption) -> None:
         self.subtitles, self.option = subtitles, option
         self.known: dict[Layout, list[Page]] = {}  # of layouts that are looked at as a whole
 
     def page(self, sent: Sent, layout: Layout) -> Page:
-        """What a layout draws of a subtitle; None where it can't."""
+        """Return how a layout draws a subtitle, or `None` if it can't."""
         lines = drawn(sent.text, sent.row, sent.justify, layout, self.option)
         return None if isinstance(lines, Refused) else page_rows(lines)
 
     def pages(self, layout: Layout) -> list[Page]:
-        """What it draws of each."""
+        """Return how a layout draws each subtitle."""
         if layout not in self.known:
             self.known[layout] = [self.page(sent, layout) for sent in self.subtitles]
         return self.known[layout]
 
     def count(self, layout: Layout) -> int:
-        """How many it draws as they were sent."""
+        """Return how many subtitles a layout draws as they were sent."""
         return sum(page == sent.rows for page, sent in zip(self.pages(layout), self.subtitles))
 
     def rest(self, layout: Layout, group: Iterable[LayoutItem], is_enough: bool = False) -> Rest:
-        """On what some items of a layout rest; or on enough to say that they are seen, where it is
-        enough to know that."""
+        """Return the evidence for some items; `is_enough`: stop when they are certainly seen."""
         less, text = without(layout, group), items_text(group, layout)
         right = [page == one.rows for page, one in zip(self.pages(layout), self.subtitles)]
         decides = as_sent = 0
@@ -416,8 +407,8 @@ class Evidence:
         return Rest(text, decides, as_sent)
 
     def unseen(self, layout: Layout) -> Group | None:
-        """The items that are not seen, and decide the fewest; None where each group of them is. Of
-        too many to look at each group one goes."""
+        """Return the items without evidence that change fewest subtitles, or `None` if every group
+        has evidence. If there are too many groups to try, remove one item."""
         items = items_in(layout)
         is_few = len(items) <= MOST_ITEMS
         sizes = range(1, len(items) + 1) if is_few else (1,)
@@ -428,8 +419,7 @@ class Evidence:
         return frozenset(min(failing)[-1]) if failing else None
 
     def supported(self, layout: Layout) -> tuple[Layout, list[Group]]:
-        """A layout without the items that are not seen, and without those that a person has to say;
-        and these, as they went."""
+        """Return a layout without items that lack evidence or need a decision, and these items."""
         gone: list[Group] = []
         while group := taken_from(layout) or self.unseen(layout):
             layout = without(layout, group)
@@ -437,8 +427,7 @@ class Evidence:
         return layout, gone
 
     def choice(self, layout: Layout, left: Sequence[Left] = ()) -> Choice:
-        """A layout with all that is known of it; of two items with one TEXT the one that decides
-        fewer is told."""
+        """Return a layout with its evidence; of two items with one TEXT, that of the weaker."""
         items: dict[str, Rest] = {}
         for item in items_in(layout):
             rest = self.rest(layout, [item])
@@ -446,8 +435,8 @@ class Evidence:
         return Choice(layout, self.count(layout), len(self.subtitles), (*items.values(),), (*left,))
 
     def left_of(self, layout: Layout, gone: Sequence[Group], whole: Layout) -> list[Left]:
-        """What would draw more than a layout, of the items of another one; and all of these, where
-        they draw most together."""
+        """Return the items of another layout that would draw more, and all of these if they draw
+        most together."""
         count, left = self.count(layout), list[Left]()
         for group in gone:
             other, text = with_items(layout, group, whole), items_text(group, whole)
@@ -462,8 +451,8 @@ class Evidence:
 
 
 def choices_of(sent: Sequence[Sent], option: NationalOption) -> tuple[Choice, Choice]:
-    """Of the found subtitles: the layout that draws the most as they were sent, and the one of
-    those of its items that are seen, which alone may be taken."""
+    """Return the layout that draws most of the found subtitles, and the one of its items with
+    evidence, which alone can be recommended."""
     subtitles = [one for one in sent if is_found(one, option)]
     evidence = Evidence(subtitles, option)
     best = candidates(subtitles, option)
@@ -476,11 +465,11 @@ def choices_of(sent: Sequence[Sent], option: NationalOption) -> tuple[Choice, Ch
     return closest, evidence.choice(layout, evidence.left_of(layout, gone, closest.layout))
 
 
-# The subtitles of a recording that were sent with their letters.
+# Subtitles that were sent with their characters
 
 def sent_in(subtitles: Iterable[Subtitle], held: Timeline, option: NationalOption) -> list[Sent]:
-    """The subtitles at whose frames a page with their letters was held, each with the one that was
-    held for longest."""
+    """Return the subtitles at whose frames a page with their characters was decoded, each with the
+    page that lasted longest."""
     drawings = []
     for subtitle in subtitles:
         letters = letters_of_text(subtitle.text, option)
@@ -494,6 +483,6 @@ def sent_in(subtitles: Iterable[Subtitle], held: Timeline, option: NationalOptio
 
 
 def held_for(held: Timeline, number: int, subtitle: Subtitle) -> int:
-    """For how many frames of a subtitle a page is held."""
+    """Return for how many frames of a subtitle a page is decoded."""
     span = held.stretch(number)
     return min(span.last + 1, subtitle.end) - max(span.first, subtitle.begin)

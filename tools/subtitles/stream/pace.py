@@ -1,4 +1,4 @@
-"""How far apart PES packets come, and which pace shows a loss of any length."""
+"""The distances of PES packets, and the pace that shows a loss of any length."""
 from __future__ import annotations
 
 import array
@@ -12,24 +12,23 @@ from .packets import Packets, Range
 from .repeats import NEAR
 
 
-# The counter of a PID has four bits: where 16 TS packets are lost it is what it has to be, and of
-# 15 the next one looks like one that came twice. But the PES packets in them are missing; where
-# these come often enough, the time between those that came tells it. One of Teletext has nine TS
-# packets at most, so 16 of these take two whole PES packets at least, whatever their lengths are:
-# the next one that comes is the third. One that is lost alone is told by the counter. A file of PES
-# packets has none, so there the next one may be the second. That nothing is lost unseen then is
-# proved of PES packets whose first TS packet holds the PTS: else 16 lost ones can join the start of
-# one to the middle of another. Of all paces that show each loss the longest is taken: a wrong
-# refusal costs more than a note.
+# The counter of a PID has four bits: it does not show a loss of 16 TS packets, and after a loss of
+# 15 the next packet looks like a repeat. But PES packets are missing then, and if these come often
+# enough, their distance shows it. A PES packet of Teletext has at most nine TS packets, so a loss
+# of 16 takes at least two complete PES packets, and the next one is the third. The counter shows
+# the loss of a single one; in a PES file, which has no counter, the next one may be the second.
+# That no loss is hidden then is proved if the first TS packet of each PES packet has the PTS: else
+# 16 lost ones can join the start of one to the middle of another. Of all paces that show every loss
+# choose the longest: a wrong refusal costs more than a note.
 
-LEAST = 100  # PES packets: of fewer nothing is told
-FEW, PART = 3, 1000  # so many may be otherwise, or one in so many
-OFTEN, SELDOM = 20, 100  # one distance in so many is usual; no more than one in so many is longer
-HOLE = 17  # TS packets from a PES packet to the next one that comes, where 16 are lost
-TWO_LOST, ONE_LOST = 3, 2  # distances between PES packets, where two are missing, or one
-UNITS = 4  # that a TS packet holds: the header of a PES packet has the place of one
+LEAST = 100  # PES packets to measure a pace
+FEW, PART = 3, 1000  # exceptions: three, or one in 1000
+OFTEN, SELDOM = 20, 100  # a usual distance is at least 1/20 of all; at most 1/100 are longer
+HOLE = 17  # TS packets to the next PES packet if 16 are lost
+TWO_LOST, ONE_LOST = 3, 2  # steps to the next PES packet if two are lost, or one
+UNITS = 4  # Teletext units in a TS packet; a PES header takes the place of one
 PAYLOAD = 184  # bytes of a TS packet
-USUAL_EVERY = 250  # frames without a header that are accepted where nothing else is asked for
+USUAL_EVERY = 250  # frames without a header that are accepted by default
 MOST_EACH = 9  # TS packets of a PES packet
 REGULAR, IRREGULAR, PAUSED, BY_EVERY, TOO_FEW = \
     "regular", "irregular", "paused", "by --every", "too few"
@@ -37,8 +36,7 @@ Pauses = Sequence[Tuple[Optional[int], Optional[int]]]
 
 
 class Lull(NamedTuple):
-    """The frames of two PES packets between which none came for long, and whether another such
-    place is near."""
+    """The frames of two PES packets that are far apart, and whether another such place is near."""
 
     first: int
     last: int
@@ -46,10 +44,13 @@ class Lull(NamedTuple):
 
 
 class Pace(NamedTuple):
-    """What PES packets are like: how many frames they are apart at most, nearly everywhere, and how
-    many where some are lost; with pauses the longest of them. Where they are regular a pace of one
-    frame less tells each such loss, and refuses nothing that is nearer; but at so many places, of
-    `among`, where they come `closer`. `is_dense`: three of them may come where two do."""
+    """How PES packets are spaced.
+
+    They are at most `apart` frames apart nearly everywhere, and `lost` if some are missing; if they
+    pause, `apart` is the longest pause. If they are regular, a pace of one frame less than `lost`
+    shows every loss, except at `closer` of `among` places where they come closer. `is_dense`: three
+    may come in the time of two.
+    """
 
     kind: str
     apart: int = 0
@@ -60,19 +61,19 @@ class Pace(NamedTuple):
 
     @property
     def frames(self) -> int | None:
-        """The pace, where they are regular."""
+        """Return the pace if PES packets are regular, or `None`."""
         return self.lost - 1 if self.kind == REGULAR else None
 
 
 def pace_of(rows: Sequence[Sequence[int]], each: int, every: int, pauses: Pauses = (),
             is_stream: bool = True) -> Pace:
-    """What PES packets are like, by the frames of those that came one after another, nothing of
-    which anybody knows missing between them. Each takes so many TS packets at most; a header of the
-    page comes in so many frames; and the programme has these pauses, from an out cue to the next in
-    cue; the first one ends it, and the last one begins it.
+    """Return how PES packets are spaced, from rows of their frames without a known loss.
 
-    A few may be as far apart as they are: these are the holes, and damage can't make a pace longer.
-    Where most such places are how the inserter works no pace is told.
+    Each takes at most `each` TS packets; a header of the page comes within `every` frames; `pauses`
+    are those of the programme, from out-cue to in-cue, with the time before and after it.
+
+    A few packets may be any distance apart: these are losses, and damage can't make a pace longer.
+    If most such places are how the inserter works, there is no pace.
     """
     near, far = distances(rows, 1), distances(rows, TWO_LOST if is_stream else ONE_LOST)
     count = sum(near.values())
@@ -98,16 +99,15 @@ def pace_of(rows: Sequence[Sequence[int]], each: int, every: int, pauses: Pauses
 
 
 def lost_in(far: collections.Counter[int], apart: int, few: int) -> int:
-    """In how many frames the next PES packet comes where two are lost, at least: in as few as any
-    that were sent, or where that is no farther than most come, in as few as all but a few."""
+    """Return in how many frames the next PES packet comes if two are lost: the least of all, or if
+    that is no longer than usual distances, the least of all but a few."""
     least = min(far)
     return least if least > max(apart, 1) else at_rank(far, few, False)
 
 
 def usual_in(near: collections.Counter[int], count: int, few: int) -> int | None:
-    """How many frames PES packets are apart where three of them take no longer than two do nearly
-    everywhere, as where two come in a frame: the most that are usual, so that a frame more is no
-    loss. `None` where too many are apart by more, or more than a few by more than that frame."""
+    """Return the usual distance if three PES packets may take no longer than two, as where two come
+    in a frame: one frame more is no loss. Return `None` if too many are farther apart."""
     usual = max([1, *(frames for frames, many in near.items() if many * OFTEN >= count)])
     longer = sum(many for frames, many in near.items() if frames > usual)
     is_usual = longer * SELDOM <= count and longer - near[usual + 1] <= few
@@ -115,21 +115,23 @@ def usual_in(near: collections.Counter[int], count: int, few: int) -> int | None
 
 
 def steps_of(each: int) -> int:
-    """How many PES packets from the last one before 16 TS packets to the next that comes."""
+    """Return how many PES packets away the next one is if 16 TS packets are lost."""
     return max(TWO_LOST, -(-HOLE // each))
 
 
 def unseen_from(rows: Sequence[Sequence[int]], each: int) -> int | None:
-    """How many frames 16 TS packets take at least, of which the counter tells nothing, by the PES
-    packets that came; `None` where these are too few."""
+    """Return the shortest time of 16 TS packets in frames, which a counter may not show missing, or
+    `None` if there are too few PES packets."""
     return min(distances(rows, steps_of(each)), default=None)
 
 
 def idle_of(silences: Sequence[Lull], every: int, pauses: Pauses) -> list[Lull]:
-    """The silences in which nothing had to come. One behind another is how seldom PES packets come
-    then, as where another page of the PID is over; one is longer than is usual, and `--every`
-    allows that; one lies outside of the programme. Or it lies in a pause, up to its end, and so
-    does one in most other pauses that are as long."""
+    """Return the silences in which nothing had to come.
+
+    These are silences one after another, as when another page of the PID ends; unusually long ones
+    that --every allows; and ones outside of the programme. A silence in a pause of the programme,
+    up to its end, counts if most pauses of that length have one.
+    """
     inside = [(lull, end - begin) for begin, end in pauses if begin is not None and end is not None
               for lull in silences if begin <= lull.first and abs(end - lull.last) <= NEAR]
     shortest = min((length for _, length in inside), default=0)
@@ -142,15 +144,14 @@ def idle_of(silences: Sequence[Lull], every: int, pauses: Pauses) -> list[Lull]:
 
 
 def is_outside(silence: Lull, begin: int | None, end: int | None) -> bool:
-    """Whether a silence lies before the first in cue, or behind the last out cue."""
+    """Return whether a silence lies before the first in-cue, or after the last out-cue."""
     if begin is None:
         return end is not None and silence.last <= end + NEAR
     return end is None and begin <= silence.first
 
 
 def distances(rows: Sequence[Sequence[int]], steps: int) -> collections.Counter[int]:
-    """How many frames it is from a PES packet to the next one, or one that comes so many steps
-    later, and how often."""
+    """Count the distances in frames from a PES packet to the one `steps` later."""
     counts: collections.Counter[int] = collections.Counter()
     for row in rows:
         if isinstance(row, range):
@@ -161,15 +162,15 @@ def distances(rows: Sequence[Sequence[int]], steps: int) -> collections.Counter[
 
 
 def at_rank(counts: collections.Counter[int], rank: int, is_from_above: bool) -> int:
-    """The number with so many before it, the least or the greatest first, of more than so many."""
+    """Return the number at a rank, counted from the least, or from the greatest."""
     numbers = sorted(counts, reverse=is_from_above)
     totals = itertools.accumulate(counts[number] for number in numbers)
     return next(number for number, total in zip(numbers, totals) if total > rank)
 
 
 def silences_in(row: Sequence[int], lost: int, steps: int) -> Iterator[Lull]:
-    """Where PES packets are so many frames apart or more; those are near each other between which
-    fewer steps lie."""
+    """Yield where PES packets are at least `lost` frames apart; near means fewer than `steps`
+    apart."""
     places = [] if isinstance(row, range) else [
         at for at, (first, last) in enumerate(zip(row, row[1:])) if last - first >= lost]
     for before, at, after in zip([-steps, *places], places, [*places[1:], len(row) + steps]):
@@ -179,8 +180,8 @@ def silences_in(row: Sequence[int], lost: int, steps: int) -> Iterator[Lull]:
 # ---- of a recording
 
 def frame_rows(packets: Packets, inside: Range, origin: int, within: int) -> list[Sequence[int]]:
-    """The frames of those of some PES packets that `check` hears: a row up to each mark, each one
-    that is refused or has no frame, and wherever frames go back."""
+    """Return the frames of the PES packets that `check` reads. A row ends at a gap marker, at a
+    refused packet or one without a frame, and where frames go back."""
     rows, pts = [], array.array("q")
     for run in itertools.chain(packets.inside(*inside), [None]):
         if run is not None and run.pts is not None and not run.fault:
@@ -193,8 +194,8 @@ def frame_rows(packets: Packets, inside: Range, origin: int, within: int) -> lis
 
 
 def each_of(packets: Packets, inside: Range, size: int | None) -> int:
-    """How many TS packets a PES packet takes at most: as many as most do, by the TS packets of the
-    PID, or by the bytes of a file of PES packets; and more where one holds more."""
+    """Return the most TS packets of a PES packet: the usual number, by the packets of the PID or
+    the `size` of a PES file, or more if a packet has more."""
     total = packets.packets if size is None else size // PAYLOAD
     usual = round(total / packets.count) if packets.count else 0
     units = max((run.units for run in packets.inside(*inside)), default=0)
@@ -202,7 +203,7 @@ def each_of(packets: Packets, inside: Range, size: int | None) -> int:
 
 
 def pauses_of(times: Sequence[tuple[int, int]]) -> Pauses:
-    """The frames from an out cue to the next in cue, by those of the subtitles; what is before the
-    first of them, and what is behind the last."""
+    """Return the frames between out-cue and in-cue, before the first subtitle, and after the last.
+    """
     begins, ends = [begin for begin, _ in times], [end for _, end in times]
     return [*zip([None, *ends], begins), *((end, None) for end in ends[-1:])]

@@ -1,4 +1,4 @@
-"""Whether the pictures leave the Teletext."""
+"""Find where pictures drift from Teletext."""
 from __future__ import annotations
 
 import math
@@ -8,25 +8,24 @@ from typing import Iterable, NamedTuple, Sequence
 from ..common.times import TICKS, ticks_between, wrapped
 
 
-# Once a second `survey` prints the lead of the Teletext: its PTS less the decoding time of the last
-# picture, with the number of that picture. If decoding times go on by more or less than the number
-# of pictures, and the lead changes by as much, the pictures leave the Teletext: viewers see what
-# follows early or late. If the lead stays, pictures were lost, or both clocks were set anew. If it
-# changes without such a step, the multiplexer changes its delay.
+# Once a second `survey` prints the lead of Teletext: its PTS minus the decoding time of the last
+# picture, with the number of that picture. If decoding times advance by more or less than the
+# number of pictures, and the lead changes by as much, pictures drift: viewers see later subtitles
+# early or late. If the lead stays, pictures were lost, or both clocks were set again. If it changes
+# without such a step, the multiplexer changes its delay.
 #
-# A multiplexer sends Teletext sometimes before a picture and sometimes behind it. So the means of
-# some leads before and behind a step are compared, to a multiple of their standard error; if there
-# are many, also the least and the greatest.
+# A multiplexer sends Teletext now before a picture, now after it. So compare the means of leads
+# around a step, to a multiple of their standard error; if there are many, also minimum and maximum.
 
 LOOKED_AT = (10, 30)  # lines on either side of a step; 30 only if 10 do not decide
-FEW = 5  # fewer lines tell less of their spread than the whole part does
-MANY = 20  # so many lines on either side are compared by least and greatest, too
+FEW = 5  # of fewer lines, use the spread of the whole part
+MANY = 20  # with so many lines on either side compare minimum and maximum too
 SURE = 2.5  # standard errors of a difference of means
 
 
 class VideoLead(NamedTuple):
-    """A PES packet of Teletext: its PTS, how many ticks that is ahead of the decoding time of the
-    last picture before it, and the number of that picture."""
+    """A PES packet of Teletext: its PTS, its lead in ticks over the decoding time of the last
+    picture before it, and the number of that picture."""
 
     pts: int
     ticks: int
@@ -34,8 +33,8 @@ class VideoLead(NamedTuple):
 
 
 class Departure(NamedTuple):
-    """A place where the pictures leave the Teletext, between the PES packets with PTS `since` and
-    `pts`: what follows is so many ticks early, or late if they are negative. `None`: unclear."""
+    """A place where pictures drift from Teletext, between the PES packets with PTS `since` and
+    `pts`: later subtitles are some ticks early, or late if negative. `None`: unclear."""
 
     pts: int
     since: int
@@ -43,8 +42,8 @@ class Departure(NamedTuple):
 
 
 def departures_of(leads: Sequence[VideoLead]) -> list[Departure] | None:
-    """Return where the pictures leave the Teletext, and where that is unclear, to a second; `None`
-    if their decoding times do not go on with their number."""
+    """Return where pictures drift from Teletext, or may, to a second; `None` if their decoding
+    times have no usual step."""
     steps = steps_of(leads)
     ends = [at for at, step in enumerate(steps, 1) if abs(step) * 4 >= TICKS]
     if len(ends) * 2 > len(leads):
@@ -70,8 +69,8 @@ def departures_of(leads: Sequence[VideoLead]) -> list[Departure] | None:
 
 
 def steps_of(leads: Sequence[VideoLead]) -> list[int]:
-    """Return by how many ticks the decoding times go on more than usual for the number of pictures,
-    from each line to the next."""
+    """Return from line to line by how many ticks decoding times advance more than usual for the
+    number of pictures."""
     times = [wrapped(lead.pts - lead.ticks) for lead in leads]
     gone = [(ticks_between(first, second), after.number - before.number)
             for first, second, before, after in zip(times, times[1:], leads, leads[1:])]
@@ -86,9 +85,11 @@ def is_outside(between: Iterable[int], before: Sequence[int]) -> bool:
 
 
 def left_by(before: Sequence[int], after: Sequence[int], step: int, typical: float) -> int | None:
-    """Return by how many ticks the pictures leave the Teletext at a step of their clock, by the
-    leads before and behind it: nothing, the step, or the change of the leads if pictures were lost
-    there, too; `None` if that is unclear."""
+    """Return by how many ticks pictures drift at a step of their clock, from the leads around it.
+
+    That is 0, the step, or the change of the leads if pictures were lost there too; `None` if it is
+    unclear.
+    """
     limit, half = min(abs(step) or TICKS, TICKS) / 2, TICKS // 2
     for most in LOOKED_AT:
         old, new = before[-most:], after[:most]

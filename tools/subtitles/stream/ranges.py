@@ -1,4 +1,4 @@
-"""Find which PES packets are of some frames."""
+"""Find the PES packets of some frames."""
 from __future__ import annotations
 
 import bisect
@@ -10,12 +10,12 @@ from ..common.times import FRAMES_OF_A_DAY, TICKS, frame_in, pts_of, time_of, wr
 from .packets import BLANK, CLOSED, Change, HEADER, OPEN, Packets, Range, Run
 
 
-SKIPPED = 1 << 31  # ticks of a run that may be skipped: it does not reach around the clock
-AFTER = 2  # PES packets in a row after the last frame, with which reading ends
+SKIPPED = 1 << 31  # ticks: a longer run may wrap around the clock
+AFTER = 2  # consecutive PES packets after the last frame that end reading
 
 
 class SentPacket(NamedTuple):
-    """A PES packet: its number, its frame if it has a PTS, and what it does."""
+    """A PES packet: its number, its frame if it has a PTS, and its flags."""
 
     number: int
     frame: int | None
@@ -23,9 +23,12 @@ class SentPacket(NamedTuple):
 
 
 class Cut(NamedTuple):
-    """The PES packets that are taken, `None` where there are none; of how many that were read; the
-    first and the last frame; the frame of the first that came in the time; whether the last page
-    transmission has come, and all that may be taken."""
+    """The PES packets of some frames.
+
+    `range` is `None` if there are none; `read` counts those read; `first` and `last` are frames,
+    and `came` the frame of the first one in the time. `has_end`: the last page transmission has
+    come. `is_over`: no later packet can belong to it.
+    """
 
     range: Range | None
     read: int
@@ -46,14 +49,14 @@ class Cut(NamedTuple):
 
 def cut_of(packets: Packets, begin: int, end: int, origin: int, every: int | None = None,
            within: int = 0, inside: Range | None = None, is_continued: bool = False) -> Cut:
-    """The PES packets of frames from `begin` to `end`, from the first header of the page on, in one
-    row, up to the last before the first of a later frame.
+    """Return the PES packets from frame `begin` to `end`, consecutive, from the first header of the
+    page up to the last one before a later frame.
 
-    With `every` they begin with the last page transmission at most so many frames before `begin`
-    after which the page is blank, where there is one; and end with the first at `end` or so many
-    frames later. `within` more frames they end with the first from `end` on at whose end the page
-    is blank, and has ended where it does, or that is as many after it. `inside` are the numbers
-    that may be taken. `is_continued`: the text of the first frame is expected before it, too.
+    With `every` they begin with the last page transmission that leaves the page blank, at most so
+    many frames before `begin`; they end with the first one at `end` or up to so many frames later.
+    With `within` they end with the first one from `end` on after which the page is blank and
+    closed, or that comes so much later. Only numbers `inside` count. `is_continued`: the text of
+    the first frame is expected before it, too.
     """
     low = max(begin - (every or 0), 0)
     high = end if every is None else min(end + max(every, within), FRAMES_OF_A_DAY - 1)
@@ -84,9 +87,9 @@ def cut_of(packets: Packets, begin: int, end: int, origin: int, every: int | Non
 
 
 class PageTexts:
-    """The texts of the page, to tell a repeat from another text: rows may come so many frames after
-    the header that erases the page. If the text of the first frame is expected before it, too, no
-    transmission counts as a repeat."""
+    """The texts of the page, to distinguish a repeat from another text: rows may come up to
+    `within` frames after the header that erases the page. If `is_continued`, no transmission counts
+    as a repeat."""
 
     def __init__(self, packets: Packets, origin: int, within: int, is_continued: bool) -> None:
         self.changes, self.origin = packets.changes, origin
@@ -94,7 +97,7 @@ class PageTexts:
         self.within, self.is_continued = within, is_continued
 
     def changes_in(self, sent: SentPacket) -> list[Change]:
-        """Return what changes by a page transmission with this header."""
+        """Return the changes by a page transmission with this header."""
         def is_of_it(change: Change) -> bool:
             frame = frame_in(change.pts, self.origin, self.within)
             return sent.frame is not None and sent.frame <= frame <= sent.frame + self.within
@@ -103,8 +106,7 @@ class PageTexts:
         return [*itertools.takewhile(is_of_it, itertools.islice(self.changes, at, None))]
 
     def is_back(self, sent: SentPacket) -> bool:
-        """Return whether a page transmission erases the text before its header and sends it again.
-        """
+        """Return whether a page transmission erases the text before it and sends it again."""
         at = bisect.bisect_left(self.numbers, sent.number)
         rows = self.changes[at - 1].rows if at else ()
         return bool(rows) and not self.is_continued and any(
@@ -116,19 +118,19 @@ class PageTexts:
 
 
 class Beginning:
-    """With which PES packet a range begins: with the first of the last page transmission before the
-    first frame after which the page is blank, erased or kept so; else with the first header from
-    that frame on. If pages may be late, all PES packets of a frame are one transmission."""
+    """Find the PES packet with which a range begins: the first of the last page transmission before
+    the first frame that leaves the page blank, or else the first header from that frame on. If
+    pages may be late, all PES packets of a frame are one transmission."""
 
     def __init__(self, begin: int, within: int, texts: PageTexts) -> None:
         self.begin, self.within, self.texts = begin, within, texts
-        self.sending: list[SentPacket] = []  # the transmission that may go on
-        self.blank: int | None = None  # the first of the last one before it that leaves it blank
+        self.sending: list[SentPacket] = []  # the current transmission
+        self.blank: int | None = None  # start of the last earlier one that leaves the page blank
         self.header: int | None = None  # the last header before it
         self.is_blank = True
 
     def take(self, sent: SentPacket) -> None:
-        """Take a PES packet that comes before the range is known to begin."""
+        """Read a PES packet before the range begins."""
         if not (self.within and self.sending and sent.frame in (self.sending[0].frame, None)):
             self.blank, self.sending = self.last_blank(), []
         self.sending.append(sent)
@@ -144,22 +146,22 @@ class Beginning:
         return self.sending[0].number if leaves_blank else self.blank
 
     def find(self, sent: SentPacket) -> int | None:
-        """Return the number with which the range begins, if this PES packet tells it."""
+        """Return the number with which the range begins, if this PES packet shows it."""
         if sent.frame is None or sent.frame < self.begin:
             return None
         is_shown, is_replaced = not self.is_blank, self.texts.is_replaced(sent)
         blank = None if is_shown and is_replaced and sent.frame == self.begin else self.last_blank()
         if blank is not None or HEADER not in sent.does:
             return blank
-        # A repeat of a text that came before the first frame: check sees it from the header before.
+        # For a repeat of a text from before the first frame `check` needs the header before.
         is_repeat = is_shown and not is_replaced and sent.frame <= self.begin + self.within
         return self.header if is_repeat and self.header is not None else sent.number
 
 
 class Ending:
-    """With which PES packet a range ends, between the frames `low` and `high`: with a header at
-    `end` or later, and all of its frame. If pages may be late, with the first PES packet from `end`
-    on that leaves the page blank, and closes it if it was closed before, or that comes so late."""
+    """Find the PES packet with which a range ends, between the frames `low` and `high`: a header at
+    `end` or later, and all of its frame. If pages may be late, the first PES packet from `end` on
+    that leaves the page blank, and closed if it was closed before, or that comes so late."""
 
     def __init__(self, low: int, high: int, end: int, within: int, is_bound: bool) -> None:
         self.low, self.high, self.end, self.within = low, high, end, within
@@ -169,8 +171,8 @@ class Ending:
         self.closed = -1  # the last PES packet that closed the page
 
     def take(self, sent: SentPacket, first: int | None) -> bool:
-        """Take one more PES packet, of a range that begins with `first`, if it has begun; return
-        whether no later one can be of the range. One behind it alone may have a wrong PTS."""
+        """Read one more PES packet; `first` is the begin of the range, if known. Return whether no
+        later one can be in the range. A single one after it may have a wrong PTS."""
         frame = sent.frame
         if CLOSED in sent.does:
             self.closed = sent.number
@@ -190,7 +192,7 @@ class Ending:
         return False
 
     def ends(self, sent: SentPacket, frame: int, first: int) -> bool:
-        """Return whether the range ends with a PES packet that comes at the last TCO or later."""
+        """Return whether the range ends with a PES packet at the last TCO or later."""
         if not self.within:
             return HEADER in sent.does
         is_page_over = BLANK in sent.does and not (OPEN in sent.does and self.closed >= first)
@@ -199,7 +201,7 @@ class Ending:
 
 def sent_from(packets: Packets, low: int, high: int, origin: int, within: int) \
         -> Iterator[SentPacket]:
-    """Return the PES packets from the first run on of which one may be in some frames."""
+    """Yield the PES packets from the first run that may be in some frames."""
     first, last = pts_of(low, origin), pts_of(high, origin)
     for run in itertools.dropwhile(lambda run: is_outside(run, first, last), packets.runs):
         for number in range(run.first, run.end):
@@ -209,8 +211,8 @@ def sent_from(packets: Packets, low: int, high: int, origin: int, within: int) \
 
 
 def is_outside(run: Run, low: int, high: int) -> bool:
-    """Whether all of a run is a frame before a PTS at least, or after another one, which may be a
-    day later: no more than half of the clock tells which of two is later."""
+    """Return whether all of a run is a frame or more before `low`, or after `high`, which may be a
+    day later: only within half of the clock is it certain which of two PTS is later."""
     first, last = run.pts, run.last
     if first is None or last is None or not 0 <= run.step * run.length < SKIPPED:
         return first is None

@@ -1,4 +1,4 @@
-"""What a receiver holds of a page at the end of each frame."""
+"""The page that a receiver has decoded at the end of each frame."""
 from __future__ import annotations
 
 import array
@@ -14,10 +14,8 @@ from .packets import (
 from .ranges import cut_of
 
 
-# What a model receiver holds, and marks in its cells.
-#
-# A cell is its 7-bit code. With bit 8 set it is one that says more than its code: 3F of the old
-# page, which nobody sent since the receiver was tuned in, or a space whose byte had even parity.
+# A cell is its 7-bit code. Bit 8 is set in cells of the old page, 3F, which nobody sent since the
+# receiver was tuned in, and in spaces whose byte had even parity.
 
 OLD, HIT = 0xBF, 0xA0
 
@@ -28,8 +26,8 @@ OLD_PAGE: Rows = (bytes([OLD]) * 40,) * 24
 
 
 class State(NamedTuple):
-    """What a receiver holds: the eight numbers of the page's last header, `None` before it heard
-    one; its rows; and on its screen the rows and the header of the last whole page."""
+    """What a receiver has decoded: the eight numbers of the page's last header, or `None`; its
+    rows; and on its screen the rows and the header of the last complete page."""
 
     is_heard: bool
     is_open: bool
@@ -42,32 +40,29 @@ TUNED = State(False, False, None, OLD_PAGE, None)
 
 
 def national_option(header: bytes) -> int:
-    """C12, C13 and C14 as a number: 0 is English, 4 German."""
+    """Return C12, C13 and C14 as a number: 0 is English, 4 German."""
     return header[7] >> 1
 
-
-# The pages that a receiver holds at the ends of frames, and when each is open.
 
 CLEARED = bytes(0x20 if code in (OLD, HIT) else code for code in range(256))
 
 
 def cleared(rows: Rows) -> Rows:
-    """A page without marks: a space where nobody sent a cell, or it came with even parity."""
+    """Return a page with spaces for cells that nobody sent, or with even parity."""
     cells = b"".join(rows)
     if OLD not in cells and HIT not in cells:
         return rows
     return tuple(row.translate(CLEARED) for row in rows)
 
 
-# PES packets that are heard one after another, by their frames.
+# Received PES packets by frame
 
-PAUSE = 2  # frames in a row without a PES packet: more are a pause of what sends one in each frame
-FEW = 20  # PES packets at least for each pause, of one that does
+PAUSE = 2  # consecutive frames without a PES packet: more are a pause
+FEW = 20  # PES packets at least for each pause, if they are steady
 
 
 class Meeting:
-    """Spans, of which some may meet, sorted for questions whether one has a frame of some others.
-    """
+    """Spans that may overlap, sorted to find overlaps with other spans."""
 
     def __init__(self, spans: Iterable[Span]) -> None:
         rising = sorted(spans)
@@ -76,37 +71,37 @@ class Meeting:
         self.reach = [*itertools.accumulate(lasts, lambda one, other: max(one, other))]
 
     def has(self, first: int, last: int) -> bool:
-        """Whether one of them has a frame from one to another."""
+        """Return whether any of them overlaps the frames from `first` to `last`."""
         at = bisect.bisect_right(self.begins, last)
         return at > 0 and self.reach[at - 1] >= first
 
 
 class ReceivedPackets:
-    """The PES packets that are heard, run by run: `begins` and `ends` are the frames of the first
-    and the last of each run, `first` and `last` those of all. `uneven` are all frames of a run, by
-    its place, where these are not one after another.
+    """The PES packets that were received, run by run.
 
-    `doubts` are frames of which not all is known that was sent: from the PES packet before one that
-    is not heard, as a mark is, to the next one; `lost` others. `halt` is the number of the first
-    PES packet whose frame is before that of the one before: from there on nothing is heard.
+    `begins` and `ends` are the first and last frame of each run, `first` and `last` those of all;
+    `uneven` has all frames of a run, by position, if they are not consecutive. `doubts` are frames
+    in which something may be missing: from the PES packet before one that was not received, or a
+    gap marker, to the next; `lost` are others. `halt` is the first PES packet whose frame goes
+    back: nothing is received from there on.
     """
 
     def __init__(self, lost: Iterable[Span] = ()) -> None:
-        self.lost = Meeting(lost)  # frames of which something is lost, whoever knows it
+        self.lost = Meeting(lost)  # frames with losses from any source
         self.forget()
 
     def forget(self) -> None:
-        """Has heard nothing."""
+        """Clear everything."""
         self.heard, self.uneven = list[Run](), dict[int, Sequence[int]]()
         self.begins, self.ends = array.array("i"), array.array("i")
-        self.count = 0  # PES packets that are heard
+        self.count = 0  # received PES packets
         self.first = self.last = NO_FRAME
         self.halt: int | None = None
         self.is_doubted = False
         self.doubts, self.pauses = list[Span](), list[Span]()  # pauses: without a PES packet
 
     def goes_on(self, run: Run, frames: Sequence[int]) -> bool:
-        """Takes PES packets whose frames go on; whether they come after those before them."""
+        """Add PES packets with rising frames; return whether they come after the last."""
         if self.halt is None and frames[0] < self.last:
             self.halt = run.first
         if self.halt is not None:
@@ -126,35 +121,34 @@ class ReceivedPackets:
         return True
 
     def frames_heard(self, at: int) -> Sequence[int]:
-        """The frames of the PES packets of a run, by its place."""
+        """Return the frames of a run, by its position."""
         return self.uneven.get(at, range(self.begins[at], self.ends[at] + 1))
 
     def pause_at(self, frame: int) -> Span | None:
-        """The frames around one in which no PES packet came, of what else sends one in each frame
-        but few."""
+        """Return the pause around a frame, if PES packets come in nearly every frame."""
         at = count_until(self.pauses, lambda span: span.first > frame) - 1
         is_steady = len(self.pauses) * FEW <= self.count
         return self.pauses[at] if is_steady and at >= 0 and self.pauses[at].last >= frame else None
 
     @functools.cached_property
     def doubted(self) -> Meeting:
-        """The doubts, once all is heard."""
+        """Return the doubts; only after all packets were added."""
         return Meeting(self.doubts)
 
     def is_seen(self, first: int, last: int) -> bool:
-        """Whether all is known that was sent in some frames."""
+        """Return whether everything sent in some frames was received."""
         is_known = self.halt is None or last <= self.last
         return is_known and not self.doubted.has(first, last) and not self.lost.has(first, last)
 
     def members(self, frame: int) -> list[Run]:
-        """The PES packets of a frame, each as a run of its own."""
+        """Return the PES packets of a frame, each as a run."""
         first, end = bisect.bisect_left(self.ends, frame), bisect.bisect_right(self.begins, frame)
         return [self.heard[at].part(self.heard[at].first + place, 1) for at in range(first, end)
                 for frames in [self.frames_heard(at)] for place in range(
                     bisect.bisect_left(frames, frame), bisect.bisect_right(frames, frame))]
 
     def frame_before(self, number: int) -> int | None:
-        """The frame that was heard last before a PES packet with a number."""
+        """Return the last frame received before a PES packet, or `None`."""
         at = count_until(self.heard, lambda run: run.first >= number) - 1
         if at < 0:
             return None
@@ -162,7 +156,7 @@ class ReceivedPackets:
         return self.frames_heard(at)[min(number - run.first, run.length) - 1]
 
     def frame_after(self, number: int) -> int | None:
-        """The frame that was heard next after a PES packet with a number."""
+        """Return the next frame received after a PES packet, or `None`."""
         at = count_until(self.heard, lambda run: run.end - 1 > number)
         if at == len(self.heard):
             return None
@@ -170,30 +164,29 @@ class ReceivedPackets:
 
 
 def pauses_in(before: int, frames: Sequence[int]) -> Iterator[Span]:
-    """The frames without a PES packet up to each of some, where these are a pause."""
+    """Yield the pauses, without PES packets, before each of some frames."""
     frames = frames[:1] if isinstance(frames, range) else frames
     for first, second in zip([before if before != NO_FRAME else frames[0], *frames], frames):
         if second - first - 1 > PAUSE:
             yield Span(first + 1, second - 1)
 
 
-# What a receiver holds of a page at the ends of frames, by what `survey` tells of PES packets.
+# The pages decoded at the ends of frames, for causes, delays, faults and reports
 #
-# One timeline is read by all that ask: causes, delays, faults, reports. The receiver is tuned in
-# before the first of the PES packets, hears none that `check` can't read or that has no frame, and
-# no more from the first on whose frame is before that of the one before.
+# The receiver is tuned in before the first PES packet. It receives none that `check` can't read or
+# that has no frame, and nothing from the first one on whose frame goes back.
 
-LEAST = 250  # frames around those that are due in which more is looked for
+LEAST = 250  # frames to search around the expected ones
 
 
 class Timeline(ReceivedPackets):
-    """The pages that are held, by the PES packets that are heard: `pages`, each with the one of
-    `frames` from whose end on it is held; `states` are all that a receiver holds, before the first
-    PES packet and after others, whose frames are `stored`, and whose numbers `behind`. `turns` are
-    the frames at whose ends the page turns open, or closed; `sendings` those with a header of the
-    page, `erasings` with one that erases it. Where PES packets go back, what came before the frame
-    `begin`, near which a programme is due, is forgotten. The first one came at `came`, where that
-    is known.
+    """The pages that a receiver decodes.
+
+    Each of `pages` is decoded from the end of the frame in `frames` on. `states` are everything
+    decoded, at first and after the PES packets with numbers `behind` at the frames `stored`. The
+    page opens or closes at the ends of the frames `turns`; `sendings` have a header of the page,
+    `erasings` one that erases it. If PES packets go back before the frame `begin`, everything
+    before is forgotten. The first one came at `came`, if known.
     """
 
     def __init__(self, packets: Packets, page: Page, origin: int, within: int = 0,
@@ -202,13 +195,13 @@ class Timeline(ReceivedPackets):
         self.packets, self.page, self.origin, self.within = packets, page, origin, within
         self.inside = (0, packets.count - 1) if inside is None else inside
         self.begin, self.came = begin, came
-        self.told: Rows = OLD_PAGE  # what is held by all that was told, of the whole recording
-        self.is_erased = False  # some time
+        self.told: Rows = OLD_PAGE  # the rows printed last, for the whole recording
+        self.is_erased = False  # at any time so far
         super().__init__(lost)
         self.hear_all(dict(packets.held), dict(packets.strays))
 
     def forget(self) -> None:
-        """Holds nothing, and has heard nothing."""
+        """Clear everything."""
         super().forget()
         self.frames, self.pages = array.array("i"), list[Rows]()
         self.states, self.stored, self.behind = [TUNED], array.array("i"), array.array("q")
@@ -216,10 +209,10 @@ class Timeline(ReceivedPackets):
         self.strays: list[tuple[Span, Texts]] = []  # rows for which the page was not open
         self.is_behind = False
 
-    # How it is heard.
+    # Receiving
 
     def hear_all(self, held: dict[int, Texts], strays: dict[int, Texts]) -> None:
-        """Hears the PES packets, with what is told behind each."""
+        """Receive all PES packets, with the rows decoded after each."""
         first, last = self.inside
         self.is_erased = any(ERASE in run.does for run in self.packets.inside(0, first - 1))
         earlier = [texts for number, texts in self.packets.held if number < first]
@@ -231,8 +224,8 @@ class Timeline(ReceivedPackets):
             self.hear_run(run, held.get(run.first), stray)
 
     def hear_run(self, run: Run, texts: Texts | None, stray: Texts = ()) -> None:
-        """Hears PES packets that do the same, with the rows that are told behind the first. What is
-        told after one that is not heard need not be what is held."""
+        """Receive a run, with the rows printed after its first packet. Rows printed after a packet
+        that is not received need not be decoded."""
         is_told = texts is not None
         self.is_erased = self.is_erased or ERASE in run.does
         if texts is not None:
@@ -246,7 +239,7 @@ class Timeline(ReceivedPackets):
                 self.is_behind = self.is_behind or is_told or is_of_page(run)
 
     def hear(self, run: Run, frames: Sequence[int], is_told: bool, stray: Texts) -> None:
-        """Hears PES packets whose frames go on, after others."""
+        """Receive PES packets with rising frames."""
         if self.halt is None and frames[0] < self.last < self.begin:
             self.forget()
         is_first = self.first == NO_FRAME
@@ -264,7 +257,7 @@ class Timeline(ReceivedPackets):
             self.take(run, frames[0], is_told)
 
     def take(self, run: Run, frame: int, is_told: bool) -> None:
-        """Takes what a PES packet does, as the first of some that do the same."""
+        """Update the state by a run."""
         before = self.states[-1]
         self.is_behind = self.is_behind and not (ERASE in run.does or is_told)
         rows = before.rows if self.is_behind else self.told
@@ -289,14 +282,14 @@ class Timeline(ReceivedPackets):
             self.change(frame, cleared(rows))
 
     def turn(self, frame: int) -> None:
-        """The page is open from the end of a frame on, or no more."""
+        """Note that the page opens or closes at the end of a frame."""
         if self.turns and self.turns[-1] == frame:
             self.turns.pop()
         else:
             self.turns.append(frame)
 
     def change(self, frame: int, page: Rows) -> None:
-        """Another page is held from a frame on, unless it is the same once more."""
+        """Note that another page is decoded from a frame on, unless it is the same."""
         if self.frames and self.frames[-1] == frame:
             self.frames.pop()
             self.pages.pop()
@@ -304,48 +297,48 @@ class Timeline(ReceivedPackets):
             self.frames.append(frame)
             self.pages.append(page)
 
-    # What is held.
+    # Looking up
 
     @functools.cached_property
     def when(self) -> dict[Rows, array.array[int]]:
-        """The frames at which a page came, once all is heard."""
+        """Return the frames at which each page came; only after all packets were received."""
         when: dict[Rows, array.array[int]] = {}
         for frame, page in zip(self.frames, self.pages):
             when.setdefault(page, array.array("i")).append(frame)
         return when
 
     def number_at(self, frame: int) -> int:
-        """The number of the page that is held at the end of a frame; -1 before the first."""
+        """Return the number of the page at the end of a frame, or -1 before the first."""
         return bisect.bisect_right(self.frames, frame) - 1
 
     def page_at(self, frame: int) -> Rows:
-        """That page; a blank one before the first."""
+        """Return the page at the end of a frame; a blank one before the first."""
         number = self.number_at(frame)
         blank: Rows = BLANK_PAGE
         return self.pages[number] if number >= 0 else blank
 
     def state_at(self, frame: int) -> State:
-        """All that is held at the end of a frame."""
+        """Return everything decoded at the end of a frame."""
         return self.states[bisect.bisect_right(self.stored, frame)]
 
     def state_after(self, number: int) -> State:
-        """All that is held after the PES packet with a number."""
+        """Return everything decoded after a PES packet."""
         return self.states[bisect.bisect_right(self.behind, number)]
 
     def numbers(self, begin: int, end: int) -> Iterator[int]:
-        """The numbers of the pages that are held at frames from `begin` to the one before `end`."""
+        """Yield the numbers of the pages from frame `begin` up to `end`, exclusive."""
         number = max(self.number_at(begin), 0)
         while number < len(self.frames) and self.frames[number] < end:
             yield number
             number += 1
 
     def stretch(self, number: int) -> Span:
-        """From when to when a page is held."""
+        """Return the frames of a page."""
         is_last = number + 1 == len(self.frames)
         return Span(self.frames[number], self.last if is_last else self.frames[number + 1] - 1)
 
     def closed_from(self, frame: int) -> int | None:
-        """The first frame from one on at whose end the page is not open."""
+        """Return the first frame from `frame` on at whose end the page is closed, or `None`."""
         at = bisect.bisect_right(self.turns, frame)
         if at % 2 == 0:
             return frame
@@ -353,14 +346,14 @@ class Timeline(ReceivedPackets):
 
 
 def is_of_page(run: Run) -> bool:
-    """Whether PES packets have a header of the page, or one that closes it."""
+    """Return whether a run has a header of the page, or one that closes it."""
     return HEADER in run.does or CLOSED in run.does
 
 
 def timeline_near(packets: Packets, page: Page, origin: int, within: int, span: Span, every: int,
                   inside: Range | None = None, lost: Iterable[Span] = ()) -> Timeline:
-    """What is held of a recording around some frames that are due: from 250 frames before them, or
-    as many as the repeat bound, to as many after them; of some frames something is lost."""
+    """Return what is decoded around some frames: 250 frames, or the repeat bound if longer, before
+    and after them; `lost` are frames with losses."""
     more = max(LEAST, every)
     cut = cut_of(packets, max(span.first - more, 0), min(span.last + more, FRAMES_OF_A_DAY - 1),
                  origin, None, within, inside)
@@ -369,7 +362,8 @@ def timeline_near(packets: Packets, page: Page, origin: int, within: int, span: 
 
 
 def held_rows(texts: Texts, is_erased: bool) -> Rows:
-    """A page by the rows that are told; of others nobody sent a cell before the page was erased."""
+    """Return a page with the rows `texts`; other rows are blank, or not yet sent unless
+    `is_erased`."""
     blank: Rows = BLANK_PAGE if is_erased else OLD_PAGE
     if not texts:
         return blank

@@ -1,4 +1,4 @@
-"""How often a page is repeated while nothing of it changes."""
+"""How often a page is repeated while it does not change."""
 from __future__ import annotations
 
 import array
@@ -11,27 +11,27 @@ from typing import Iterable, NamedTuple, Sequence
 from ..common.times import NO_FRAME, frames_at
 
 
-FEWEST = 3  # repeats that are measured, or pauses in which nothing is sent
-NEAR = 5  # frames before an edge in which its own sending may come, by a clock that is late
+FEWEST = 3  # repeats to measure, or pauses without packets
+NEAR = 5  # frames before a cue in which its page may come if the clock is late
 
 
 def longest_gap(frames: Iterable[int]) -> int:
-    """The most frames from a sending to the next one; 0 where there are fewer than two."""
+    """Return the most frames between transmissions, or 0 if there are fewer than two."""
     known = sorted(set(frames))
     return max((second - first for first, second in zip(known, known[1:])), default=0)
 
 
 def edges_of(times: Iterable[tuple[int, int]]) -> list[int]:
-    """The frames at which something becomes due, by those of the subtitles."""
+    """Return the frames of all cues."""
     return sorted({frame for pair in times for frame in pair})
 
 
 def repeats_of(frames: Iterable[int], edges: Sequence[int]) -> collections.Counter[int]:
-    """The frames from one repeat to the next, and how often it is as many.
+    """Count the distances of repeats in frames.
 
-    A repeat is a sending since whose forerunner nothing became due: `edges` are the frames, rising,
-    at which that is so. The first repeat after an edge tells nothing: it may come at once; nor does
-    what comes just before one, which may be its own sending.
+    A repeat is a transmission with no cue since the one before; `edges` are the rising frames of
+    cues. Skip the first repeat after a cue, which may come at once, and one just before a cue,
+    which may be the next page.
     """
     known = array.array("i", frames)
     if any(map(operator.ge, known, itertools.islice(known, 1, None))):
@@ -42,8 +42,8 @@ def repeats_of(frames: Iterable[int], edges: Sequence[int]) -> collections.Count
 
 
 def repeat_distance(frames: Iterable[int], edges: Sequence[int]) -> int | None:
-    """The frames from one repeat to the next at most times, `None` where there are too few. Where
-    each is sent twice in a row, most of the time lies between two pairs of them."""
+    """Return the usual distance of repeats in frames, or `None` if there are too few. If each page
+    is sent twice in a row, most of the time lies between two such pairs."""
     repeats = repeats_of(frames, edges)
     if sum(repeats.values()) < FEWEST:
         return None
@@ -52,14 +52,13 @@ def repeat_distance(frames: Iterable[int], edges: Sequence[int]) -> int | None:
     return rising[bisect.bisect_left(totals, -(-totals[-1] // 2))]
 
 
-LONGER = 1.5  # times the usual distance, which a repeat exceeds that was lost
-UNUSUAL = 20  # fewer than one in so many are not how a site sends
+LONGER = 1.5  # times the usual distance: a longer one shows a lost repeat
+UNUSUAL = 20  # less than 1/20 are exceptions
 
 
 class Repeats(NamedTuple):
-    """Of the headers of a page from the first to the last: how many, the most frames from one to
-    the next, the frame from which on these are, how many frames are usual. `exceptions` are longer,
-    and so few that they are left out, each by its first frame and its length."""
+    """The headers of a page: how many, the longest distance in frames and where it begins, and the
+    usual distance. `exceptions` are longer, but rare; each has its first frame and its length."""
 
     headers: int
     longest: int
@@ -70,8 +69,8 @@ class Repeats(NamedTuple):
 
 def repeats_in(pts: Sequence[int], last: int | None, origin: int,
                times: Sequence[tuple[int, int]]) -> Repeats | None:
-    """Those of the headers at some PTS, of a recording with a last PES packet; `None` where there
-    are fewer than two."""
+    """Return the repeats of headers at some PTS, or `None` if there are fewer than two; `last` is
+    the PTS of the last PES packet."""
     frames = [frame for frame in frames_at(pts, origin, 1) if frame != NO_FRAME]
     ends = [] if last is None else [frame + 1 for frame in frames_at([last], origin, 1)
                                     if frame != NO_FRAME and frames and frame >= frames[-1]]

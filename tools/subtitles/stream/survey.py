@@ -1,4 +1,4 @@
-"""What `subttx survey` tells of a recording: maps, pictures, languages, packets of each PID."""
+"""Read the output of `subttx survey`: maps, pictures, languages, packets of each PID."""
 from __future__ import annotations
 
 import dataclasses
@@ -12,17 +12,14 @@ from .packets import Change, Clocked, Mark, PES, Packets, Run, Texts
 from .pictures import VideoLead
 
 
-# What `subttx survey` tells of a recording, a line for each fact, as values.
-#
-# Nothing is decided here, and no byte of the recording is read: `survey` reads it once. The chapter
-# on the listing in the manual says what each line is; those of a later program are skipped.
+# The manual's chapter on the listing explains each line; lines of a later program are skipped.
 
 VERSION = "1"
-SHOWN = 12  # pages of a line
+SHOWN = 12  # pages on a line
 SUBTITLE_KINDS = (2, 5)
 KINDS = {1: "initial page", 2: "subtitles", 3: "additional information", 4: "programme schedule",
          5: "subtitles for the hard of hearing"}
-LATEST = 8  # PIDs of the PCR of a programme, at most, of which one tells when its PMT changes
+LATEST = 8  # PCR PIDs of a programme to remember
 HIT = b"\xa0"  # a space whose byte had even parity
 NO_LETTERS = bytes(range(0x21))
 
@@ -41,8 +38,8 @@ class Announced(NamedTuple):
 
 @dataclasses.dataclass
 class ProgramMap:
-    """What a PMT says: the stream_type of each PID, and its pages. `after` is the PCR of the
-    programme that was told before it."""
+    """A PMT: the stream_type of each PID, and its pages. `after` is the last PCR of the programme
+    before it."""
 
     number: int
     pcr_pid: int
@@ -53,9 +50,9 @@ class ProgramMap:
 
 @dataclasses.dataclass
 class Video:
-    """The PTS of pictures from the first that can be shown to the next such one, or up to the end
-    of the recording, where they are cut. `form` is what that group is: closed, where what is shown
-    before its first picture can be decoded, open, unknown, or nothing where that was not told."""
+    """The PTS of pictures from the first random access point to the next, or to the end of the
+    recording if `is_cut`. `form` is the kind of that group: closed, open, unknown, or empty if not
+    printed."""
 
     passed: int = 0
     pictures: list[int | None] = dataclasses.field(default_factory=list)
@@ -66,7 +63,7 @@ class Video:
 
 
 def pid_line(packets: Packets, programmes: Iterable[ProgramMap]) -> str:
-    """What is announced of a PID, and sent."""
+    """Return the line on pages announced and sent on a PID."""
     announced = dict.fromkeys(f"{page.line()} in programme {program_map.number}"
                               for program_map in programmes
                               for page in program_map.pages.get(packets.pid, []))
@@ -81,30 +78,30 @@ def number_of(word: str) -> int | None:
 
 
 def texts_of(word: str) -> Texts:
-    """Rows as they are told: `22:2020..,23:..`, or none."""
+    """Return rows from `22:2020..,23:..`, or none from `-`."""
     return () if word == "-" else tuple(
         (int(row), bytes.fromhex(cells)) for row, _, cells in (
             one.partition(":") for one in word.split(",")))
 
 
 class Survey:
-    """All that was told of a recording so far."""
+    """Everything printed about a recording so far."""
 
     def __init__(self) -> None:
-        self.size: int | None = None  # from a TS packet to the next one; 0 of PES packets
+        self.size: int | None = None  # TS packet size; 0 of a PES file
         self.head = b""
         self.skipped = 0
         self.is_whole = False
-        self.strange = ""  # the line of another version, or of a program that failed
+        self.strange = ""  # the line of another version, or of a failure
         self.programmes: list[ProgramMap] = []
-        self.pcr_pids: dict[int, list[int]] = {}  # of a programme by its number, the latest last
+        self.pcr_pids: dict[int, list[int]] = {}  # by programme, the latest last
         self.by_pid: dict[int, Packets] = {}
         self.videos: dict[int, Video] = {}
-        self.leads: dict[tuple[int, int], list[VideoLead]] = {}  # of a PID, over a PID of video
-        self.clocks: dict[int, tuple[int, int]] = {}  # the first PCR and the last one
+        self.leads: dict[tuple[int, int], list[VideoLead]] = {}  # by PIDs of Teletext and video
+        self.clocks: dict[int, tuple[int, int]] = {}  # the first and the last PCR
 
     def take(self, line: str) -> None:
-        """Takes a line."""
+        """Read a line."""
         word, *rest = line.split(" ")
         taker = getattr(self, f"take_{word}", None)
         if taker:
@@ -158,7 +155,7 @@ class Survey:
 
     def take_pes(self, pid: str, first: str, count: str, pts: str, step: str, does: str,
                  units: str, fault: str, *_: str) -> None:
-        flags, control = map(sys.intern, does.split("/"))  # of a day most are the same
+        flags, control = map(sys.intern, does.split("/"))  # most of a day are the same
         self.of(pid).runs.append(Run(int(first), int(count), number_of(pts), int(step), flags,
                                      control, int(units), int(fault)))
 
@@ -171,7 +168,7 @@ class Survey:
             (row, cells.replace(HIT, b" ")) for row, cells in texts) if cells.strip(b" "))
         if not packets.changes or packets.changes[-1].rows != plain:
             letters = b"".join(cells for _, cells in plain).translate(None, NO_LETTERS)
-            rows_held = texts if plain == texts else plain  # most often one object
+            rows_held = texts if plain == texts else plain  # usually one object
             packets.changes.append(Change(pts, letters, behind, rows_held))
 
     def take_strays(self, pid: str, number: str, rows: str, *_: str) -> None:
@@ -237,23 +234,23 @@ class Survey:
     def take_over(self, skipped: str, *_: str) -> None:
         self.skipped, self.is_whole = int(skipped), True
 
-    # What is asked of all.
+    # Looking up
 
     def programmes_of(self, pid: int) -> list[ProgramMap]:
-        """The programmes whose PMT names a PID."""
+        """Return the PMTs that name a PID."""
         return [program_map for program_map in self.programmes if pid in program_map.kinds]
 
     def clock_of(self, pid: int) -> tuple[int, int] | None:
-        """The first PCR and the last one of the programme of a PID."""
+        """Return the first and last PCR of the programme of a PID, or `None`."""
         known = self.programmes_of(pid)
         return self.clocks.get(known[-1].pcr_pid) if known else None
 
     def lines(self) -> list[str]:
-        """A line for each PID with Teletext."""
+        """Return a line for each PID with Teletext."""
         return [pid_line(self.by_pid[pid], self.programmes_of(pid)) for pid in sorted(self.by_pid)]
 
     def refuse(self, status: int) -> None:
-        """`Unanswered` where the program could not tell it all."""
+        """Raise `Unanswered` if the output is incomplete."""
         if self.strange or status or not self.is_whole:
             raise Unanswered("survey was not answered: "
                              f"{self.strange or 'it did not end'}, status {status}")
@@ -270,7 +267,8 @@ def survey(program: str, name: str, page: Page, pid: int | None = None,
 
 def lines_taken(answer: Survey, program: str, name: str, page: Page, pid: int | None = None) \
         -> Iterator[None]:
-    """Take what `survey` prints of a recording, line by line; `Unanswered` if that is not all."""
+    """Read what `survey` prints of a recording, line by line; raise `Unanswered` if it is
+    incomplete."""
     words = [program, "survey", "--page", page_name(*page), *stream_words(pid), "--", name]
     with subprocess.Popen(words, stdout=subprocess.PIPE, encoding="ascii",
                           errors="replace") as process:
@@ -282,8 +280,8 @@ def lines_taken(answer: Survey, program: str, name: str, page: Page, pid: int | 
 
 
 def runs_told(program: str, name: str, page: Page) -> Iterator[tuple[Run, Texts | None]]:
-    """The PES packets of a file, each run with the rows that are told behind it, where some are.
-    They are given as they are told, and not kept."""
+    """Yield the runs of PES packets of a file as they are printed, each with the rows after it, or
+    `None`; don't keep them."""
     answer = Survey()
     packets = answer.of(str(PES))
     for _ in lines_taken(answer, program, name, page):
@@ -294,14 +292,14 @@ def runs_told(program: str, name: str, page: Page) -> Iterator[tuple[Run, Texts 
 
 
 def first_run(packets: Packets) -> tuple[Run, Texts | None]:
-    """Takes away the first run, and the rows that were told behind it."""
+    """Remove the first run, and return it with the rows after it."""
     run, held = packets.runs.pop(0), dict(packets.held)
     packets.held.clear()
     del packets.changes[:-1]
     return run, held.get(run.first)
 
 
-# Language codes of GSI blocks (EBU Tech 3264, field LC) as PMTs have them (ISO 639-2).
+# Language codes of GSI blocks (EBU Tech 3264, field LC), and of PMTs (ISO 639-2).
 
 CODES = {
     0x01: "sqi alb", 0x02: "bre", 0x03: "cat", 0x04: "hrv scr", 0x05: "cym wel", 0x06: "ces cze",
@@ -316,12 +314,11 @@ CODES = {
     0x6B: "hin", 0x6C: "heb", 0x70: "ell gre", 0x71: "kat geo", 0x75: "zho chi", 0x77: "bul",
     0x78: "ben", 0x79: "bel", 0x7D: "hye arm", 0x7E: "ara",
 }
-ANY = {"und", "mul"}  # of a PMT that does not say which
+ANY = {"und", "mul"}  # of a PMT without a definite language
 
 
 def names_of(code: str) -> list[str]:
-    """The languages of a PMT that an LC, two hexadecimal digits, stands for; none where it is not
-    known."""
+    """Return the languages of a PMT for an LC, two hexadecimal digits, or none if it is unknown."""
     try:
         return CODES.get(int(code, 16), "").split()
     except ValueError:
