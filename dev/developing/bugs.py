@@ -1,24 +1,24 @@
-"""Bugs as somebody who is tired makes them, one at a time in a module's text."""
+"""Make the variants of a module's text with one typical slip each."""
 from __future__ import annotations
 
 import ast
 from types import CodeType
 from typing import Any, Callable, Iterator, NamedTuple
 
-MODULE = "<module>"  # the name of what is in no function
-MANY = 12  # elements of a table, of which the numbers are left as they are
-WORDS = ((ast.Lt, ast.LtE), (ast.Gt, ast.GtE), (ast.Eq, ast.NotEq), (ast.In, ast.NotIn),
-         (ast.Is, ast.IsNot), (ast.And, ast.Or), (ast.Add, ast.Sub))
+MODULE = "<module>"  # name for code outside of functions
+LONG_TABLE = 12  # elements; the numbers of longer tables are not changed
+OPERATORS = ((ast.Lt, ast.LtE), (ast.Gt, ast.GtE), (ast.Eq, ast.NotEq), (ast.In, ast.NotIn),
+             (ast.Is, ast.IsNot), (ast.And, ast.Or), (ast.Add, ast.Sub))
 OTHER: dict[type[ast.AST], type[Any]] = {
-    one: two for pair in WORDS for one, two in (pair, pair[::-1])}
+    old: new for pair in OPERATORS for old, new in (pair, pair[::-1])}
 PAIRS = (("any", "all"), ("min", "max"), ("first", "last"), ("begin", "end"), ("before", "after"))
-TWINS = {one: two for pair in PAIRS for one, two in (pair, pair[::-1])}
+TWINS = {old: new for pair in PAIRS for old, new in (pair, pair[::-1])}
 Changes = Iterator[tuple[str, ast.AST]]
 
 
 class Bug(NamedTuple):
-    """A bug: the line and the function that it is in, its kind, what stood there and what stands
-    now, and the text of the whole module with it."""
+    """A bug: its line and function, its kind, the old and new code, and the module's text with it.
+    """
 
     line: int
     function: str
@@ -28,32 +28,32 @@ class Bug(NamedTuple):
     text: str
 
 
-def number(value: object) -> ast.Constant:
+def constant(value: object) -> ast.Constant:
     return ast.Constant(value)
 
 
-def part_of(node: ast.AST, name: str, value: object) -> ast.AST:
-    """A node with another part."""
+def replace_part(node: ast.AST, name: str, value: object) -> ast.AST:
+    """Return a copy of a node with another part."""
     parts = {field: getattr(node, field, None) for field in node._fields}
     return ast.copy_location(type(node)(**{**parts, name: value}), node)
 
 
-def without(several: list[Any], at: int) -> list[Any]:
-    return several[:at] + several[at + 1:]
+def drop_item(items: list[Any], at: int) -> list[Any]:
+    return items[:at] + items[at + 1:]
 
 
 def of_compare(node: Any) -> Changes:
-    for at, one in enumerate(node.ops):
-        if type(one) in OTHER:
-            ops = [*node.ops[:at], OTHER[type(one)](), *node.ops[at + 1:]]
-            yield "comparison", part_of(node, "ops", ops)
+    for at, operator in enumerate(node.ops):
+        if type(operator) in OTHER:
+            ops = [*node.ops[:at], OTHER[type(operator)](), *node.ops[at + 1:]]
+            yield "comparison", replace_part(node, "ops", ops)
 
 
 def of_bool(node: Any) -> Changes:
-    yield "and, or", part_of(node, "op", OTHER[type(node.op)]())
+    yield "and, or", replace_part(node, "op", OTHER[type(node.op)]())
     for at in range(len(node.values)):
-        rest = without(node.values, at)
-        yield "condition dropped", rest[0] if len(rest) == 1 else part_of(node, "values", rest)
+        rest = drop_item(node.values, at)
+        yield "condition dropped", rest[0] if len(rest) == 1 else replace_part(node, "values", rest)
 
 
 def of_unary(node: Any) -> Changes:
@@ -62,10 +62,11 @@ def of_unary(node: Any) -> Changes:
 
 
 def of_binary(node: Any) -> Changes:
-    is_text = any(isinstance(one, ast.JoinedStr) or isinstance(getattr(one, "value", 0), str)
-                  for one in (node.left, node.right))
+    operands = (node.left, node.right)
+    is_text = any(isinstance(operand, ast.JoinedStr)
+                  or isinstance(getattr(operand, "value", 0), str) for operand in operands)
     if type(node.op) in OTHER and not is_text:
-        yield "sign", part_of(node, "op", OTHER[type(node.op)]())
+        yield "sign", replace_part(node, "op", OTHER[type(node.op)]())
     if isinstance(node.op, ast.Mod) and not is_text:
         yield "wrap dropped", node.left
 
@@ -73,59 +74,60 @@ def of_binary(node: Any) -> Changes:
 def of_name(node: Any) -> Changes:
     name = node.id if isinstance(node, ast.Name) else node.attr
     if name in TWINS and isinstance(node.ctx, ast.Load):
-        yield "other one", part_of(node, node._fields[-2], TWINS[name])
+        yield "other one", replace_part(node, node._fields[-2], TWINS[name])
 
 
 def of_constant(node: Any) -> Changes:
     if isinstance(node.value, bool):
-        yield "truth", number(not node.value)
+        yield "truth", constant(not node.value)
     elif isinstance(node.value, int):
-        yield "off by one", number(node.value + 1)
+        yield "off by one", constant(node.value + 1)
         if node.value:
-            yield "off by one", number(node.value - 1)
+            yield "off by one", constant(node.value - 1)
 
 
 def of_subscript(node: Any) -> Changes:
     if isinstance(node.slice, ast.Constant) and node.slice.value == 0:
-        yield "last for first", part_of(node, "slice", number(-1))
+        yield "last for first", replace_part(node, "slice", constant(-1))
     if ast.unparse(node.slice) == "-1":
-        yield "first for last", part_of(node, "slice", number(0))
+        yield "first for last", replace_part(node, "slice", constant(0))
 
 
 def of_slice(node: Any) -> Changes:
     for name in ("lower", "upper"):
         bound = getattr(node, name)
         if bound and not isinstance(bound, (ast.Constant, ast.UnaryOp)):
-            yield "off by one", part_of(node, name, ast.BinOp(bound, ast.Add(), number(1)))
+            yield "off by one", replace_part(node, name, ast.BinOp(bound, ast.Add(), constant(1)))
 
 
 def of_call(node: Any) -> Changes:
     for at in range(len(node.keywords)):
-        yield "default", part_of(node, "keywords", without(node.keywords, at))
+        yield "default", replace_part(node, "keywords", drop_item(node.keywords, at))
     for at, pair in enumerate(zip(node.args, node.args[1:])):
-        if not any(isinstance(one, ast.Starred) for one in pair):
+        if not any(isinstance(argument, ast.Starred) for argument in pair):
             args = [*node.args[:at], *pair[::-1], *node.args[at + 2:]]
-            yield "swapped", part_of(node, "args", args)
+            yield "swapped", replace_part(node, "args", args)
     if isinstance(node.func, ast.Name) and node.func.id == "range":
-        for at, one in enumerate(node.args):
-            if not isinstance(one, ast.Constant):
-                args = [*node.args[:at], ast.BinOp(one, ast.Add(), number(1)), *node.args[at + 1:]]
-                yield "off by one", part_of(node, "args", args)
+        for at, argument in enumerate(node.args):
+            if not isinstance(argument, ast.Constant):
+                changed = ast.BinOp(argument, ast.Add(), constant(1))
+                args = [*node.args[:at], changed, *node.args[at + 1:]]
+                yield "off by one", replace_part(node, "args", args)
 
 
 def of_loop(node: Any) -> Changes:
     first = ast.parse("__import__('itertools').islice(0, 1)", mode="eval").body
     assert isinstance(first, ast.Call)
     first.args[0] = node.iter
-    yield "first only", part_of(node, "iter", first)
+    yield "first only", replace_part(node, "iter", first)
     for at in range(len(getattr(node, "ifs", ()))):
-        yield "condition dropped", part_of(node, "ifs", without(node.ifs, at))
+        yield "condition dropped", replace_part(node, "ifs", drop_item(node.ifs, at))
 
 
 def of_choice(node: Any) -> Changes:
-    is_of_types = ast.unparse(node.test) == "TYPE_CHECKING"  # which runs nothing
+    is_of_types = ast.unparse(node.test) == "TYPE_CHECKING"  # never true at run time
     for value in () if is_of_types else (True, False):
-        yield "condition made " + str(value).lower(), part_of(node, "test", number(value))
+        yield "condition made " + str(value).lower(), replace_part(node, "test", constant(value))
 
 
 def of_statement(node: Any) -> Changes:
@@ -133,7 +135,7 @@ def of_statement(node: Any) -> Changes:
     if not is_text and not (isinstance(node, ast.Assign) and isinstance(node.targets[0], ast.Name)):
         yield "statement dropped", ast.copy_location(ast.Pass(), node)
     if isinstance(node, ast.AugAssign) and type(node.op) in OTHER:
-        yield "sign", part_of(node, "op", OTHER[type(node.op)]())
+        yield "sign", replace_part(node, "op", OTHER[type(node.op)]())
 
 
 def of_jump(node: Any) -> Changes:
@@ -148,78 +150,80 @@ RULES: dict[type[ast.AST], Callable[[Any], Changes]] = {
     ast.comprehension: of_loop, ast.If: of_choice, ast.IfExp: of_choice, ast.Expr: of_statement,
     ast.Assign: of_statement, ast.AugAssign: of_statement, ast.Break: of_jump,
     ast.Continue: of_jump}
-PASSED_OVER = ("annotation", "returns", "decorator_list", "exc", "cause", "msg")  # parts of nodes
+SKIPPED = ("annotation", "returns", "decorator_list", "exc", "cause", "msg")  # parts of nodes
 
 
-def places(node: ast.AST, names: str = "", inside: str = MODULE
-           ) -> Iterator[tuple[ast.AST, str, int | None, str]]:
-    """Where a bug may be: a node, one of its parts, a number in it, and the function around it.
-    Types and what is raised are passed over, and of printed words all but the values in them."""
+def find_places(node: ast.AST, names: str = "", inside: str = MODULE
+                ) -> Iterator[tuple[ast.AST, str, int | None, str]]:
+    """Yield each place for a bug: a node, one of its parts, an index in it, and its function.
+
+    Types and raised exceptions are skipped, and printed text except for the values in it.
+    """
     for name in node._fields:
         value = getattr(node, name, None)
-        several = value if isinstance(value, list) else [value]
-        if name in PASSED_OVER or name in ("elts", "keys", "values") and len(several) > MANY:
+        items = value if isinstance(value, list) else [value]
+        if name in SKIPPED or name in ("elts", "keys", "values") and len(items) > LONG_TABLE:
             continue
-        for at, child in enumerate(several):
+        for at, child in enumerate(items):
             if not isinstance(child, ast.AST):
                 continue
             yield node, name, at if isinstance(value, list) else None, inside
             is_function = isinstance(child, ast.FunctionDef)
-            own = f"{names}.{getattr(child, 'name')}".lstrip(".") \
+            name_inside = f"{names}.{getattr(child, 'name')}".lstrip(".") \
                 if is_function or isinstance(child, ast.ClassDef) else names
-            is_default = isinstance(child, ast.arguments)  # which is known before a call
-            yield from places(child, own, own if is_function else MODULE if is_default else inside)
+            is_default = isinstance(child, ast.arguments)  # computed outside of the function
+            function = name_inside if is_function else MODULE if is_default else inside
+            yield from find_places(child, name_inside, function)
 
 
-def put(node: ast.AST, name: str, at: int | None, new: ast.AST) -> None:
+def set_part(node: ast.AST, name: str, at: int | None, new: ast.AST) -> None:
     if at is None:
         setattr(node, name, new)
     else:
         getattr(node, name)[at] = new
 
 
-def codes(code: CodeType) -> Iterator[CodeType]:
-    """A piece of compiled text and all those within, as functions and classes have it."""
+def nested_codes(code: CodeType) -> Iterator[CodeType]:
+    """Yield a code object and all those inside, as of functions and classes."""
     yield code
-    for one in code.co_consts:
-        if isinstance(one, CodeType):
-            yield from codes(one)
+    for constant_value in code.co_consts:
+        if isinstance(constant_value, CodeType):
+            yield from nested_codes(constant_value)
 
 
-def compiled(text: str) -> list[tuple[bytes, str]] | None:
-    """What Python makes of a text, to compare; None where it takes it for none."""
+def compile_comparable(text: str) -> list[tuple[bytes, str]] | None:
+    """Compile a text to values that can be compared; return `None` for invalid text."""
     try:
-        made = codes(compile(text, "", "exec"))
-        return [(one.co_code, repr([value for value in one.co_consts
-                                    if not isinstance(value, CodeType)]) + repr(one.co_names)
-                 + repr(one.co_varnames)) for one in made]
+        made = nested_codes(compile(text, "", "exec"))
+        return [(code.co_code, repr([value for value in code.co_consts
+                                     if not isinstance(value, CodeType)]) + repr(code.co_names)
+                 + repr(code.co_varnames)) for code in made]
     except (SyntaxError, ValueError):
         return None
 
 
-def shortened(node: ast.AST) -> str:
+def shorten(node: ast.AST) -> str:
     text = " ".join(ast.unparse(node).split())
     return text if len(text) <= 60 else f"{text[:57]}..."
 
 
-def bugs_in(text: str, one_of: int = 1, at: int = 0) -> Iterator[Bug]:
-    """The bugs of a module, or one of so many from one on; those that change nothing are left
-    out."""
+def make_bugs(text: str, one_of: int = 1, at: int = 0) -> Iterator[Bug]:
+    """Yield the bugs of a module that change its code, or each `one_of`th of them from `at` on."""
     tree = ast.parse(text)
-    seen = [compiled(ast.unparse(tree)), None]
+    seen = [compile_comparable(ast.unparse(tree)), None]
     count = 0
-    for node, name, place, function in list(places(tree)):
+    for node, name, place, function in list(find_places(tree)):
         value = getattr(node, name)
         old = value if place is None else value[place]
         for kind, new in RULES.get(type(old), lambda _: iter(()))(old):
             count += 1
             if count % one_of != at:
                 continue
-            put(node, name, place, new)
+            set_part(node, name, place, new)
             made = ast.unparse(ast.fix_missing_locations(tree))
-            put(node, name, place, old)
-            if compiled(made) not in seen:
+            set_part(node, name, place, old)
+            if compile_comparable(made) not in seen:
                 head = "if " * isinstance(old, ast.If)
-                parts = [getattr(one, "test", one) if head else one for one in (old, new)]
+                parts = [getattr(part, "test", part) if head else part for part in (old, new)]
                 yield Bug(getattr(old, "lineno", getattr(node, "lineno", 0)), function, kind,
-                          head + shortened(parts[0]), head + shortened(parts[1]), made)
+                          head + shorten(parts[0]), head + shorten(parts[1]), made)

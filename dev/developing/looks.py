@@ -1,7 +1,7 @@
-"""How a report looks in a browser: contrast, what is cut, and broken words.
+"""Check how a report looks in a browser: contrast, clipped elements, words broken over two lines.
 
 The contrast of the style's colours is computed by WCAG 2. For the rest headless Chromium opens the
-report in a frame of some width, with a script that the report itself has not.
+report in a frame, with a script that the report itself does not have.
 """
 from __future__ import annotations
 
@@ -16,16 +16,16 @@ from typing import NamedTuple, Sequence
 from subtitles.common.program import TOP
 
 LEAST_CONTRAST = 4.5
-SECONDS = 600  # for a browser, on a machine that does other things too
+SECONDS = 600  # for a browser on a busy machine
 BROWSERS = ("chromium", "chromium-browser", "google-chrome")
-# Text colours and the grounds on which they stand, as variables of the style.
+# Text colours and their backgrounds, as variables of the style.
 PAIRS = [(text, ground) for text in ("words", "soft", "link", "bad")
          for ground in ("ground", "shade")]
 PAIRS += [("words", "tint"), ("bad", "tint"), ("words", "unsure"), ("words", "mark"),
           *((text, "ground") for text in ("good", "amber", "lost"))]
 
 SCRIPT = r"""
-const told = [], wide = document.documentElement.clientWidth;
+const defects = [], wide = document.documentElement.clientWidth;
 const colour = text => text.match(/[\d.]+/g).map(Number);
 const light = ([r, g, b]) => [r, g, b].map(x => x / 255).map(
   x => x <= 0.04045 ? x / 12.92 : ((x + 0.055) / 1.055) ** 2.4)
@@ -50,11 +50,11 @@ const name = item => `${item.tagName} ${item.className.baseVal ?? item.className
 for (const item of document.querySelectorAll("body *")) {
   if (item.closest("svg") && item.tagName !== "svg") continue;
   const box = item.getBoundingClientRect();
-  if (box.right > wide + 1 || box.left < -1) told.push(`cut: ${name(item)}`);
+  if (box.right > wide + 1 || box.left < -1) defects.push(`cut: ${name(item)}`);
   if (item.scrollWidth > item.clientWidth + 1 && getComputedStyle(item).overflowX !== "visible")
-    told.push(`scrolls: ${name(item)}`);
+    defects.push(`scrolls: ${name(item)}`);
 }
-if (document.documentElement.scrollWidth > wide) told.push("the page is wider than the window");
+if (document.documentElement.scrollWidth > wide) defects.push("the page is wider than the window");
 const walk = document.createTreeWalker(document.body, NodeFilter.SHOW_TEXT);
 for (let node; (node = walk.nextNode());) {
   const item = node.parentElement;
@@ -62,27 +62,27 @@ for (let node; (node = walk.nextNode());) {
   const style = getComputedStyle(item);
   if (!item.getClientRects().length || style.display === "none") continue;
   if (!item.closest("span.in") && contrast(colour(style.color), ground(item)) < 4.5)
-    told.push(`contrast: ${name(item)} ${style.color} on ${ground(item)}`);
+    defects.push(`contrast: ${name(item)} ${style.color} on ${ground(item)}`);
   if (item.closest(".long, pre.lines")) continue;
   const range = document.createRange();
   range.selectNodeContents(node);
-  if (countLines(range) < 2) continue;  // none of its words is on two
+  if (countLines(range) < 2) continue;  // no word can be broken
   for (const word of node.data.matchAll(/[^\s\-\/\u2010-\u2015]+/g)) {
     range.setStart(node, word.index);
     range.setEnd(node, word.index + word[0].length);
-    if (countLines(range) > 1) told.push(`broken word: ${word[0]}`);
+    if (countLines(range) > 1) defects.push(`broken word: ${word[0]}`);
   }
 }
-parent.postMessage(JSON.stringify(told), "*");
+parent.postMessage(JSON.stringify(defects), "*");
 """
 WRAPPER = """<!DOCTYPE html><html><body style="margin:0"><script>
 addEventListener("message", event => {{
   const number = [...document.querySelectorAll("iframe")].findIndex(
     frame => frame.contentWindow === event.source);
-  const told = document.createElement("pre");
-  told.id = `told-${{number}}`;
-  told.textContent = event.data;
-  document.body.append(told);
+  const report = document.createElement("pre");
+  report.id = `defects-${{number}}`;
+  report.textContent = event.data;
+  document.body.append(report);
 }});
 </script>{frames}</body></html>
 """
@@ -90,37 +90,37 @@ addEventListener("message", event => {{
 
 def luminance(colour: str) -> float:
     parts = [int(colour[at:at + 2], 16) / 255 for at in (0, 2, 4)]
-    linear: list[float] = [one / 12.92 if one <= 0.04045 else ((one + 0.055) / 1.055) ** 2.4
-                           for one in parts]
-    return sum(weight * one for weight, one in zip((0.2126, 0.7152, 0.0722), linear))
+    linear: list[float] = [part / 12.92 if part <= 0.04045 else ((part + 0.055) / 1.055) ** 2.4
+                           for part in parts]
+    return sum(weight * part for weight, part in zip((0.2126, 0.7152, 0.0722), linear))
 
 
-def contrast(one: str, other: str) -> float:
-    low, high = sorted((luminance(one), luminance(other)))
+def contrast(text_colour: str, ground_colour: str) -> float:
+    low, high = sorted((luminance(text_colour), luminance(ground_colour)))
     return (high + 0.05) / (low + 0.05)
 
 
-def schemes() -> dict[str, dict[str, str]]:
-    """The variables of the style, light and dark."""
+def colour_schemes() -> dict[str, dict[str, str]]:
+    """Return the variables of the style, light and dark."""
     path = os.path.join(TOP, "tools", "subtitles", "report", "style.css")
     with open(path, encoding="utf-8") as file:
         light, dark = (dict(re.findall(r"--([\w-]+): #(\w+);", block))
                        for block in re.findall(r":root \{([^}]*)\}", file.read()))
     dark = {**light, **dark}
-    return {name: {key: value if len(value) == 6 else "".join(2 * one for one in value)
+    return {name: {key: value if len(value) == 6 else "".join(2 * digit for digit in value)
                    for key, value in scheme.items()}
             for name, scheme in (("light", light), ("dark", dark))}
 
 
 def weak_contrasts() -> list[str]:
-    """The pairs of colours of the style with too little contrast."""
+    """Return the pairs of colours with too little contrast."""
     return [f"{text} on {ground}, {name}: {contrast(scheme[text], scheme[ground]):.2f}"
-            for name, scheme in schemes().items() for text, ground in PAIRS
+            for name, scheme in colour_schemes().items() for text, ground in PAIRS
             if contrast(scheme[text], scheme[ground]) < LEAST_CONTRAST]
 
 
 def find_browser() -> str | None:
-    """The path of a browser, `None` where there is none."""
+    """Return the path of a browser, `None` if there is none."""
     return next(filter(None, map(shutil.which, BROWSERS)), None)
 
 
@@ -132,34 +132,34 @@ class Look(NamedTuple):
     is_dark: bool
 
 
-def measured(looks: Sequence[Look], folder: str) -> list[list[str]]:
-    """What a browser finds wrong with each of some reports, as lines; all are in frames of one
-    page."""
-    frames = "".join(f'<iframe src="{framed(look, folder, number)}" style="border:0;'
+def find_defects(looks: Sequence[Look], folder: str) -> list[list[str]]:
+    """Return the defects that a browser finds in each report; all are frames of one page."""
+    frames = "".join(f'<iframe src="{write_framed(look, folder, number)}" style="border:0;'
                      f'width:{look.width}px;height:2000px"></iframe>'
                      for number, look in enumerate(looks))
-    around = os.path.join(folder, "around.html")
-    with open(around, "w", encoding="utf-8") as file:
+    wrapper = os.path.join(folder, "around.html")
+    with open(wrapper, "w", encoding="utf-8") as file:
         file.write(WRAPPER.format(frames=frames))
     command = [find_browser() or BROWSERS[0], "--headless", "--no-sandbox", "--disable-gpu",
                "--hide-scrollbars", f"--user-data-dir={os.path.join(folder, 'profile')}",
-               "--virtual-time-budget=10000", "--dump-dom", f"file://{around}"]
+               "--virtual-time-budget=10000", "--dump-dom", f"file://{wrapper}"]
     done = subprocess.run(command, stdin=subprocess.DEVNULL, stdout=subprocess.PIPE,
                           stderr=subprocess.DEVNULL, timeout=SECONDS, check=False)
     text = done.stdout.decode("utf-8", "replace")
-    found = {int(number): json.loads(html.unescape(told)) for number, told in re.findall(
-        r'<pre id="told-(\d+)">(.+?)</pre>', text, re.S)}
-    return [found.get(number, ["the browser told nothing"]) for number in range(len(looks))]
+    found = {int(number): json.loads(html.unescape(defects)) for number, defects in re.findall(
+        r'<pre id="defects-(\d+)">(.+?)</pre>', text, re.S)}
+    return [found.get(number, ["the browser reported nothing"]) for number in range(len(looks))]
 
 
-def framed(look: Look, folder: str, number: int) -> str:
-    """Writes a report with the script that measures it, all of it open; answers the name."""
+def write_framed(look: Look, folder: str, number: int) -> str:
+    """Write a report, with all details open and the script that checks it; return the file's name.
+    """
     with open(look.path, encoding="utf-8") as file:
         text = file.read()
     name = f"measured-{number}.html"
     text = re.sub(r"<details(?! open)", '<details open="open"', text)
     text = re.sub(r'<meta http-equiv="Content-Security-Policy"[^>]*/>', "", text)  # for the script
-    # What is laid out only when it comes into sight would be so anew for each place that is asked.
+    # Lazy layout would be repeated for each measured place.
     text = text.replace("content-visibility: auto", "content-visibility: visible")
     if look.is_dark:
         text = text.replace("(prefers-color-scheme: dark)", "(min-width: 1px)")

@@ -1,4 +1,4 @@
-"""A transport stream of one programme with Teletext, as bytes (ISO/IEC 13818-1)."""
+"""Make a transport stream of one programme with Teletext (ISO/IEC 13818-1)."""
 from __future__ import annotations
 
 from subtitles.common.times import wrapped
@@ -9,27 +9,28 @@ SYNC, PACKET, BEGINS, PAYLOAD = 0x47, 188, 0x40, 0x10
 PROGRAMME, PMT_PID, PCR_PID = 1, 0x100, 0x1FF0
 RESERVED_PIDS = {PMT_PID, PCR_PID}
 FULL = 184  # bytes of a packet without its header
-TENTH = 9000  # of a second, at 90 kHz
-LONG = 120 * 10 * TENTH  # over a longer pause the clock jumps
-SUBTITLES = 2  # the kind of page in a Teletext descriptor
+TENTH = 9000  # a tenth of a second at 90 kHz
+LONG = 120 * 10 * TENTH  # the clock jumps over a longer pause
+SUBTITLES = 2  # teletext_type in a Teletext descriptor
 ADAPTATION_ALONE = 0x20
 COUNTERS = range(16)
 
 
 def head(pid: int, begins: int, control: int) -> bytes:
-    """The first four bytes of a packet."""
+    """Return the first four bytes of a packet."""
     return bytes([SYNC, begins | pid >> 8, pid & 255, control])
 
 
 def section(table: int, number: int, body: bytes) -> bytes:
-    """A section that is current, version 0, the only one of its table, after its pointer field."""
+    """Return a pointer field and a section: current, version 0, the only one of its table."""
     start = (0xB000 | len(body) + 9).to_bytes(2, "big") + number.to_bytes(2, "big") + b"\xc1\0\0"
     data = bytes([table]) + start + body
     return b"\0" + data + crc(data).to_bytes(4, "big")
 
 
 def pmt_body(pid: int, language: bytes, page: Page) -> bytes:
-    """What the PMT says: the PID of the PCR, and a component with its Teletext descriptor."""
+    """Return the body of the PMT: the PID of the PCR, and a component with its Teletext descriptor.
+    """
     magazine, number = page
     teletext = b"\x56\x05" + language + bytes([SUBTITLES << 3 | magazine, number])
     return ((0xE000 | PCR_PID).to_bytes(2, "big") + b"\xf0\0"
@@ -38,15 +39,15 @@ def pmt_body(pid: int, language: bytes, page: Page) -> bytes:
 
 
 class Multiplex:
-    """Packets of the stream, until they are taken; `size` bytes of them."""
+    """Packets of the stream, `size` bytes of them, until they are taken."""
 
     def __init__(self, pid: int, language: bytes, page: Page) -> None:
         pat = section(0, 1, PROGRAMME.to_bytes(2, "big") + (0xE000 | PMT_PID).to_bytes(2, "big"))
         pmt = section(2, PROGRAMME, pmt_body(pid, language, page))
-        # PAT and PMT, and the heads of packets of the PID, for each value of the counter.
-        self.tables = [b"".join((head(where, BEGINS, PAYLOAD | counter) + data)
+        # PAT and PMT, and the heads of packets of the PID, by continuity counter.
+        self.tables = [b"".join((head(table_pid, BEGINS, PAYLOAD | counter) + data)
                                 .ljust(PACKET, b"\xff")
-                                for where, data in ((0, pat), (PMT_PID, pmt)))
+                                for table_pid, data in ((0, pat), (PMT_PID, pmt)))
                        for counter in COUNTERS]
         self.first_heads = [head(pid, BEGINS, PAYLOAD | counter) for counter in COUNTERS]
         self.heads = [head(pid, 0, PAYLOAD | counter) for counter in COUNTERS]
@@ -57,7 +58,7 @@ class Multiplex:
         self.base: int | None = None
 
     def put(self, data: bytes, pts: int) -> None:
-        """A PES packet, with the tables before it and the clock up to it."""
+        """Add a PES packet, after the tables and the clock up to it."""
         parts, counter = self.parts, self.counter
         parts.append(self.tables[self.count & 15])
         self.count += 1
@@ -70,7 +71,7 @@ class Multiplex:
         self.size += len(data) + 2 * PACKET
 
     def clock(self, pts: int) -> None:
-        """PCRs each tenth of a second, up to one a tenth of a second before the PTS."""
+        """Add a PCR each tenth of a second, up to a tenth of a second before the PTS."""
         end = wrapped(pts - TENTH)
         if self.base is None or wrapped(end - self.base) > LONG:
             self.base = wrapped(end - TENTH)
@@ -82,14 +83,14 @@ class Multiplex:
         self.base = end
 
     def taken(self) -> bytes:
-        """The packets since the last call."""
+        """Return the packets since the last call."""
         data = b"".join(self.parts)
         self.parts, self.size = [], 0
         return data
 
 
 def crc(data: bytes) -> int:
-    """The CRC-32 of a section (annex A); 0 where its own stands at its end."""
+    """Return the CRC-32 of a section (annex A); 0 if the section ends with its own."""
     value = 0xFFFFFFFF
     for byte in data:
         value ^= byte << 24

@@ -1,10 +1,11 @@
-"""Man pages, completion, the table of options in qc's chapter, and the schema, made of what says it
-first: of the program the usage text of ./subttx and the table of options in
-docs/manual/all-commands.md; of the tools what --help prints; of qc the table of its options, and
-that of JSON results.
+"""Generate man pages, completion, the table of options in qc's chapter, and the schema.
 
-What is made stands between a line `made: NAME` and a line `end`, both of them comments; what stands
-outside is written by hand.
+Sources are, for the program, the usage text of ./subttx and the table of options in
+docs/manual/all-commands.md; for tools, their --help; for qc, the tables of its options and of JSON
+results.
+
+Generated parts are between a line `made: NAME` and a line `end`, both comments; the rest is written
+by hand.
 """
 from __future__ import annotations
 
@@ -34,14 +35,14 @@ COMMAND = re.compile(r"^  ([a-z]+) ([A-Z]\S*(?: (?:[A-Z]\S*|--\w+))*) +(?=[a-z])
 ROW = re.compile(r"^\| `(--[\w-]+)(?: (\S+))?` \| (`.*?`) \| (.*) \| (.*) \|$", re.M)
 ENTRY = re.compile(r"^  ((?:--?[\w-]+)(?: .*?)??)(?:, (--?[\w-]+)(?: .*?)??)?(?:  +|\n +)(\S.*)$",
                    re.M)
-FILES = re.compile(r"FILE|DIR|FOLDER|LIST|STL|PES|OUT|IN|PROGRAM|FEED|TS|WORD")  # of which is one
+FILES = re.compile(r"FILE|DIR|FOLDER|LIST|STL|PES|OUT|IN|PROGRAM|FEED|TS|WORD")  # in file values
 LINK = re.compile(r"\[([^]]*)\]\([^)]*\)")
 WIDTH = 100
-MORE = "All of it: "  # in a help text, which the page is itself
+MORE = "All of it: "  # begins a help text's reference to its page
 
 
 class Command(NamedTuple):
-    """A command of the program: its files, the options that it has to have, what it does."""
+    """A command of the program: its files, its required options, what it does."""
 
     name: str
     files: str
@@ -50,7 +51,7 @@ class Command(NamedTuple):
 
 
 class Option(NamedTuple):
-    """An option, with the name of its value if it has one, and the commands that take it."""
+    """An option, the name of its value if it has one, and the commands that accept it."""
 
     name: str
     value: str
@@ -59,43 +60,43 @@ class Option(NamedTuple):
     default: str
 
     def choices(self) -> list[str]:
-        """The words that it takes, where these are few and named."""
-        words = [word for word in re.findall(r"`([a-z0-9]+)`", self.means)
-                 if word not in self.commands]
-        return words if len(words) > 2 else []
+        """Return the values that the option accepts, if the table lists them."""
+        values = [word for word in re.findall(r"`([a-z0-9]+)`", self.means)
+                  if word not in self.commands]
+        return values if len(values) > 2 else []
 
 
 def commands(text: str) -> list[Command]:
-    """Those of the usage text."""
+    """Parse the commands of the usage text."""
     found = []
     lines = re.sub(r"\n {10,}", " ", text)
-    for one in COMMAND.finditer(lines):
-        words = one[2].split(" ")
-        does = lines[one.end():].split("\n", 1)[0]
-        found.append(Command(one[1], " ".join(w for w in words if w.isupper() and w not in
-                                              ("TIME", "P")),
+    for match in COMMAND.finditer(lines):
+        words = match[2].split(" ")
+        does = lines[match.end():].split("\n", 1)[0]
+        found.append(Command(match[1], " ".join(w for w in words if w.isupper() and w not in
+                                                ("TIME", "P")),
                              [w for w in words if w.startswith("--")], does.strip()))
     if not found:
-        raise Stop("the usage text of ./subttx names no command")
+        raise Stop("the usage text of ./subttx lists no command")
     return found
 
 
 def options(text: str) -> list[Option]:
-    """Those of the table."""
+    """Parse the options of the table."""
     return [Option(row[1], row[2] or "", re.findall(r"`(\w+)`", row[3]), row[4].strip(),
                    row[5].strip()) for row in ROW.finditer(text)]
 
 
-def help_of(tool: str, *command: str) -> str:
-    """What a tool prints with --help, each option in a line."""
+def run_help(tool: str, *command: str) -> str:
+    """Return what a tool prints with --help, one option a line."""
     done = subprocess.run([sys.executable, os.path.join(TOP, "tools", tool), *command, "--help"],
                           text=True, env=dict(os.environ, COLUMNS="2000"),
                           stdin=subprocess.DEVNULL, stdout=subprocess.PIPE, check=True)
     return done.stdout
 
 
-def entries(text: str) -> list[tuple[str, str, str]]:
-    """The options of a help text: its name, its value, what it means."""
+def parse_entries(text: str) -> list[tuple[str, str, str]]:
+    """Parse the options of a help text: name, value, meaning."""
     _, _, listed = text.partition("\noptions:\n")
     found = []
     for entry in ENTRY.finditer(listed):
@@ -104,8 +105,8 @@ def entries(text: str) -> list[tuple[str, str, str]]:
     return found
 
 
-def roff(text: str) -> str:
-    """A sentence in the signs of a man page: bold for code, links as their words."""
+def escape_roff(text: str) -> str:
+    """Write a sentence for a man page: bold for code, links as their text."""
     text = LINK.sub(r"\1", text)
     text = re.sub(r"\btools/(\w+)", INSTALLED + r"\1", text)
     text = text.replace("\\", "\\e").replace("-", "\\-")
@@ -113,11 +114,11 @@ def roff(text: str) -> str:
     return re.sub(r"^(?=[.'])", "\\&", text, flags=re.M)
 
 
-def filled(text: str) -> str:
-    """A paragraph in lines that are not long."""
+def fill_paragraph(text: str) -> str:
+    """Break a paragraph into lines."""
     lines: list[str] = []
     line = ""
-    for word in roff(text).split():
+    for word in escape_roff(text).split():
         if line and len(line) + len(word) >= WIDTH:
             lines, line = [*lines, line], word
         else:
@@ -125,129 +126,144 @@ def filled(text: str) -> str:
     return re.sub(r"^(?=[.'])", "\\&", "\n".join([*lines, line]), flags=re.M)
 
 
-def item(name: str, value: str, text: str) -> str:
-    """An option of a man page."""
-    head = f"\\fB{roff(name)}\\fP" + (f" \\fI{roff(value)}\\fP" if value else "")
-    return f".TP\n{head}\n{filled(text)}\n"
+def option_item(name: str, value: str, text: str) -> str:
+    """Return the entry of an option in a man page."""
+    head = f"\\fB{escape_roff(name)}\\fP" + (f" \\fI{escape_roff(value)}\\fP" if value else "")
+    return f".TP\n{head}\n{fill_paragraph(text)}\n"
 
 
-def sentence(text: str) -> str:
-    """A cell of a table as a sentence."""
+def to_sentence(text: str) -> str:
+    """Write a cell of a table as a sentence."""
     text = LINK.sub(r"\1", text)
     return text[0].upper() + text[1:] + "." * (text[-1] not in ".:") if text else text
 
 
-def synopsis(them: list[Command], table: list[Option]) -> str:
-    """How each command is called."""
-    made = ""
-    for command in them:
-        mine = [one for one in table if command.name in one.commands]
-        made += f".SY subttx\n.B {command.name}\n.I {roff(command.files)}\n"
-        for one in sorted(mine, key=lambda it: it.name not in command.needed):
-            words = f"{roff(one.name)} {roff(one.value)}".strip()
-            made += f".B {words}\n" if one.name in command.needed else f".OP {words}\n"
-        made += ".YS\n"
-    return made
+def synopsis(commands_of_program: list[Command], table: list[Option]) -> str:
+    """Return the calls of all commands."""
+    page = ""
+    for command in commands_of_program:
+        own_options = [option for option in table if command.name in option.commands]
+        page += f".SY subttx\n.B {command.name}\n.I {escape_roff(command.files)}\n"
+        for option in sorted(own_options, key=lambda other: other.name not in command.needed):
+            call = f"{escape_roff(option.name)} {escape_roff(option.value)}".strip()
+            page += f".B {call}\n" if option.name in command.needed else f".OP {call}\n"
+        page += ".YS\n"
+    return page
 
 
-def of_program(usage: str, table: str) -> dict[str, str]:
-    """The parts of the program's page."""
-    them, known = commands(usage), options(table)
-    return {"synopsis": synopsis(them, known),
-            "commands": "".join(f".TP\n\\fB{one.name}\\fP \\fI{roff(one.files)}\\fP\n"
-                                f"{filled(sentence(one.does))}\n" for one in them),
-            "options": "".join(item(one.name, one.value, f"{sentence(one.means)} "
-                                    f"Without it: {one.default}. Of "
-                                    + ", ".join(f"`{name}`" for name in one.commands) + ".")
-                               for one in known)}
+def program_parts(usage: str, table: str) -> dict[str, str]:
+    """Return the parts of the program's page."""
+    def command_entry(command: Command) -> str:
+        return (f".TP\n\\fB{command.name}\\fP \\fI{escape_roff(command.files)}\\fP\n"
+                f"{fill_paragraph(to_sentence(command.does))}\n")
+
+    def option_entry(option: Option) -> str:
+        names = ", ".join(f"`{name}`" for name in option.commands)
+        text = f"{to_sentence(option.means)} Without it: {option.default}. Of {names}."
+        return option_item(option.name, option.value, text)
+
+    program_commands, table_options = commands(usage), options(table)
+    return {"synopsis": synopsis(program_commands, table_options),
+            "commands": "".join(map(command_entry, program_commands)),
+            "options": "".join(map(option_entry, table_options))}
 
 
-def of_tool(text: str, name: str = "qc") -> dict[str, str]:
-    """The parts of the page of a tool, of its help text."""
+def tool_parts(text: str, name: str = "qc") -> dict[str, str]:
+    """Return the parts of a tool's page, from its help text."""
+    def option_entry(name: str, value: str, means: str) -> str:
+        if not value.startswith("{"):
+            return option_item(name, value, to_sentence(means))
+        words = value[1:-1].replace(",", ", ")
+        return option_item(name, "WORD", f"{to_sentence(means)} WORD is {words}.")
+
     prose = re.split(r"\n(?:positional arguments|options):\n", text)[0]
-    paragraphs = [one for one in prose.strip().split("\n\n") if one.strip()]
-    calls = [one for one in paragraphs if one.startswith("    ")]
-    rest = [one for one in paragraphs[1:] if one not in calls]
+    paragraphs = [part for part in prose.strip().split("\n\n") if part.strip()]
+    calls = [part for part in paragraphs if part.startswith("    ")]
+    status = [part for part in paragraphs[1:] if part.startswith("Status ")]
+    others = [part for part in paragraphs[1:]
+              if part not in (*calls, *status) and not part.startswith(MORE)]
     lines = re.sub(r"\n {8,}", " ", "\n".join(calls)).split("\n")
-    made = "".join(f".SY subttx\\-{name}\n{roff(line.strip().partition(' ')[2])}\n.YS\n"
-                   for line in lines)
-    status = [one for one in rest if one.startswith("Status ")]
-    rest = [one for one in rest if one not in status and not one.startswith(MORE)]
-    return {"synopsis": made,
-            "description": "\n.PP\n".join(filled(one) for one in [paragraphs[0], *rest]) + "\n",
-            "options": "".join(item(name, value, sentence(means)) if not value.startswith("{")
-                               else item(name, "WORD", sentence(means) + " WORD is "
-                                         + value[1:-1].replace(",", ", ") + ".")
-                               for name, value, means in entries(text)),
-            "status": "".join(filled(one) + "\n" for one in status)}
+    synopses = (escape_roff(line.strip().partition(" ")[2]) for line in lines)
+    return {"synopsis": "".join(f".SY subttx\\-{name}\n{line}\n.YS\n" for line in synopses),
+            "description": "\n.PP\n".join(map(fill_paragraph, [paragraphs[0], *others])) + "\n",
+            "options": "".join(option_entry(*entry) for entry in parse_entries(text)),
+            "status": "".join(fill_paragraph(part) + "\n" for part in status)}
 
 
-def of_air(text: str, helps: dict[str, str]) -> dict[str, str]:
-    """The parts of the page of air, of its help text and those of its commands. The options of qc
-    are in the page of qc."""
-    others = {one.name for one in request.OPTIONS} | {"--help", "--version"}
-    commands = {command: "".join(item(name, value, sentence(means)) for name, value, means in
-                                 entries(help) if name not in others)
+def air_parts(text: str, helps: dict[str, str]) -> dict[str, str]:
+    """Return the parts of air's page, from its help text and those of its commands.
+
+    The options that it shares with qc are in qc's page.
+    """
+    others = {option.name for option in request.OPTIONS} | {"--help", "--version"}
+    commands = {command: "".join(option_item(name, value, to_sentence(means))
+                                 for name, value, means in parse_entries(help)
+                                 if name not in others)
                 for command, help in helps.items()}
-    return {**{name: part for name, part in of_tool(text, "air").items() if name != "options"},
+    return {**{name: part for name, part in tool_parts(text, "air").items() if name != "options"},
             **commands}
 
 
-def of_chapter(table: str = "") -> dict[str, str]:
-    """The parts of qc's chapter, by the table of options of a pair; without those that take another
-    one back, and those that `check` has, which stand in its own table."""
-    of_check = {one.name for one in options(table) if "check" in one.commands}
+def chapter_parts(table: str = "") -> dict[str, str]:
+    """Return the table of options in qc's chapter.
+
+    It omits options that take another one back, and those of `check`, which have a table of their
+    own.
+    """
+    of_check = {option.name for option in options(table) if "check" in option.commands}
     rows = ["| Option | Is |", "|---|---|"]
-    for one in request.OPTIONS:
-        if one.name not in of_check and not one.name.startswith("--no-"):
-            form = one.form.replace("|", "\\|")
-            rows.append(f"| `{form}` | {one.means} |")
+    for option in request.OPTIONS:
+        if option.name not in of_check and not option.name.startswith("--no-"):
+            form = option.form.replace("|", "\\|")
+            rows.append(f"| `{form}` | {option.means} |")
     return {"options": "\n".join(rows) + "\n"}
 
 
-def completed(usage: str, table: str, helps: list[str]) -> dict[str, str]:
-    """The parts of the completion."""
-    them, known = commands(usage), options(table)
-    values = "".join(f"        {one.name}) _subttx_words '{' '.join(one.choices())}' \"$2\" ;;\n"
-                     for one in known if one.choices())
-    named = {one.name for one in known if one.value and not one.choices()}
-    named |= {name for text in helps for name, value, _ in entries(text)
+def completion_parts(usage: str, table: str, helps: list[str]) -> dict[str, str]:
+    """Return the parts of the completion."""
+    program_commands, table_options = commands(usage), options(table)
+    choices = {option.name: " ".join(option.choices()) for option in table_options
+               if option.choices()}
+    values = "".join(f"        {name}) _subttx_words '{words}' \"$2\" ;;\n"
+                     for name, words in choices.items())
+    named = {option.name for option in table_options if option.value}
+    named |= {name for text in helps for name, value, _ in parse_entries(text)
               if value and not value.startswith("{") and not FILES.search(value)}
-    chosen = {one.name for one in known if one.choices()}
-    flags = {name for text in helps for name, value, _ in entries(text) if not value}
-    words = sorted(named - chosen - flags)
-    made = "        " + " | ".join(words) + ")\n"
-    while (long := [line for line in made.split("\n") if len(line) > WIDTH - 2]):
+    flags = {name for text in helps for name, value, _ in parse_entries(text) if not value}
+    pattern = "        " + " | ".join(sorted(named - choices.keys() - flags)) + ")\n"
+    while (long := [line for line in pattern.split("\n") if len(line) > WIDTH - 2]):
         at = long[0].rindex(" | ", 0, WIDTH - 3) + 3
-        made = made.replace(long[0], long[0][:at] + "\\\n            " + long[0][at:])
-    names = " ".join(one.name for one in them)
-    listed = "".join(
-        textwrap.fill(f"{command.name}) options='{' '.join(one.name for one in mine)}' ;;", WIDTH,
-                      initial_indent=" " * 8, subsequent_indent=" " * 12,
-                      break_on_hyphens=False) + "\n"
-        for command in them
-        if (mine := [one for one in known if command.name in one.commands]))
-    return {"values": values + made + "            COMPREPLY=()\n            ;;\n",
-            "commands": f"    local commands='{names}'\n", "options": listed}
+        pattern = pattern.replace(long[0], long[0][:at] + "\\\n            " + long[0][at:])
+    listed = ""
+    for command in program_commands:
+        names = " ".join(option.name for option in table_options
+                         if command.name in option.commands)
+        if names:
+            listed += textwrap.fill(
+                f"{command.name}) options='{names}' ;;", WIDTH, initial_indent=" " * 8,
+                subsequent_indent=" " * 12, break_on_hyphens=False) + "\n"
+    command_names = " ".join(command.name for command in program_commands)
+    return {"values": values + pattern + "            COMPREPLY=()\n            ;;\n",
+            "commands": f"    local commands='{command_names}'\n", "options": listed}
 
 
-def laid_out(value: object, indent: str = "") -> str:
-    """A value as JSON: in one line where that is not long, else an item or a member in each."""
+def format_json(value: object, indent: str = "") -> str:
+    """Write a value as JSON: in one line if it is short, else one line for each item."""
     line = json.dumps(value)
     if not isinstance(value, (dict, list)) or len(indent) + len(line) < WIDTH - 20:
         return line
     inner = indent + " "
     if isinstance(value, list):
-        items = [laid_out(one, inner) for one in value]
-        if all(isinstance(one, str) for one in value):
-            items = filled_rows(items, WIDTH - 20 - len(inner))
+        items = [format_json(item, inner) for item in value]
+        if all(isinstance(item, str) for item in value):
+            items = fill_rows(items, WIDTH - 20 - len(inner))
         return f"[\n{inner}" + f",\n{inner}".join(items) + f"\n{indent}]"
-    members = [f"{json.dumps(name)}: {laid_out(one, inner)}" for name, one in value.items()]
+    members = [f"{json.dumps(name)}: {format_json(item, inner)}" for name, item in value.items()]
     return f"{{\n{inner}" + f",\n{inner}".join(members) + f"\n{indent}}}"
 
 
-def filled_rows(words: list[str], width: int) -> list[str]:
-    """Words with commas between them, in rows that are not long."""
+def fill_rows(words: list[str], width: int) -> list[str]:
+    """Join words by commas, in rows of at most `width` columns."""
     rows = [words[0]]
     for word in words[1:]:
         if len(rows[-1]) + len(word) < width:
@@ -257,27 +273,27 @@ def filled_rows(words: list[str], width: int) -> list[str]:
     return rows
 
 
-def with_parts(text: str, parts: dict[str, str]) -> str:
-    """A text in which each part stands between its two lines."""
+def replace_parts(text: str, parts: dict[str, str]) -> str:
+    """Replace the generated parts of a text."""
     missing = set(parts) - {found[2] for found in MADE.finditer(text)}
     if missing:
-        raise Stop(f"no line says where is made: {', '.join(sorted(missing))}")
+        raise Stop(f"add a line `made: NAME` for these parts: {', '.join(sorted(missing))}")
     return MADE.sub(lambda found: found[1] + parts.get(found[2], found[3]) + found[4], text)
 
 
-def made() -> dict[str, str]:
-    """The files by their names from the top, as they have to be."""
+def make_pages() -> dict[str, str]:
+    """Return the generated files by name from the top."""
     def text(name: str) -> str:
         return read(os.path.join(TOP, name)) or ""
 
     usage, table = text("subttx").partition("usage: ")[2].partition("\nEND\n")[0], text(TABLE)
-    helps = {tool: help_of(tool) for tool in TOOLS}
-    of_commands = {command: help_of("air", command) for command in ("record", "judge")}
-    parts = {PROGRAM_PAGE: of_program(usage, table), QC_PAGE: of_tool(helps["qc"]),
-             AIR_PAGE: of_air(helps["air"], of_commands), QC_CHAPTER: of_chapter(table),
-             COMPLETION: completed(usage, table, [*helps.values(), *of_commands.values()])}
+    helps = {tool: run_help(tool) for tool in TOOLS}
+    of_commands = {command: run_help("air", command) for command in ("record", "judge")}
+    parts = {PROGRAM_PAGE: program_parts(usage, table), QC_PAGE: tool_parts(helps["qc"]),
+             AIR_PAGE: air_parts(helps["air"], of_commands), QC_CHAPTER: chapter_parts(table),
+             COMPLETION: completion_parts(usage, table, [*helps.values(), *of_commands.values()])}
     numbers = text(NUMBERS)
     for row, counted in rows_of_numbers(TOP):
         numbers = numbers.replace(row, counted)
-    return {**{name: with_parts(text(name), of) for name, of in parts.items()},
-            SCHEMA: laid_out(schema()) + "\n", NUMBERS: numbers}
+    return {**{name: replace_parts(text(name), of) for name, of in parts.items()},
+            SCHEMA: format_json(schema()) + "\n", NUMBERS: numbers}

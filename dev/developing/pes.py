@@ -1,4 +1,4 @@
-"""Teletext packets, and PES packets of them, written and read (EN 300 706, EN 300 472)."""
+"""Write and read Teletext packets and PES packets of them (EN 300 706, EN 300 472)."""
 from __future__ import annotations
 
 from typing import Iterable, Iterator, Protocol, Sequence
@@ -6,98 +6,99 @@ from typing import Iterable, Iterator, Protocol, Sequence
 from subtitles.common.files import Damaged
 from subtitles.formats.teletext import CODE_WORDS, NUMBER, START, is_odd
 
-HEAD = 6  # bytes of a PES packet up to its length and with it
+HEAD = 6  # bytes of a PES packet up to the end of PES_packet_length
 FIRST_LINE = 7
 UNIT = 46  # bytes of a data unit
-DATA = 46  # where those that `subttx` writes begin: after 45 bytes and the data_identifier
+DATA = 46  # place of the first data unit in PES packets that `subttx` writes
 STUFFING_UNIT = b"\xff\x2c" + b"\xff" * 44
-# Stands where PES packets of a recording are missing, or parts of them: `check` refuses it as 45.
+# Gap marker for missing PES packets, or parts of them, of a recording: `check` refuses it as 45.
 MARK = START + b"\0\xb2" + b"\xff" * 178
-AT_A_TIME = 1 << 18  # bytes that are read
+AT_A_TIME = 1 << 18  # bytes of one read
 NATIONAL = 12, 13, 14  # control bits
 
-# Each byte with its bits in reverse: a data unit sends bit 1 first.
+# Each byte with its bits reversed: a data unit sends bit 1 first.
 MIRROR = bytes(int(f"{byte:08b}"[::-1], 2) for byte in range(256))
 
 Header = tuple[int, int, bytes]  # a page's magazine and number, and a header's eight numbers
 
 
 class Source(Protocol):
-    """What can be read: nothing comes at its end alone."""
+    """A file to read; only its end returns nothing."""
 
     def read(self, size: int, /) -> bytes:
-        """At most `size` bytes."""
+        """Return at most `size` bytes."""
 
 
 def odd(code: int) -> int:
-    """A 7-bit code with odd parity."""
+    """Return a 7-bit code with odd parity."""
     return code if is_odd(code) else code | 0x80
 
 
 def mirrored(data: bytes) -> bytes:
-    """Bytes with their bits in reverse."""
+    """Reverse the bits of each byte."""
     return data.translate(MIRROR)
 
 
 def packet(magazine: int, number: int, numbers: Iterable[int], codes: Iterable[int]) -> bytes:
-    """A packet: its address, the eight numbers of a header, and text bytes with odd parity."""
+    """Return a packet: its address, the eight numbers of a header, and text bytes with odd parity.
+    """
     address = magazine + 8 * number
-    coded = bytes(CODE_WORDS[one] for one in (address & 15, address >> 4, *numbers))
+    coded = bytes(CODE_WORDS[value] for value in (address & 15, address >> 4, *numbers))
     return coded + bytes(map(odd, codes))
 
 
 def address_of(data: bytes) -> tuple[int, int] | None:
-    """The magazine, 0 for 8, and the packet number; `None` where an address byte means nothing."""
+    """Return the magazine, 0 for 8, and the packet number; `None` for an undecodable address."""
     low, high = NUMBER[data[0]], NUMBER[data[1]]
     return None if low is None or high is None else (low & 7, low + 16 * high >> 3)
 
 
 def header_of(data: bytes) -> bytes | None:
-    """The eight numbers of a page header, `None` where one of its bytes means nothing."""
-    numbers = [one for one in map(NUMBER.__getitem__, data[2:10]) if one is not None]
+    """Return the eight numbers of a page header, `None` if one can't be decoded."""
+    numbers = [number for number in map(NUMBER.__getitem__, data[2:10]) if number is not None]
     return bytes(numbers) if len(numbers) == 8 else None
 
 
 def page_in(header: bytes) -> int:
-    """The page number of a header's eight numbers, two hexadecimal digits."""
+    """Return the page number, two hexadecimal digits, in a header's eight numbers."""
     return header[0] + 16 * header[1]
 
 
 def headers_in(packets: Iterable[bytes]) -> list[Header]:
-    """Of some packets the page headers: the magazine, the page number and the eight numbers."""
+    """Return the magazine, page number and eight numbers of each page header."""
     found = []
-    for one in packets:
-        address = address_of(one)
-        header = header_of(one) if address and address[1] == 0 else None
+    for packet in packets:
+        address = address_of(packet)
+        header = header_of(packet) if address and address[1] == 0 else None
         if address and header:
             found.append((address[0], page_in(header), header))
     return found
 
 
 def pts_bytes(pts: int) -> bytes:
-    """A PTS as the five bytes of a PES header."""
+    """Return the five bytes of a PTS in a PES header."""
     return bytes([0x21 | pts >> 30 << 1, pts >> 22 & 255, pts >> 15 << 1 & 255 | 1,
                   pts >> 7 & 255, pts << 1 & 255 | 1])
 
 
 def pts_in(packet: bytes) -> int:
-    """The PTS of a PES packet that has one."""
+    """Return the PTS of a PES packet that has one."""
     return ((packet[9] >> 1 & 7) << 30 | packet[10] << 22 | packet[11] >> 1 << 15
             | packet[12] << 7 | packet[13] >> 1)
 
 
 def pes_packet(pts: int, packets: Sequence[bytes]) -> bytes:
-    """A PES packet with up to 16 Teletext packets, on lines from 7 of the first field on."""
+    """Return a PES packet with up to 16 Teletext packets, from line 7 of the first field on."""
     blocks = len(packets) // 4 + 1
-    made = START + (184 * blocks - 6).to_bytes(2, "big") + b"\x84\x80\x24" + pts_bytes(pts)
-    made += b"\xff" * 31 + b"\x10"
-    for line, one in enumerate(packets, FIRST_LINE):
-        made += bytes([3, 0x2C, 0xE0 | line, 0xE4]) + mirrored(one)
-    return made + STUFFING_UNIT * (4 * blocks - 1 - len(packets))
+    data = START + (184 * blocks - 6).to_bytes(2, "big") + b"\x84\x80\x24" + pts_bytes(pts)
+    data += b"\xff" * 31 + b"\x10"
+    for line, packet in enumerate(packets, FIRST_LINE):
+        data += bytes([3, 0x2C, 0xE0 | line, 0xE4]) + mirrored(packet)
+    return data + STUFFING_UNIT * (4 * blocks - 1 - len(packets))
 
 
 def begins_in(data: bytes) -> list[int]:
-    """Return where the PES packets begin with which some bytes do, and where the last one ends."""
+    """Return where the PES packets at the start of `data` begin, and where the last one ends."""
     begins = [0]
     while data.startswith(START, begins[-1]) and len(data) - begins[-1] >= HEAD:
         length = HEAD + int.from_bytes(data[begins[-1] + 4:begins[-1] + HEAD], "big")
@@ -107,43 +108,46 @@ def begins_in(data: bytes) -> list[int]:
     return begins
 
 
-def whole_in(data: bytes) -> list[bytes]:
-    """The PES packets with which some bytes begin."""
-    return sliced(data, begins_in(data))
+def complete_packets(data: bytes) -> list[bytes]:
+    """Return the complete PES packets at the start of `data`."""
+    return slice_at(data, begins_in(data))
 
 
-def sliced(data: bytes, begins: Sequence[int]) -> list[bytes]:
-    """What begins at each of some places, but the last, and ends where the next one begins."""
+def slice_at(data: bytes, begins: Sequence[int]) -> list[bytes]:
+    """Cut `data` at these places."""
     return [data[begin:end] for begin, end in zip(begins, begins[1:])]
 
 
 def pes_packets(file: Source) -> Iterator[bytes]:
-    """The PES packets of a file one after another; `Damaged` where it holds something else, after
-    those before it."""
-    rest, count = b"", 0
-    while piece := file.read(AT_A_TIME):
-        data = rest + piece
+    """Yield the PES packets of a file.
+
+    Raise `Damaged` at the first other data, after the packets before it.
+    """
+    unread, count = b"", 0
+    while new_data := file.read(AT_A_TIME):
+        data = unread + new_data
         begins = begins_in(data)
-        yield from sliced(data, begins)
-        rest, count = data[begins[-1]:], count + len(begins) - 1
-        if len(rest) >= HEAD and not rest.startswith(START):
+        yield from slice_at(data, begins)
+        unread, count = data[begins[-1]:], count + len(begins) - 1
+        if len(unread) >= HEAD and not unread.startswith(START):
             raise Damaged(f"PES packet {count} does not begin with 00 00 01 BD")
-    if rest:
+    if unread:
         raise Damaged(f"PES packet {count} is cut")
 
 
 def has_pts(data: bytes) -> bool:
-    """Whether a PES packet has a PTS, and a header that is long enough for it; a mark has none."""
+    """Return whether a PES packet has a PTS and a header long enough for it; a gap marker has none.
+    """
     return len(data) >= 14 and data[7] & 0x80 != 0 and data[HEAD] != 0xFF
 
 
 def data_field(data: bytes) -> bytes:
-    """What stands after the header of a PES packet: a data_identifier, then data units."""
+    """Return what follows the header of a PES packet: a data_identifier, then data units."""
     return data[9 + data[8]:] if len(data) > 9 else b""
 
 
 def teletext_packets(field: bytes) -> list[bytes]:
-    """The Teletext packets of a data field, their bits in the order of EN 300 706."""
+    """Return the Teletext packets of a data field, with bits in the order of EN 300 706."""
     at, found = 1, []
     while at + UNIT <= len(field):
         if field[at] in (2, 3) and field[at + 1] == 0x2C:

@@ -112,7 +112,7 @@ class Made:
         write(self.note_of(crate), f"{self.sum_of(crate)}\n{line}\n")
 
 
-def chains(lines: Lines, sizes: dict[str, int]) -> dict[str, int]:
+def work_above(lines: Lines, sizes: dict[str, int]) -> dict[str, int]:
     """Return for each crate, highest first, the work on its longest path up to the program."""
     found: dict[str, int] = {}
     for name in reversed(sizes):

@@ -1,4 +1,4 @@
-"""Blocks of subtitle files, written (EBU Tech 3264)."""
+"""Write blocks of subtitle files (EBU Tech 3264)."""
 from __future__ import annotations
 
 from subtitles.common.times import FRAMES_A_SECOND
@@ -8,17 +8,17 @@ DOUBLE_HEIGHT, START_BOX, END_BOX = b"\x0d", b"\x0b", b"\x0a"
 
 
 def time_code(frame: int) -> bytes:
-    """Hours, minutes, seconds and frames of a frame, as the four bytes of a TTI block."""
+    """Return a frame's hours, minutes, seconds and frames, as the four bytes of a TTI block."""
     seconds, frames = divmod(frame, FRAMES_A_SECOND)
     return bytes([seconds // 3600, seconds // 60 % 60, seconds % 60, frames])
 
 
 def gsi_block(title: bytes, blocks: int, subtitles: int, first: int = 0,
               language: bytes = b"09") -> bytes:
-    """A GSI block: STL25.01, Teletext of level 1, code table 00.
+    """Return a GSI block: STL25.01, Teletext of level 1, code table 00.
 
-    `language` is 09 for English and 08 for German. The counts of blocks and subtitles and the time
-    of the first one, a frame, are for people: `subttx` does not look at them.
+    `language` is 09 for English and 08 for German. `subttx` ignores the counts of blocks and
+    subtitles, and the frame of the first one.
     """
     block = bytearray(b" " * GSI)
 
@@ -43,7 +43,7 @@ def gsi_block(title: bytes, blocks: int, subtitles: int, first: int = 0,
 
 def tti_block(number: int, begin: int, end: int, row: int, justify: int, text: bytes,
               ebn: int = LAST, comment: int = 0, group: int = 0) -> bytes:
-    """One TTI block. Times are frames of the day; the text has at most 112 bytes."""
+    """Return a TTI block. Times are frames of the day; the text has at most 112 bytes."""
     assert len(text) <= TEXT
     head = bytes([group, number & 255, number >> 8 & 255, ebn, 0])
     head += time_code(begin) + time_code(end) + bytes([row, justify, comment])
@@ -52,7 +52,7 @@ def tti_block(number: int, begin: int, end: int, row: int, justify: int, text: b
 
 def subtitle_blocks(number: int, begin: int, end: int, row: int, justify: int,
                     text: bytes) -> bytes:
-    """The TTI blocks of a subtitle, as few as hold its text."""
+    """Return the TTI blocks of a subtitle, as few as its text needs."""
     fields = [text[at:at + TEXT] for at in range(0, len(text), TEXT)] or [b""]
     numbers = [*range(len(fields) - 1), LAST]
     return b"".join(tti_block(number, begin, end, row, justify, field, ebn)
@@ -60,5 +60,5 @@ def subtitle_blocks(number: int, begin: int, end: int, row: int, justify: int,
 
 
 def boxed(text: bytes, colour: bytes = b"") -> bytes:
-    """A line of double height as most files have it, with its box codes twice around it."""
+    """Return a double-height line with its box codes doubled, as most files have it."""
     return DOUBLE_HEIGHT + colour + START_BOX * 2 + text + END_BOX * 2

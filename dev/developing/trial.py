@@ -1,4 +1,4 @@
-"""How dev/faults runs the program, and what has to happen in a run in which something fails."""
+"""Run the program for dev/faults, and judge runs in which something fails."""
 from __future__ import annotations
 
 import os
@@ -13,26 +13,26 @@ from subtitles.formats.stl import GSI, TTI
 
 NO_MEMORY = re.compile(rb"fault (91 Memory|58 Memory block \d+)\n")
 ANOTHER_USER = 65534
-SECONDS = 2  # of the processor, for one run
-LONGEST = 600  # seconds for it, on a machine that does other things too
-LONG_LOG = 1 << 20  # bytes of strace's log: a run with more of them does not end
-ENDED = "\\0ended\\0"  # for printf, behind what a run prints: no text has a zero byte
-AT_ONCE = 16  # runs that one shell begins
+SECONDS = 2  # processor time of a run
+LONGEST = 600  # seconds of a run on a busy machine
+LONG_LOG = 1 << 20  # bytes of strace's log: a longer run does not end
+ENDED = "\\0ended\\0"  # for printf, after the output of a run, which has no zero byte
+AT_ONCE = 16  # runs of one shell
 
 CALL = re.compile(r"^\d+ +(\w+)\((.*)\) += (-?\w+)(.*)$")
 CALLS = "trace=openat,read,write,fsync,close,statx,mmap,brk,rt_sigaction"
 STRACE = ["strace", "-f", "--seccomp-bpf", "-y", "-s", "0", "-e", CALLS]
-# What others say on standard error: the shell that starts a run, and strace.
+# Lines of standard error from the shell that starts a run, and from strace.
 OTHERS = re.compile(r"(sh|strace): ")
-# What is printed for a fault that is explained on standard error, and how the explanation begins.
+# Printed faults that standard error explains, and how the explanation begins.
 EXPLAINED = [(re.compile(rb"^fault \d+ (Open|Read|Write)\b", re.MULTILINE), "subttx: "),
              (re.compile(rb"^usage 0 Words$", re.MULTILINE), "error: ")]
-UNREAD = "subttx: cannot read the command line: "  # for want of memory
-# How many faults `check --all` tells of each PES packet, but the last, of an input.
-TOLD_OF_EACH = {"long.pes": 0, "even.pes": 2, "unread.pes": 1}
+UNREAD = "subttx: cannot read the command line: "  # if memory runs out
+# Faults that `check --all` reports for each PES packet of an input but the last.
+FAULTS_PER_PACKET = {"long.pes": 0, "even.pes": 2, "unread.pes": 1}
 
 
-# Refuses the call of malloc or realloc with the number of REFUSE_AT, and makes the file REFUSED.
+# Refuse the malloc or realloc with the number REFUSE_AT, and create the file REFUSED.
 REFUSER = rb"""
 #define _GNU_SOURCE
 #include <dlfcn.h>
@@ -68,8 +68,8 @@ void *realloc(void *old, size_t size) {
 }
 """
 
-# Closes a file that was written as a file system does that stores it then, and fails: of the file
-# KEPT bytes are left, or it is removed where KEPT is below 0.
+# Close a written file as a file system that stores at close, and fails: KEPT bytes of the file are
+# left; if KEPT is negative, it is removed.
 UPLOADER = rb"""
 #define _GNU_SOURCE
 #include <dlfcn.h>
@@ -103,23 +103,26 @@ int close(int fd) {
 
 
 class Command(NamedTuple):
-    """A command line, the file that it writes, and what it does where nothing fails."""
+    """A command line, its output file, and its result if nothing fails."""
 
     name: str
-    words: list[str]
+    program_args: list[str]
     out: str | None
     status: int | str
     printed: bytes
     written: bytes | None
 
     def writing(self, path: str) -> Command:
-        """The same with another output."""
-        return self._replace(words=[*self.words[:2], path], out=path)
+        """Return the same command with another output."""
+        return self._replace(program_args=[*self.program_args[:2], path], out=path)
 
 
 class Call(NamedTuple):
-    """A system call as strace shows it. `on` is its descriptor, or the name that is opened or
-    looked at; `number` counts the calls of its name from 1."""
+    """A system call in a log of strace.
+
+    `on` is its descriptor, or the file name of openat and statx; `number` counts the calls of its
+    name from 1.
+    """
 
     name: str
     on: str
@@ -130,22 +133,24 @@ class Call(NamedTuple):
 
 
 class Ran(NamedTuple):
-    """What a run did; printed is `None` where nothing can be seen, written where there is no file.
-    The status of a program that could not be run is the reason. `told` is what came on standard
-    error, `changed` names the files of the folder, beside its output, that are not as they were."""
+    """A run. `printed` is `None` if it can't be seen, `written` if there is no file.
+
+    If the program could not run, `status` is the reason. `error_text` is standard error; `changed`
+    names files of the folder, other than the output, that changed.
+    """
 
     status: int | str
     printed: bytes | None
     written: bytes | None
     calls: list[Call]
-    told: str = ""
+    error_text: str = ""
     changed: tuple[str, ...] = ()
 
 
-# Of a case its name, the run, and what was wrong; and what runs one case or several.
+# Name, run and faults of a case; a function that runs cases; an expected status and output.
 Found = tuple[str, Union[Ran, Command], list[str]]
 Case = Callable[[], list[Found]]
-End = tuple[int, bytes]  # a status, and what is printed
+End = tuple[int, bytes]
 
 
 def read(path: str) -> bytes | None:
@@ -155,23 +160,23 @@ def read(path: str) -> bytes | None:
         return file.read()
 
 
-def files_of(place: str, command: Command) -> dict[str, bytes | None]:
-    """The files of a folder, but the output of a command, by whatever name, and strace's log."""
+def read_files(place: str, command: Command) -> dict[str, bytes | None]:
+    """Return the files of a folder by name, without strace's log and the command's output."""
     out = os.path.realpath(os.path.join(place, command.out)) if command.out else ""
     return {name: read(os.path.join(place, name)) for name in os.listdir(place)
             if name not in (command.out, "calls")
             and os.path.realpath(os.path.join(place, name)) != out}
 
 
-def calls_of(log: bytes) -> list[Call]:
-    """The system calls of a log of strace, in their order."""
+def parse_calls(log: bytes) -> list[Call]:
+    """Return the system calls in a log of strace."""
     found: list[Call] = []
     numbers: dict[str, int] = {}
     for line in log[:LONG_LOG].decode("utf-8", "replace").splitlines():
-        it = CALL.match(line)
-        if not it:
+        match = CALL.match(line)
+        if not match:
             continue
-        name, arguments, result, rest = it.groups()
+        name, arguments, result, rest = match.groups()
         numbers[name] = numbers.get(name, 0) + 1
         on, _, path = arguments.partition(",")[0].rstrip(">").partition("<")
         if name in ("openat", "statx"):
@@ -182,156 +187,159 @@ def calls_of(log: bytes) -> list[Call]:
     return found
 
 
-class Way(NamedTuple):
-    """How a run differs from others: what its shell does before it, and the words before it."""
+class Setup(NamedTuple):
+    """The shell commands before a run, and the arguments before its command line."""
 
     setup: str
     before: Sequence[str] = ()
 
 
-def ends_of(printed: bytes, errors: bytes, count: int) -> list[tuple[int, bytes, bytes]]:
-    """Of runs that one shell began the status, below 0 by a signal, and what each printed and told.
+def split_output(printed: bytes, errors: bytes, count: int) -> list[tuple[int, bytes, bytes]]:
+    """Return the status of each run of a shell, negative for a signal, its output and its errors.
     """
     end = ENDED.replace("\\0", "\0").encode()
-    texts, told = printed.split(end), errors.split(end)
-    if (len(texts), len(told)) != (2 * count + 1, count + 1):
-        raise ValueError("the shell that begins runs ended before them")
+    texts, error_text = printed.split(end), errors.split(end)
+    if (len(texts), len(error_text)) != (2 * count + 1, count + 1):
+        raise ValueError("the shell ended before its runs")
     return [(128 - status if status > 128 else status, text, one)
-            for text, status, one in zip(texts[::2], map(int, texts[1::2]), told)]
+            for text, status, one in zip(texts[::2], map(int, texts[1::2]), error_text)]
 
 
-def ran_in(place: str, command: Command, before: dict[str, bytes | None], status: int,
-           printed: bytes | None, errors: bytes) -> Ran:
-    """What a run in a folder did, which had some files before."""
-    calls = calls_of(read(os.path.join(place, "calls")) or b"")
+def collect_run(place: str, command: Command, before: dict[str, bytes | None], status: int,
+                printed: bytes | None, errors: bytes) -> Ran:
+    """Return the result of a run in a folder; `before` are the files before it."""
+    calls = parse_calls(read(os.path.join(place, "calls")) or b"")
     written = read(os.path.join(place, command.out)) if command.out else None
-    after, told = files_of(place, command), errors.decode("utf-8", "replace")
+    after, error_text = read_files(place, command), errors.decode("utf-8", "replace")
     names = sorted(before.keys() | after.keys())
     return Ran(status, printed, written, calls,
-               "\n".join(line for line in told.splitlines() if not OTHERS.match(line)),
+               "\n".join(line for line in error_text.splitlines() if not OTHERS.match(line)),
                tuple(name for name in names if before.get(name) != after.get(name)))
 
 
 class Trial:
-    """The program, its inputs, its commands, and what of the machine can be tried."""
+    """The program, its inputs and commands, and what this machine can test."""
 
     def __init__(self, program: str, folder: str) -> None:
         self.program, self.folder = program, folder
         self.commands: dict[str, Command] = {}
         self.inputs: dict[str, bytes] = {}
-        self.over: list[str] = []
-        self.has_strace = self.can([*STRACE, "-o", os.devnull, "true"])
-        # Root may read every file; other users not what they took the right from.
+        self.skipped: list[str] = []
+        self.has_strace = self.can_run([*STRACE, "-o", os.devnull, "true"])
+        # Root may read every file, so another user runs the tests of permissions.
         self.as_user: dict[str, int] = {} if os.geteuid() else {"user": ANOTHER_USER}
-        self.has_user = self.can(["test", "-x", program], **self.as_user)
+        self.has_user = self.can_run(["test", "-x", program], **self.as_user)
 
     @staticmethod
-    def can(command: Sequence[str], **more: Any) -> bool:
+    def can_run(command: Sequence[str], **more: Any) -> bool:
         try:
             return subprocess.run(command, stdin=subprocess.DEVNULL, stdout=subprocess.DEVNULL,
                                   stderr=subprocess.DEVNULL, check=False, **more).returncode == 0
         except (OSError, subprocess.SubprocessError):
             return False
 
-    def give(self, name: str, data: bytes) -> None:
-        """Makes an input, ../NAME to each run."""
+    def add_input(self, name: str, data: bytes) -> None:
+        """Write an input; its name in each run is ../NAME."""
         self.inputs[name] = data
         with open(os.path.join(self.folder, name), "wb") as file:
             file.write(data)
 
     def library(self, name: str, source: bytes) -> str | None:
-        """A library to be loaded before the C library's; `None` where there is no C compiler."""
+        """Build a library to load before the C library; return `None` without a C compiler."""
         if not shutil.which("cc"):
-            self.over.append(f"{name}: there is no C compiler (cc)")
+            self.skipped.append(f"{name}: there is no C compiler (cc)")
             return None
-        file = name.replace(" ", "-")  # LD_PRELOAD is a list of words
-        self.give(f"{file}.c", source)
+        file = name.replace(" ", "-")  # LD_PRELOAD is split at spaces
+        self.add_input(f"{file}.c", source)
         path = os.path.join(self.folder, file)
         subprocess.run(["cc", "-O2", "-shared", "-fPIC", "-o", f"{path}.so", f"{path}.c", "-ldl"],
                        check=True)
         return f"{path}.so"
 
-    def command(self, name: str, words: list[str]) -> Command:
-        """A command, and what it does where nothing fails."""
-        out = words[2] if words[0] in ("normal", "schedule", "extract") else None
-        ran = self.run(Command(name, words, out, 0, b"", None))
-        return Command(name, words, out, ran.status, ran.printed or b"", ran.written)
+    def command(self, name: str, program_args: list[str]) -> Command:
+        """Return a command with its result if nothing fails."""
+        out = program_args[2] if program_args[0] in ("normal", "schedule", "extract") else None
+        ran = self.run(Command(name, program_args, out, 0, b"", None))
+        return Command(name, program_args, out, ran.status, ran.printed or b"", ran.written)
 
     def run(self, command: Command, before: Sequence[str] = (), setup: str = "",
             prepare: Callable[[str], object] | None = None,
             stdout: int | IO[bytes] = subprocess.PIPE, **more: Any) -> Ran:
-        """Runs the program in a new folder; `setup` is done by the shell that starts it."""
+        """Run the program in a new folder; `setup` is for the shell that starts it."""
         with tempfile.TemporaryDirectory(dir=self.folder) as place:
             os.chmod(place, 0o777)
             if prepare:
                 prepare(place)
-            before_it = files_of(place, command)
+            before_it = read_files(place, command)
             script = f'ulimit -c 0; ulimit -t {SECONDS}; {setup} exec "$@"'
-            line = ["sh", "-c", script, "sh", *before, self.program, *command.words]
+            line = ["sh", "-c", script, "sh", *before, self.program, *command.program_args]
             try:
                 done = subprocess.run(line, stdout=stdout, stderr=subprocess.PIPE, cwd=place,
                                       stdin=subprocess.DEVNULL, timeout=LONGEST, check=False,
                                       **more)
             except (OSError, subprocess.SubprocessError) as error:
                 return Ran(str(error), b"", None, [])
-            return ran_in(place, command, before_it, done.returncode, done.stdout, done.stderr)
+            return collect_run(place, command, before_it, done.returncode, done.stdout, done.stderr)
 
-    def run_each(self, command: Command, ways: Sequence[Way]) -> list[Ran]:
-        """Runs the program in each of some ways, in a new folder each, one after another: one shell
-        begins them all, which takes a third less time than a shell for each."""
-        places = [tempfile.mkdtemp(dir=self.folder) for _ in ways]
+    def run_each(self, command: Command, setups: Sequence[Setup]) -> list[Ran]:
+        """Run the program with each setup, in new folders. One shell for all takes a third less
+        time."""
+        places = [tempfile.mkdtemp(dir=self.folder) for _ in setups]
         script = f"ulimit -c 0; ulimit -t {SECONDS}\n" + "".join(
-            f"(cd {shlex.quote(place)} && {{ {way.setup} exec "
-            f"{shlex.join([*way.before, self.program, *command.words])}; }})\n"
+            f"(cd {shlex.quote(place)} && {{ {setup.setup} exec "
+            f"{shlex.join([*setup.before, self.program, *command.program_args])}; }})\n"
             f"printf '{ENDED}%d{ENDED}' $?; printf '{ENDED}' >&2\n"
-            for place, way in zip(places, ways))
+            for place, setup in zip(places, setups))
         try:
             done = subprocess.run(["sh", "-c", script], stdout=subprocess.PIPE,
                                   stderr=subprocess.PIPE, stdin=subprocess.DEVNULL,
                                   timeout=LONGEST, check=False)
-            return [ran_in(place, command, {}, *ended) for place, ended in zip(
-                places, ends_of(done.stdout, done.stderr, len(ways)))]
+            return [collect_run(place, command, {}, *ended) for place, ended in zip(
+                places, split_output(done.stdout, done.stderr, len(setups)))]
         except (OSError, ValueError, subprocess.SubprocessError) as error:
-            return [Ran(str(error), b"", None, []) for _ in ways]
+            return [Ran(str(error), b"", None, []) for _ in setups]
         finally:
             for place in places:
                 shutil.rmtree(place)
 
     def traced(self, command: Command, injections: Sequence[str]) -> list[Ran]:
-        """Runs a command under strace, once for each of some injections."""
+        """Run a command under strace with each injection."""
         return self.run_each(command, [
-            Way("", [*STRACE, "-o", "calls", *(["-e", one] if one else [])]) for one in injections])
+            Setup("", [*STRACE, "-o", "calls", *(["-e", injection] if injection else [])])
+            for injection in injections])
 
     def own_calls(self, command: Command) -> list[Call]:
-        """The system calls of the program itself, those of the loader before it left out."""
+        """Return the system calls of the program itself, without those of the loader."""
         calls = self.traced(command, [""])[0].calls
         start = next(at for at, call in enumerate(calls) if call.name == "rt_sigaction")
         return calls[start + 1:]
 
 
-def wrong(ran: Ran, status: int | str, printed: bytes, written: bytes | None) -> list[str]:
-    """What of a run is not as it has to be, as words."""
+def find_faults(ran: Ran, status: int | str, printed: bytes, written: bytes | None) -> list[str]:
+    """Return the differences of a run from the expected status, output and file."""
     faults = []
     if ran.status != status:
-        faults.append(f"status {ran.status}, and not {status}")
+        faults.append(f"status {ran.status}, expected {status}")
     if ran.printed is not None and ran.printed != printed:
-        faults.append(f"printed {shown(ran.printed)}, and not {shown(printed)}")
+        faults.append(f"printed {shown(ran.printed)}, expected {shown(printed)}")
     if ran.written != written:
-        faults.append(f"wrote {size(ran.written)}, and not {size(written)}")
+        faults.append(f"wrote {size(ran.written)}, expected {size(written)}")
     if ran.changed:
         faults.append(f"changed {', '.join(ran.changed)}")
-    return faults + wrongly_explained(ran, printed)
+    return faults + explanation_faults(ran, printed)
 
 
-def wrongly_explained(ran: Ran, printed: bytes) -> list[str]:
-    """What is wrong with standard error: it explains each fault of a file and of the words, and
-    nothing where the run was answered."""
-    if ran.status in (0, 1) and ran.told:
-        return [f"told {ran.told!r} on standard error"]
+def explanation_faults(ran: Ran, printed: bytes) -> list[str]:
+    """Return the faults of standard error.
+
+    It must explain each fault of a file and of the arguments, and be empty for status 0 and 1.
+    """
+    if ran.status in (0, 1) and ran.error_text:
+        return [f"unexpected standard error: {ran.error_text!r}"]
     begins = [begin for sign, begin in EXPLAINED if sign.search(printed)]
-    return [f"standard error has no line {begin!r}, but {ran.told!r}" for begin in begins
+    return [f"standard error has no line {begin!r}, but {ran.error_text!r}" for begin in begins
             if ran.status == 2 and not any(line.startswith(begin)
-                                           for line in ran.told.splitlines())]
+                                           for line in ran.error_text.splitlines())]
 
 
 def shown(text: bytes) -> str:
@@ -343,33 +351,35 @@ def size(data: bytes | None) -> str:
 
 
 def as_before(command: Command, ran: Ran) -> list[str]:
-    """The run has to be the one in which nothing fails."""
-    return wrong(ran, command.status, command.printed, command.written)
+    """Compare a run with the one in which nothing fails."""
+    return find_faults(ran, command.status, command.printed, command.written)
 
 
-def whole_or_no_memory(command: Command, ran: Ran) -> list[str]:
-    """The run has to be the one in which nothing fails, or to tell want of memory. There may be
-    none to explain wrong arguments, or for a part of the explanation."""
+def intact_or_no_memory(command: Command, ran: Ran) -> list[str]:
+    """Return faults unless a run is as if nothing fails, or reports that memory ran out.
+
+    Without memory wrong arguments may not be explained, or only in part.
+    """
     found = NO_MEMORY.search(ran.printed or b"")
     if not found or ran.printed is None:
-        if command.status == 2 and (not ran.told or ran.told.startswith(UNREAD)):
-            ran = ran._replace(told="error: ")
+        if command.status == 2 and (not ran.error_text or ran.error_text.startswith(UNREAD)):
+            ran = ran._replace(error_text="error: ")
         return as_before(command, ran)
     before = ran.printed[:found.start()]
-    faults = wrong(ran, 2, before + found[0], ran.written)
+    faults = find_faults(ran, 2, before + found[0], ran.written)
     if not command.printed.startswith(before):
-        faults.append("what was printed before is no beginning of the whole")
+        faults.append("the output before is not a prefix of the complete output")
     if not (command.written or b"").startswith(ran.written or b""):
-        faults.append("the file is no beginning of the whole")
+        faults.append("the file is not a prefix of the complete file")
     return faults
 
 
 def fault_of_write(command: Command) -> bytes:
-    return b"fault 29 Write\n" if command.words[0] == "normal" else b"fault 42 Write\n"
+    return b"fault 29 Write\n" if command.program_args[0] == "normal" else b"fault 42 Write\n"
 
 
 def packets_before(data: bytes, offset: int) -> int:
-    """How many PES packets end at a byte of a file, or before it."""
+    """Count the PES packets that end at or before an offset."""
     count = at = 0
     while at + 6 <= offset:
         at += 6 + int.from_bytes(data[at + 4:at + 6], "big")
@@ -378,63 +388,65 @@ def packets_before(data: bytes, offset: int) -> int:
 
 
 def block_in(line: bytes) -> int:
-    """The block that a line `refused NN Name block N` names."""
+    """Return the block of a line `refused NN Name block N`."""
     return int(line.split()[4])
 
 
-def text_of_read(trial: Trial, command: Command, name: str, offset: int) -> bytes:
-    """What is printed where the read fails that begins at a byte of an input."""
+def read_fault_output(trial: Trial, command: Command, name: str, offset: int) -> bytes:
+    """Return the expected output if the read at an offset of an input fails."""
     lines = command.printed.splitlines(True)
     if name.endswith(".stl"):
         block = 0 if offset < GSI else (offset - GSI) // TTI + 1
-        before = lines[:max(block - 1, 0)] if command.words[0] == "show" else []
-        if "--all" in command.words:
-            # Reading went on after what was told of the blocks before.
+        before = lines[:max(block - 1, 0)] if command.program_args[0] == "show" else []
+        if "--all" in command.program_args:
+            # Faults of the blocks before do not stop reading.
             before = [line for line in lines if b" block " in line and block_in(line) < block]
         return b"".join(before) + b"fault 26 Read block %d\n" % block
     index = packets_before(trial.inputs[name], offset)
     starts = [at for at, line in enumerate(lines) if line.startswith(b"pes ")] + [len(lines) - 1]
-    before = lines[:starts[index]] if command.words[0] == "packets" else []
-    if "--all" in command.words:
-        # What is told of the subtitle file stands first. Of each PES packet as many faults are
-        # told, beside those of frames at which it is not known what is due; what may be trusted is
-        # at the end.
-        told = TOLD_OF_EACH[name] * index
+    before = lines[:starts[index]] if command.program_args[0] == "packets" else []
+    if "--all" in command.program_args:
+        # Lines about the subtitle file are first. Each PES packet has FAULTS_PER_PACKET, not
+        # counting frames without a known expected page. Trusted frames are at the end.
+        error_text = FAULTS_PER_PACKET[name] * index
         for line in lines:
             if line.startswith(b"refused ") and b" block " not in line and b" 78 " not in line:
-                told -= 1
-                if told < 0:
+                error_text -= 1
+                if error_text < 0:
                     break
             if line.startswith((b"refused ", b"ended 78 ")):
                 before.append(line)
     return b"".join(before) + b"fault 41 Read pes %d\n" % index
 
 
-def handed(calls: list[Call], call: Call) -> int:
-    """The bytes that calls of its kind moved before it, on its descriptor."""
-    return sum(it.result or 0 for it in calls[:calls.index(call)]
-               if (it.name, it.on, it.file) == (call.name, call.on, call.file))
+def bytes_before(calls: list[Call], call: Call) -> int:
+    """Return the bytes that earlier calls of the same kind moved on its descriptor."""
+    return sum(other.result or 0 for other in calls[:calls.index(call)]
+               if (other.name, other.on, other.file) == (call.name, call.on, call.file))
 
 
 def is_second_look(calls: list[Call], call: Call) -> bool:
-    """Whether a call comes once the output was stored: it is opened again, and its folder."""
+    """Return whether a call comes after the output was stored: it, and its folder, are opened
+    again."""
     return call.name != "write" and any(
-        it.name == "fsync" for it in calls[:calls.index(call)])
+        other.name == "fsync" for other in calls[:calls.index(call)])
 
 
 def is_explanation(call: Call) -> bool:
-    """Whether a call writes to standard error."""
+    """Return whether a call writes to standard error."""
     return call.name == "write" and call.on == "2"
 
 
 def judge(trial: Trial, command: Command, ran: Ran) -> list[str]:
-    """What is wrong with a run under strace, by the calls that were made to fail in it. A write to
-    standard error that fails changes nothing but that."""
+    """Return the faults of a run under strace, by the calls that were made to fail in it.
+
+    A failed write to standard error changes nothing else.
+    """
     injected = [call for call in ran.calls if call.is_injected]
     if not injected:
         return ["no call failed"] + as_before(command, ran)
     if any(is_explanation(call) for call in injected):
-        ran = ran._replace(told="error: \nsubttx: ")
+        ran = ran._replace(error_text="error: \nsubttx: ")
     failed = {(call.name, call.on): call for call in reversed(injected)
               if not is_explanation(call)}
     if not failed:
@@ -446,20 +458,20 @@ def judge(trial: Trial, command: Command, ran: Ran) -> list[str]:
     elif first.name in ("openat", "statx"):
         text, written = b"fault 90 Open\n", None
     elif first.name == "read":
-        text = text_of_read(trial, command, first.file, handed(ran.calls, first))
+        text = read_fault_output(trial, command, first.file, bytes_before(ran.calls, first))
         written = b"" if command.out else None
     elif first.name == "fsync":
         text = fault_of_write(command)
     elif first.on != "1":
         text = fault_of_write(command)
-        written = (command.written or b"")[:handed(ran.calls, first)]
+        written = (command.written or b"")[:bytes_before(ran.calls, first)]
     at_output = failed.get(("write", "1"))
     if at_output:
-        text = text[:handed(ran.calls, at_output)]
-    faults = wrong(ran, 2, text, written)
+        text = text[:bytes_before(ran.calls, at_output)]
+    faults = find_faults(ran, 2, text, written)
     for (name, on), call in failed.items():
-        after = [it for it in ran.calls[ran.calls.index(call) + 1:]
-                 if it.name == name and not is_explanation(it)]
-        if name in ("read", "write") and any(on in (it.on, "1") for it in after):
+        after = [other for other in ran.calls[ran.calls.index(call) + 1:]
+                 if other.name == name and not is_explanation(other)]
+        if name in ("read", "write") and any(on in (other.on, "1") for other in after):
             faults.append(f"a {name} after the one that failed")
     return faults

@@ -1,4 +1,4 @@
-"""The commands that dev/faults runs, and the files that they read."""
+"""Commands and input files of dev/faults."""
 from __future__ import annotations
 
 import os
@@ -10,11 +10,11 @@ from .pes import DATA, UNIT, begins_in
 from .stl import boxed, tti_block
 from .trial import Trial, read
 
-SUBTITLES = 1700  # so that each buffer of 64 KiB is filled three times at least
+SUBTITLES = 1700  # enough to fill each buffer of 64 KiB three times
 FLAGS = 6  # the byte of a PES packet that begins with the bits 10
 HEADER = "1515d0d015d015d00215" + "20" * 32
 
-# Each command with its status where nothing fails; the file that it writes is its third word.
+# Commands with their status if nothing fails; an output file is the third argument.
 COMMANDS = [
     ("packet", 0, ["packet", HEADER]),
     ("usage", 2, ["check", "../long.stl"]),
@@ -39,48 +39,49 @@ COMMANDS = [
 
 
 def subtitle(number: int) -> bytes:
-    """A TTI block with two lines of double height, due for the second with that number."""
+    """Return a TTI block with two double-height lines, in the second of that number."""
     lines = [boxed((b"%s line %5d " % (word, number)).ljust(34, b"x"))
              for word in (b"Upper", b"Lower")]
     return tti_block(number, 25 * number, 25 * number + 25, 20, 2,
                      (NEW_LINE * 2).join(lines))
 
 
-def with_even_bytes(whole: bytes) -> bytes:
-    """The transmission of such subtitles with a byte of even parity in each of its rows.
+def set_even_parity(sent: bytes) -> bytes:
+    """Give each row of the transmission a byte of even parity.
 
-    A sending of 368 bytes has two rows, after its header; the last one has 184 and no row.
+    A page transmission of 368 bytes has two rows, after its header; the last one has 184 bytes and
+    no row.
     """
-    data = bytearray(whole)
+    data = bytearray(sent)
     for begin in range(0, len(data) - 184, 368):
         for row in (1, 2):
             data[begin + DATA + UNIT * row + 24] ^= 1
     return bytes(data)
 
 
-def unread(whole: bytes) -> bytes:
-    """The transmission with no PES packet that can be read, for two reasons by turns."""
-    data = bytearray(whole)
-    for number, begin in enumerate(begins_in(whole)[:-1]):
+def make_unreadable(sent: bytes) -> bytes:
+    """Make each PES packet of the transmission unreadable, for two reasons in turn."""
+    data = bytearray(sent)
+    for number, begin in enumerate(begins_in(sent)[:-1]):
         data[begin + (DATA - 1 if number % 2 else FLAGS)] ^= 0x40
     return bytes(data)
 
 
 def prepare(trial: Trial) -> None:
-    """Makes the inputs, and runs each command once with nothing failing."""
+    """Write the inputs, and run each command once with nothing failing."""
     gsi = (read(os.path.join(TOP, "examples", "hello.stl")) or b"")[:GSI]
     blocks = [subtitle(number) for number in range(1, SUBTITLES + 1)]
-    trial.give("long.stl", gsi + b"".join(blocks))
+    trial.add_input("long.stl", gsi + b"".join(blocks))
     blocks[-5] = blocks[-5][:4] + b"\1" + blocks[-5][5:]  # a cumulative subtitle
-    trial.give("bad.stl", gsi + b"".join(blocks))
-    for name, status, words in COMMANDS:
-        command = trial.commands[name] = trial.command(name, words)
+    trial.add_input("bad.stl", gsi + b"".join(blocks))
+    for name, status, program_args in COMMANDS:
+        command = trial.commands[name] = trial.command(name, program_args)
         if command.status != status:
-            sys.exit(f"faults: where nothing fails, {name} ends with {command.status}: "
+            sys.exit(f"faults: {name} ends with {command.status} though nothing fails: "
                      f"{command.printed!r}")
         if name == "schedule":
             written = command.written or b""
-            trial.give("long.pes", written)
-            trial.give("cut.pes", written[:-100])
-            trial.give("even.pes", with_even_bytes(written))
-            trial.give("unread.pes", unread(written))
+            trial.add_input("long.pes", written)
+            trial.add_input("cut.pes", written[:-100])
+            trial.add_input("even.pes", set_even_parity(written))
+            trial.add_input("unread.pes", make_unreadable(written))

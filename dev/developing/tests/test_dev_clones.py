@@ -223,7 +223,7 @@ class Clones(Case):
     def test_runs_where_nothing_may_be_written(self) -> None:
         """The clone belongs to another user, or may only be read."""
         clone, user = Clone(self), None if os.geteuid() else ANOTHER_USER
-        if user and not Trial.can(["test", "-x", clone.path("subttx")], user=user):
+        if user and not Trial.can_run(["test", "-x", clone.path("subttx")], user=user):
             self.skipTest("a read-only clone, since no other user can read it")
         subprocess.run(["chmod", "-R", "a-w", clone.top], check=True)
         clone.runs("read only", clone.run(*PACKET, user=user))

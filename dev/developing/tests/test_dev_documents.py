@@ -146,7 +146,7 @@ class Made(Case):
 
     def test_is_as_it_is_made(self) -> None:
         """dev/make-pages writes these files."""
-        for name, text in pages.made().items():
+        for name, text in pages.make_pages().items():
             self.must(f"dev/make-pages: {name}", read(os.path.join(TOP, name)) == text)
 
     def test_has_each_option_of_the_program(self) -> None:
@@ -176,29 +176,29 @@ class Parts(unittest.TestCase):
         self.assertEqual([one.choices() for one in found], [[], [], [], ["a", "b", "c"]])
 
     def test_reads_a_help(self) -> None:
-        self.assertEqual(pages.entries(HELP), [
+        self.assertEqual(pages.parse_entries(HELP), [
             ("--help", "", "show it"), ("--from", "TIME", "the first frame"),
             ("--kind", "{a,b}", "which one"), ("-o", "OUT", "the file to write")])
 
     def test_makes_pages(self) -> None:
-        made = pages.of_program(USAGE, TABLE)
+        made = pages.program_parts(USAGE, TABLE)
         self.assertIn(".B listen\n.I PES\n.B \\-\\-at TIME\n.OP \\-\\-page P\n", made["synopsis"])
         self.assertIn("\\fB\\-\\-page\\fP \\fIP\\fP\nThe page: one. Without it: \\fB888\\fP.",
                       made["options"])
-        made = pages.of_tool(HELP)
+        made = pages.tool_parts(HELP)
         self.assertEqual(made["status"], "Status 0 or 2.\n")
         self.assertIn("Which one. WORD is a, b.", made["options"])
         self.assertIn("[\\-\\-from TIME] [\\-o OUT]", made["synopsis"])
 
     def test_makes_the_table_of_a_chapter(self) -> None:
         """Of what `check` has not; without what takes an option back."""
-        made = pages.of_chapter("| `--page P` | `check` | the page | 888 |\n")["options"]
+        made = pages.chapter_parts("| `--page P` | `check` | the page | 888 |\n")["options"]
         for name, is_there in (("--page P", False), ("--every N", True), ("--strict", True),
                                ("--no-keeping", False)):
             self.assertEqual(f"| `{name}` | " in made, is_there, name)
 
     def test_makes_a_completion(self) -> None:
-        made = pages.completed(USAGE, TABLE, [HELP])
+        made = pages.completion_parts(USAGE, TABLE, [HELP])
         self.assertIn("--kind) _subttx_words 'a b c'", made["values"])
         self.assertIn("        --at | --from | --page)\n", made["values"])
         self.assertIn("check) options='--page --all' ;;", made["options"])
@@ -206,10 +206,10 @@ class Parts(unittest.TestCase):
 
     def test_puts_parts_between_their_lines(self) -> None:
         text = "a\n# made: one\nold\n# end\nb\n"
-        self.assertEqual(pages.with_parts(text, {"one": "new\n"}),
+        self.assertEqual(pages.replace_parts(text, {"one": "new\n"}),
                          "a\n# made: one\nnew\n# end\nb\n")
         with self.assertRaises(Stop):
-            pages.with_parts(text, {"two": ""})
+            pages.replace_parts(text, {"two": ""})
 
 
 # The lists of tools and modules: each has its row, and each row is of one that is there.

@@ -10,7 +10,7 @@ import unittest
 import xml.etree.ElementTree as tree
 from typing import Callable, NamedTuple
 
-from developing.pes import DATA, UNIT, mirrored, packet, pts_bytes, pts_in, whole_in
+from developing.pes import DATA, UNIT, mirrored, packet, pts_bytes, pts_in, complete_packets
 from developing.stl import boxed, gsi_block, subtitle_blocks, tti_block
 from subtitles.common.times import CLOCK, FRAMES_OF_A_DAY, TICKS, frame_of, time_of
 from subtitles.formats.listing import (
@@ -86,7 +86,8 @@ class Made:
         subprocess.run([BENCH.program, "schedule", self.path_of_stl, self.path_of_pes, *words],
                        check=False, stdout=subprocess.DEVNULL)
         with open(self.path_of_pes, "rb") as file:
-            pes = whole_in(file.read() or example_bytes("hello.pes"))  # of no subtitle none is sent
+            # A file without subtitles sends nothing.
+            pes = complete_packets(file.read() or example_bytes("hello.pes"))
         kinds: list[Callable[[list[bytes], int], None]] = [
             self.lose, self.stop_reading, self.move, self.hit, self.swap, self.send_late, self.cut,
             self.send_elsewhere]

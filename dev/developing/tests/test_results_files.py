@@ -23,7 +23,7 @@ from subtitles.request.lines import Item
 from subtitles.results import files
 from subtitles.results.files import object_at, object_of, table_lines, unjudged
 from subtitles.results.schema import FAULT as ROWS_OF_FAULT, FORMAT, LISTS, VERDICT, misfit, schema
-from ..pages import SCHEMA, laid_out
+from ..pages import SCHEMA, format_json
 from .bench import Case, example_bytes
 from .judged import judged
 from .parts import asked_for, defaults
@@ -81,7 +81,7 @@ class Written(Case):
 
     def test_schema_is_made(self) -> None:
         """It is what dev/make-pages makes of the table, and is a schema."""
-        self.must("made", read(os.path.join(TOP, SCHEMA)) == laid_out(schema()) + "\n",
+        self.must("made", read(os.path.join(TOP, SCHEMA)) == format_json(schema()) + "\n",
                   "dev/make-pages")
         self.must("read", second_reader() is None or second_reader().schema == read_schema())
 
