@@ -1,41 +1,42 @@
-"""What the program prints, from the definitions, for dev/check-every-place.
+"""A second implementation of what the program prints, from the definitions, for
+dev/check-every-place.
 
-Of `check --all`:
+For `check --all`:
 
-reading            subtitle files, PES packets and Teletext packets, and what is wrong with one
-words              the options of `check`, and what is wrong with one
-national           national options: the bits of a header, and the bytes that give a cell
+reading            parse subtitle files, PES packets and Teletext packets, and find their faults
+words              parse the options of `check`, and find their faults
+national           national options: bits of a header, and the bytes of each character
 rows               the page that a subtitle draws
-due                what is told of a subtitle file, and the pages that are due
-on_air             what a receiver holds, and the rules that a packet breaks
-ends               what stands at the ends of frames
-definitions        everything that is broken in a pair of files, as lines
-trust              which frames may be trusted beside it
-told               lines of faults, and their names
-recordings         the PES packets that a transport stream carries, and ranges of them
+due                faults of a subtitle file, and the expected pages
+on_air             the page that a receiver decodes, and the rules for packets
+ends               faults at the ends of frames
+definitions        all faults of a pair of files, as lines
+trust              which frames are trusted in spite of faults
+told               lines and names of faults
+recordings         PES packets of a transport stream, and ranges of them
 
-Of other commands:
+For other commands:
 
 scheduling         what `schedule` writes
 listening          what `packets` and `listen` print
-calls              calls of the program, and what the definitions answer
+calls              calls of the program, and their expected output
 
-What is known:
+Examples with a known result:
 
-known              pairs of files whose lines are known, and stand in no test of the crates
-within             such pairs where a page may be some frames late, or is kept
-one_file           such pairs for bounds of subtitle files that no pair at random is near to
+known              pairs of files that no test of the crates has
+within             pairs with late pages, or headers that keep the page
+one_file           pairs at bounds of subtitle files that random pairs do not reach
 one_rule           pairs of files that break one rule
-recorded           such calls about transport streams and ranges of PES packets
-carried_laws       what is promised of a recording, tried at random
+recorded           calls about transport streams and ranges of PES packets
+carried_laws       promises about recordings, on random streams
 
-At random:
+Random examples:
 
-pairs              pairs of files, broken
-as_houses          what a house asks for: layouts, parts, headers that keep, refused subtitles
-broken             transmissions, broken
-late               transmissions sent late, in fields, with PTS that are a bit off
-streams            transport streams, with losses and worse
+pairs              pairs of files with faults
+broadcasters       layouts, parts, headers that keep the page, refused subtitles
+broken             transmissions with faults
+late               late transmissions, in two fields, with inexact PTS
+streams            transport streams with losses and faults
 random_calls       calls about these
 trying             calls the program, and compares
 """

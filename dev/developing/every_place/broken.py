@@ -1,4 +1,4 @@
-"""Transmissions broken at random: their bytes, Teletext packets, PES packets, order and length."""
+"""Break random transmissions: bytes, Teletext packets, PES packets, their order and length."""
 from __future__ import annotations
 
 import io
@@ -10,23 +10,23 @@ from developing.pes import (
 from subtitles.common.times import CLOCK, FRAMES_OF_A_DAY, TICKS
 from subtitles.formats.teletext import CODE_WORDS
 
-PACKET = 4  # where a data unit has its Teletext packet
-MOST_LINES = 16  # that `pes_packet` has room for
+PACKET = 4  # place of the Teletext packet in a data unit
+MOST_LINES = 16  # Teletext packets that `pes_packet` can hold
 LETTERS = b"ABCDEFGHIJKLMNOPQRSTUVWXYZabcdefghijklmnopqrstuvwxyz 0123456789.,?!'"
 
 
 def units_in(packet: bytes | bytearray) -> list[int]:
-    """Where the data units of a PES packet that carry Teletext begin."""
+    """Return where the data units of a PES packet with Teletext begin."""
     return [at for at in range(DATA, len(packet), UNIT) if packet[at] in (2, 3)]
 
 
 def teletext_in(packet: bytes | bytearray) -> list[bytes]:
-    """The Teletext packets of a PES packet."""
+    """Return the Teletext packets of a PES packet."""
     return [mirrored(bytes(packet[at + PACKET:at + UNIT])) for at in units_in(packet)]
 
 
 def random_header(chance: Random) -> bytes:
-    """A header of the page, of another one, or of another magazine, with any control bits."""
+    """Return a header of the page, another page or another magazine, with any control bits."""
     units, tens = chance.choice([8, 8, 15]), chance.choice([8, 8, 15])
     numbers = [units, tens, 0, chance.choice([8, 8, 0]), 0, chance.choice([8, 8, 12]),
                chance.choice([1, 1, 9]), chance.choice([0, 0, 8, 1])]
@@ -34,26 +34,26 @@ def random_header(chance: Random) -> bytes:
 
 
 def random_packet(chance: Random) -> bytes:
-    """A header, a row, or a packet of enhancement."""
+    """Return a header, a row, or an enhancement packet."""
     if chance.random() < 0.4:
         return random_header(chance)
     number = chance.choice([1, 22, 23, 24, 25, 26, 27, 28, 29, 30])
     return teletext_packet(chance.choice([0, 0, 0, 2]), number, [], chance.choices(LETTERS, k=40))
 
 
-# What may be changed in a PES packet, and how often.
+# Changes of a PES packet, and their weights.
 WAYS = ["bit", "bit", "code", "code", "code", "drop", "add", "add", "enhancement", "swap", "frame",
         "byte", "field"]
 
 
 def change(way: str, chance: Random, packet: bytearray) -> None:
-    """Changes something in a PES packet that has Teletext."""
+    """Change something in a PES packet with Teletext."""
     units, teletext = units_in(packet), teletext_in(packet)
     if way == "bit":
         at = chance.choice(units)
         place = chance.choice([chance.randrange(2), chance.randrange(10), chance.randrange(42)])
         packet[at + PACKET + place] ^= 1 << chance.randrange(8)
-    elif way == "code":  # in an address or a header, or another letter in a row
+    elif way == "code":  # of an address or a header, or a letter of a row
         at = chance.choice(units) + PACKET
         place = chance.choice([chance.randrange(2, 10), chance.randrange(10, 42)])
         code = chance.choice([CODE_WORDS[chance.randrange(16)], odd(chance.randrange(128))])
@@ -82,16 +82,16 @@ def change(way: str, chance: Random, packet: bytearray) -> None:
 
 
 def change_field(chance: Random, packet: bytearray) -> None:
-    """Another bit in a field: flags, header length, PTS, data_identifier, or those of a unit."""
+    """Flip a bit of a field: flags, header length, PTS, data_identifier, or of a unit."""
     unit = chance.choice(units_in(packet))
     at = chance.choice([6, 7, 8, 9, DATA - 1, unit, unit + 1, unit + 2, unit + 3])
-    # Seldom a bit by which the PTS is hours away, since the frames between are judged one by one.
+    # A high bit of the PTS is rare: each frame of the hours between is checked.
     bits = [0, 4, 5, 6, 7] if at == 9 and chance.random() < 0.9 else range(8)
     packet[at] ^= 1 << chance.choice(bits)
 
 
 def add_packet(chance: Random, teletext: list[bytes]) -> None:
-    """One more packet at any place: a new one, or one of those there, changed or not."""
+    """Insert a Teletext packet: a new one, or a copy, changed or not."""
     made, way = random_packet(chance), chance.random()
     if way < 0.6:
         made = chance.choice(teletext)
@@ -102,12 +102,12 @@ def add_packet(chance: Random, teletext: list[bytes]) -> None:
 
 
 def move(packet: bytearray, ticks: int) -> None:
-    """Another PTS."""
+    """Change the PTS."""
     packet[9:14] = pts_bytes((pts_in(packet) + ticks) % CLOCK)
 
 
 def change_order(chance: Random, packets: list[bytearray]) -> None:
-    """PES packets twice, left out, or in another order."""
+    """Repeat, remove or reorder PES packets."""
     at, way = chance.randrange(len(packets)), chance.randrange(5)
     if way == 0 and len(packets) > 1:
         del packets[at]
@@ -123,7 +123,7 @@ def change_order(chance: Random, packets: list[bytearray]) -> None:
 
 
 def change_some(chance: Random, packets: list[bytearray]) -> None:
-    """One PES packet is changed, or some after each other in the same ways."""
+    """Change a PES packet, or several in a row in the same ways."""
     ways = [(chance.choice(WAYS), chance.random()) for _ in range(chance.choice([1, 1, 1, 2, 3]))]
     first = chance.randrange(len(packets))
     count = chance.choice([1, 1, 1, 2, 3, len(packets)])
@@ -133,14 +133,14 @@ def change_some(chance: Random, packets: list[bytearray]) -> None:
                 change(way, Random(seed), packet)
 
 
-# What keeps a PES packet from being read: bits of a byte of its head, or of its data units.
+# Bits that make a PES packet unreadable, by byte of its head or its data units.
 HEAD_BITS = [(6, 0xC0), (7, 0x40), (7, 0x80), (8, 1), (9, 0x10), (11, 1), (13, 1), (DATA - 1, 0x30)]
 UNIT_BITS = [(1, 1), (1, 0x80), (3, 1), (2, 0x1E), (2, 0x20)]
 
 
 def damage(chance: Random, packet: bytearray) -> None:
-    """A PES packet that, most often, can't be read any more, or has no frame; now and then for two
-    reasons."""
+    """Make a PES packet unreadable or without a frame, sometimes for two reasons; rarely fail to.
+    """
     for _ in range(chance.choice([1, 1, 1, 1, 2])):
         way = chance.random()
         if way < 0.25:
@@ -154,8 +154,11 @@ def damage(chance: Random, packet: bytearray) -> None:
 
 
 def damage_some(chance: Random, packets: list[bytearray]) -> None:
-    """Some PES packets after each other are damaged, in one way or each in its own; some between
-    are not, and a packet of before may stand beside them, where frames then don't rise."""
+    """Damage several PES packets in a row, alike or not.
+
+    Some may stay intact, and an earlier packet may be repeated next to them, with a frame that does
+    not rise.
+    """
     first = chance.randrange(len(packets))
     count = chance.choice([1, 1, 2, 3, 4, 8, len(packets)])
     seed = chance.random() if chance.random() < 0.6 else None
@@ -168,8 +171,7 @@ def damage_some(chance: Random, packets: list[bytearray]) -> None:
 
 
 def damage_head(chance: Random, packets: list[bytearray]) -> None:
-    """Another start code, or another length: one that no PES packet has, or that of a shorter or a
-    longer one, whose end is then within a packet, or at the end of another."""
+    """Change the start code or the length, to an invalid one or one that ends elsewhere."""
     packet = chance.choice(packets)
     if chance.random() < 0.3:
         packet[chance.randrange(4)] ^= 1 << chance.randrange(8)
@@ -180,7 +182,7 @@ def damage_head(chance: Random, packets: list[bytearray]) -> None:
 
 
 def break_pes(chance: Random, data: bytes) -> bytes:
-    """A transmission with some of its packets, their order, or its length otherwise."""
+    """Change some packets of a transmission, their order, or its length."""
     packets = list(map(bytearray, pes_packets(io.BytesIO(data))))
     for _ in range(chance.choice([0, 1, 1, 2, 3, 6, 12])):
         if packets:

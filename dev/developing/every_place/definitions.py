@@ -1,7 +1,6 @@
-"""What `check --all` has to print, from the definitions: a second implementation, plain and slow.
+"""What `check --all` must print, by the definitions: a second implementation, simple and slow.
 
-Nothing is kept from one PES packet to the next but the list of the packets before it: what a
-receiver holds is looked up there at the end of each frame.
+It stores the list of all Teletext packets, and decodes the page from it at the end of each frame.
 """
 from __future__ import annotations
 
@@ -9,63 +8,63 @@ from typing import Iterable
 
 from developing.pes import address_of
 from subtitles.common.times import time_of
-from .due import Due, subtitles_in
+from .due import Due, judge_subtitles
 from .ends import Ends
-from .on_air import Packet, erases, held_after, packet_faults, page_of
-from .reading import CUT, header_of, pieces_of, sending_in
-from .recordings import Range, carried, range_of
+from .on_air import Packet, erases, decode, packet_faults, page_of
+from .reading import CUT, header_of, split_packets, read_packet
+from .recordings import Range, read_stream, range_of
 from .told import ended, refused
 from .trust import Course, End, Event, Sent, lines_of
 from .words import Options
 
 
 class Transmission:
-    """The pieces of a file, one after another, and what is told of them. The first of them has this
+    """The PES packets and gap markers of a file, in order, and their faults; `first` is their
     index."""
 
     def __init__(self, due: Due, options: Options, first: int) -> None:
         self.due, self.options, self.first = due, options, first
         self.course, self.ends = Course(), Ends(due, options)
-        self.frames: list[int] = []  # of the PES packets that were read
+        self.frames: list[int] = []  # of readable PES packets
         self.packets: list[Packet] = []
         self.headers: list[int] = []  # the frames with a header of the page
-        # Of the PES packets that are sent together: the last one, where the end of their frame is
-        # still to come; how many Teletext packets they have; whether they are the first ones.
+        # PES packets of one frame: the last one, if the frame has not ended; how many Teletext
+        # packets they have; whether the frame is the first one.
         self.sending: int | None = None
         self.count, self.is_first = 0, True
-        # The number of the pieces in a row that were passed over last, the first and the last one.
-        self.passed: tuple[int, int, int] | None = None
+        # The last run of skipped items: their fault, the first and the last one.
+        self.skipped: tuple[int, int, int] | None = None
 
     def place_of(self, pes: int) -> str:
-        """The place of a piece."""
+        """Return the place of an item."""
         return f"pes {self.first + pes}"
 
     def tell(self, number: int, place: str, pes: int | None, frame: int | None = None) -> None:
         self.add(Event(refused(number, place), number, pes, frame))
 
     def add(self, event: Event) -> None:
-        """The next event, with the end of the pieces before it that were passed over."""
-        self.end_passed()
+        """Add an event, after the end of skipped items."""
+        self.end_skipped()
         self.course.events.append(event)
 
-    def pass_over(self, pes: int, number: int) -> None:
-        """A piece that is not read: the first of those in a row with one number is told."""
-        self.course.passed.append(pes)
-        if self.passed and (self.passed[0], self.passed[2]) == (number, pes - 1):
-            self.passed = number, self.passed[1], pes
+    def skip(self, pes: int, number: int) -> None:
+        """Skip an unreadable item; report the first of a run with the same fault."""
+        self.course.skipped.append(pes)
+        if self.skipped and (self.skipped[0], self.skipped[2]) == (number, pes - 1):
+            self.skipped = number, self.skipped[1], pes
         else:
             self.tell(number, self.place_of(pes), pes)
-            self.passed = number, pes, pes
+            self.skipped = number, pes, pes
 
-    def end_passed(self) -> None:
-        """Where a number was told of the first of some pieces, it ended with the last."""
-        if self.passed and self.passed[1] < self.passed[2]:
-            number, _, last = self.passed
+    def end_skipped(self) -> None:
+        """Report the end of a run of skipped items with more than one."""
+        if self.skipped and self.skipped[1] < self.skipped[2]:
+            number, _, last = self.skipped
             self.course.events.append(Event(ended(number, self.place_of(last)), number, last))
-        self.passed = None
+        self.skipped = None
 
     def take(self, pes: int, frame: int, teletext: list[bytes]) -> None:
-        """The next PES packet. Where a page may be late, those of one frame are sent together."""
+        """Take a PES packet. If pages may be late, those of one frame belong together."""
         if self.options.within == 0 or self.frames[-1:] != [frame]:
             self.end_sending()
             self.begin(pes, frame)
@@ -79,7 +78,7 @@ class Transmission:
             self.end_sending()
 
     def begin(self, pes: int, frame: int) -> None:
-        """What is told before the packets of a frame."""
+        """Report what is due before the packets of a frame."""
         begin = self.due.first()
         if not self.frames:
             self.ends.first = frame
@@ -92,7 +91,7 @@ class Transmission:
         self.end(pes, range(max(self.frames) + 1, frame))
 
     def take_packets(self, pes: int, frame: int, teletext: list[bytes]) -> bool:
-        """Its Teletext packets; answers whether one of them is a header that erases the page."""
+        """Take its Teletext packets; return whether one is a header that erases the page."""
         page, has_erased = self.options.page, False
         for one in teletext:
             packet = Packet(one, address_of(one), header_of(one))
@@ -106,7 +105,7 @@ class Transmission:
         return has_erased
 
     def end_sending(self) -> None:
-        """The end of the frame that was read last, where it is still to come."""
+        """End the frame that was read last, if it has not ended."""
         if self.sending is None:
             return
         pes, frame, self.sending = self.sending, self.frames[-1], None
@@ -116,20 +115,19 @@ class Transmission:
         self.end(pes, [frame])
 
     def end(self, pes: int, frames: Iterable[int]) -> None:
-        """The ends of frames between which nothing is sent: those before a PES packet, or its own
-        after the last one of it."""
-        held, ends = held_after(self.packets, self.options), self.ends
+        """End frames: those without packets before a PES packet, or its own."""
+        decoded, ends = decode(self.packets, self.options), self.ends
         for frame in frames:
-            for number, line in ends.at(frame, held, self.headers, self.frames):
+            for number, line in ends.at(frame, decoded, self.headers, self.frames):
                 self.add(Event(line, number, pes, frame, True))
             if self.course.is_rising:
                 self.course.ends.append(
-                    End(frame, bool(ends.standing), ends.since, ends.is_late))
+                    End(frame, bool(ends.active), ends.unfinished_since, ends.is_late))
 
     def close(self, broken: int | None, pes: int) -> None:
-        """The end after so many pieces, and what is wrong with the bytes after them, if any are."""
+        """End the file after `pes` items; `broken` is the fault of the bytes after them."""
         self.end_sending()
-        self.end_passed()
+        self.end_skipped()
         for number, line in self.ends.after_the_last():
             self.add(Event(line, number, None))
         end = self.due.last()
@@ -138,44 +136,47 @@ class Transmission:
             self.tell(broken, self.place_of(pes), None)
         elif pes == 0:
             self.tell(60, "", None)
-        elif self.frames and (self.ends.since is not None and not self.ends.is_late
+        elif self.frames and (self.ends.unfinished_since is not None and not self.ends.is_late
                               or end is not None and end > self.frames[-1]):
             self.tell(74, f"frame {time_of(self.frames[-1])}", None)
 
     def accepted(self) -> str:
-        """The line where nothing is broken."""
+        """Return the line for a transmission without faults."""
         count = self.frames[-1] - self.frames[0] + 1
         return f"accepted {count} frames {len(self.headers)} transmissions"
 
 
 def failure_at(read: Range, count: int, broken: int | None, is_failing: bool) -> str | None:
-    """The line of a source that is failing, after so many pieces and what is wrong with the bytes
-    after them: it fails where the bytes end, if they are read so far."""
+    """Return the line of a failing source, `None` if the failure is not reached.
+
+    The source fails where its bytes end, after `count` items; `broken` is the fault of the bytes
+    after them.
+    """
     is_so = is_failing and read.is_end and broken in (None, CUT)
     return f"fault 41 Read pes {read.first + count}" if is_so else None
 
 
-def read_by(data: bytes, options: Options) -> Range:
-    """What is read of a PES file, or of a transport stream, by the options."""
-    pes = data if options.pid is None else carried(data, options.pid, options.size).data
+def read_range(data: bytes, options: Options) -> Range:
+    """Return what is read of a PES file or a transport stream with these options."""
+    pes = data if options.pid is None else read_stream(data, options.pid, options.size).data
     return range_of(pes, options.first, options.last)
 
 
 def check_all(stl: bytes, pes: bytes, options: Options, is_failing: bool = False) -> list[str]:
     """The lines of `check --all`. A PES file, or a transport stream, may fail where its bytes end.
     """
-    subtitles = subtitles_in(stl, options)
+    subtitles = judge_subtitles(stl, options)
     told = subtitles.lines
     if subtitles.records is None:
         return [*told, f"{len(told)} faults"]
-    read = read_by(pes, options)
-    pieces, broken = pieces_of(read.data)
+    read = read_range(pes, options)
+    pieces, broken = split_packets(read.data)
     due = Due(subtitles.records, subtitles.others, options)
     transmission = Transmission(due, options, read.first)
     for number, piece in enumerate(pieces):
-        sending = sending_in(piece, options.origin, options.within)
+        sending = read_packet(piece, options.origin, options.within)
         if isinstance(sending, int):
-            transmission.pass_over(number, sending)
+            transmission.skip(number, sending)
         else:
             transmission.take(number, *sending)
     # Where the source failed nothing more is told, and nothing ends.

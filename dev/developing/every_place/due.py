@@ -1,18 +1,20 @@
-"""What is told of a subtitle file, and the pages that are due by what can be judged of it."""
+"""Find the faults of a subtitle file, and the expected page of each frame."""
 from __future__ import annotations
 
 from typing import Iterator, NamedTuple
 
-from .reading import OF_FIRST_BLOCK, Outside, Record, StlFault, found_in
-from .rows import BLANK, TextFault, drawn
+from .reading import OF_FIRST_BLOCK, Outside, Record, StlFault, read_subtitles
+from .rows import BLANK, TextFault, draw_page
 from .told import refused
 from .words import Options
 
 
 class Subtitles(NamedTuple):
-    """What is told of a subtitle file, and the records that can be judged, with whether another
-    subtitle that is asked for stands before each of them, and last behind them; `None` where the
-    PES file is not read."""
+    """The faults of a subtitle file, and its correct records.
+
+    `others` says for each record, and for the end, whether a subtitle with a fault comes before it.
+    `records` is `None` if the PES file is not read.
+    """
 
     lines: list[str]
     records: list[Record] | None
@@ -20,13 +22,13 @@ class Subtitles(NamedTuple):
 
 
 def record_faults(record: Record, before: Record | None, options: Options) -> Iterator[str]:
-    """The lines for everything that is broken in a record."""
+    """Yield a line for each fault of a record."""
     if before and record.tci < before.tci:
         yield refused(56, f"block {record.block}")
     elif before and record.tci < before.tco:
         yield refused(57, f"block {record.block}")
     try:
-        drawn(record, options.option, options.layout)
+        draw_page(record, options.option, options.layout)
     except TextFault as fault:
         yield refused(fault.number, f"block {record.block} at {fault.at}")
 
@@ -35,14 +37,14 @@ def is_of_order(line: str) -> bool:
     return line.startswith(("refused 56 ", "refused 57 "))
 
 
-def subtitles_in(data: bytes, options: Options) -> Subtitles:
-    """What is told of a file, and what can be judged beside it."""
+def judge_subtitles(data: bytes, options: Options) -> Subtitles:
+    """Return the faults of a file, and the records that can be checked in spite of them."""
     told: list[str] = []
-    groups: list[Record | None] = []  # those that are asked for, `None` where one is no record
-    faults: dict[int, list[str]] = {}  # of the records, by their places among the groups
+    groups: list[Record | None] = []  # requested subtitles, `None` for one with a fault
+    faults: dict[int, list[str]] = {}  # of records, by their index in `groups`
     before: Record | None = None
     found: list[Record | StlFault | Outside] = list(
-        found_in(data, options.is_open, options.from_frame, options.to_frame))
+        read_subtitles(data, options.is_open, options.from_frame, options.to_frame))
     for one in found:
         if isinstance(one, StlFault):
             told.append(refused(one.number, f"block {one.block}"))
@@ -66,19 +68,18 @@ def subtitles_in(data: bytes, options: Options) -> Subtitles:
 
 
 class Due:
-    """The page that is due at each frame, and where it is undecided."""
+    """The expected page of each frame, and the frames where it is undecided."""
 
     def __init__(self, records: list[Record], others: list[bool], options: Options) -> None:
         self.others = others
-        self.pages = [(one.tci, one.tco, drawn(one, options.option, options.layout))
+        self.pages = [(one.tci, one.tco, draw_page(one, options.option, options.layout))
                       for one in records]
 
     def at(self, frame: int) -> bytes:
         return next((page for tci, tco, page in self.pages if tci <= frame < tco), BLANK)
 
     def is_undecided(self, frame: int) -> bool:
-        """Whether none is due, and a subtitle that is no record of these stands there in the file.
-        """
+        """Return whether no page is expected, but the file has a subtitle with a fault there."""
         count = sum(tci <= frame for tci, _, _ in self.pages)
         return self.others[count] and not any(tci <= frame < tco for tci, tco, _ in self.pages)
 
@@ -89,5 +90,5 @@ class Due:
         return self.pages[-1][1] if self.pages else None
 
     def begins_of(self, end: int) -> list[int]:
-        """Where the subtitles begin that end at a frame."""
+        """Return the first frames of the subtitles that end at a frame."""
         return [tci for tci, tco, _ in self.pages if tco == end]

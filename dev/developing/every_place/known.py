@@ -8,7 +8,7 @@ from developing.stl import subtitle_blocks
 from subtitles.common.program import TOP
 from subtitles.common.times import TICKS
 from subtitles.formats.stl import GSI
-from .calls import KnownCall, known_pair
+from .calls import KnownCall, known_check
 from .one_rule import CLOSING, FIRST, HEADER, PACKET_26, PAGE, coded
 
 
@@ -24,7 +24,7 @@ def poked(data: bytes, changes: dict[int, int]) -> bytes:
     return bytes(changed)
 
 
-# One subtitle from 10:00:00:00 to 10:00:02:00, sent at these two frames.
+# One subtitle, sent at its first frame 10:00:00:00 and cleared at 10:00:02:00.
 HELLO, SENT = example("hello.stl"), example("hello.pes")
 SENT_25 = example("hello-25.pes")  # also at the frame between them
 BLANK = SENT_25[368:]  # the last of these: a page without rows
@@ -35,24 +35,24 @@ WHOLE = [HEADER, ROW, CLOSING]
 HI = b"\x0d\x0b\x0bHi\x0a\x0a"
 
 
-def told(*lines: str) -> list[str]:
-    """Some lines, and behind those of faults how many these are."""
+def with_count(*lines: str) -> list[str]:
+    """Add the line with the number of faults."""
     count = sum(line.startswith("refused") for line in lines)
     return [*lines, f"{count} faults"] if count else list(lines)
 
 
 def pair(name: str, pes: bytes, *lines: str, words: str = "", stl: bytes = HELLO) -> KnownCall:
-    """A pair, and what is told of it."""
-    return known_pair(name, stl, pes, words, told(*lines))
+    """Return a pair with its lines."""
+    return known_check(name, stl, pes, words, with_count(*lines))
 
 
 def failing(name: str, pes: bytes, *lines: str, words: str = "") -> KnownCall:
-    """The same of a source that fails at the end."""
-    return known_pair(name, HELLO, pes, words, list(lines), True)
+    """Return such a pair with a source that fails at its end."""
+    return known_check(name, HELLO, pes, words, list(lines), True)
 
 
 def refused(fault: str, time: str, place: str = "") -> str:
-    """The line of a fault at a frame of 10:00."""
+    """Return the line of a fault at a frame of 10:00."""
     return f"refused {fault} frame 10:00:{time} {place}".rstrip()
 
 

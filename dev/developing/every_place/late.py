@@ -1,8 +1,8 @@
-"""Transmissions as they come out of an inserter and a multiplexer, at random.
+"""Make random transmissions as an inserter and a multiplexer send them.
 
-A page is sent in several PES packets, of two fields or of frames that follow, later than it is due,
-with a PTS that is some ticks off, or again while it is being sent: most often by no more frames
-than are allowed, now and then by more. PES packets that can't be read stand between.
+A page is sent in several PES packets, in two fields or in consecutive frames, later than expected,
+with a PTS off by some ticks, or repeated while it is sent: usually within the allowed frames,
+sometimes beyond. Unreadable PES packets are inserted.
 """
 from __future__ import annotations
 
@@ -16,26 +16,25 @@ from .broken import LETTERS, MOST_LINES, damage, random_packet, teletext_in
 
 
 class Part(NamedTuple):
-    """A PES packet: how many ticks after the first one it is sent, and its Teletext packets."""
+    """A PES packet: its time in ticks after the first one, and its Teletext packets."""
 
     time: int
     packets: list[bytes]
 
 
 FIELD = TICKS // 2
-EARLIEST, LATEST = -(TICKS // 4), TICKS - TICKS // 4 - 1  # ticks by which a PTS is of its frame
+EARLIEST, LATEST = -(TICKS // 4), TICKS - TICKS // 4 - 1  # range of a PTS within its frame
 
 
 def frame_in(time: int) -> int:
-    """Where the frame of a time begins."""
+    """Return the start of the frame at a time."""
     return (time - EARLIEST) // TICKS * TICKS
 
 
 # How each page is sent
 
 def spread(chance: Random, part: Part, most: int) -> list[Part]:
-    """The packets of a page in one to four PES packets, in some fields up to so many frames
-    later."""
+    """Spread a page over one to four PES packets, in fields up to so many frames later."""
     count = len(part.packets)
     ways = [chance.randrange(count + 1) for _ in range(chance.choice([0, 0, 1, 1, 2, 3]))]
     cuts = [0, *sorted(ways), count]
@@ -47,8 +46,8 @@ def spread(chance: Random, part: Part, most: int) -> list[Part]:
 
 
 def send(chance: Random, parts: list[Part], most: int) -> list[Part]:
-    """All pages, each in its own way or all in the same; where one is late, the next one is sent
-    after it or between."""
+    """Send all pages, each in its own way or all alike; after a late page or interleaved with it.
+    """
     seed = chance.random() if chance.random() < 0.5 else None
     made: list[Part] = []
     for part in parts:
@@ -61,21 +60,20 @@ def send(chance: Random, parts: list[Part], most: int) -> list[Part]:
 
 
 def move(chance: Random, parts: list[Part]) -> None:
-    """The PTS a bit off, each otherwise, by no more than keeps them in their frames; seldom by
-    more."""
+    """Change each PTS a little, within its frame; rarely more."""
     first, last = chance.choice([(EARLIEST, LATEST)] * 6 + [(EARLIEST - 1, LATEST + 1), (-2000, 0)])
     for at, part in enumerate(parts):
         ticks = chance.choice([first, last, chance.randrange(first, last + 1)])
         parts[at] = part._replace(time=frame_in(part.time) + ticks)
 
 
-# What is wrong, or sent besides, and how often.
+# Faults and additions, and their weights.
 ACCIDENTS = ["leave out", "leave out", "empty the last", "empty the last", "open", "hold back",
              "hold back", "send again", "send again", "erase", "erase", "misspell", "misspell"]
 
 
 def happen(chance: Random, parts: list[Part]) -> None:
-    """Something is wrong, or sent besides; what stands at another time comes at its place."""
+    """Make a fault or an addition; parts stay in order of time."""
     way, count = chance.choice(ACCIDENTS), len(parts)
     if way == "leave out":  # often the first PES packet, seldom the last
         del parts[chance.choice([0, chance.randrange(max(1, count - 1))])]
@@ -108,8 +106,7 @@ def happen(chance: Random, parts: list[Part]) -> None:
 
 
 def misspell(chance: Random, parts: list[Part]) -> None:
-    """Another letter in a row, or an even byte in it; often the whole PES packet is sent before or
-    after it, in the other field or the next frame."""
+    """Change a letter in a row, or its parity; often send the original PES packet next to it."""
     at = chance.randrange(len(parts))
     rows = [place for place, one in enumerate(parts[at].packets) if one[1] not in (0x15, 0xEA)]
     if not rows:
@@ -141,13 +138,13 @@ def parts_in(data: bytes) -> list[Part]:
 
 
 def joined(parts: list[Part], first: int) -> list[bytearray]:
-    """The PES packets, from the PTS of the first on."""
+    """Return the PES packets, from the PTS of the first on."""
     return [bytearray(pes_packet((first + part.time) % CLOCK, part.packets[:MOST_LINES]))
             for part in parts]
 
 
 def stand_between(chance: Random, packets: list[bytearray], origin: int) -> None:
-    """Some PES packets can't be read, or have no frame; most often more than stood there."""
+    """Make PES packets unreadable or without a frame; usually insert them."""
     for _ in range(chance.choice([1, 1, 2])):
         at = chance.randrange(len(packets))
         count = chance.choice([1, 1, 1, 2, 3])
@@ -161,8 +158,7 @@ def stand_between(chance: Random, packets: list[bytearray], origin: int) -> None
 
 
 def sent_late(chance: Random, data: bytes, within: int, origin: int) -> bytes:
-    """A transmission that is late by no more than some frames, or by a bit more; now and then with
-    something wrong besides."""
+    """Return a transmission that is late by some frames, sometimes with faults."""
     parts = parts_in(data)
     if not parts:
         return data

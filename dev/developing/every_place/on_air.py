@@ -1,4 +1,4 @@
-"""What a receiver holds of packets, looked up in their list; and the rules that a packet breaks."""
+"""Decode pages from a list of packets, and find the rules that a packet breaks."""
 from __future__ import annotations
 
 from typing import NamedTuple, Sequence
@@ -14,8 +14,7 @@ WITHOUT_PARITY = bytes(byte & 0x7F for byte in range(256))
 
 
 class Packet(NamedTuple):
-    """A Teletext packet as it is read: `header` is `None` in any other packet, and where it is
-    none."""
+    """A Teletext packet; `header` is `None` if it is no header, or an undecodable one."""
 
     data: bytes
     address: tuple[int, int] | None
@@ -23,9 +22,7 @@ class Packet(NamedTuple):
 
 
 def span_of(packets: Sequence[Packet], page: Page) -> tuple[Sequence[Packet], bool]:
-    """What follows the last header of the page, up to the header that ends it.
-
-    Answers these packets, and whether the page is still open after them.
+    """Return the packets from the last header of the page to its end, and whether the page is open.
     """
     begin = last_header(packets, page)
     if begin is None:
@@ -37,21 +34,23 @@ def span_of(packets: Sequence[Packet], page: Page) -> tuple[Sequence[Packet], bo
 
 
 def last_header(packets: Sequence[Packet], page: Page, has_to_erase: bool = False) -> int | None:
-    """The place of the last header of the page, or of the last that erases it."""
+    """Return the index of the last header of the page, or of the last one that erases it."""
     return next((at for at in reversed(range(len(packets))) if page_of(packets[at]) == page
                  and (erases(packets[at]) or not has_to_erase)), None)
 
 
 def ends_page(packet: Packet, page: Page) -> bool:
-    """Whether a packet is a header that ends the page where it is open."""
+    """Return whether a packet is a header that ends an open page."""
     header = packet.header
     return header is not None and (header[0][0] == page[0] or SERIAL in header[1])
 
 
 def long_span_of(packets: Sequence[Packet], page: Page, may_keep: bool) -> list[Packet]:
-    """What follows the headers of the page, each up to the one that ends it: from the last one that
-    erases on, where headers may keep the page, from the first one where none erases; else from the
-    last one on."""
+    """Return the packets of the page since it was last erased.
+
+    If no header erases it, start at the first header if headers may keep the page, else at the
+    last.
+    """
     first = last_header(packets, page, may_keep)
     if first is None:
         first = next((at for at, packet in enumerate(packets) if page_of(packet) == page), None)
@@ -81,7 +80,7 @@ def is_row(packet: Packet, page: Page) -> bool:
 
 
 def rows_in(span: Sequence[Packet], page: Page) -> dict[int, bytes]:
-    """The codes of the first packet of each row."""
+    """Return the codes of the first packet of each row."""
     rows: dict[int, bytes] = {}
     for packet in span:
         if packet.address and is_row(packet, page) and packet.address[1] not in rows:
@@ -93,31 +92,30 @@ def codes_of(packet: Packet) -> bytes:
     return packet.data[2:].translate(WITHOUT_PARITY)
 
 
-class Held(NamedTuple):
-    """What a receiver holds: 960 codes, whether the page is open, and the rows that came since the
-    last header of the page."""
+class Decoded(NamedTuple):
+    """The 960 codes of a page, whether it is open, and the rows received since its last header."""
 
     page: bytes
     is_open: bool
-    came: set[int]
+    received_rows: set[int]
 
     def first_difference(self, due: bytes) -> int | None:
-        """The first cell with another code, or with text that was not sent again."""
+        """Return the first cell with an unexpected code, or with text that was not sent again."""
         for row, place in enumerate(range(0, len(due), COLUMNS), 1):
             own, its = self.page[place:place + COLUMNS], due[place:place + COLUMNS]
-            if own == its and (row in self.came or its == BLANK[:COLUMNS]):
+            if own == its and (row in self.received_rows or its == BLANK[:COLUMNS]):
                 continue
             return next(place + at for at, code in enumerate(its)
-                        if code != own[at] or code != SPACE and row not in self.came)
+                        if code != own[at] or code != SPACE and row not in self.received_rows)
         return None
 
 
-def held_after(packets: Sequence[Packet], options: Options) -> Held:
-    """What a receiver holds after the packets that was blank before them."""
+def decode(packets: Sequence[Packet], options: Options) -> Decoded:
+    """Return the page that a receiver has after the packets, if it was blank before."""
     span, is_open = span_of(packets, options.page)
     rows = rows_in(long_span_of(packets, options.page, options.may_keep), options.page)
-    return Held(b"".join(rows.get(row, BLANK[:COLUMNS]) for row in range(1, 25)), is_open,
-                {*rows_in(span, options.page)})
+    return Decoded(b"".join(rows.get(row, BLANK[:COLUMNS]) for row in range(1, 25)), is_open,
+                   {*rows_in(span, options.page)})
 
 
 # The rules of a packet
@@ -127,20 +125,22 @@ def is_exact(codes: bytes) -> bool:
 
 
 def is_plain_subtitle_header(control: set[int], option: str) -> bool:
-    """C6 and C7 set; C5 and C10 clear; C12, C13 and C14 those of the national option."""
+    """Return whether C6 and C7 are set, C5 and C10 clear, and C12 to C14 those of the option."""
     return control >= {6, 7} and not control & {5, 10} and control & ALL_BITS == BITS[option]
 
 
 def is_repeat(packet: Packet, before: Sequence[Packet], is_open: bool, options: Options) -> bool:
-    """Whether a header of the page may keep it: it has the subcode of the one before it, and, where
-    complete pages are asked for, that page has ended."""
+    """Return whether a header may keep the page.
+
+    It must have the subcode of the previous header, and, with --complete, the page must have ended.
+    """
     last = next((one for one in reversed(before) if page_of(one) == options.page), None)
     return (options.may_keep and not (options.is_complete and is_open)
             and (last is None or subcode_of(last.data) == subcode_of(packet.data)))
 
 
 def packet_faults(packet: Packet, before: Sequence[Packet], options: Options) -> list[int]:
-    """The numbers of the rules that a packet breaks after those before it."""
+    """Return the rules that a packet breaks after the packets before it."""
     address, header, page = packet.address, packet.header, options.page
     _, is_open = span_of(before, page)
     is_stored = is_open and is_row(packet, page)

@@ -1,9 +1,8 @@
-"""Subtitle files with the lines that `check --all` prints of them, worked out by hand: those that
-stand in no test of the crates, and that no pair at random is near enough to.
+"""Subtitle files with the lines of `check --all`, worked out by hand.
 
-Each refusal of a block stands at its block, and a file that is taken is checked with a PES file
-without a byte, of which that is told. Each text that is drawn is checked with a transmission of
-these cells and no others, which is accepted.
+They are at bounds that no test of the crates has, and that random pairs do not reach. A refused
+block is reported at its block; an accepted file is checked with an empty PES file, whose fault is
+reported. Each drawn text is checked with a transmission of exactly these cells, which is accepted.
 """
 from __future__ import annotations
 
@@ -13,8 +12,8 @@ from developing.pes import packet, pes_packet
 from developing.stl import gsi_block, subtitle_blocks, tti_block
 from subtitles.common.times import TICKS
 from subtitles.formats.stl import GSI, TEXT, TTI, USER_DATA
-from .calls import KnownCall, known_pair
-from .known import poked, told
+from .calls import KnownCall, known_check
+from .known import poked, with_count
 from .one_rule import CLOSING, FIRST, HEADER
 from .reading import OF_FIRST_BLOCK
 
@@ -25,7 +24,7 @@ def refused(fault: str) -> list[str]:
     """The lines of a file in which this alone is wrong, or nothing after it is read. Beside what
     the first block of a subtitle says of it the other subtitle is judged."""
     is_read = int(fault.split()[0]) in OF_FIRST_BLOCK
-    return told(f"refused {fault}", *["refused 60 Empty"] * is_read)
+    return with_count(f"refused {fault}", *["refused 60 Empty"] * is_read)
 
 
 # Blocks
@@ -100,29 +99,29 @@ def pes_of(lines: Iterable[Line]) -> bytes:
                     for frame, rows in enumerate((map(row_packet, lines), [])))
 
 
-def drawn(text: bytes, row: int, justify: int, *lines: Line) -> KnownCall:
+def draw_page(text: bytes, row: int, justify: int, *lines: Line) -> KnownCall:
     """A text with a transmission of these lines and no others."""
-    return known_pair(name_of(text, f"drawn at row {row}, JC {justify}"),
-                      of_text(text, row, justify), pes_of(lines), "",
-                      ["accepted 2 frames 2 transmissions"])
+    return known_check(name_of(text, f"drawn at row {row}, JC {justify}"),
+                       of_text(text, row, justify), pes_of(lines), "",
+                       ["accepted 2 frames 2 transmissions"])
 
 
 def not_drawn(text: bytes, row: int, fault: str, at: int) -> KnownCall:
     """A text that is refused."""
-    return known_pair(name_of(text, f"refused at row {row}"), of_text(text, row, 0), b"", "",
-                      refused(f"{fault} block 1 at {at}"))
+    return known_check(name_of(text, f"refused at row {row}"), of_text(text, row, 0), b"", "",
+                       refused(f"{fault} block 1 at {at}"))
 
 
 FULL = b"A" * 36  # with its box it fills a row
 DRAWN = [
-    drawn(b"\x80A\x81", 5, 1, Line(5, 0, boxed(b"A"))),
-    drawn(FULL, 5, 2, Line(5, 0, boxed(FULL))),
+    draw_page(b"\x80A\x81", 5, 1, Line(5, 0, boxed(b"A"))),
+    draw_page(FULL, 5, 2, Line(5, 0, boxed(FULL))),
     not_drawn(FULL + b"A", 5, "52 RowTooLong", 0),
     # Empty lines may go past row 23.
-    drawn(b"A\x8a\x8a", 23, 0, Line(23, 0, boxed(b"A"))),
+    draw_page(b"A\x8a\x8a", 23, 0, Line(23, 0, boxed(b"A"))),
     not_drawn(b"A\x9f", 5, "51 Control", 1),
     not_drawn(b"\x0dA\x8a\x0e", 23, "51 Control", 3),  # a byte before any line
 ]
 
-ONE_FILE = [*(known_pair(f"{fault}: {bytes_at}", poked(WHOLE, bytes_at), b"", "", refused(fault))
+ONE_FILE = [*(known_check(f"{fault}: {bytes_at}", poked(WHOLE, bytes_at), b"", "", refused(fault))
               for fault, bytes_at in BLOCKS), *DRAWN]

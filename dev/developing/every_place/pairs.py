@@ -1,7 +1,7 @@
-"""Pairs of a subtitle file and a transmission, made and broken at random.
+"""Make random pairs of a subtitle file and a transmission, with faults.
 
-First both are made whole: `schedule` of the program writes the transmission. Then bytes, Teletext
-packets, PES packets and subtitles of them are changed. A `Pair` is what `check` is asked about.
+The program's `schedule` writes a correct transmission. Then bytes, Teletext packets, PES packets
+and subtitles are changed.
 """
 from __future__ import annotations
 
@@ -13,22 +13,22 @@ from typing import Callable, NamedTuple
 from developing.stl import gsi_block, subtitle_blocks
 from subtitles.common.times import FRAMES_OF_A_DAY
 from subtitles.formats.stl import GSI, TTI, USER_DATA
-from .as_houses import (
-    as_open, layout_text, pace_words, part_words, refused_some, without_erasing)
+from .broadcasters import (
+    as_open, layout_text, pace_words, part_words, refuse_some, without_erasing)
 from .broken import LETTERS, break_pes
-from .due import subtitles_in
+from .due import judge_subtitles
 from .late import sent_late
 from .national import BITS, CELLS, SAME
-from .words import UsageFault, options_of
+from .words import UsageFault, parse_options
 
-Schedule = Callable[[bytes, list[str]], bytes]  # of a subtitle file, by words
+Schedule = Callable[[bytes, list[str]], bytes]  # subtitle file and options to transmission
 OPTIONS = [*BITS]  # national options
-MOST_TRIES = 20  # for a file some of whose subtitles are refused
+MOST_TRIES = 20  # to make a file with refused subtitles
 
 
 class Pair(NamedTuple):
-    """Two files, and the words of a check. `is_failing` asks for a PES file that also fails where
-    its bytes end."""
+    """Two files and options of `check`. If `is_failing`, also try a source that fails at its end.
+    """
 
     stl: bytes
     pes: bytes
@@ -52,9 +52,9 @@ class Shown(NamedTuple):
 
 # Subtitle files
 
-def with_letters(chance: Random, text: bytes, option: str) -> bytes:
-    """A text with some letters of a national option in the place of others; seldom of another one,
-    or a byte of a pair alone."""
+def add_letters(chance: Random, text: bytes, option: str) -> bytes:
+    """Replace some letters by those of a national option; rarely of another one, or by half a pair.
+    """
     if chance.random() < 0.1:
         option = chance.choice(OPTIONS)
     own = [letter for letter, cell in CELLS[option].items() if cell not in SAME] * 4 + [b"\xc2"]
@@ -65,7 +65,7 @@ def with_letters(chance: Random, text: bytes, option: str) -> bytes:
 
 
 def random_text(chance: Random, row: int, option: str) -> bytes:
-    """Some lines that fit at a row; at times with letters of the national option."""
+    """Return lines that fit at a row, sometimes with letters of the national option."""
     lines = []
     for _ in range(chance.choice([1, 1, 2, 3])):
         line = bytes(chance.choices(LETTERS, k=chance.randrange(1, 30)))
@@ -76,11 +76,11 @@ def random_text(chance: Random, row: int, option: str) -> bytes:
     if chance.random() < 0.4:
         lines, separator = [b"\x0d\x0b\x0b" + line + b"\x0a\x0a" for line in lines], b"\x8a\x8a"
     text = separator.join(lines[:max(1, (23 - row) // len(separator))])
-    return with_letters(chance, text, option) if chance.random() < 0.3 else text
+    return add_letters(chance, text, option) if chance.random() < 0.3 else text
 
 
 def random_subtitles(chance: Random, option: str) -> list[Shown]:
-    """Some subtitles in order, at any time of the day, some of them next to each other."""
+    """Return subtitles in order, at any time of the day, some of them adjacent."""
     frame = chance.choice([0, 25, 900_000, chance.randrange(FRAMES_OF_A_DAY - 2000)])
     made = []
     for _ in range(chance.choice([1, 1, 2, 3, 4, 6])):
@@ -94,20 +94,20 @@ def random_subtitles(chance: Random, option: str) -> list[Shown]:
 
 
 def stl_file(chance: Random, subtitles: list[Shown]) -> bytes:
-    """A subtitle file; now and then a comment or user data stands among its blocks."""
+    """Return a subtitle file, sometimes with comments or user data among its blocks."""
     made = gsi_block(b"At random", 0, len(subtitles))
     for number, one in enumerate(subtitles):
         made += subtitle_blocks(number, *one)
         if chance.random() < 0.1:
-            passed = bytearray(made[-TTI:])
+            skipped = bytearray(made[-TTI:])
             at, value = chance.choice([(15, 1), (3, USER_DATA)])
-            passed[at] = value
-            made += passed
+            skipped[at] = value
+            made += skipped
     return made
 
 
 def other_subtitles(chance: Random, subtitles: list[Shown], option: str) -> list[Shown]:
-    """The subtitles with one of them changed: a transmission of the others shows another page."""
+    """Change a subtitle, so that a transmission of the original shows another page."""
     subtitles = list(subtitles)
     at = chance.randrange(len(subtitles))
     one = subtitles[at]
@@ -127,14 +127,14 @@ def other_subtitles(chance: Random, subtitles: list[Shown], option: str) -> list
     return subtitles
 
 
-# Values of fields that are told, or just not: EBN, CS, TCI and TCO, VP, JC, CF.
+# Field values at the bounds of faults: EBN, CS, TCI and TCO, VP, JC, CF.
 FIELDS = {3: [0, 1, 0xF0, 0xFD, 0xFE, 0xFF], 4: [0, 1], 5: [0, 10, 24], 8: [0, 24, 25], 9: [0, 24],
           12: [0, 24, 25], 13: [0, 1, 20, 22, 23, 24], 14: [0, 3, 4], 15: [0, 1, 2]}
 CODES = [0x00, 0x0B, 0x0D, 0x0E, 0x23, 0x24, 0x40, 0x5B, 0x80, 0x8A, 0x8F, 0xA7, 0xC2, 0xC8]
 
 
 def break_block(chance: Random, data: bytearray, block: int) -> None:
-    """Another byte in a block: a field, or one of its text."""
+    """Change a byte of a block: a field, or its text."""
     way = chance.random()
     if way < 0.5:
         data[block + 16 + chance.randrange(20)] = chance.choice([*CODES, chance.randrange(256)])
@@ -146,7 +146,7 @@ def break_block(chance: Random, data: bytearray, block: int) -> None:
 
 
 def blocks_of_one(chance: Random, block: bytearray) -> bytearray:
-    """A block left out, or some times; now and then as blocks of one subtitle."""
+    """Remove or repeat a block, sometimes as blocks of one subtitle."""
     count = chance.choice([0, 2, 2, 3, 10])
     if chance.random() < 0.6:
         block[3] = chance.choice([0, 1])
@@ -156,7 +156,7 @@ def blocks_of_one(chance: Random, block: bytearray) -> bytearray:
 
 
 def break_stl(chance: Random, whole: bytes) -> bytes:
-    """A subtitle file with some bytes, blocks or its length otherwise."""
+    """Change bytes, blocks or the length of a subtitle file."""
     data = bytearray(whole)
     for _ in range(chance.choice([1, 1, 2, 5])):
         blocks = (len(data) - GSI) // TTI
@@ -183,15 +183,15 @@ def break_stl(chance: Random, whole: bytes) -> bytes:
 # Pairs
 
 def random_words(chance: Random) -> dict[str, str]:
-    """The options that `schedule` and `check` share."""
+    """Return the options that `schedule` and `check` share."""
     return {"--page": chance.choice(["888", "888", "888", "1A0", "8f0"]),
             "--every": str(chance.choice([1, 2, 25, 25, 50, 250])),
             "--origin": str(chance.choice([0, 0, 3600, 2**33 - 3600 * 900_001, 5])),
             "--option": chance.choice(["english"] * 4 + OPTIONS)}
 
 
-def other_words(chance: Random, words: dict[str, str]) -> dict[str, str]:
-    """The options with one of them otherwise, seldom."""
+def change_options(chance: Random, words: dict[str, str]) -> dict[str, str]:
+    """Rarely change one of the options."""
     if chance.random() >= 0.25:
         return words
     name = chance.choice(["--every"] * 4 + ["--page", "--origin", "--origin", "--option"])
@@ -210,8 +210,7 @@ WRONG_NUMBERS = ["51", "x", "", "+1", "1 ", "4294967297", "00000000001"]
 
 
 def within_words(chance: Random, within: int) -> list[str]:
-    """The word for how many frames late a page may be; seldom left out for none, or no such
-    number."""
+    """Return --within with a number; rarely nothing, or no valid number."""
     if chance.random() < 0.02:
         return ["--within", chance.choice(WRONG_NUMBERS)]
     if within == 0 and chance.random() < 0.8:
@@ -220,36 +219,38 @@ def within_words(chance: Random, within: int) -> list[str]:
 
 
 def with_refused(house: Random, stl: bytes, words: list[str], is_sure: bool) -> bytes:
-    """The file, at times with some subtitles that are refused; where it is to be sure, with some
-    that are by these words, unless none can be."""
+    """Return the file, sometimes with refused subtitles; always if `is_sure`, unless none can be.
+    """
     if not is_sure:
-        return refused_some(house, stl) if house.random() < 0.15 else stl
+        return refuse_some(house, stl) if house.random() < 0.15 else stl
     for _ in range(MOST_TRIES):
-        broken = refused_some(house, stl)
+        broken = refuse_some(house, stl)
         with contextlib.suppress(UsageFault):
-            if subtitles_in(broken, options_of(words)).lines:
+            if judge_subtitles(broken, parse_options(words)).lines:
                 return broken
     return stl
 
 
 def random_pair(seed: int, schedule: Schedule, is_refused: bool = False,
                 is_keeping: bool = False) -> Pair:
-    """A pair at random; where that is asked, some of its subtitles are refused, or headers keep the
-    page. `schedule` gives the transmission of a subtitle file, by words."""
+    """Return a random pair; on request with refused subtitles, or headers that keep the page.
+
+    `schedule` returns the transmission of a subtitle file.
+    """
     chance, house = Random(seed), Random(f"house {seed}")
     words = random_words(chance)
     subtitles = random_subtitles(chance, words["--option"])
     within = chance.choice([0] * 8 + [1, 1, 1, 2, 2, 3, 3, 4])
     stl = stl_file(chance, subtitles)
     modes: list[list[str]] = [[], [], ["--serial"]]
-    drawn = ["--layout", layout_text(house)] if house.random() < 0.2 else []
+    draw_page = ["--layout", layout_text(house)] if house.random() < 0.2 else []
     part = part_words(house, stl) if house.random() < 0.15 else []
     flags = ["--open"] if house.random() < 0.05 else []
     stl = as_open(stl, house) if flags else stl
     mode = chance.choice(modes)
-    pes = schedule(stl, [*listed(words), *drawn, *part, *flags, *mode])
-    if not pes:  # there is nothing to send by these words
-        drawn = part = []
+    pes = schedule(stl, [*listed(words), *draw_page, *part, *flags, *mode])
+    if not pes:  # these options send nothing
+        draw_page = part = []
         pes = schedule(stl, [*listed(words), *flags, *mode])
     if keeps := is_keeping or house.random() < 0.2:
         pes = without_erasing(house, pes)
@@ -259,19 +260,19 @@ def random_pair(seed: int, schedule: Schedule, is_refused: bool = False,
         pes = sent_late(chance, pes, within or chance.randrange(3), int(words["--origin"]))
         if chance.random() < 0.7:
             words["--every"] = str(int(words["--every"]) + within)
-    # Of one that is late, keeps pages, or is surely refused, often nothing else is broken.
+    # Late pairs, kept pages and refused files often have no other fault.
     is_broken = not (is_late or is_refused or keeps and house.random() < 0.6) \
         or chance.random() < 0.4
     if is_broken and chance.random() < 0.3:
         stl = stl_file(chance, other_subtitles(chance, subtitles, words["--option"]))
-    stl = with_refused(house, stl, [*listed(words), *drawn, *part, *flags], is_refused)
+    stl = with_refused(house, stl, [*listed(words), *draw_page, *part, *flags], is_refused)
     if is_broken:
         if chance.random() < (0.04 if is_refused else 0.2):
             stl = break_stl(chance, stl)
         pes = break_pes(chance, pes)
-        words = other_words(chance, words)
+        words = change_options(chance, words)
     pace = pace_words(house) if house.random() < 0.12 else []
-    asked = [*listed(words), *within_words(chance, within), *drawn, *part, *pace, *flags]
+    asked = [*listed(words), *within_words(chance, within), *draw_page, *part, *pace, *flags]
     if chance.random() < 0.4:
         asked.append("--complete")
     return Pair(stl, pes, asked, chance.random() < 0.25)

@@ -8,17 +8,17 @@ from random import Random
 from subtitles.common.times import FRAMES_OF_A_DAY, time_of
 from .calls import ALL, Call
 from .pairs import Pair, Schedule, listed, random_pair, random_subtitles, random_words, stl_file
-from .reading import pieces_of, sending_in
+from .reading import split_packets, read_packet
 from .recordings import SIZES
 from .streams import random_stream
-from .words import UsageFault, options_of
+from .words import UsageFault, parse_options
 
 MOST_PACKETS = 40  # PES packets of a stream
 MOST_BYTES = 65_535  # of one whose end may fail, so that it is read at once
 OF_LISTEN = ("--page", "--origin", "--within")  # the words that `listen` has too
 
 
-def spelled(chance: Random, pid: int) -> str:
+def spell_pid(chance: Random, pid: int) -> str:
     """A PID as words: seldom one that is none."""
     if chance.random() < 0.02:
         return chance.choice(["8191", "0x1FFF", "x", "", "0x", "257 ", "0X101"])
@@ -40,7 +40,7 @@ def range_words(chance: Random, count: int) -> list[str]:
 def recording_words(chance: Random, pid: int, size: int, count: int) -> list[str]:
     """The words of a recording: seldom of another PID or another size."""
     asked = pid ^ 1 if chance.random() < 0.03 else pid
-    words = ["--pid", spelled(chance, asked)]
+    words = ["--pid", spell_pid(chance, asked)]
     if size != SIZES[0] or chance.random() < 0.2:
         wrong = chance.choice(["188", "204", "189", "", "0188"])
         words += ["--packet-size", wrong if chance.random() < 0.03 else str(size)]
@@ -58,8 +58,8 @@ def listen_words(chance: Random, words: list[str], packets: list[bytes]) -> list
     """Words of `listen` alone: a time near that of a PES packet, and what is hit and lost."""
     frames = [0]
     with contextlib.suppress(UsageFault):
-        options = options_of(words)
-        sendings = (sending_in(one, options.origin, options.within) for one in packets)
+        options = parse_options(words)
+        sendings = (read_packet(one, options.origin, options.within) for one in packets)
         frames += [one[0] for one in sendings if not isinstance(one, int)]
     frame = chance.choice(frames) + chance.choice([0, 0, 1, -1, 30])
     words = ["--at", time_of(min(max(0, frame), FRAMES_OF_A_DAY - 1))]
@@ -89,7 +89,7 @@ def random_calls(seed: int, schedule: Schedule, is_keeping: bool = False) -> lis
     chance = Random(f"recording {seed}")
     pair = whole_pair(chance, schedule) if chance.random() < 0.6 and not is_keeping else \
         random_pair(seed, schedule, False, is_keeping)
-    packets = pieces_of(pair.pes)[0][:MOST_PACKETS]
+    packets = split_packets(pair.pes)[0][:MOST_PACKETS]
     pid, size = chance.choice([0x101, 0x1001, chance.randrange(0x1FFF)]), chance.choice(SIZES)
     stream = random_stream(chance, packets, pid, size)
     name, of_stream = f"recording {seed}", recording_words(chance, pid, size, len(packets))

@@ -1,8 +1,8 @@
-"""Subtitle files, PES packets and page headers, read as the standards say it, and what is wrong.
+"""Parse subtitle files, PES packets and page headers as the standards say, and find their faults.
 
-Subtitle files are read by EBU Tech 3264, PES packets by EN 300 472, Teletext packets by EN 300 706,
-with the limits of docs/manual/limits.md. Numbers of faults are those of the manual's tables.
-Nothing here was written from the program's sources.
+EBU Tech 3264 is for subtitle files, EN 300 472 for PES packets, EN 300 706 for Teletext packets,
+docs/manual/limits.md for limits. Fault numbers are those of the manual's tables. Nothing here was
+written from the program's sources.
 """
 from __future__ import annotations
 
@@ -13,19 +13,19 @@ from subtitles.common.times import CLOCK, FRAMES_OF_A_DAY, TICKS, frame_at, fram
 from subtitles.formats.stl import GSI, LAST, TTI, USER_DATA
 from subtitles.formats.teletext import NUMBER, Page
 
-HEAD = 6  # bytes of a PES packet up to its length and with it
-CUT, START, LENGTH = 30, 31, 32  # what is wrong where a piece should be
+HEAD = 6  # bytes of a PES packet up to the end of PES_packet_length
+CUT, START, LENGTH = 30, 31, 32  # faults of bytes that are not a PES packet
 MOST_BLOCKS, MOST_BLOCKS_OF_ONE, MOST_PES_PACKETS = 99_999, 9, 2_160_000
 
-Sending = tuple[int, list[bytes]]  # a PES packet that is read: its frame, its Teletext packets
-Header = tuple[Page, set[int]]  # the page of a header, and which of the control bits 4 to 14 it has
+ReadPacket = tuple[int, list[bytes]]  # a readable PES packet: its frame, its Teletext packets
+Header = tuple[Page, set[int]]  # a header's page, and which control bits of C4 to C14 are set
 
 
 class Record(NamedTuple):
-    """A subtitle as the blocks of the file hold it.
+    """A subtitle, from its TTI blocks.
 
-    `block` is the number of its last block, and `text` what its blocks hold before their unused
-    space, joined.
+    `block` is the number of its last block, `text` its text fields before their unused space,
+    joined.
     """
 
     block: int
@@ -37,18 +37,18 @@ class Record(NamedTuple):
 
 
 class StlFault(NamedTuple):
-    """A fault of a subtitle file that its blocks have: its number, and its block."""
+    """A fault of a subtitle file: its number and block."""
 
     number: int
     block: int
 
 
-# Those of what the first block of a subtitle says of it: CS, JC, VP, TCI and TCO.
+# Faults of fields in a subtitle's first block: CS, JC, VP, TCI and TCO.
 OF_FIRST_BLOCK = {16, 18, 19, 20, 21}
 
 
 class Outside(NamedTuple):
-    """A subtitle that is not asked for, by the number of its last block: it is passed over."""
+    """A subtitle outside of the requested part, by the number of its last block: it is skipped."""
 
     block: int
 
@@ -56,7 +56,7 @@ class Outside(NamedTuple):
 # Subtitle files
 
 def general_fault(data: bytes, takes_open: bool) -> int | None:
-    """The number of what is wrong with the GSI block, `None` where nothing is."""
+    """Return the fault of the GSI block, if any."""
     if len(data) < GSI:
         return 10
     format_code, display, table = data[3:11], data[11:12], data[12:14]
@@ -70,7 +70,7 @@ def general_fault(data: bytes, takes_open: bool) -> int | None:
 
 
 def first_block_fault(block: bytes) -> int | None:
-    """The number of what is wrong with the first block of a subtitle."""
+    """Return the fault of a subtitle's first block, if any."""
     tci, tco = frame_of_code(block[5:9]), frame_of_code(block[9:13])
     for number, is_broken in ((16, block[4] != 0), (18, block[14] > 3),
                               (19, not 1 <= block[13] <= 23)):
@@ -80,10 +80,9 @@ def first_block_fault(block: bytes) -> int | None:
 
 
 def block_fault(block: bytes, group: list[bytes], is_outside: bool) -> int | None:
-    """The number of what is wrong with a block after the blocks `group` of its subtitle, which is
-    asked for or is not.
+    """Return the fault of a block after the blocks `group` of its subtitle, if any.
 
-    A block that is passed over has none: user data, or a comment.
+    Skipped blocks, user data and comments, have none.
     """
     extension, comment = block[3], block[15]
     if extension == USER_DATA:
@@ -101,8 +100,8 @@ def block_fault(block: bytes, group: list[bytes], is_outside: bool) -> int | Non
     return 23 if len(group) == MOST_BLOCKS_OF_ONE else None
 
 
-def record_of(group: list[bytes], number: int) -> Record:
-    """The subtitle that a whole group of blocks holds."""
+def make_record(group: list[bytes], number: int) -> Record:
+    """Return the subtitle of a complete group of blocks."""
     head = group[0]
     text = b"".join(block[16:].partition(b"\x8f")[0] for block in group)
     tci, tco = frame_of_code(head[5:9]), frame_of_code(head[9:13])
@@ -110,13 +109,13 @@ def record_of(group: list[bytes], number: int) -> Record:
     return Record(number, tci, tco, head[13], head[14], text)
 
 
-def found_in(data: bytes, takes_open: bool = False, begin: int = 0, end: int = FRAMES_OF_A_DAY
-             ) -> Iterator[Record | StlFault | Outside]:
-    """What a subtitle file holds, by block: records, faults, and what is not asked for.
+def read_subtitles(data: bytes, takes_open: bool = False, begin: int = 0, end: int = FRAMES_OF_A_DAY
+                   ) -> Iterator[Record | StlFault | Outside]:
+    """Yield the subtitles of a file and its faults, by block.
 
-    Where what the first block of a subtitle says of it is broken, its blocks are known all the
-    same. They are no record, and reading goes on; any other fault is the last. A subtitle is asked
-    for where its TCI is from a frame on and before another, or is no time.
+    After a fault of OF_FIRST_BLOCK the subtitle is no record, and reading goes on; any other fault
+    is the last. A subtitle is in the requested part if its TCI is from `begin` on and before `end`,
+    or is not a time.
     """
     number = general_fault(data, takes_open)
     if number:
@@ -144,7 +143,7 @@ def found_in(data: bytes, takes_open: bool = False, begin: int = 0, end: int = F
             if is_outside:
                 yield Outside(count)
             elif is_record:
-                yield record_of(group, count)
+                yield make_record(group, count)
             group, is_record = [], True
     if group:
         yield StlFault(24, count)
@@ -153,26 +152,25 @@ def found_in(data: bytes, takes_open: bool = False, begin: int = 0, end: int = F
 # PES packets
 
 def is_pts(field: bytes) -> bool:
-    """Whether five bytes are a PTS: 0010, and the three bits between its parts."""
+    """Return whether five bytes are a PTS: 0010, and the marker bits between its parts."""
     return field[0] >> 4 == 2 and field[0] & field[2] & field[4] & 1 == 1
 
 
-def is_mark(packet: bytes) -> bool:
-    """Whether a whole packet has nothing but FF behind its length: it stands where packets of a
-    recording were lost, and no PES packet is so."""
+def is_gap_marker(packet: bytes) -> bool:
+    """Return whether all bytes after the length are FF: such a packet marks lost PES packets."""
     return packet[6:] == b"\xff" * len(packet[6:])
 
 
 def head_fault(packet: bytes) -> int | None:
-    """The number of what is wrong before the data units of a whole packet."""
-    questions = [(45, not is_mark(packet)), (33, packet[6] >> 4 == 8), (34, packet[7] >> 6 == 2),
-                 (35, packet[8] == 0x24), (36, is_pts(packet[9:14])),
+    """Return the fault of a complete packet before its data units, if any."""
+    questions = [(45, not is_gap_marker(packet)), (33, packet[6] >> 4 == 8),
+                 (34, packet[7] >> 6 == 2), (35, packet[8] == 0x24), (36, is_pts(packet[9:14])),
                  (37, 0x10 <= packet[45] <= 0x1F)]
     return next((number for number, is_kept in questions if not is_kept), None)
 
 
 def unit_fault(unit: bytes, last_line: tuple[int, int]) -> int | None:
-    """The number of what is wrong with a data unit, after a line of the field."""
+    """Return the fault of a data unit after a line of the field, if any."""
     if unit[1] != 0x2C:
         return 38
     if unit[0] not in (2, 3):
@@ -183,12 +181,13 @@ def unit_fault(unit: bytes, last_line: tuple[int, int]) -> int | None:
 
 
 def line_of(unit: bytes) -> tuple[int, int]:
-    """The field and the line of a data unit, which rise; the first field has the bit set."""
+    """Return the field and line of a data unit, in ascending order; the first field has the bit
+    set."""
     return (0 if unit[2] & 32 else 1, unit[2] & 31)
 
 
 def units_of(packet: bytes) -> tuple[list[bytes], int | None]:
-    """The Teletext packets of the data units, and the number of what is wrong with one."""
+    """Return the Teletext packets of the data units, and the fault of one, if any."""
     packets: list[bytes] = []
     last_line = 0, 0
     for at in range(46, len(packet), 46):
@@ -204,8 +203,10 @@ def units_of(packet: bytes) -> tuple[list[bytes], int | None]:
 
 
 def length_at(data: bytes, begin: int = 0) -> int | None:
-    """The length of the piece that begins there, 184 bytes or more; 31 or 32 where its start or its
-    length is another; `None` where six bytes are not there."""
+    """Return the length of the PES packet that begins there, 184 bytes or more.
+
+    Return 31 or 32 for another start or length, `None` if six bytes are missing.
+    """
     head = data[begin:begin + HEAD]
     if len(head) < HEAD:
         return None
@@ -215,8 +216,8 @@ def length_at(data: bytes, begin: int = 0) -> int | None:
     return length if length in range(184, 184 * 9 + 1, 184) else LENGTH
 
 
-def piece_at(data: bytes, begin: int) -> bytes | int:
-    """The piece that begins there, as long as it says that it is; or a number."""
+def packet_at(data: bytes, begin: int) -> bytes | int:
+    """Return the PES packet that begins there, or a fault."""
     length = length_at(data, begin)
     if length is None or length in (START, LENGTH):
         return length or CUT
@@ -224,13 +225,13 @@ def piece_at(data: bytes, begin: int) -> bytes | int:
     return piece if len(piece) == length else CUT
 
 
-def pieces_of(data: bytes) -> tuple[list[bytes], int | None]:
-    """The pieces with which a file begins, and the number of what is wrong with the bytes after
-    them; `None` where there are none."""
+def split_packets(data: bytes) -> tuple[list[bytes], int | None]:
+    """Return the PES packets and gap markers at the start of a file, and the fault of the bytes
+    after them."""
     found: list[bytes] = []
     begin = 0
     while begin < len(data):
-        piece = piece_at(data, begin) if len(found) < MOST_PES_PACKETS else 44
+        piece = packet_at(data, begin) if len(found) < MOST_PES_PACKETS else 44
         if isinstance(piece, int):
             return found, piece
         found.append(piece)
@@ -239,14 +240,14 @@ def pieces_of(data: bytes) -> tuple[list[bytes], int | None]:
 
 
 def frame_near(pts: int, origin: int) -> int | None:
-    """The frame of the day in which a PTS lies, a quarter of a frame early or less than three
-    quarters late; `None` where it lies in none."""
+    """Return the frame of the day of a PTS up to a quarter frame early or less than three quarters
+    late."""
     frame = (pts - origin + TICKS // 4) % CLOCK // TICKS
     return frame if frame < FRAMES_OF_A_DAY else None
 
 
-def sending_in(piece: bytes, origin: int, within: int) -> Sending | int:
-    """The frame and the Teletext packets of a piece, or the number of what is wrong with it."""
+def read_packet(piece: bytes, origin: int, within: int) -> ReadPacket | int:
+    """Return the frame and the Teletext packets of a PES packet, or its fault."""
     number = head_fault(piece)
     if number is not None:
         return number
@@ -260,16 +261,13 @@ def sending_in(piece: bytes, origin: int, within: int) -> Sending | int:
 # Teletext packets
 
 def subcode_of(packet: bytes) -> tuple[int, ...]:
-    """The subcode of a page header, S1 to S4."""
+    """Return the subcode of a page header, S1 to S4."""
     numbers = [NUMBER[byte] or 0 for byte in packet[4:8]]
     return numbers[0], numbers[1] & 7, numbers[2], numbers[3] & 3
 
 
 def header_of(packet: bytes) -> Header | None:
-    """The page and the control bits of a packet with number 0, with correction; else `None`.
-
-    The page is magazine and page number. The control bits are a set of 4 to 14.
-    """
+    """Return the page and control bits of a corrected packet X/0, `None` for other packets."""
     address = address_of(packet)
     numbers = [number for number in map(NUMBER.__getitem__, packet[2:10]) if number is not None]
     if address is None or address[1] != 0 or len(numbers) < 8:

@@ -1,35 +1,35 @@
-"""The PES packets that a transport stream carries, from the definitions: plain and slow.
+"""Read the PES packets of a transport stream, by the definitions: simple and slow.
 
-A recording is a transport stream (ISO/IEC 13818-1): packets of 188 bytes, each 188, 192 or 204
-bytes after the one before. What the packets of a PID carry is cut into parts, each a PES packet or
-a piece of one. Where something is missing a mark stands in its place, which no PES packet is. The
-whole stream is looked at: nothing is forgotten, nothing is told before its end.
+A recording is a transport stream (ISO/IEC 13818-1): packets of 188 bytes, every 188, 192 or 204
+bytes. The payloads of a PID are cut into parts, each a PES packet or a fragment. A gap marker,
+which is no valid PES packet, replaces anything missing. The whole stream is examined before any
+result.
 """
 from __future__ import annotations
 
 from typing import Iterator, NamedTuple
 
-from .reading import HEAD, LENGTH, START, length_at, piece_at
+from .reading import HEAD, LENGTH, START, length_at, packet_at
 
 SYNC = 0x47
 PACKET = 188
-SIZES = PACKET, 192, 204  # from one packet to the next
-TIME_STAMP = 4  # bytes before each packet where these are 192
-MOST_BYTES = 2**48  # of a stream that are read
-UNSEEN = 15  # packets: where as many bytes are skipped, some of the PID may be among them
-MARK = b"\0\0\1\xbd\0\xb2" + b"\xff" * 178  # stands where something is missing
+SIZES = PACKET, 192, 204  # distances of packets
+TIME_STAMP = 4  # bytes before each packet if the distance is 192
+MOST_BYTES = 2**48  # more are not read
+UNSEEN = 15  # packets: more skipped bytes may hide a complete turn of the counter
+MARK = b"\0\0\1\xbd\0\xb2" + b"\xff" * 178  # gap marker
 
 
 # Packets
 
 class Skipped(NamedTuple):
-    """Bytes in a row that belong to no packet."""
+    """Consecutive bytes outside of any packet."""
 
     length: int
 
 
 class TransportPacket:
-    """A packet (2.4.3.2) by its 188 bytes."""
+    """A packet (2.4.3.2), from its 188 bytes."""
 
     def __init__(self, data: bytes) -> None:
         self.data = data
@@ -38,19 +38,21 @@ class TransportPacket:
         self.counter = data[3] % 16  # continuity_counter
         has_field, self.has_payload = data[3] & 0x20 != 0, data[3] & 0x10 != 0
         # transport_error_indicator is set, or the packet is scrambled, or its adaptation field
-        # leaves no byte for its payload.
+        # leaves no payload.
         self.is_wrong = bool(data[1] & 0x80 or data[3] & 0xC0) or (
             has_field and self.has_payload and data[4] > 182)
-        # discontinuity_indicator is set in an adaptation field; a wrong packet announces nothing.
+        # discontinuity_indicator is set; ignored in a faulty packet.
         self.announces_jump = not self.is_wrong and has_field and data[4] != 0 \
             and data[5] & 0x80 != 0
         self.payload = data[5 + data[4]:] if has_field else data[4:]
 
 
 def packets_of(data: bytes, size: int) -> Iterator[TransportPacket | Skipped]:
-    """The packets of a stream, and the bytes between them that are skipped. In step each packet
-    stands `size` bytes after the one before; out of step two bytes that far apart are looked for
-    with which packets begin."""
+    """Yield the packets of a stream, and the bytes skipped between them.
+
+    After each packet the next one is expected at its distance; otherwise two sync bytes that far
+    apart are searched.
+    """
     data = data[:MOST_BYTES]
     place = TIME_STAMP if size == 192 else 0
     in_step, skipped = True, 0
@@ -76,9 +78,11 @@ def packets_of(data: bytes, size: int) -> Iterator[TransportPacket | Skipped]:
 # Good packets of a PID
 
 class Good(NamedTuple):
-    """A good packet, and what stands between the good one before it and this: a break, where
-    something may be missing, or a seam, where a jump of the counter was announced and nothing is
-    missing."""
+    """An intact packet, and what precedes it.
+
+    A break means that packets may be missing; a seam is an announced jump of the counter, with
+    nothing missing.
+    """
 
     packet: TransportPacket
     is_break: bool
@@ -86,22 +90,24 @@ class Good(NamedTuple):
 
 
 class Stretch:
-    """What stands between a good packet and what follows it."""
+    """The packets between an intact packet and the next one."""
 
     def __init__(self, before: TransportPacket | None) -> None:
         self.before = before
         self.has_repeat = self.has_jump = self.is_hurt = False
 
     def is_repeat(self, packet: TransportPacket) -> bool:
-        """Whether it is the packet before once more (2.4.3.3, duplicate packets): the first such
-        one, and no jump is announced that the packet before did not announce itself."""
+        """Return whether a packet is the first duplicate (2.4.3.3) of the one before.
+
+        It must not announce a jump that the one before did not.
+        """
         before = self.before
         return before is not None and not self.has_repeat and not self.has_jump \
             and packet.data[:4] == before.data[:4] and packet.payload == before.payload \
             and (before.announces_jump or not packet.announces_jump)
 
     def good(self, packet: TransportPacket) -> Good:
-        """The good packet that ends it."""
+        """Return the intact packet that ends the stretch."""
         if self.before is None:
             return Good(packet, False, False)
         is_announced = self.has_jump or packet.announces_jump
@@ -111,7 +117,7 @@ class Stretch:
 
 
 def good_packets(data: bytes, pid: int, size: int) -> tuple[list[Good], bool]:
-    """The good packets of a PID, and whether a wrong one stands behind the last of them."""
+    """Return the intact packets of a PID, and whether a faulty one follows the last."""
     found: list[Good] = []
     stretch, is_wrong_last = Stretch(None), False
     for one in packets_of(data, size):
@@ -134,28 +140,26 @@ def good_packets(data: bytes, pid: int, size: int) -> tuple[list[Good], bool]:
 # Parts
 
 class Part:
-    """Good packets that belong together: a PES packet begins with the first one, or none is known
-    to."""
+    """Intact packets that belong together; the first one may begin a PES packet."""
 
     def __init__(self, packets: list[Good]) -> None:
-        self.has_break = packets[0].is_break  # before it
+        self.has_break = packets[0].is_break
         payloads = [one.packet.payload for one in packets]
         self.payload = b"".join(payloads)
         found = length_at(self.payload) if packets[0].packet.begins else None
-        # What is wrong with the head of one that begins and has its six bytes; else how long its
-        # PES packet says that it is, `None` where that is not known.
+        # The fault of the PES packet's first six bytes, or its length; `None` if unknown.
         self.wrong_head = found if found in (START, LENGTH) else None
         self.length = None if self.wrong_head else found
         self.is_whole = self.length is not None and len(self.payload) >= self.length
-        self.head = b""  # its payloads up to that with its sixth byte
+        self.head = b""  # payloads up to the one with the sixth byte
         for payload in payloads:
             self.head += payload if len(self.head) < HEAD else b""
 
 
-def parts_of(goods: list[Good]) -> list[Part]:
-    """Good packets, cut before each that begins, at each break and at each seam."""
+def parts_of(good_list: list[Good]) -> list[Part]:
+    """Cut intact packets at each start of a PES packet, each break and each seam."""
     parts: list[list[Good]] = []
-    for one in goods:
+    for one in good_list:
         if not parts or one.packet.begins or one.is_break or one.is_seam:
             parts.append([])
         parts[-1].append(one)
@@ -164,9 +168,11 @@ def parts_of(goods: list[Good]) -> list[Part]:
 
 # What is carried
 
-class Carried(NamedTuple):
-    """The pieces that a stream carries, each a PES packet or a mark, and which are marks; what
-    follows them where a part has another start or length, and the number of that."""
+class StreamContent(NamedTuple):
+    """The PES packets and gap markers of a stream, and which are markers.
+
+    `rest` and `broken` are the part with another start or length, and its fault.
+    """
 
     pieces: list[bytes]
     marks: list[bool]
@@ -178,11 +184,10 @@ class Carried(NamedTuple):
         return b"".join(self.pieces) + self.rest
 
 
-def carried(data: bytes, pid: int, size: int) -> Carried:
-    """What the packets of a PID carry: its PES packets, and a mark wherever a gap stands behind one
-    of them."""
-    goods, is_wrong_last = good_packets(data, pid, size)
-    parts = parts_of(goods)
+def read_stream(data: bytes, pid: int, size: int) -> StreamContent:
+    """Return the PES packets of a PID, with a gap marker after each one that a gap follows."""
+    good_list, is_wrong_last = good_packets(data, pid, size)
+    parts = parts_of(good_list)
     pieces: list[bytes] = []
     marks: list[bool] = []
     has_gap = False
@@ -196,7 +201,7 @@ def carried(data: bytes, pid: int, size: int) -> Carried:
         has_gap |= part.has_break
         if part.wrong_head is not None:
             mark()
-            return Carried(pieces, marks, part.head, part.wrong_head)
+            return StreamContent(pieces, marks, part.head, part.wrong_head)
         if part.is_whole:
             mark()
             pieces.append(part.payload[:part.length])
@@ -206,28 +211,30 @@ def carried(data: bytes, pid: int, size: int) -> Carried:
             has_gap = True
     has_gap |= is_wrong_last
     mark()
-    return Carried(pieces, marks, b"", None)
+    return StreamContent(pieces, marks, b"", None)
 
 
 # A range of it
 
 class Range(NamedTuple):
-    """Some pieces of PES bytes, with what follows the last one where it is reached, and the index
-    of the first."""
+    """A range of PES packets and gap markers, and the index of the first.
+
+    The data include the bytes after the last one, if the end was reached.
+    """
 
     data: bytes
     first: int
-    is_end: bool  # the end of all bytes is reached
+    is_end: bool  # the end of the data was reached
 
 
 def range_of(data: bytes, first: int, last: int | None) -> Range:
-    """The pieces with indices from the first to the last, `None` for no end; and where there is no
-    piece after the last, what follows them all."""
+    """Return the items from `first` to `last`, `None` for no end, and the rest if no item follows.
+    """
     place, count, begin = 0, 0, 0
     while last is None or count <= last:
         if count == first:
             begin = place
-        piece = piece_at(data, place) if place < len(data) else None
+        piece = packet_at(data, place) if place < len(data) else None
         if not isinstance(piece, bytes):
             return Range(data[begin if count >= first else place:], min(first, count), True)
         place += len(piece)

@@ -1,4 +1,4 @@
-"""The page that a subtitle draws, or what is wrong with its text; from the tables, byte by byte."""
+"""Draw the page of a subtitle, or find the fault of its text, from the tables, byte by byte."""
 from __future__ import annotations
 
 from subtitles.formats.layout import Layout, Refused, drawn_lines, page_rows
@@ -12,7 +12,7 @@ BLANK = bytes([SPACE]) * (ROWS * COLUMNS)
 
 
 class TextFault(Exception):
-    """A number of a fault and its place: a byte of the text, or a line of it."""
+    """A fault of a text: its number, and the place in the text or the line."""
 
     def __init__(self, number: int, at: int) -> None:
         super().__init__(number, at)
@@ -20,7 +20,7 @@ class TextFault(Exception):
 
 
 def lines_of(text: bytes, option: str, strip: bytes) -> list[bytes]:
-    """The lines of a text as cells, but for the bytes that a house leaves out."""
+    """Return the lines of a text as cells, without the bytes of `strip`."""
     lines: list[list[int]] = [[]]
     at = 0
     while at < len(text):
@@ -40,8 +40,8 @@ def lines_of(text: bytes, option: str, strip: bytes) -> list[bytes]:
     return [bytes(line) for line in lines]
 
 
-def drawn(record: Record, option: str, layout: Layout) -> bytes:
-    """The page of a subtitle: 960 codes, row by row. Raises a `TextFault` where there is none."""
+def draw_page(record: Record, option: str, layout: Layout) -> bytes:
+    """Return the page of a subtitle, 960 codes by row. Raise `TextFault` if it has none."""
     cells = lines_of(record.text, option, layout.strip)
     lines = drawn_lines(cells, record.row, record.justify, layout)
     if isinstance(lines, Refused):

@@ -1,10 +1,10 @@
-"""What `schedule` writes, from the definitions: plain and slow."""
+"""What `schedule` writes, by the definitions: simple and slow."""
 from __future__ import annotations
 
 from developing.pes import STUFFING_UNIT, mirrored, packet, pts_bytes
 from subtitles.common.times import pts_of
 from subtitles.formats.teletext import Page, START
-from .due import Due, subtitles_in
+from .due import Due, judge_subtitles
 from .national import BITS
 from .rows import BLANK, COLUMNS, ROWS, SPACE
 from .words import Options
@@ -14,25 +14,25 @@ FIRST_LINE, LAST_LINE = 7, 22
 
 
 def header(page: Page, option: str, is_serial: bool) -> bytes:
-    """A header of the page: subcode 0, C4, C6 and C7 set."""
+    """Return a header of the page: subcode 0, C4, C6 and C7 set."""
     national = sum(1 << bit - 11 for bit in BITS[option])
     numbers = [page[1] % 16, page[1] // 16, 0, 8, 0, 8, 1, national + is_serial]
     return packet(page[0], 0, numbers, b" " * 32)
 
 
 def closing_header(page: Page, is_serial: bool) -> bytes:
-    """A header of page FF, subcode 3F7F, of the same magazine."""
+    """Return a header of page FF, subcode 3F7F, in the same magazine."""
     return packet(page[0], 0, [15, 15, 15, 7, 15, 3, 0, int(is_serial)], b" " * 32)
 
 
 def unit(number: int, data: bytes) -> bytes:
-    """A data unit: lines 7 to 22 of the first field, then of the second."""
+    """Return a data unit: lines 7 to 22 of the first field, then of the second."""
     field, line = divmod(number, LAST_LINE - FIRST_LINE + 1)
     return bytes([3, 0x2C, 0xC0 | (field == 0) << 5 | FIRST_LINE + line, 0xE4]) + mirrored(data)
 
 
 def pes_of(pts: int, packets: list[bytes]) -> bytes:
-    """A PES packet with as few stuffing units as it can have."""
+    """Return a PES packet with as few stuffing units as possible."""
     count = len(packets) // 4 + 1
     units = b"".join(unit(number, data) for number, data in enumerate(packets))
     return START + (184 * count - 6).to_bytes(2, "big") + b"\x84\x80\x24" + pts_bytes(pts) \
@@ -40,7 +40,8 @@ def pes_of(pts: int, packets: list[bytes]) -> bytes:
 
 
 def sending(page: bytes, options: Options, is_serial: bool) -> list[bytes]:
-    """The packets of a page: its header, the rows that are not blank, and a closing header."""
+    """Return the packets of a page: its header, the rows that are not blank, and a closing header.
+    """
     made = [header(options.page, options.option, is_serial)]
     for row in range(1, ROWS + 1):
         codes = page[(row - 1) * COLUMNS:row * COLUMNS]
@@ -50,8 +51,8 @@ def sending(page: bytes, options: Options, is_serial: bool) -> list[bytes]:
 
 
 def schedule(stl: bytes, options: Options, is_serial: bool) -> tuple[list[str], bytes]:
-    """The line that is printed of a subtitle file, and what is written."""
-    subtitles = subtitles_in(stl, options)
+    """Return the line printed about a subtitle file, and the transmission."""
+    subtitles = judge_subtitles(stl, options)
     if subtitles.lines:
         return subtitles.lines[:1], b""
     due = Due(subtitles.records or [], subtitles.others, options)

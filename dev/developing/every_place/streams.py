@@ -1,8 +1,8 @@
-"""Transport streams at random: what a multiplexer sends, what is lost of it, and worse.
+"""Make random transport streams: a multiplexer's output, with losses, and with worse faults.
 
-`multiplexed` sends PES packets as a multiplexer may. `with_losses` leaves units out of that and
-makes some wrong, as a recording that lost packets. `random_stream` also repeats, moves and changes
-units, puts bytes between them and cuts the ends.
+`multiplexed` sends PES packets as a multiplexer may. `with_losses` removes and corrupts units, as
+in a recording that lost packets. `random_stream` also repeats, moves and changes units, inserts
+bytes and cuts the ends.
 """
 from __future__ import annotations
 
@@ -17,8 +17,10 @@ NULL_PID = 0x1FFF
 
 
 class Unit(NamedTuple):
-    """A packet of a stream. Of one of the PID: the number of its PES packet, and that of the packet
-    among those with a payload, `None` without one."""
+    """A packet of a stream.
+
+    For the PID it has the number of its PES packet, and its own among packets with a payload.
+    """
 
     packet: bytes
     pes: int | None = None
@@ -26,12 +28,12 @@ class Unit(NamedTuple):
 
     @property
     def is_wrong(self) -> bool:
-        """Whether it was made wrong."""
+        """Return whether it was corrupted."""
         return bool(self.packet[1] & WRONG or self.packet[3] & 0xC0)
 
 
 def random_bytes(chance: Random, count: int) -> bytes:
-    """Bytes of which many are those that a reader looks for."""
+    """Return bytes, many of them with a meaning to a reader."""
     if chance.random() < 0.5:
         return bytes([chance.choice([0, 0xFF, SYNC])]) * count
     return bytes(chance.choices([0, 1, 0x47, 0xBD, 0xFF, *range(256)], k=count))
@@ -40,7 +42,7 @@ def random_bytes(chance: Random, count: int) -> bytes:
 # Packets
 
 def adaptation_field(chance: Random, length: int, is_jump: bool) -> bytes:
-    """One whose length field says so; a jump takes one byte at least."""
+    """Return an adaptation field of this length; a jump needs one byte."""
     if length == 0:
         return b"\0"
     flags = chance.choice([0, 0, 0x40, 0x10]) | JUMP * is_jump
@@ -49,7 +51,7 @@ def adaptation_field(chance: Random, length: int, is_jump: bool) -> bytes:
 
 def packet(chance: Random, pid: int, counter: int, payload: bytes, begins: bool = False,
            is_jump: bool = False) -> bytes:
-    """A packet with a payload; one of fewer than 184 bytes stands behind an adaptation field."""
+    """Return a packet with a payload; a short one is after an adaptation field."""
     field = b""
     if len(payload) < MOST:
         field = adaptation_field(chance, MOST - 1 - len(payload), is_jump)
@@ -60,13 +62,13 @@ def packet(chance: Random, pid: int, counter: int, payload: bytes, begins: bool 
 
 
 def without_payload(chance: Random, pid: int, is_jump: bool) -> bytes:
-    """A packet of an adaptation field alone; its counter is any."""
+    """Return a packet with an adaptation field alone; its counter may be anything."""
     head = bytes([SYNC, pid >> 8, pid & 255, chance.randrange(16) | 0x20])
     return head + adaptation_field(chance, MOST - 1, is_jump)
 
 
 def of_another_pid(chance: Random, pid: int) -> bytes:
-    """A packet of another PID, of any form."""
+    """Return a packet of another PID, of any form."""
     other = chance.choice([NULL_PID, pid ^ 1, pid ^ 0x1000, chance.randrange(0x2000)])
     if other == pid:
         other ^= 1
@@ -78,8 +80,7 @@ def of_another_pid(chance: Random, pid: int) -> bytes:
 # A multiplexer
 
 class Multiplexer:
-    """Sends PES packets of a PID. The counter may jump where that is announced, between two of
-    them."""
+    """Sends the PES packets of a PID. The counter may jump between two of them, if announced."""
 
     def __init__(self, chance: Random, pid: int, has_jumps: bool) -> None:
         self.chance, self.pid, self.has_jumps = chance, pid, has_jumps
@@ -90,14 +91,14 @@ class Multiplexer:
         self.empty = chance.choice([0.0, 0.1, 0.3])
 
     def between(self, pes: int | None) -> None:
-        """Packets of other PIDs, and those of this one without a payload."""
+        """Send packets of other PIDs, and those of this one without a payload."""
         while self.chance.random() < self.others:
             self.units.append(Unit(of_another_pid(self.chance, self.pid)))
         while self.chance.random() < self.empty:
             self.units.append(Unit(without_payload(self.chance, self.pid, False), pes))
 
     def jump(self, pes: int) -> bool:
-        """Now and then announces a jump; answers whether the next packet has to announce it."""
+        """Sometimes announce a jump; return whether the next packet must announce it."""
         if not self.has_jumps or self.chance.random() < 0.6:
             return False
         self.counter = self.chance.choice([self.counter, self.chance.randrange(16)])
@@ -108,7 +109,7 @@ class Multiplexer:
         return False
 
     def send(self, pes: int, data: bytes) -> None:
-        """One PES packet."""
+        """Send a PES packet."""
         chance = self.chance
         self.between(None)
         is_jump = self.jump(pes)
@@ -132,13 +133,13 @@ class Multiplexer:
             place += size
 
     def units_packet(self, pes: int) -> bytes:
-        """The last packet with a payload."""
+        """Return the last packet with a payload."""
         return next(one.packet for one in reversed(self.units)
                     if one.pes == pes and one.number is not None)
 
 
 def multiplexed(chance: Random, packets: list[bytes], pid: int, has_jumps: bool) -> list[Unit]:
-    """PES packets as a multiplexer sends them."""
+    """Return PES packets as a multiplexer sends them."""
     sender = Multiplexer(chance, pid, has_jumps)
     for number, data in enumerate(packets):
         sender.send(number, data)
@@ -147,7 +148,7 @@ def multiplexed(chance: Random, packets: list[bytes], pid: int, has_jumps: bool)
 
 
 def stream_of(chance: Random, units: list[Unit], size: int) -> bytes:
-    """The bytes of units: a time stamp before each, or 16 bytes behind each; the last may lack
+    """Return the bytes of units, with a time stamp before or 16 bytes after each; the last may lack
     them."""
     before, behind = (TIME_STAMP, 0) if size == 192 else (0, size - PACKET)
     data = b"".join(random_bytes(chance, before) + one.packet + random_bytes(chance, behind)
@@ -158,7 +159,7 @@ def stream_of(chance: Random, units: list[Unit], size: int) -> bytes:
 # Losses
 
 def made_wrong(chance: Random, unit: Unit) -> Unit:
-    """The unit with a bit that says that it can't be believed."""
+    """Return the unit with a bit that says that it is corrupt."""
     changed = bytearray(unit.packet)
     at, bits = chance.choice([(1, WRONG), (3, 0x40), (3, 0x80), (3, 0xC0)])
     changed[at] |= bits
@@ -166,12 +167,11 @@ def made_wrong(chance: Random, unit: Unit) -> Unit:
 
 
 def with_losses(chance: Random, units: list[Unit]) -> list[Unit]:
-    """Some units left out and some of the PID made wrong. Fewer than 15 packets with a payload in a
-    row are gone, each with its repeat."""
+    """Remove and corrupt units of the PID, fewer than 15 in a row with a payload."""
     lost = chance.choice([0.02, 0.1, 0.4, 0.8])
     wrong = chance.choice([0.0, 0.0, 0.05, 0.3])
     made: list[Unit] = []
-    kept: set[int] = set()  # numbers of packets of which one is there and not wrong
+    kept: set[int] = set()  # numbers of packets with an intact copy
     bursts = 0
     for unit in units:
         bursts = chance.randrange(1, 30) if chance.random() < lost / 10 else max(0, bursts - 1)
@@ -190,24 +190,24 @@ def with_losses(chance: Random, units: list[Unit]) -> list[Unit]:
 
 
 def gone(number: int, kept: set[int]) -> bool:
-    """Whether too many packets in a row would be gone with this one: the 14 before it are."""
+    """Return whether too many packets in a row would be lost with this one."""
     return number >= UNSEEN - 1 and kept.isdisjoint(range(number - UNSEEN + 1, number + 1))
 
 
 # Worse
 
-# What may happen to a unit, and how often.
+# Changes of a unit, and their weights.
 CHANGES = ["leave out", "leave out", "leave out", "again", "again", "wrong", "wrong", "head",
            "head", "head", "length", "jump", "jump", "counters", "payload", "bytes", "bytes"]
 
 
 def is_packet(unit: Unit) -> bool:
-    """Whether it is no bytes between packets."""
+    """Return whether a unit is a packet, not bytes between packets."""
     return len(unit.packet) == PACKET
 
 
 def any_place(chance: Random, units: list[Unit]) -> int:
-    """That of a packet, most often of the PID."""
+    """Return the index of a packet, usually of the PID."""
     places = [at for at, one in enumerate(units) if one.pes is not None]
     if places and chance.random() < 0.9:
         return chance.choice(places)
@@ -215,7 +215,7 @@ def any_place(chance: Random, units: list[Unit]) -> int:
 
 
 def change(chance: Random, units: list[Unit], size: int) -> None:
-    """Something of any kind happens to units, of this size."""
+    """Make a random change to the units."""
     way = chance.choice(CHANGES)
     if way == "bytes":  # between two units: few, a packet's, or so many that packets may be there
         unseen = UNSEEN * size
@@ -251,7 +251,7 @@ def change(chance: Random, units: list[Unit], size: int) -> None:
 
 
 def announce(chance: Random, units: list[Unit], at: int) -> None:
-    """A jump that is announced at any place, by a packet of the PID or of another one."""
+    """Announce a jump anywhere, in a packet of any PID."""
     one = bytearray(without_payload(chance, 0, True))
     one[1] |= units[at].packet[1] & 0x1F
     one[2] = units[at].packet[2]
@@ -261,7 +261,7 @@ def announce(chance: Random, units: list[Unit], at: int) -> None:
 
 
 def move_counters(chance: Random, units: list[Unit], at: int) -> None:
-    """The counters from a unit on, with or without a jump that is announced somewhere."""
+    """Change the counters from a unit on, with or without an announcement."""
     more = chance.randrange(1, 16)
     for place in filter(lambda place: is_packet(units[place]), range(at, len(units))):
         changed = bytearray(units[place].packet)
@@ -272,7 +272,7 @@ def move_counters(chance: Random, units: list[Unit], at: int) -> None:
 
 
 def random_stream(chance: Random, packets: list[bytes], pid: int, size: int) -> bytes:
-    """PES packets as a multiplexer sends them, with losses, and with some changes of any kind."""
+    """Return a multiplexer's stream with losses and random changes."""
     units = multiplexed(chance, packets, pid, chance.random() < 0.5)
     if chance.random() < 0.3:
         units = with_losses(chance, units)

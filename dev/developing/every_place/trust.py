@@ -1,7 +1,6 @@
-"""Which frames may be trusted beside what is broken, and where the list says so.
+"""Find the frames that can be trusted in spite of faults, and where the list says so.
 
-What a list of events and PES packets has for this question is a `Course`; runs of quiet frames are
-looked up in it when it is whole.
+A `Course` collects events and PES packets; runs of clean frames are looked up when it is complete.
 """
 from __future__ import annotations
 
@@ -10,18 +9,17 @@ from typing import Iterator, NamedTuple
 
 from subtitles.common.times import time_of
 
-# What a PES packet may not be told for, if its frame is quiet; a receiver depends on these rules.
+# Faults that no PES packet of a clean frame may have; a receiver depends on these rules.
 OF_PACKETS = {64, 65, 67, 68, 69}
 ORDER = 62
-PASSED = {*range(33, 41), 45, 61}  # what is told of a piece that is passed over
+SKIPPED = {*range(33, 41), 45, 61}  # faults of skipped items
 
 
 class Event(NamedTuple):
-    """An event of the list, and its frame, `None` where it has none.
+    """A line of the list, with its fault and its frame, if it has one.
 
-    `pes` is the PES packet at which it comes, also where it comes at the end of a frame before that
-    one; `None` after the last end. `is_end` says that it comes at the end of its frame, and not at
-    a packet of it.
+    `pes` is the PES packet at which it is reported, even if it is about the end of a frame before;
+    `None` after the last frame. `is_end` is whether it is reported at the end of its frame.
     """
 
     line: str
@@ -32,8 +30,7 @@ class Event(NamedTuple):
 
 
 class Sent(NamedTuple):
-    """A PES packet: its place in the file, its frame, and whether it has a header that erases the
-    page."""
+    """A PES packet: its index, its frame, and whether it has a header that erases the page."""
 
     pes: int
     frame: int
@@ -41,17 +38,17 @@ class Sent(NamedTuple):
 
 
 class End(NamedTuple):
-    """The end of a frame: whether anything stands there, and where it is unfinished, the frame
-    of the first of the unfinished ends in a row up to it, and whether it is late."""
+    """The end of a frame: whether a fault is active, since when the page is incomplete, if it is
+    late."""
 
     frame: int
-    is_standing: bool
-    since: int | None
+    has_active: bool
+    unfinished_since: int | None
     is_late: bool
 
 
 class Run(NamedTuple):
-    """Quiet frames in a row."""
+    """Consecutive clean frames."""
 
     first: int
     last: int
@@ -59,102 +56,107 @@ class Run(NamedTuple):
 
 @dataclass
 class Course:
-    """What is told of a transmission, and what was read of it.
+    """The events of a transmission, and its PES packets.
 
-    `sent` and `ends` are the PES packets before the first one that does not rise, and the ends of
-    frames before it; `is_rising` says that there is none such. `passed` are the pieces that were
-    passed over. `is_left` says that bytes are left after the pieces.
+    `sent` and `ends` are the PES packets and the ends of frames before the first PES packet whose
+    frame does not rise; `is_rising` is whether there is none. `skipped` are the skipped items.
+    `is_left` is whether bytes are left after the items.
     """
 
     events: list[Event] = field(default_factory=list)
     sent: list[Sent] = field(default_factory=list)
     ends: list[End] = field(default_factory=list)
-    passed: list[int] = field(default_factory=list)
+    skipped: list[int] = field(default_factory=list)
     is_rising: bool = True
     is_left: bool = False
 
 
 class Trust:
-    """The frames of a course before the first PES packet that does not rise, and the quiet ones;
-    beside a subtitle file of which something is told, or one that is right."""
+    """The clean frames before the first PES packet whose frame does not rise.
+
+    `is_refused` is whether the subtitle file has faults.
+    """
 
     def __init__(self, course: Course, is_refused: bool) -> None:
         self.is_refused = is_refused
         self.events, self.sent = course.events, course.sent
         self.first, self.last = self.sent[0].frame, self.sent[-1].frame
-        self.ends = {one.frame: one for one in course.ends}
-        pes = {one.pes for one in self.sent}
-        self.loud = {one.frame for one in self.events
-                     if one.pes in pes and one.number in OF_PACKETS}
-        self.loud |= {one.frame for one in course.ends if one.is_standing}
-        # What comes after a PES packet and was not read may have been sent in its frame, or later.
+        self.ends = {item.frame: item for item in course.ends}
+        pes = {item.pes for item in self.sent}
+        self.unclean = {item.frame for item in self.events
+                        if item.pes in pes and item.number in OF_PACKETS}
+        self.unclean |= {item.frame for item in course.ends if item.has_active}
+        # Unread data after a PES packet may belong to its frame, or to a later one.
         if not course.is_rising or course.is_left:
-            self.loud.add(self.last)
-        for piece in course.passed:
-            before = [one.frame for one in self.sent if one.pes < piece]
-            after = [one.frame for one in self.sent if one.pes > piece]
+            self.unclean.add(self.last)
+        for piece in course.skipped:
+            before = [item.frame for item in self.sent if item.pes < piece]
+            after = [item.frame for item in self.sent if item.pes > piece]
             if before:
                 end = after[0] if after else self.last + 1
-                self.loud |= {before[-1], *range(before[-1], end)}
+                self.unclean |= {before[-1], *range(before[-1], end)}
 
     def runs(self) -> Iterator[Run]:
-        """The runs of quiet frames that no quiet frame adjoins."""
+        """Yield the runs of clean frames, as long as possible."""
         begin = self.first
         for frame in range(self.first, self.last + 2):
-            if frame in self.loud or frame > self.last:
+            if frame in self.unclean or frame > self.last:
                 if begin < frame:
                     yield Run(begin, frame - 1)
                 begin = frame + 1
 
     def trusted(self) -> Iterator[tuple[int, Run]]:
-        """What is trusted of each run, from its first header of the page on, and the event before
-        which it is told, as its number."""
+        """Yield the trusted part of each run, from its first header on, and the event before its
+        line."""
         for run in self.runs():
-            headers = [one.frame for one in self.sent
-                       if one.has_header and run.first <= one.frame <= run.last]
+            headers = [packet.frame for packet in self.sent
+                       if packet.has_header and run.first <= packet.frame <= run.last]
             if headers:
                 at = self.place(run.last)
-                found = Run(headers[0], self.last_of(run.last, at))
-                if any(self.is_finished(frame) for frame in range(found.first, found.last + 1)):
+                found = Run(headers[0], self.last_trusted(run.last, at))
+                if any(self.is_complete_at(frame) for frame in range(found.first, found.last + 1)):
                     yield at, found
 
-    def is_finished(self, frame: int) -> bool:
-        return frame in self.ends and self.ends[frame].since is None
+    def is_complete_at(self, frame: int) -> bool:
+        return frame in self.ends and self.ends[frame].unfinished_since is None
 
     def place(self, last: int) -> int:
-        """The event before which it is told what is trusted up to a frame: the first one that says
-        why the next frame is not quiet, or that comes after all frames before it."""
+        """Return the index of the event before which trust up to a frame is reported.
+
+        It is the first that makes the next frame unclean, or that comes after all frames before it.
+        """
         after = last + 1
-        pes = [one.pes for one in self.sent if one.frame == after]
+        pes = [packet.pes for packet in self.sent if packet.frame == after]
         for at, event in enumerate(self.events):
-            is_passed = event.number in PASSED and event.pes is not None
+            is_passed = event.number in SKIPPED and event.pes is not None
             if event.number == ORDER or event.pes is None \
                     or event.frame == after and (event.is_end or event.number in OF_PACKETS) \
                     or is_passed and pes and event.pes > pes[0]:
                 return at
         return len(self.events)
 
-    def last_of(self, last: int, at: int) -> int:
-        """The last frame that is trusted of a run, told before an event: none of those whose page
-        was never whole where the end that comes there is late, or is the last one; beside a
-        subtitle file that is refused none of these whatever comes there."""
+    def last_trusted(self, last: int, at: int) -> int:
+        """Return the last trusted frame of a run, reported before the event at `at`.
+
+        Frames with an incomplete page are not trusted if that event is a late end or the last one,
+        nor at all if the subtitle file has faults.
+        """
         event = self.events[at] if at < len(self.events) else None
         end: End | None = None
         if event is None or event.pes is None:
             end = self.ends.get(self.last)
         elif event.is_end and event.frame is not None and self.ends[event.frame].is_late:
             end = self.ends[event.frame]
-        own = self.ends.get(last)
-        if self.is_refused and own is not None and own.since is not None:
-            end = own
-        return last if end is None or end.since is None else end.since - 1
+        last_end = self.ends.get(last)
+        if self.is_refused and last_end is not None and last_end.unfinished_since is not None:
+            end = last_end
+        return last if end is None or end.unfinished_since is None else end.unfinished_since - 1
 
 
 def lines_of(course: Course, has_failed: bool, is_refused: bool) -> Iterator[str]:
-    """The lines of a course, and of what may be trusted where anything is told, of the subtitle
-    file too.
+    """Yield the lines of a course, with those about trusted frames if there is any fault.
 
-    Where the source failed nobody knows how far the last run goes.
+    If the source failed, the end of the last run is unknown.
     """
     before: dict[int, list[str]] = {}
     if (course.events or is_refused) and course.sent:

@@ -1,4 +1,4 @@
-"""Calls the program and holds what it answers against what the definitions answer."""
+"""Call the program, and compare its output with that of the definitions."""
 from __future__ import annotations
 
 import os
@@ -7,37 +7,37 @@ import shlex
 import shutil
 import subprocess
 
-from .calls import Answer, Call, KnownCall, with_first
+from .calls import Answer, Call, KnownCall, with_first_fault
 
 WRITES = ("extract", "schedule")  # the commands that write a file
-ONE_READ = 65536  # bytes: of a file that is shorter the second read is the one at its end
+ONE_READ = 65536  # bytes: the second read of a shorter file is at its end
 
 
 def failing_at_end(path: str, data: bytes) -> list[str]:
-    """The words before a command for which reads of a file fail where its bytes end."""
+    """Return a command prefix that makes reads at the end of a file fail."""
     when = 2 if data else 1
     return ["strace", "-qq", "-o", os.devnull, "-P", path, "-e", "trace=read",
             "-e", f"inject=read:error=EIO:when={when}+"]
 
 
 def status_of(line: str) -> int:
-    """The status of a call, by its last line."""
+    """Return the status of a call, from its last line."""
     if re.fullmatch(r"refused .*|\d+ faults", line):
         return 1
     return 2 if line.split()[0] in ("fault", "usage") else 0
 
 
 def first_difference(printed: list[str], expected: list[str]) -> str:
-    """Where two lists of lines are not the same, as words."""
+    """Return a message about the first difference of two lists of lines."""
     for number, (one, other) in enumerate(zip(printed, expected), 1):
         if one != other:
-            return f"line {number}: {one}, and not: {other}"
+            return f"line {number}: {one}, expected: {other}"
     count = min(len(printed), len(expected))
     if len(printed) == len(expected):
         return "the lines are the same"
-    what, line = ("one too many", printed[count]) if len(printed) > count else \
-        ("one is missing", expected[count])
-    return f"line {count + 1}, {what}: {line}"
+    what, line = ("unexpected", printed[count]) if len(printed) > count else \
+        ("missing", expected[count])
+    return f"line {count + 1} is {what}: {line}"
 
 
 class Trial:
@@ -49,8 +49,8 @@ class Trial:
             [*failing_at_end("/dev/null", b""), "true"], stderr=subprocess.DEVNULL,
             check=False).returncode
 
-    def answered(self, call: Call) -> tuple[int, Answer]:
-        """What the program answers, and its status."""
+    def call_program(self, call: Call) -> tuple[int, Answer]:
+        """Return the program's status and output."""
         names = [os.path.join(self.folder, f"{number}-{os.getpid()}")
                  for number in range(len(call.files))]
         for name, data in zip(names, call.files):
@@ -73,24 +73,26 @@ class Trial:
         return done.returncode, Answer(lines, made)
 
     def schedule(self, stl: bytes, words: list[str]) -> bytes:
-        """The transmission that the program writes."""
-        return self.answered(Call("", "schedule", (stl,), shlex.join(words)))[1].written or b""
+        """Return the transmission that the program writes."""
+        return self.call_program(Call("", "schedule", (stl,), shlex.join(words)))[1].written or b""
 
     def differences(self, known: KnownCall) -> list[str]:
-        """What the program answers otherwise, as lines; of all that is told of a pair also the
-        first fault. A file that fails is passed over where none can be made to."""
+        """Return messages about differences from the expected output.
+
+        Calls with a failing file are skipped if no file can be made to fail.
+        """
         told = []
-        for call, expected in with_first(*known):
+        for call, expected in with_first_fault(*known):
             if call.is_failing and not self.can_fail:
                 continue
-            status, own = self.answered(call)
+            status, own = self.call_program(call)
             wanted = status_of(expected.lines[-1])
             what = " ".join([call.command, call.words, *(["failing"] if call.is_failing else [])])
             if (status, own.lines) != (wanted, expected.lines):
-                told.append(f"{what}: status {status}, and not {wanted}; "
+                told.append(f"{what}: status {status}, expected {wanted}; "
                             f"{first_difference(own.lines, expected.lines)}")
             if own.written != expected.written:
                 sizes = [None if data is None else len(data)
                          for data in (own.written, expected.written)]
-                told.append(f"{what}: the file has {sizes[0]} bytes, and not these {sizes[1]}")
+                told.append(f"{what}: wrote {sizes[0]} bytes, expected these {sizes[1]}")
         return told

@@ -1,18 +1,17 @@
-"""Pairs with the lines that `check --all --within N` or `--keeping` prints of them, worked out by
-hand.
+"""Pairs with the lines of `check --all` with `--within N` or `--keeping`, worked out by hand.
 
-A transmission is written as in `one_rule`: `o` is row 22 with an o in place of its i, `r2` the row
-on row 20, and `k` is a header that keeps the page.
+Transmissions are written as in `one_rule`: `o` is row 22 with o for its i, `r2` that row on row 20,
+`k` a header that keeps the page.
 """
 from __future__ import annotations
 
 from developing.pes import pes_packet
 from subtitles.common.times import CLOCK, FRAMES_OF_A_DAY, TICKS
 from subtitles.formats.stl import GSI
-from .calls import KnownCall, known_pair
+from .calls import KnownCall, known_check
 from .known import (
     EARLY_WRONG, HELLO, HI, LAST, ROW, SENT, accepted, ended, of_texts, poked, refused, stands,
-    told, trusted, wrong)
+    trusted, with_count, wrong)
 from .one_rule import CLOSING, HEADER, PAGE, header, pes_packets_of
 
 PACKETS = {"h": HEADER, "r": ROW, "c": CLOSING, "o": poked(ROW, {22: 0xEF}),
@@ -20,14 +19,14 @@ PACKETS = {"h": HEADER, "r": ROW, "c": CLOSING, "o": poked(ROW, {22: 0xEF}),
 
 
 def pes_file(packets: str) -> bytes:
-    """The PES packets that some words name, joined."""
+    """Return the PES packets that a text names."""
     return b"".join(pes_packets_of(packets, PACKETS))
 
 
 def of_pair(name: str, pes: bytes, *asked: tuple[str, ...], stl: bytes = HELLO
             ) -> list[KnownCall]:
-    """A pair with each of some words, and what is told then."""
-    return [known_pair(f"{name}: check {words}".rstrip(), stl, pes, words, told(*lines))
+    """Return a pair with each set of options, and its lines."""
+    return [known_check(f"{name}: check {words}".rstrip(), stl, pes, words, with_count(*lines))
             for words, *lines in asked]
 
 
@@ -43,7 +42,7 @@ DAY = [
         (ONE, "refused 61 OffFrame pes 0"), stl=HELLO[:GSI])],
 ]
 
-# As many frames late as a page may be at most.
+# The most frames by which a page may be late.
 MOST = [
     *of_pair("a frame that does not rise before an end is late",
              pes_file("0 h r c, 10 h c, 12 h c, 5 h r c, 50 h c"),
@@ -52,7 +51,7 @@ MOST = [
              ("--within 50", accepted(51, 3))),
 ]
 
-# A quarter of a frame early and three quarters late are of the frame, a tick more is not.
+# A PTS belongs to a frame up to a quarter early and less than three quarters late.
 TICKS_OF_A_FRAME = [
     *of_pair("the last PTS of a frame", SENT, ("--origin 8589931893 --within 1", accepted(51, 2))),
     *of_pair("the first PTS of a frame", SENT, ("--origin 900 --within 1", accepted(51, 2))),
@@ -65,8 +64,8 @@ TICKS_OF_A_FRAME = [
 
 WITHIN = [*MOST, *TICKS_OF_A_FRAME, *DAY]
 
-# Headers that keep the page: rows that a first one brought, rows while the page is not open, and
-# where it is not known what is due.
+# Headers that keep the page: rows after a first header, rows while the page is not open, and no
+# known expected page.
 KEEPING = "--keeping"
 AFTER_BAD = of_texts((0, 50, 22, HI.replace(b"i", b"\xe6")), (50, 100, 22, HI))
 BAD = "refused 50 Character block 1 at 4"

@@ -1,4 +1,4 @@
-"""The words of the commands, and what is wrong with them."""
+"""Parse the arguments of commands, and find their faults."""
 from __future__ import annotations
 
 import re
@@ -13,20 +13,22 @@ MOST_WITHIN = 50
 COMPLETE, OPEN, KEEPING = FLAGS = "--complete", "--open", "--keeping"
 DEFAULTS = {"--page": "888", "--every": "250", "--origin": "0", "--option": "english",
             "--within": "0", "--packet-size": "188", "--pes": "0-"}
-MOST_PID = 8190  # 8191 is that of null packets
+MOST_PID = 8190  # 8191 is for null packets
 
 
 class UsageFault(Exception):
-    """The first thing that is wrong with some words: its number and its name."""
+    """The number and name of the first fault of the arguments."""
 
 
 class Options(NamedTuple):
-    """The words of `check`; `within` is how many frames late a page may be. With a PID the other
-    file is a transport stream, whose packets stand `size` bytes apart; of its PES packets, or of
-    those of the file, the ones from `first` to `last` are read, `None` for no end. Subtitles are
-    drawn by a layout, those of an open subtitle file too where that is asked; those are taken
-    whose TCI is from a frame on and before another. Headers may keep the page; PES packets come
-    within so many frames, where that is asked."""
+    """The options of `check`.
+
+    `within` is by how many frames a page may be late. With a PID the file is a transport stream,
+    with a packet every `size` bytes. PES packets from `first` to `last` are read, `None` for no
+    end. Only subtitles with a TCI from `from_frame` on and before `to_frame` are taken, also of
+    open subtitles if `is_open`. Headers may keep the page if `may_keep`; with `pace` a PES packet
+    must come within so many frames.
+    """
 
     page: Page
     every: int
@@ -46,20 +48,21 @@ class Options(NamedTuple):
     pace: int | None = None
 
 
-def number_of(text: str) -> int | None:
-    """A number of one to ten decimal digits; `None` in any other text."""
+def parse_number(text: str) -> int | None:
+    """Parse a number of one to ten decimal digits; return `None` for other text."""
     return int(text) if re.fullmatch(r"[0-9]{1,10}", text) else None
 
 
-def pid_of(text: str) -> int | None:
-    """A PID in decimal digits, or in hexadecimal ones after 0x; `None` in any other text."""
+def parse_pid(text: str) -> int | None:
+    """Parse a PID, decimal or hexadecimal after 0x; return `None` for other text."""
     is_hexadecimal = re.fullmatch(r"0x[0-9A-Fa-f]{1,8}", text)
-    pid = int(text, 16) if is_hexadecimal else number_of(text)
+    pid = int(text, 16) if is_hexadecimal else parse_number(text)
     return None if pid is None or pid > MOST_PID else pid
 
 
-def given_by(words: list[str]) -> dict[str, str]:
-    """The texts by their names; `--name=text` is a name and a text. None stands there twice."""
+def parse_words(words: list[str]) -> dict[str, str]:
+    """Return option values by name, with defaults. `--name=text` is allowed, a repeated name is
+    not."""
     parts = [part for word in words for part in (
         word.split("=", 1) if word.startswith("--") else [word]) if word not in FLAGS]
     names = parts[::2]
@@ -68,12 +71,12 @@ def given_by(words: list[str]) -> dict[str, str]:
     return {**DEFAULTS, **dict(zip(names, parts[1::2]))}
 
 
-def options_of(words: list[str]) -> Options:
-    """The options of `check` from its words, each a name and a text but for flags. Raises the first
-    `UsageFault`."""
-    given = given_by(words)
+def parse_options(words: list[str]) -> Options:
+    """Parse the options of `check`. Raise the first `UsageFault`."""
+    given = parse_words(words)
     page, option = given["--page"], given["--option"]
-    every, origin, within = (number_of(given[name]) for name in ("--every", "--origin", "--within"))
+    every, origin, within = (
+        parse_number(given[name]) for name in ("--every", "--origin", "--within"))
     if not re.fullmatch(r"[1-8][0-9A-Fa-f]{2}", page) or page[1:].upper() == "FF":
         raise UsageFault("1 BadPage")
     if every is None or not 1 <= every <= FRAMES_OF_A_DAY:
@@ -84,16 +87,16 @@ def options_of(words: list[str]) -> Options:
         raise UsageFault("83 BadOption")
     if within is None or within > MOST_WITHIN:
         raise UsageFault("85 Within")
-    pid = pid_of(given["--pid"]) if "--pid" in given else None
+    pid = parse_pid(given["--pid"]) if "--pid" in given else None
     if "--pid" in given and pid is None:
         raise UsageFault("86 Pid")
     if given["--packet-size"] not in ("188", "192", "204"):
         raise UsageFault("87 PacketSize")
-    first, last = pieces_of(given["--pes"])
+    first, last = parse_range(given["--pes"])
     layout = layout_of(given["--layout"]) if "--layout" in given else PLAIN
     if layout is None:
         raise UsageFault("89 Layout")
-    pace = number_of(given["--pace"]) if "--pace" in given else None
+    pace = parse_number(given["--pace"]) if "--pace" in given else None
     if "--pace" in given and (pace is None or not 1 <= pace <= FRAMES_OF_A_DAY):
         raise UsageFault("92 Pace")
     ends = [frame_of(given[name]) if name in given else whole
@@ -105,8 +108,8 @@ def options_of(words: list[str]) -> Options:
                    ends[0], ends[1], KEEPING in words, pace)
 
 
-def pieces_of(text: str) -> tuple[int, int | None]:
-    """The first and the last number of some pieces, `None` for no end."""
+def parse_range(text: str) -> tuple[int, int | None]:
+    """Parse a range of PES packets; the last is `None` for no end."""
     found = re.fullmatch(r"([0-9]{1,10})-([0-9]{1,10})?", text)
     if not found or found[2] and int(found[1]) > int(found[2]):
         raise UsageFault("88 Range")

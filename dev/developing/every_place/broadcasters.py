@@ -1,6 +1,8 @@
-"""What a house asks for beside the page and the repeat bound, at random: how its texts are drawn,
-which part of a file, headers that keep the page, how far apart PES packets are; and subtitle files
-in which some subtitles are refused, beside a transmission of all of them."""
+"""Make random requests of a broadcaster, beyond page and repeat bound.
+
+They are about the layout of texts, a part of the file, headers that keep the page, the distance of
+PES packets, and refused subtitles next to a transmission of all.
+"""
 from __future__ import annotations
 
 import io
@@ -15,12 +17,12 @@ from subtitles.formats.stl import GSI, TTI
 from subtitles.formats.teletext import CODE_WORDS, NUMBER
 from .broken import LETTERS, MOST_LINES, teletext_in
 
-DISPLAY = 11  # where a GSI block has its DSC
+DISPLAY = 11  # place of DSC in the GSI block
 CODES = [0x0A, 0x0B, 0x0B, 0x0D, 0x07, 0x03, 0x01, 0x0C]
 WRONG_LAYOUTS = ["", "fit,fit", "Fit", "before=0", "left=40", "after=0A*", "row=+1", "strip=20"]
 WRONG_PACES = ["0", "2160001", "", "x", "+1", "00000000001"]
 WRONG_TIMES = ["", "24:00:00:00", "1:00:00:00", "10:00:00:25", "10:00:00"]
-SUBCODE, S2_C4, S4_C6 = 4, 5, 7  # places of a header's numbers among its bytes
+SUBCODE, S2_C4, S4_C6 = 4, 5, 7  # places in a header
 
 
 def codes(chance: Random, most: int, some: list[int]) -> str:
@@ -28,7 +30,7 @@ def codes(chance: Random, most: int, some: list[int]) -> str:
 
 
 def layout_text(chance: Random) -> str:
-    """A layout, seldom none."""
+    """Return a layout, rarely an invalid one."""
     if chance.random() < 0.04:
         return chance.choice(WRONG_LAYOUTS)
     items = [name for name in FLAGS if chance.random() < 0.2]
@@ -53,7 +55,7 @@ def blocks_of(stl: bytes) -> list[bytearray]:
 
 
 def part_words(chance: Random, stl: bytes) -> list[str]:
-    """From where on and up to where subtitles are asked for, near where some begin."""
+    """Return --from and --to, near the start of some subtitles."""
     words: list[str] = []
     begins = [frame for block in blocks_of(stl)
               if (frame := frame_of_code(bytes(block[5:9]))) is not None] or [0]
@@ -67,14 +69,13 @@ def part_words(chance: Random, stl: bytes) -> list[str]:
 
 
 def as_open(stl: bytes, chance: Random) -> bytes:
-    """The file as one of open subtitles; seldom of something else."""
+    """Mark the file as open subtitles, rarely as something else."""
     return stl[:DISPLAY] + chance.choice([b"0", b"0", b" ", b"3"]) + stl[DISPLAY + 1:]
 
 
 class Repeats(NamedTuple):
-    """How a house sends pages again: how often a header keeps the page where it is the one before
-    once more, and where it is another one; how often what such a header is sent with is otherwise,
-    and whether each page has a subcode of its own."""
+    """How pages are repeated: how often a header keeps the page or has its rows changed, and
+    subcodes."""
 
     often: float
     seldom: float
@@ -83,8 +84,8 @@ class Repeats(NamedTuple):
 
 
 def with_header(chance: Random, teletext: list[bytes], subcode: int, keeps: bool) -> None:
-    """The header in front with this subcode, and with C4 clear where it keeps the page; seldom with
-    C6 clear too."""
+    """Give the first header this subcode, and C4 clear if it keeps the page; rarely C6 clear too.
+    """
     head = bytearray(teletext[0])
     head[SUBCODE] = CODE_WORDS[subcode]
     if keeps:
@@ -95,8 +96,8 @@ def with_header(chance: Random, teletext: list[bytes], subcode: int, keeps: bool
 
 
 def send_otherwise(chance: Random, teletext: list[bytes]) -> None:
-    """What stands behind a header otherwise than it was sent before: a row less, or more, or with
-    another byte, no closing header, rows where the page is not open, or the header once more."""
+    """Change what follows a header: fewer or more rows, another byte, no closing header, and so on.
+    """
     at, way = chance.randrange(1, len(teletext)), chance.randrange(9)
     one = bytearray(teletext[at])
     if way < 3:
@@ -110,7 +111,7 @@ def send_otherwise(chance: Random, teletext: list[bytes]) -> None:
     elif way == 5:
         text = chance.choice([b" " * 40, bytes(chance.choices(LETTERS, k=40))])
         teletext.insert(at, teletext_packet(0, chance.randrange(1, 25), [], text))
-    elif way == 6:  # the page ends before a row, or does not
+    elif way == 6:  # the page ends early, or not at all
         teletext.insert(chance.randrange(len(teletext)), teletext.pop())
     elif way == 7:
         teletext.pop()
@@ -119,8 +120,7 @@ def send_otherwise(chance: Random, teletext: list[bytes]) -> None:
 
 
 def without_erasing(chance: Random, pes: bytes) -> bytes:
-    """A transmission with headers that keep the page, most often where it is sent again; seldom
-    with something else behind them there, or another subcode."""
+    """Let headers keep the page, usually in repeats; rarely change what follows, or the subcode."""
     made: list[bytes] = []
     before: list[bytes] = []
     repeats = Repeats(chance.choice([0.3, 0.9, 1.0]), chance.choice([0, 0, 0, 0.08, 1.0]),
@@ -142,9 +142,8 @@ def without_erasing(chance: Random, pes: bytes) -> bytes:
     return b"".join(made)
 
 
-def refused_some(chance: Random, stl: bytes) -> bytes:
-    """The file with one or two subtitles that are refused: for a letter, for what its first block
-    says, or for its place among the others."""
+def refuse_some(chance: Random, stl: bytes) -> bytes:
+    """Make one or two subtitles refused: by a letter, a field of the first block, or the order."""
     blocks = blocks_of(stl)
     for _ in range(chance.choice([1, 1, 2])):
         if not blocks:
@@ -156,7 +155,7 @@ def refused_some(chance: Random, stl: bytes) -> bytes:
         elif way == 2:
             field, value = chance.choice([(14, 4), (4, 1), (8, 25), (12, 25), (9, 23), (13, 24)])
             block[field] = value
-        elif way == 3:  # up to within the next one, or behind it
+        elif way == 3:  # ends within the next one, or after it
             tco = frame_of_code(bytes(block[9:13])) or 0
             block[9:13] = time_code(min(tco + chance.randrange(1, 90), FRAMES_OF_A_DAY - 1))
         elif way == 4:
