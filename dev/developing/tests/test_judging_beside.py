@@ -13,7 +13,7 @@ from typing import Sequence
 from unittest import mock
 
 from developing.every_place import due as defined
-from developing.every_place.words import options_of
+from developing.every_place.words import parse_options
 from developing.multiplex import BEGINS, PACKET, PAYLOAD, head
 from developing.stl import gsi_block, tti_block
 from subtitles.cli.collection import pair_line, table_of
@@ -347,8 +347,8 @@ class AtRandom(Case):
             data, between = self.random_file(chance), ALL_DAY
             if chance.random() < 0.3:
                 between = Between(chance.randrange(200), chance.randrange(200, 900))
-            options = options_of(between.words())
-            wanted = defined.subtitles_in(data, options)
+            options = parse_options(between.words())
+            wanted = defined.judge_subtitles(data, options)
             if wanted.records is None or not wanted.lines:
                 continue
             beside += 1

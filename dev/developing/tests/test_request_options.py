@@ -70,9 +70,9 @@ asked = request_of(parser_of("").parse_args([*pair, *given]))
 none = request_of(parser_of("").parse_args(pair))
 help = parser_of("").format_help()
 print(json.dumps({
-    "help": help, "man page": pages.of_tool(help)["options"],
-    "chapter": pages.of_chapter()["options"],
-    "completion": pages.completed("  check STL PES  does\\n", "", [help])["values"],
+    "help": help, "man page": pages.tool_parts(help)["options"],
+    "chapter": pages.chapter_parts()["options"],
+    "completion": pages.completion_parts("  check STL PES  does\\n", "", [help])["values"],
     "asked": ASKED.made(asked), "left out": ASKED.made(none), "call": call_words(asked),
     "again": again(asked, CommandWords("tools/qc", program)), "check": asked.check_words(),
     "file": asked.check_words(True), "pages": asked.words_of_pages(),

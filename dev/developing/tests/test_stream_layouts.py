@@ -15,7 +15,7 @@ from subtitles.formats.teletext import BY_WORD, ENGLISH, Page
 from subtitles.stream.layout import Choice, Sent, choices_of, is_found, missed
 from .. import DEV
 from ..every_place.on_air import Packet, rows_in, span_of
-from ..every_place.reading import header_of, pieces_of, sending_in
+from ..every_place.reading import header_of, split_packets, read_packet
 from .bench import Case
 
 
@@ -241,7 +241,7 @@ class Rows(Case):
 def sent_in(pes: bytes) -> str:
     """The rows of the first page transmission, each with its number, its column and its cells."""
     page: Page = (0, 0x88)
-    sending = sending_in(pieces_of(pes)[0][0], 0, 0)
+    sending = read_packet(split_packets(pes)[0][0], 0, 0)
     assert not isinstance(sending, int)
     packets = [Packet(one, address_of(one), header_of(one)) for one in sending[1]]
     return rows_said(sorted(rows_in(span_of(packets, page)[0], page).items()))
