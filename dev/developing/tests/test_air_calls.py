@@ -180,12 +180,14 @@ class Calls(Feeds):
             self.check(f"{verdict}: files", endings, {".json", ".html", ".txt"})
 
     def test_outlasts_kills_of_the_judge(self) -> None:
-        """While the feed comes: there is one result, in time."""
-        frames, begin = self.feed(), time.time() + 2
-        self.put_on_air(begin + LEAD - 1)
+        """While the feed comes: there is one result."""
+        frames = self.feed()
         source, sink = os.pipe()
         recorder = self.start(source, "record", self.path("segments"), "--length", "2", "--free",
                               "0")
+        until(lambda: os.path.exists(self.path("segments/.recorder.lock")))
+        begin = time.time() + 2
+        self.put_on_air(begin + LEAD - 1)
         judge = self.start_judge()
         for number, frame in enumerate(frames):
             time.sleep(max(begin + number / 25 - time.time(), 0))
