@@ -19,8 +19,10 @@ from typing import NamedTuple
 
 from subtitles.common.command_line import INSTALLED, Stop
 from subtitles.common.program import COMPLETION, TOOLS, TOP, read
+from subtitles.common.shapes import Member, Record, Shape
 from subtitles.request import request
-from subtitles.results.schema import schema
+from subtitles.results.files import COLUMNS, FILES as FILE_COLUMNS
+from subtitles.results.schema import CUE, LISTED_CAUSE, REQUEST, VERDICT, schema
 from .cited import rows_of_numbers
 
 TABLE = os.path.join("docs", "manual", "all-commands.md")
@@ -29,6 +31,7 @@ AIR_PAGE = os.path.join("docs", "subttx-air.1")
 SCHEMA = os.path.join("docs", "verdict.schema.json")
 NUMBERS = os.path.join("docs", "ASSURANCE.md")  # the rows of the proof in numbers
 QC_CHAPTER = os.path.join("docs", "manual", "qc.md")
+RESULTS_CHAPTER = os.path.join("docs", "manual", "results.md")
 MADE = re.compile(r'^((?:\.\\"|#|<!--) made: (\w+)(?: -->)?\n)(.*?)'
                   r'^((?:\.\\"|#|<!--) end(?: -->)?\n)', re.M | re.S)
 COMMAND = re.compile(r"^  ([a-z]+) ([A-Z]\S*(?: (?:[A-Z]\S*|--\w+))*) +(?=[a-z])", re.M)
@@ -97,9 +100,8 @@ def run_help(tool: str, *command: str) -> str:
 
 def parse_entries(text: str) -> list[tuple[str, str, str]]:
     """Parse the options of a help text: name, value, meaning."""
-    _, _, listed = text.partition("\noptions:\n")
     found = []
-    for entry in ENTRY.finditer(listed):
+    for entry in ENTRY.finditer(text):
         name, _, value = (entry[1] or "").partition(" ")
         found.append((entry[2] or name, value, entry[3]))
     return found
@@ -219,6 +221,60 @@ def chapter_parts(table: str = "") -> dict[str, str]:
     return {"options": "\n".join(rows) + "\n"}
 
 
+# Objects of JSON results: what is before a key in the column of CSV that has its value.
+PREFIXES = {"verdict": "", "fault": "", "request": "", "subtitle": "subtitle_", "cause": "cause_",
+            "part": "part_", "counts": "subtitle_counts_"}
+
+
+def results_parts() -> dict[str, str]:
+    """Return the tables of the keys of JSON results and of the columns of CSV, an object each."""
+    lines = list[str]()
+    for record in filter(has_table, records_in(VERDICT)):
+        keys = [[f"`{member.name}`", f"`{column}`" if (column := column_of(record, member)) else "",
+                 meaning_of(member).replace("|", "\\|")] for member in record.members]
+        has_columns = any(column for _, column, _ in keys)
+        heads = ["Key", "CSV", "Meaning"] if has_columns else ["Key", "Meaning"]
+        rows = [key if has_columns else [key[0], key[2]] for key in keys]
+        lines += ["", f"## {record.name.replace('_', ' ').capitalize()}", "",
+                  *[record.meaning, ""][:2 * bool(record.meaning)], f"| {' | '.join(heads)} |",
+                  f"|{'---|' * len(heads)}", *(f"| {' | '.join(row)} |" for row in rows)]
+    return {"results": "\n".join(lines) + "\n"}
+
+
+def records_in(shape: Shape, found: tuple[Record, ...] = ()) -> tuple[Record, ...]:
+    """Return the objects of which a result is made, each behind the first one that has it."""
+    if isinstance(shape, Record):
+        if shape in found:
+            return found
+        found = (*found, shape)
+    for inner in shape.inner():
+        found = records_in(inner, found)
+    return found
+
+
+def has_table(record: Record) -> bool:
+    """Return whether an object has a table of its own: its keys say more than their names."""
+    return record is not LISTED_CAUSE and any(member.meaning for member in record.members)
+
+
+def column_of(record: Record, member: Member) -> str:
+    """Return the column of CSV that has a member's value, if one has it."""
+    if record is CUE:
+        return member.name
+    column = PREFIXES.get(record.name, "-") + member.name
+    return column if column in (FILE_COLUMNS if record is REQUEST else COLUMNS) else ""
+
+
+def meaning_of(member: Member) -> str:
+    """Return what a member is: its meaning and that of its shape."""
+    shape = next((shape for shape in (member.shape, *member.shape.inner()) if shape.name), None)
+    of_shape = "" if shape is None else shape.meaning
+    if isinstance(shape, Record) and has_table(shape):
+        name = shape.name.replace("_", " ")
+        of_shape = f"See [{name}](#{name.replace(' ', '-')})."
+    return " ".join(text for text in (member.meaning, of_shape) if text)
+
+
 def completion_parts(usage: str, table: str, helps: list[str]) -> dict[str, str]:
     """Return the parts of the completion."""
     program_commands, table_options = commands(usage), options(table)
@@ -291,6 +347,7 @@ def make_pages() -> dict[str, str]:
     of_commands = {command: run_help("air", command) for command in ("record", "judge")}
     parts = {PROGRAM_PAGE: program_parts(usage, table), QC_PAGE: tool_parts(helps["qc"]),
              AIR_PAGE: air_parts(helps["air"], of_commands), QC_CHAPTER: chapter_parts(table),
+             RESULTS_CHAPTER: results_parts(),
              COMPLETION: completion_parts(usage, table, [*helps.values(), *of_commands.values()])}
     numbers = text(NUMBERS)
     for row, counted in rows_of_numbers(TOP):

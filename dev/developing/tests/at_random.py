@@ -190,7 +190,7 @@ def called(words: list[str], program: str, more: Sequence[str] = ("-p", "PROGRAM
         misfits = wrong(json.loads(text))
         assert not misfits, (words, misfits)
     known = json.loads(files.get("one.json", "{}"))
-    unsaid = [*wrong_choices(known, (out + told).splitlines())] if "chosen" in known \
+    unsaid = [*wrong_choices(known, (out + told).splitlines())] if "choices" in known \
         and "--quiet" not in words else []
     assert not unsaid, (words, unsaid)
     return Said(words, status, [plain(line, program) for line in (out + told).splitlines()],

@@ -28,16 +28,17 @@ ENDS: dict[type, tuple[str, str]] = {
     str: ("minLength", "maxLength"), list: ("minItems", "maxItems"),
     int: ("minimum", "maximum"), float: ("minimum", "maximum")}
 SOME = 20  # of a list are all read by the other reader, then one of 50
-ASKED = {"stl": "one.stl", "recording": "one.ts", "page": "888", "every": 250, "option": "english",
-         "origin": 0, "complete": True, "pid": None, "allow_lost": False, "severity": None,
-         "breaks": 0, "pes": None, "start": None, "relative": False, "within": 0, "strict": False,
-         "from": None, "to": None, "layout": None, "open": False, "keeping": False, "pace": None,
-         "late": None, "profile": None}
+REQUEST = {
+    "stl": "one.stl", "recording": "one.ts", "page": "888", "every": 250, "option": "english",
+    "origin": 0, "complete": True, "pid": None, "allow_lost": False, "severity": None, "breaks": 0,
+    "pes": None, "start": None, "relative": False, "within": 0, "strict": False, "from": None,
+    "to": None, "layout": None, "open": False, "keeping": False, "pace": None, "late": None,
+    "profile": None}
 FAULT = {**dict.fromkeys((
-    "block", "subtitle", "byte", "character", "text_at", "pes", "pes_pts", "pes_time", "packet",
-    "frame", "time", "row", "column", "due", "held", "until", "until_pes", "cause")),
+    "block", "subtitle", "byte", "character", "text_offset", "pes", "pes_pts", "pes_time", "packet",
+    "frame", "time", "row", "column", "expected", "decoded", "last_time", "last_pes", "cause")),
     "part": 1, "line": "refused 72 Content", "number": 72, "name": "Content", "severity": "error",
-    "file": "pes", "means": "", "do": ""}
+    "file": "pes", "meaning": "", "remedy": ""}
 
 
 def result(verdict: str = "refused", **more: Any) -> dict[str, Any]:
@@ -46,15 +47,15 @@ def result(verdict: str = "refused", **more: Any) -> dict[str, Any]:
     return {
         "format": FORMAT, "verdict": verdict, "status": STATUSES[verdict],
         "line": f"{verdict} 72 Content" if is_judged else None,
-        "lead": f"{verdict} 72 Content" if is_judged else None, "sentence": "Refused.",
-        "reason": None if is_judged else "why", "judged": "transmission", "frames": None,
-        "transmissions": None, "fault_count": 0, "subtitle_counts": None, "asked": ASKED,
-        "found": {"stl": None, "recording": None, "severity": None},
+        "worst_fault": f"{verdict} 72 Content" if is_judged else None, "sentence": "Refused.",
+        "reason": None if is_judged else "why", "scope": "transmission", "frames": None,
+        "transmissions": None, "fault_count": 0, "subtitle_counts": None, "request": REQUEST,
+        "files_at_start": {"stl": None, "recording": None, "severity": None},
         "inputs": {"stl": None, "recording": None},
-        "program": {"version": "1", "sha256": "0" * 64, "proved": None},
+        "program": {"version": "1", "sha256": "0" * 64, "proof": None},
         "date": "2026-01-02T03:04:05Z", "seconds": 0.5, "cause_counts": dict.fromkeys(NAMES, 0),
-        "whole_after": None, **{one.name: [] for one in LISTS},
-        "left_out": {one.name: 0 for one in LISTS}, **more}
+        "complete_after": None, **{one.name: [] for one in LISTS},
+        "omitted": {one.name: 0 for one in LISTS}, **more}
 
 
 @functools.lru_cache(maxsize=None)
@@ -117,11 +118,11 @@ def is_of_kind(value: Any, kind: str) -> bool:
 def wrong_choices(known: dict[str, Any], lines: Sequence[str]) -> Iterator[object]:
     """What a result chose without a line that was printed, or took without a choice."""
     printed = {line.removeprefix("qc: ").removeprefix("! ") for line in lines}
-    chosen = {(one["what"], one["value"]) for one in known["chosen"]}
-    own = {(one["what"], one["value"], one["part"]) for one in known["chosen"]}
-    yield from (one["line"] for one in known["chosen"] if one["line"] not in printed)
-    asked = known["asked"]
-    for part in known["parts"] if known["judged"] == "transmission" else ():
+    chosen = {(one["option"], one["value"]) for one in known["choices"]}
+    own = {(one["option"], one["value"], one["part"]) for one in known["choices"]}
+    yield from (one["line"] for one in known["choices"] if one["line"] not in printed)
+    asked = known["request"]
+    for part in known["parts"] if known["scope"] == "transmission" else ():
         clock, number = part["clock"], part["part"]
         if part["pid"] is not None and asked["pid"] is None:
             yield from {("pid", f"0x{part['pid']:X}")} - chosen
@@ -132,7 +133,7 @@ def wrong_choices(known: dict[str, Any], lines: Sequence[str]) -> Iterator[objec
         if part["pace"] is not None and asked["pace"] is None:
             yield from {("pace", f"{part['pace']}", number)} - own
     typed = {name for name in ("pid", "pace") if asked[name] is not None}
-    yield from (one["what"] for one in known["chosen"] if one["what"] in typed)
+    yield from (one["option"] for one in known["choices"] if one["option"] in typed)
 
 
 @functools.lru_cache(maxsize=None)

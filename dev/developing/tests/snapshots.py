@@ -27,7 +27,7 @@ OF_PAGE = 60  # lines kept of a page
 OF_FOLDER = 6  # lines kept of each file that a call for many pairs writes
 MOST = 12  # different changes that a failure shows
 WIDTH = 300  # characters kept of a line
-OMITTED = re.compile(r"date$|seconds$|^found\.|^inputs\.|^commands\b|^left_out\.|^format$")
+OMITTED = re.compile(r"date$|seconds$|^files_at_start\.|^inputs\.|^commands\b|^omitted\.|^format$")
 
 
 def sha(text: str) -> str:

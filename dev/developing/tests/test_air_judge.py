@@ -273,7 +273,7 @@ class Judged(Air):
             self.write(f"work/{NAME}.{ending}", b'{"verdict": "relative"}')
         found = outcome(NAME, "relative", "relative")
         assert found.result
-        found.result["asked"] = {}  # it was judged, so there are files
+        found.result["request"] = {}  # it was judged, so there are files
         checker.check = lambda *_: found  # type: ignore
 
         def write(path: str, is_stored: bool) -> contextlib.AbstractContextManager[BinaryIO]:

@@ -24,7 +24,7 @@ from subtitles.request.request import Profile
 from subtitles.results.files import (
     MOST_VALUES, Row, found, is_current, left_by_call, may_take, object_at, objects_in,
     row_of_object, unjudged)
-from subtitles.results.schema import ASKED, FORMAT
+from subtitles.results.schema import FORMAT, REQUEST
 from .bench import Case, example, example_bytes
 from .parts import asked_for, defaults
 from .results import FAULT, result, row
@@ -47,7 +47,7 @@ class EarlierCalls(Case):
             ("one.stl", example_bytes("story.stl")), ("one.pes", example_bytes("story.pes")),
             ("severity", b"72 warning\n"))]
         asked = dataclasses.replace(asked_for(*paths[:2]), severity=paths[2])
-        return asked, result("accepted", asked=ASKED.made(asked), found=found(asked),
+        return asked, result("accepted", request=REQUEST.made(asked), files_at_start=found(asked),
                              program=PROGRAM._asdict())
 
     def test_object_of_other_words(self) -> None:
@@ -151,7 +151,7 @@ class Objects(Case):
                                 "reason": "why"}
         self.must("not judged", unjudged("a", "why") == none)
         self.must("reason", row_of_object(result("not judged"), "x").line == "why")
-        self.must("the lead", row_of_object(result(line="refused 10 A", lead="refused 72 B"),
+        self.must("the lead", row_of_object(result(line="refused 10 A", worst_fault="refused 72 B"),
                                             "x").line == "refused 72 B")
         self.must("judged", row_of_object(result(), "x").is_judged and not row_of_object(
             unjudged("x", "why"), "x").is_judged)
@@ -164,8 +164,8 @@ class Objects(Case):
             ({"format": 3}, ""), ({"format": None}, ".format"), ({"status": 0}, ".verdict"),
             ({"status": True}, ".status"), ({"verdict": "accepted"}, ".verdict"),
             ({"verdict": 5}, ".verdict"), ({"line": 5}, ".line"), ({"line": ""}, ".verdict"),
-            ({"line": None}, ".verdict"), ({"reason": 5}, ".reason"), ({"asked": []}, ".asked"),
-            ({"asked": None}, ".asked"), ({"faults": {}}, ".faults"),
+            ({"line": None}, ".verdict"), ({"reason": 5}, ".reason"), ({"request": []}, ".request"),
+            ({"request": None}, ".request"), ({"faults": {}}, ".faults"),
             ({"faults": [5]}, ".faults[0]"),
             ({"faults": [FAULT, {**FAULT, "row": 25}]}, ".faults[1].row"),
             ({"faults": [{"line": "x"}]}, ".faults[0].block"), ({"hints": {}}, ".hints"),
@@ -175,8 +175,8 @@ class Objects(Case):
             ({"verdict": "not judged", "status": 2}, ".verdict")]
         for change, where in changes:
             self.write("one.json", json.dumps({**result(), **change}).encode())
-            told = f"is none that qc writes, by its {where}: judge it again" if where else \
-                "has format 3, and this version reads 7: judge it again"
+            told = f"does not match docs/verdict.schema.json at {where}: judge it again" \
+                if where else "has format 3, and this version reads 7: judge it again"
             self.must(f"{change}", object_at(path) == unjudged("one", f"its JSON result {told}"),
                       object_at(path))
         goods: list[dict[str, Any]] = [{}, {"faults": [FAULT, FAULT]}, {"seconds": 5},
@@ -222,9 +222,10 @@ class Objects(Case):
             self.must(f"{verdict} {ended}", (got["verdict"] == verdict) == is_its, got)
             if not is_its:
                 self.must("why", got["reason"] == ("last: more" if ended >= 0 else
-                                                   "it did not end by itself"), got)
+                                                   "the process was killed"), got)
         os.unlink(path)
-        self.must("none", left_by_call(path, "one", 2, [])["reason"] == "it did not end by itself")
+        self.must("none", left_by_call(path, "one", 2, [])["reason"] ==
+                  "the process left no result")
 
     def test_may_be_replaced(self) -> None:
         """An object, an empty file and what is not there; nothing else."""
@@ -355,9 +356,10 @@ class Watched(Case):
         for name in ("a", "b", "c"):
             asked = asked_for(self.write(f"in/{name}.stl", b"1"), self.write(f"in/{name}.ts", b"1"),
                               "--every", "99")
-            have = result(asked=ASKED.made(asked), found=found(asked), program=program._asdict())
-            change: dict[str, Any] = {"found": {**found(asked), "stl": None}} if name == "b" else {}
-            self.write(f"out/{name}.json", json.dumps({**have, **change}).encode())
+            files = {**found(asked), **({"stl": None} if name == "b" else {})}
+            have = result(request=REQUEST.made(asked), files_at_start=files,
+                          program=program._asdict())
+            self.write(f"out/{name}.json", json.dumps(have).encode())
         reads = []
 
         def read(path: str) -> dict[str, Any] | None:
@@ -425,7 +427,7 @@ class Watched(Case):
         asked, path = asked_for(self.path("in/a.stl"), self.path("in/a.ts"), "--every", "99"), \
             self.path("in/a.ts")
         self.write("out/a.json", json.dumps(result(
-            asked=ASKED.made(asked), found=found(asked),
+            request=REQUEST.made(asked), files_at_start=found(asked),
             program=about_program(self.bench.program)._asdict())).encode())
         before = os.stat(path).st_mtime_ns
 

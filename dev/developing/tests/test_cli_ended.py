@@ -197,8 +197,8 @@ class Programs(Story):
                 "--profile" in words)
             self.assertEqual((done.status, len(done.printed), done.printed[-1]), (status, 2, last),
                              status)
-            self.assertEqual([known[name] for name in ("verdict", "status", "line", "lead")], [
-                "relative", status, last, last], status)
+            self.assertEqual([known[name] for name in (
+                "verdict", "status", "line", "worst_fault")], ["relative", status, last, last])
             self.assertEqual(known["sentence"], done.printed[0], status)
             self.assertIn("No clock was given, so its delay was not checked", done.printed[0],
                           status)

@@ -26,7 +26,7 @@ from subtitles.request.commands import CommandWords
 from subtitles.request.lines import Item, at_line, inputs_of, no_file, pairs_at
 from subtitles.request.request import Request
 from subtitles.results.files import Row, found, object_at, put_object, unjudged
-from subtitles.results.schema import ASKED
+from subtitles.results.schema import REQUEST
 from .bench import Case, SECONDS
 from .programmes import until
 from .parts import asked_for, call_words, defaults, qc
@@ -161,7 +161,7 @@ class Batches(Case):
             for item, verdict in reversed(list(zip(items, judged.split(", ")))):
                 with open(calls.path(item), "w", encoding="ascii") as file:
                     json.dump(result(verdict, **{
-                        "reason" if verdict == "not judged" else "lead": item.name}), file)
+                        "reason" if verdict == "not judged" else "worst_fault": item.name}), file)
                 rows[item.name] = row(item.name, verdict, item.name)
             calls.is_stopped, calls.unwritten = is_stopped, unwritten
             return rows
@@ -190,7 +190,7 @@ class Batches(Case):
                     line.split()[0] for line in lines[1:]] == ["one", "two", "three", "3"], lines)
                 self.must("at a time", self.seen[1:] == (["one", "two", "three"], {}, wanted))
                 have = json.loads(self.read("all"))
-                names = [one["lead"] or one["reason"] for one in have["pairs"]]
+                names = [one["worst_fault"] or one["reason"] for one in have["pairs"]]
                 self.must("objects", (names, have["status"]) == (["one", "two", "three"], status))
                 self.must("the folder went", not os.path.exists(self.seen[0].folder))
         self.batch("accepted, accepted, accepted", json=self.path("all"),
@@ -376,7 +376,7 @@ class Judged(Case):
             rows: dict[str, Row] = {}
             while self.calls.running:
                 rows.update((one.name, one) for one in self.calls.rows(SECONDS))
-            reason = "--none" if name == "no words" else "it did not end by itself"
+            reason = "--none" if name == "no words" else "the process "
             self.must(f"{name} {is_written}", [rows[one].verdict for one in ("dies", "other")] == [
                 "not judged", "accepted"] and reason in rows["dies"].line, rows)
 
@@ -471,11 +471,12 @@ class Judged(Case):
         program = about_program(self.typed.program_path)
         mores: list[dict[str, Any]] = [
             {}, {}, {"program": {**program._asdict(), "sha256": "1" * 64}}, {}, {"format": 2},
-            {"found": None}, {"asked": None}]
+            {"files_at_start": None}, {"request": None}]
         verdicts = ("refused", "not judged", "accepted", "waived", *["accepted"] * 3)
         for item, verdict, more in zip(items, verdicts, mores):
             assert item.asked
-            have = {**result(verdict), "asked": ASKED.made(item.asked), "found": found(item.asked),
+            have = {**result(verdict), "request": REQUEST.made(item.asked),
+                    "files_at_start": found(item.asked),
                     "program": program._asdict(), **more}
             self.write(f"out/{item.name}.json", json.dumps(have).encode())
         self.write("out/five.json", json.dumps(result()).encode())

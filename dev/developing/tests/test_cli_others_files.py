@@ -85,7 +85,7 @@ class Lines(Case):
             f"--profile {pipe}": f"{pipe} is a pipe: give a file",
             "--profile /dev/stdin": "/dev/stdin is a pipe: give a file",
             f"--severity {pipe}": f"{pipe} is a pipe: give a file",
-            "--profile secret": "secret, line 1: its first word does not stand in a profile, ",
+            "--profile secret": "secret, line 1: its first word is no option of a profile, ",
             "--profile marked": "marked begins with a byte order mark (BOM): save it as UTF-8",
             "--severity marked": "marked begins with a byte order mark (BOM): save it as UTF-8",
             "--profile long": "long has more than 65,536 bytes",
@@ -152,7 +152,7 @@ class Little(Case):
             is_accepted = bool(lines) and lines[-1].startswith(b"accepted")
             self.check(f"{size} kB: status", done.status, 0 if is_accepted else 2)
             self.must(f"{size} kB: a message", is_accepted or done.told and not any(
-                "mistake" in line or "Traceback" in line for line in done.told), done)
+                "internal error:" in line or "Traceback" in line for line in done.told), done)
 
 
 class Pages(Case):

@@ -25,11 +25,11 @@ from subtitles.judging.verdict import Gap
 from subtitles.results.files import (
     Row, TestCase, cell_words, column_rows, junit_file as junit_of, modified, part_columns, said,
     table_lines as csv_of, unjudged)
-from subtitles.results.schema import GAP, JUDGED_PART, PartOf
+from subtitles.results.schema import JUDGED_PART, LOSS, PartOf
 from subtitles.stream.gaps import Place
 from .bench import Case
 from .parts import part_with
-from .results import ASKED as PLAIN, FAULT, result
+from .results import REQUEST as PLAIN, FAULT, result
 
 NO_CELL = {"code": "00", "character": ""}
 
@@ -43,14 +43,14 @@ def subtitle(number: int, begin: str, end: str) -> dict[str, object]:
     return {"position": number, "number": number, "begin": begin, "end": end}
 
 
-CAUSE = {"cause": "late", "frames": 3, "subtitle": subtitle(9, "3", "4"), "text": "due",
-         "sent": "other", "words": "late by 3"}
+CAUSE = {"name": "late", "frames": 3, "subtitle": subtitle(9, "3", "4"), "expected_text": "due",
+         "decoded_text": "other", "line": "late by 3"}
 OBJECTS: list[dict[str, Any]] = [
     result("refused", line="refused 72", faults=[
         fault(72, subtitle=subtitle(7, "1", "2"), cause=CAUSE,
-              due={"code": "41", "character": "A"}, held=NO_CELL), fault(38, pes=5)]),
+              expected={"code": "41", "character": "A"}, decoded=NO_CELL), fault(38, pes=5)]),
     unjudged("two", "no file\nat all"),
-    result("accepted", asked={**PLAIN, "stl": "three.stl", "recording": None}, line="accepted")]
+    result("accepted", request={**PLAIN, "stl": "three.stl", "recording": None}, line="accepted")]
 
 
 class Tables(unittest.TestCase):
@@ -77,8 +77,9 @@ class Tables(unittest.TestCase):
         all are there."""
         for counts, wanted in (({"judged": 9, "refused": 2}, ("9", "2")), (None, ("", ""))):
             rows = self.rows([result("refused", subtitle_counts=counts, faults=[fault(38)] * 150)])
-            self.assertEqual([(row["subtitles_judged"], row["subtitles_refused"]) for row in rows],
-                             [wanted] * 151, counts)
+            names = ("subtitle_counts_judged", "subtitle_counts_refused")
+            self.assertEqual([tuple(row[name] for name in names) for row in rows], [wanted] * 151,
+                             counts)
 
     def test_writes_the_lines_of_each_object_under_one_head(self) -> None:
         """The lines of objects are those of each by itself, in any order, after one head."""
@@ -90,8 +91,9 @@ class Tables(unittest.TestCase):
     def test_columns_of_a_fault(self) -> None:
         """The subtitle, the cells and the cause, each in the column of its name."""
         with_all, without = self.rows(OBJECTS[:1])[1:]
-        names = ("subtitle", "begin", "end", "due", "held", "cause", "cause_frames",
-                 "cause_subtitle", "cause_text", "cause_sent", "cause_words")
+        names = ("subtitle_number", "subtitle_begin", "subtitle_end", "expected", "decoded",
+                 "cause_name", "cause_frames", "cause_subtitle_number", "cause_expected_text",
+                 "cause_decoded_text", "cause_line")
         self.assertEqual([with_all[name] for name in names], [
             "7", "1", "2", "41 A", "00", "late", "3", "9", "due", "other", "late by 3"])
         self.assertEqual([without[name] for name in names], [""] * len(names))
@@ -186,9 +188,10 @@ class Members(unittest.TestCase):
         place = Place(5, 9, 3, scrambled=2, missing=4, mark=7)
         for is_judged in (True, False):
             with self.subTest(is_judged=is_judged):
-                self.assertEqual(GAP.made(Gap("00:00:01:00", None, "3 lost", place, is_judged)), {
-                    "after": "00:00:01:00", "before": None, "after_pts": 5, "before_pts": 9,
-                    "pes": 7, "ts_packets": 3, "scrambled": 2, "missing": 4,
+                self.assertEqual(LOSS.made(Gap("00:00:01:00", None, "3 lost", place, is_judged)), {
+                    "from": "00:00:01:00", "to": None, "from_pts": 5, "to_pts": 9,
+                    "gap_marker": 7, "lost_ts_packets": 3, "scrambled_ts_packets": 2,
+                    "missing_ticks": 4,
                     "judged": is_judged})
 
     def test_writes_what_was_judged_of_a_recording(self) -> None:
@@ -197,8 +200,8 @@ class Members(unittest.TestCase):
         part = part_with(25, 49, 7, number=2)
         bare = JUDGED_PART.made(PartOf(part, False))
         self.assertEqual([bare[name] for name in (
-            "part", "origin", "from", "to", "verdict", "frames", "transmissions", "faults", "pid",
-            "packet_size", "pes", "judged")], [
+            "part", "origin", "from", "to", "verdict", "frames", "transmissions", "fault_count",
+            "pid", "packet_size", "pes", "judged_file")], [
             2, 7, "00:00:01:00", "00:00:01:24", "accepted", 10, 2, 0, None, None, None, None])
         self.assertEqual(bare["clock"], {"origin": 7, "source": GIVEN, "delay_frames": None})
         recording: Any = SimpleNamespace(stream=lambda: (0x101, 204))
@@ -208,11 +211,11 @@ class Members(unittest.TestCase):
             many: Any = SimpleNamespace(verdict="refused", line="l", frames=3, transmissions=1,
                                         count=count)
             words = JUDGED_PART.made(PartOf(dataclasses.replace(part, answer=many), False))
-            self.assertEqual((words["faults"], words["verdict"], words["line"]),
+            self.assertEqual((words["fault_count"], words["verdict"], words["line"]),
                              (count, "refused", "l"), count)
         for is_kept, name in ((True, "a.cut.pes"), (False, None)):
             words = JUDGED_PART.made(PartOf(part, is_kept))
-            self.assertEqual([words[name] for name in ("pid", "packet_size", "pes", "judged",
+            self.assertEqual([words[name] for name in ("pid", "packet_size", "pes", "judged_file",
                                                        "clock")],
                              [0x101, 204, "3-9", {"name": name, "size": 5, "sha256": "sum"}, None],
                              (is_kept, name))
@@ -222,7 +225,8 @@ class Members(unittest.TestCase):
         parts: list[dict[str, Any]] = [
             {"part": number, "pid": pid, "pes": f"{number}-9", "packet_size": 188}
             for number, pid in ((1, 0x101), (2, None))]
-        first, second = ({"pid": pid, "range": f"{number}-9", "packet_size": 188}
+        first, second = ({"part_part": number, "part_pid": pid, "part_pes": f"{number}-9",
+                          "part_packet_size": 188}
                          for number, pid in ((1, "0x101"), (2, None)))
         nothing: dict[str, object] = {}
         for end, number, wanted in ((1, None, first), (2, None, nothing), (2, 1, first),

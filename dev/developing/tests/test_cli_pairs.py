@@ -78,7 +78,8 @@ class Pairs(Case):
                                    stdout=subprocess.PIPE, cwd=self.folder, check=False)
         self.must("a file as standard input", again.returncode == 0, again)
         part = json.loads(self.read("one.json"))["parts"][0]
-        self.must("its part", part["judged"] and (part["pid"], part["pes"]) == (257, "2-6"), part)
+        self.must("its part", part["judged_file"] and (part["pid"], part["pes"]) == (257, "2-6"),
+                  part)
 
 
 # tools/qc on many pairs, and what it writes for machines.
@@ -118,7 +119,8 @@ class Piped(Case):
             self.must(name, of_file.status == piped_in.status and len(of_file.told) ==
                       len(piped_in.told), (of_file, piped_in))
             one, other = (json.loads(self.read(f"{kind}.json")) for kind in ("file", "pipe"))
-            for member in ("verdict", "line", "faults", "causes", "trusted", "lost", "notes"):
+            for member in ("verdict", "line", "faults", "causes", "trusted_frames", "losses",
+                           "notes"):
                 self.must(f"{name}: {member}", one[member] == other[member],
                           (one[member], other[member]))
 
@@ -252,10 +254,11 @@ class Pipes(Case):
                       of_pipe.out.decode().replace(pipe, name) == of_file.out.decode(), of_pipe)
             same = [{**one, "inputs": {**one["inputs"], "stl": one["inputs"]["stl"] and {
                 **one["inputs"]["stl"], "name": ""}}} for one in (known, other)]
-            for member in ("verdict", "status", "fault_count", "faults", "inputs", "trusted"):
+            for member in ("verdict", "status", "fault_count", "faults", "inputs",
+                           "trusted_frames"):
                 self.must(f"{words}: {member}", same[0][member] == same[1][member],
                           (same[0][member], same[1][member]))
-            self.must(f"{words}: option", known["asked"]["option"] == other["asked"]["option"])
+            self.must(f"{words}: option", known["request"]["option"] == other["request"]["option"])
 
     def test_no_end(self) -> None:
         """No more is read than `check` looks at."""

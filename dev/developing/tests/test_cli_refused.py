@@ -249,7 +249,7 @@ class NotBegun(Case):
     def test_faults_that_are_left_out(self) -> None:
         """That a table has not all of them is told, be it one."""
         for count in range(3):
-            known = {**result(), "left_out": {**result()["left_out"], "faults": count}}
+            known = {**result(), "omitted": {**result()["omitted"], "faults": count}}
             with contextlib.redirect_stderr(io.StringIO()) as told:
                 self.must("itself", collection.all_told(known) == known)
             self.must(f"{count}", bool(told.getvalue()) == bool(count), told.getvalue())
@@ -339,7 +339,7 @@ class Beside(Story):
                 verdict = single.judged(asked, PairCall(
                     program, self.path("out"), is_kept, name="own"), "tools/qc")
             [part] = self.object("out/own.json")["parts"]
-            kept = part["judged"]["name"]
+            kept = part["judged_file"]["name"]
             self.must(f"{is_kept}", verdict.hints == ["a", "b"] and bool(kept) == is_kept == any(
                 one.startswith("own.recording") for one in os.listdir(self.path("out"))), part)
 

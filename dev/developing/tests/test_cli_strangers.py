@@ -45,7 +45,7 @@ def is_told(case: Case, what: str, folder: str) -> None:
         return case.read(os.path.join(folder, name))
 
     verdict = json.loads(read("one.json"))
-    case.must(f"{what}: the object", verdict["verdict"] == "relative", verdict["asked"])
+    case.must(f"{what}: the object", verdict["verdict"] == "relative", verdict["request"])
     rows = list(csv.reader(read("one.csv").decode().splitlines()))
     cells = [cell for one in rows for cell in one]
     case.must(f"{what}: the lines of the pair and of three subtitles", len(rows) == 5 and not

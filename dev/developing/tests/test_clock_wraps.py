@@ -18,7 +18,7 @@ from .test_judging_paced import large, lost
 from .test_stream_pace import alone, filled
 
 # Members of a result, and words of its lines, that have a PTS or are of the very file.
-OF_FILE = {"inputs", "found", "program", "date", "seconds", "asked"}
+OF_FILE = {"inputs", "files_at_start", "program", "date", "seconds", "request"}
 OF_PTS = re.compile(r'(--origin |PTS |origin": |_pts": |origin", "value": ")\d+( and \d+,)?')
 PCR_FLAG, FIELD, PTS_FLAG, DTS_FLAG = 0x10, 0x20, 0x80, 0x40
 

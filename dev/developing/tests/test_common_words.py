@@ -112,7 +112,7 @@ class Words(Case):
                 (OSError(28, "No space"), "the output: No space"),
                 (OSError(2, "No such file", ""), "an empty name: No such file"),
                 (OSError("a  word"), "the output: a word"),
-                (ValueError("x  y"), "a mistake of this tool, ValueError in no line: x y")):
+                (ValueError("x  y"), "internal error: ValueError in no line: x y")):
             self.assertEqual(command_line.error_line(reason), wanted, reason)
         for value, lines in (("0", 0), ("1", 1)):
             with mock.patch.dict(os.environ, {"SUBTTX_DEBUG": value}), \

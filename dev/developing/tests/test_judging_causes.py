@@ -50,7 +50,7 @@ class Told(OfProgramme):
         return self.judge(sent)
 
     def causes(self, told: Judged) -> list[tuple[Any, ...]]:
-        return [(one["cause"], one["subtitle"]["number"], one["words"])
+        return [(one["name"], one["subtitle"]["number"], one["line"])
                 for one in told.result["causes"]]
 
     def test_in_a_pause(self) -> None:
@@ -84,8 +84,8 @@ class Told(OfProgramme):
                              "11"), ((row(11, b"Share prices"), row(22, b"Number 9")), "")):
             told = self.with_pages((100, rows))
             found = told.result["causes"][0]
-            self.must(words, found["cause"] == "wrong text" and words in found["words"] and
-                      ("beside" in found["words"]) == bool(words), told.said)
+            self.must(words, found["name"] == "wrong text" and words in found["line"] and
+                      ("beside" in found["line"]) == bool(words), told.said)
             self.must(f"{words}: sentence", (f"has a wrong text ({words}), sent: " if words else
                                              "has a wrong text, sent: ") in told.verdict.sentence,
                       told.verdict.sentence)
@@ -112,7 +112,7 @@ class Told(OfProgramme):
         for frames, wanted in (((200, 225), [("not received", 3)]), ((225,), [])):
             gone = {of_teletext(made, (BEGIN + frame) * TICKS)[0] for frame in frames}
             told = self.judge_stream(one for at, one in enumerate(made) if at not in gone)
-            names = [(one["cause"], one["subtitle"]["number"]) for one in told.result["causes"]]
+            names = [(one["name"], one["subtitle"]["number"]) for one in told.result["causes"]]
             self.must(f"{frames}", told.word == "refused" and names == wanted, told.said)
 
     def test_finds_each_cause_in_the_manual(self) -> None:
@@ -433,8 +433,8 @@ class ByHand(unittest.TestCase):
             one = Cause(0, name, frames, None if sent is None else page_of(sent), of, words, 0)
             known = wording.values(one)
             self.assertEqual(
-                (known["cause"], known["frames"], known["text"], known["sent"], known["other"],
-                 known["other_position"], known["words"], known["subtitle"]),
+                (known["name"], known["frames"], known["expected_text"], known["decoded_text"],
+                 known["other_number"], known["other_position"], known["line"], known["subtitle"]),
                 (name, frames, due, sent and f"Line {sent} / and more {sent}", of and 8, of and 3,
                  said, {"position": 1, "number": 6, "begin": "00:00:04:00", "end": "00:00:06:00"}),
                              (name, frames, sent))

@@ -60,7 +60,7 @@ LANGUAGES = {b"08": ("german", "the language of the file (LC) is 08"),
 def told(found: Judged) -> list[tuple[Any, ...]]:
     """What a result says that was chosen, in the order of the options."""
     return sorted((tuple(one[name] for name in ("what", "value", "agree", "among", "part", "line"))
-                   for one in found.result["chosen"]), key=lambda one: CHOICES.index(one[0]))
+                   for one in found.result["choices"]), key=lambda one: CHOICES.index(one[0]))
 
 
 class Chosen(Case):
@@ -126,7 +126,7 @@ class Chosen(Case):
         done = self.call([tool_path("qc"), "--batch", "list", "-o", "out", "-p", self.bench.program,
                           "--option", "auto"])
         results = [json.loads(self.read(f"out/{name}.json")) for name in ("story", "story~2")]
-        options = [[one["value"] for one in known["chosen"] if one["what"] == "option"]
+        options = [[one["value"] for one in known["choices"] if one["option"] == "option"]
                    for known in results]
         self.must("the first", done.status == 3 and options == [["english"], []], (done, options))
         done = self.call([tool_path("qc"), "--batch", "list", "-o", "out", "-p", self.bench.program,
@@ -173,7 +173,7 @@ class Pages(Case):
                 found = judged(self, stl, path, "--page", page, *WORDS)
                 self.must(f"{page} {name}", found.word == (
                     "accepted" if name == "right" else "refused") and
-                    found.result["asked"]["page"] == page and
+                    found.result["request"]["page"] == page and
                     (f"--page {page}" in found.lines("+ ")[-1]) == (page != "888"), found.said)
             found = judged(self, stl, self.path("first.pes"), "--page", page, *WORDS)
             self.must(f"{page}: not sent", found.word == "not judged", found.said)

@@ -23,7 +23,7 @@ from subtitles.recording.notices import count_notices, of_character_sets, of_pag
 from subtitles.request.lines import of_folder, request_of_line
 from subtitles.request.request import Unclear
 from subtitles.results.files import hint_in
-from subtitles.results.schema import ASKED, total
+from subtitles.results.schema import REQUEST, total
 from subtitles.stream.packets import Packets
 from subtitles.stream.receiver import BLANK_PAGE, FEW, Rows, Timeline
 from subtitles.stream.survey import Announced
@@ -51,9 +51,9 @@ class Objects(Case):
                 ("waived: refused 72 Content", "of the content"), ("refused 7 Other", "of none"),
                 ("accepted 72 frames", ""), (None, ""),
                 ("not accepted, since TS packets are lost: waived: refused 5 X", "of none")):
-            found = hint_in({"lead": line, "hints": hints})
+            found = hint_in({"worst_fault": line, "hints": hints})
             self.must(f"{line}", found == wanted, found)
-        self.must("no hints", hint_in({"lead": "refused 72 Content", "hints": []}) == "")
+        self.must("no hints", hint_in({"worst_fault": "refused 72 Content", "hints": []}) == "")
 
     def test_words_of_a_call(self) -> None:
         """A pair as words, read again, asks the same: with each option by itself, and with all."""
@@ -66,7 +66,7 @@ class Objects(Case):
         for words in [list[str](), *options, every]:
             asked = asked_for("one.stl", "one.pes", *words)
             again = request_of_line(call_words(asked), defaults())
-            self.must(f"{words}", ASKED.made(again) == ASKED.made(asked), again)
+            self.must(f"{words}", REQUEST.made(again) == REQUEST.made(asked), again)
 
 
 class Folders(Case):

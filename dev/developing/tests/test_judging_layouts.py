@@ -28,7 +28,7 @@ from .test_stream_layouts import HOUSES, line
 FIRST, EACH, LASTS = 3000, 60, 45  # frames: of the first TCI, from one to the next, of each
 DSC = slice(11, 12)
 FAULTS = [
-    ("left=40", "left=40 is no item: left takes 0 to 39"), ("fit,fit", "fit is there twice"),
+    ("left=40", "left=40 is no item: left takes 0 to 39"), ("fit,fit", "fit is given twice"),
     ("fit=1", "fit=1 is no item: fit takes no value"), ("pitch=1", "pitch=1 is no item"),
     ("", "nothing between commas is no item"), ("fit,", "nothing between commas is no item"),
     ("up,after=0E", "after=0E is no item: after takes up to 4 codes 01 to 0D"), ("fit,up", None)]
@@ -72,7 +72,7 @@ class Houses(Case):
             "behind its letters where 0A 0A is due, and so are those of 29 more subtitles"
         self.must("told", found.word == "refused" and found.result["hints"] == [f"72: {words}"]
                   and f"72: {words}" in found.said
-                  and found.result["faults"][0]["do"] == words, found.said)
+                  and found.result["faults"][0]["remedy"] == words, found.said)
         self.must("report", words.encode() in self.read("out/one.html"))
         texts[7] = b"Hi there", 2
         sent = [*texts[:7], (b"Hi thEre", 2), *texts[8:]]
@@ -147,7 +147,7 @@ class Open(Case):
             hint = f"its DSC is {kind}: --open takes it"
             self.must(f"{kind}: 13", alone.result["line"] == "refused 13 Display block 0"
                       and alone.result["hints"] == [f"13: {hint}"] * bool(kind)
-                      and (alone.result["faults"][0]["do"] == hint) == bool(kind), alone.said)
+                      and (alone.result["faults"][0]["remedy"] == hint) == bool(kind), alone.said)
             if kind is None:
                 other = judged(self, stl, "--open")
                 self.must("with --open", other.result["line"] == "refused 13 Display block 0",
@@ -156,7 +156,8 @@ class Open(Case):
             self.must(f"{kind}: a file", judged(self, stl, "--open").word == "accepted")
             pes = self.schedule(stl, "open.pes", "--open", "--every", "20", "--layout", "after=0A")
             found = judged(self, stl, pes, "--open", "--layout", "after=0A", "-o", self.path("out"))
-            self.must(f"{kind}: a pair", found.word == "accepted" and found.result["asked"]["open"]
+            self.must(f"{kind}: a pair", found.word == "accepted" and
+                      found.result["request"]["open"]
                       and b"12 subtitles" in self.read("out/one.html"), found.said)
             late = judged(self, stl, pes, "--open")
             self.must(f"{kind}: causes", late.word == "refused"

@@ -81,11 +81,11 @@ class Listed(Case):
                     (number, 74, "warning", number, None, None, number + 2)]}
                 wanted += some[kind]
             found = [(one["part"], one["number"], one["severity"],
-                      one["subtitle"] and one["subtitle"]["position"], one["until"],
-                      one["until_pes"], one["cause"] and one["cause"]["subtitle"]["position"])
+                      one["subtitle"] and one["subtitle"]["position"], one["last_time"],
+                      one["last_pes"], one["cause"] and one["cause"]["subtitle"]["position"])
                      for one in faults_of(verdict)]
             self.assertEqual(found, wanted, kinds)
-            self.assertLessEqual({one["cause"]["text"] for one in faults_of(verdict)
+            self.assertLessEqual({one["cause"]["expected_text"] for one in faults_of(verdict)
                                   if one["cause"]}, {"\u00c4"}, kinds)
         self.assertEqual([one["line"] for one in faults_of(verdict)][:2], [
             "refused never sent frame 00:00:03:07", "refused not shown block 2"])
@@ -121,7 +121,7 @@ class Listed(Case):
             for words in [firsts[number]]])
         self.assertEqual([(one["byte"], one["character"]) for one in faults_of(verdict)][:3], [
             (None, None), ("C8", "\u00e4"), (None, None)])
-        found = [(one["means"], one["do"]) for one in faults_of(verdict)]
+        found = [(one["meaning"], one["remedy"]) for one in faults_of(verdict)]
         self.assertEqual(found, [
             (means or plain(known[int(line[:2])].means), do or plain(known[int(line[:2])].do))
             for line, means, do in rows])
@@ -159,7 +159,7 @@ class Listed(Case):
             verdict.request = asked_for("one.stl", "one.pes", "--within", str(within), "--option",
                                         option)
             self.assertEqual([[(one[name]["code"], one[name]["character"]) for name in (
-                "due", "held")] for one in faults_of(verdict)], [
+                "expected", "decoded")] for one in faults_of(verdict)], [
                     [("5B", letter), ("01", None)], [("62", "b"), ("78", "x")],
                     [("20", " "), ("79", "y")]], (within, option, letter))
             part = dataclasses.replace(part, pes=None)  # of what is not read nothing is known

@@ -103,14 +103,15 @@ class Hidden(OfProgramme):
         more time passes than usual."""
         made = self.multiplexed(self.with_wrong(), 0, 1 << 20, 3)
         whole = self.judge_stream(made)
-        self.must("it is wrong", whole.word == "refused" and whole.result["lost"] == [], whole.said)
+        self.must("it is wrong", whole.word == "refused" and whole.result["losses"] == [],
+                  whole.said)
         line = "between 10:00:11:24 and 10:00:12:01: more time passes than usual, and a jump of " \
             "the counter is announced"
         for words, word in (((), "lost"), (("--pace", "none"), "lost"),
                             (("--allow-lost",), "accepted")):
             told = self.judge_stream(lost(made, 3, True), *words)
             self.must(f"one, {words}", told.word == word and line in told.told and
-                      [one["judged"] for one in told.result["lost"]] == [True]
+                      [one["judged"] for one in told.result["losses"]] == [True]
                       and told.listed[-1].startswith("accepted"), told.said)
         own, later, more = self.with_wrong(), (BEGIN + 730) * TICKS, 400 * TICKS
         broken = [one for one in own if one[0] < later]
@@ -119,7 +120,7 @@ class Hidden(OfProgramme):
         told = self.judge_stream(lost(self.multiplexed(broken, 0, 1 << 20, 3), 3, True),
                                  "--breaks", "1")
         self.must("before a break", told.word == "lost" and line in told.told
-                  and [one["judged"] for one in told.result["lost"]] == [True], told.said)
+                  and [one["judged"] for one in told.result["losses"]] == [True], told.said)
         told = self.judge_stream(lost(made, 5, True))  # one, and the first two thirds of another
         self.must("five", told.word == "refused" and
                   told.result["line"] == "refused 45 Lost pes 300", told.said)
@@ -165,7 +166,7 @@ class Hidden(OfProgramme):
             told = self.judge_stream(lost(made, 3, True, frame), *words)
             self.must(f"{words}", whole.word == "refused" and note not in whole.told and
                       told.word == "accepted" and told.told.count(note) == 1 and
-                      note in told.result["notes"] and told.result["lost"] == [], told.said)
+                      note in told.result["notes"] and told.result["losses"] == [], told.said)
 
     def test_announced_where_nothing_is_missing(self) -> None:
         """A jump in the distance that is usual is none of these, nor is one without a jump."""
@@ -173,7 +174,7 @@ class Hidden(OfProgramme):
         at = of_teletext(made, (AT + 60) * TICKS)[0]
         says = lost(made, 1, True)[of_teletext(made, AT * TICKS)[0]]
         told = self.judge_stream([*made[:at], says, *made[at:]])
-        self.must("usual", told.word == "refused" and told.result["lost"] == [], told.said)
+        self.must("usual", told.word == "refused" and told.result["losses"] == [], told.said)
 
 
 class Taken(unittest.TestCase):

@@ -64,7 +64,7 @@ class Unread(OfProgramme):
                   for word, at in (("refused", first), *[("ended", last)] * (last > first))]
         self.must("the list", [line for line in found.listed if " pes " in line] == listed,
                   found.said)
-        self.must("the result", [(one["number"], one["pes"], one["until_pes"])
+        self.must("the result", [(one["number"], one["pes"], one["last_pes"])
                                  for one in found.result["faults"] if one["pes"] is not None
                                  and one["number"] in NAMES] ==
                   [(number, first, last if last > first else None)
@@ -79,14 +79,14 @@ class Unread(OfProgramme):
                        str(ORIGIN))
         stretches = [(0, 21, 1), (24, 60, 1), (62, len(self.pes) - 1, 0)]
         self.must("trusted", [(one["part"], one["from"], one["to"])
-                              for one in found.result["trusted"]] ==
+                              for one in found.result["trusted_frames"]] ==
                   [(1, time_of(self.frames[first]), time_of(self.frames[last] - less))
-                   for first, last, less in stretches], found.result["trusted"])
+                   for first, last, less in stretches], found.result["trusted_frames"])
         self.must("lost", [(one["number"], one["pes"]) for one in found.result["faults"]] ==
-                  [(45, 22), (45, 60)] and [(one["after"], one["before"]) for one in
-                                            found.result["lost"]] ==
+                  [(45, 22), (45, 60)] and [(one["from"], one["to"]) for one in
+                                            found.result["losses"]] ==
                   [(time_of(self.frames[before]), time_of(self.frames[after]))
-                   for before, after in ((21, 24), (60, 62))], found.result["lost"])
+                   for before, after in ((21, 24), (60, 62))], found.result["losses"])
         told = [line for line in found.told if "between" in line or "recorded" in line]
         self.must("told", len(told) == 3 and told[2] == "that part was not recorded", told)
         severity = self.write("severity", b"45 warning\n")
@@ -226,7 +226,7 @@ class Said(OfProgramme):
                   [one["position"] for one in found.result["subtitles"]] == [*range(1, 21)], causes)
         self.must("cause", faults[0]["cause"] == {name: value for name, value in causes[0].items()
                                                   if name != "part"}
-                  and (causes[0]["cause"], causes[0]["frames"], causes[0]["text"]) ==
+                  and (causes[0]["name"], causes[0]["frames"], causes[0]["expected_text"]) ==
                   ("late", 7, "Number 52"), causes)
 
     def test_texts_of_others(self) -> None:
@@ -239,8 +239,8 @@ class Said(OfProgramme):
                                 for pts, some in self.sent], *words)
             causes, text = found.result["causes"], f"Number {number + 49}"
             self.must(f"{number} {words}", [
-                (one["cause"], one["text"], one["sent"], one["other"], one["other_position"],
-                 one["words"]) for one in causes] == [
+                (one["name"], one["expected_text"], one["decoded_text"], one["other_number"],
+                 one["other_position"], one["line"]) for one in causes] == [
                 ("another subtitle's text", "Number 52", text, number + 49, number,
                  f"another subtitle's text at its time, sent: \"{text}\" of subtitle {number} (SN "
                  f"{number + 49})")] and
@@ -255,7 +255,7 @@ class Said(OfProgramme):
         pes = [pes_packet(pts % CLOCK, some) for pts, some in doubt]
         pes[broken_at] = broken(pes[broken_at], 37)
         found = judged(self, self.stl, self.write("one.pes", b"".join(pes)), "--origin", "0")
-        self.must("can't be read", [one["cause"] for one in found.result["causes"]] == ["unknown"]
+        self.must("can't be read", [one["name"] for one in found.result["causes"]] == ["unknown"]
                   and "not all that was sent then can be read" in "".join(found.said), found.said)
         back = [((1 << 33) - at * TICKS, early[0][1]) for at in (200, 150, 100, 50)]
         found = self.judge([*back, *one_late(3, 4)(self.sent)])
@@ -308,14 +308,14 @@ class Said(OfProgramme):
         self.must("list", "1 faults" in found.said, found.said)
         self.must("letter", found.result["hints"] == [f"50: {whole}"] and found.said[-3::2] == [
             f"50: {whole}", "refused 50 Character block 1 at 6"] and
-            [one["do"] for one in found.result["faults"]] == [whole] and any(
+            [one["remedy"] for one in found.result["faults"]] == [whole] and any(
                 '"Café" (block 1), a letter cannot be shown' in one
                 for one in found.lines("Refused: ")),
             found.said)
         found = judged(self, programme(self, times(1), text=b"\xa35"), "--option", "german")
         self.must("by the option", found.result["hints"][0].startswith(
             "50: the whole file draws in --option english, ") and [
-                (one["text_at"], one["byte"]) for one in found.result["faults"]] == [(0, "A3")],
+                (one["text_offset"], one["byte"]) for one in found.result["faults"]] == [(0, "A3")],
                   found.result)
         data = bytearray(example_bytes("hello.pes"))
         at = DATA + 4 + 2 + 7  # in the first PES packet: C11 to C14 of its first header
@@ -324,7 +324,7 @@ class Said(OfProgramme):
         words = "the header is German, and english is asked for"
         self.must("header", found.result["hints"] == [f"67: {words}"] and found.said[-3::2] == [
             f"67: {words}", "refused 67 Control frame 10:00:00:00 packet 0"] and
-            found.result["faults"][0]["means"] == words, found.said)
+            found.result["faults"][0]["meaning"] == words, found.said)
 
     def test_judges_by_each_option(self) -> None:
         """Complete pages, the page, the national option, severities."""

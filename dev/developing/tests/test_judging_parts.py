@@ -87,7 +87,7 @@ class Parts(OfProgramme):
             self.must(f"{shifts}: commands", [
                 line.partition(" --pes ")[2].split()[0] for line in found.lines("+ ")
                 if " check " in line] == ranges, found.lines("+ "))
-            each = [tuple(one[name] for name in ("part", "number", "whole_after"))
+            each = [tuple(one[name] for name in ("part", "number", "complete_after"))
                     for one in found.result["subtitles"]]
             self.must(f"{shifts}: each", each == [(1 + (at > 8) + (at > 16) * (count > 2), at, 0)
                                                   for at in range(1, 25)])
@@ -116,8 +116,8 @@ class Parts(OfProgramme):
                 for number, by in changes.items()], found.said)
             self.must(f"{changes}: faults", [
                 (one["part"], one["pes"], one["time"], one["pes_time"], one["pes_pts"],
-                 one["subtitle"]["number"], one["cause"]["frames"], one["row"], one["held"],
-                 one["due"]["code"], one["until"]) for one in found.result["faults"]] == [
+                 one["subtitle"]["number"], one["cause"]["frames"], one["row"], one["decoded"],
+                 one["expected"]["code"], one["last_time"]) for one in found.result["faults"]] == [
                 ((number - 1) // 8 + 1, None, time_of(EACH * number), None, None, number, by, 22,
                  {"code": "20", "character": " "}, "0B", time_of(EACH * number + by - 1))
                 for number, by in changes.items()], found.result["faults"])
@@ -125,8 +125,9 @@ class Parts(OfProgramme):
             self.must(f"{changes}: sentence", found.lines("Refused: ") == [
                 f'at {time_of(EACH * first)} {name}, "Number {first}", is {changes[first]} '
                 f"frame{'s' * (changes[first] > 1)} late. See refusals.md#n72."], found.said)
-            self.must(f"{changes}: each", [one["whole_after"] for one in found.result["subtitles"]]
-                      == [changes.get(number, 0) for number in range(1, 25)])
+            self.must(f"{changes}: each", [
+                one["complete_after"] for one in found.result["subtitles"]] == [
+                    changes.get(number, 0) for number in range(1, 25)])
             self.must(f"{changes}: counts", found.lines("causes of ") == [
                 f"{len(changes)} subtitle{'s' * (len(changes) > 1)}: {len(changes)} late"])
 
@@ -149,10 +150,10 @@ class Parts(OfProgramme):
             found = self.judge_parts((1000, 3000), {}, *every, *clock, marks=places)
             self.must(f"{at}: parts", [one[0] for one in found.parts("verdict")] == [
                 "refused" if number in own else "accepted" for number in (1, 2, 3)], found.said)
-            lost = found.result["lost"]
-            self.must(f"{at}: marks", [(one["pes"], one["judged"]) for one in lost] == [
+            lost = found.result["losses"]
+            self.must(f"{at}: marks", [(one["gap_marker"], one["judged"]) for one in lost] == [
                 (place + number, True) for number, place in enumerate(places[:len(own)])], lost)
-            self.must(f"{at}: times", [one["after"] for one in lost] == [
+            self.must(f"{at}: times", [one["from"] for one in lost] == [
                 time_of(self.sent[place - 1][0] // TICKS) for place in places[:len(own)]], lost)
             self.must(f"{at}: lost", found.verdict.is_lost == bool(own) and
                       ("not recorded" in "".join(found.told)) == bool(own))
@@ -262,9 +263,9 @@ class Within(OfProgramme):
                 "61: PTS are up to 448 ticks (4.98 ms) off the frame"], found.said)
             for words in (["--page", "888"], ["--origin", str(ORIGIN)]):
                 found = self.judge(some, "--within", str(least), *words)
-                spread = found.result["whole_after"]
+                spread = found.result["complete_after"]
                 self.must(f"{name}: {words}", found.word == "accepted" and
-                          (spread["greatest"], spread["never"]) == (most, 0), found.said)
+                          (spread["maximum"], spread["never_complete"]) == (most, 0), found.said)
                 self.must(f"{name}: the clock", abs(
                     found.result["parts"][0]["origin"] - ORIGIN) < EARLY, found.said)
 
@@ -307,12 +308,12 @@ class Within(OfProgramme):
         for sent, wanted in rows:
             for within in ("0", "1"):
                 found = self.judge(sent, "--origin", str(ORIGIN), "--within", within)
-                self.must(f"{wanted} {within}", [one["whole_after"] for one in
+                self.must(f"{wanted} {within}", [one["complete_after"] for one in
                                                  found.result["subtitles"]] == wanted, found.said)
                 known = sorted(one for one in wanted if one is not None)
-                self.must(f"{wanted} {within}: of all", found.result["whole_after"] == {
-                    "least": known[0], "middle": known[len(known) // 2], "greatest": known[-1],
-                    "never": wanted.count(None)}, found.result["whole_after"])
+                self.must(f"{wanted} {within}: of all", found.result["complete_after"] == {
+                    "minimum": known[0], "median": known[len(known) // 2], "maximum": known[-1],
+                    "never_complete": wanted.count(None)}, found.result["complete_after"])
 
     def moved(self, number: int, by: int) -> Sent:
         begin = ORIGIN + EACH * number * TICKS
@@ -358,5 +359,5 @@ class Within(OfProgramme):
             fault = found.result["faults"][0]
             self.must(f"{at}", (fault["number"], fault["pes"], fault["packet"],
                                 fault["pes_time"]) == wanted, fault)
-            self.must(f"{at}: cells", fault["number"] != 72 or fault["due"] and fault["held"] and
-                      fault["due"] != fault["held"], fault)
+            self.must(f"{at}: cells", fault["number"] != 72 or fault["expected"] and
+                      fault["decoded"] and fault["expected"] != fault["decoded"], fault)

@@ -141,7 +141,7 @@ class Reasons(OfProgramme):
                                     ("one", blank, False)):
             found = self.judge(sent, *WORDS)
             self.must(name, (words in found.verdict.sentence) == is_told and
-                      any(words in one["words"] for one in found.result["causes"]) == is_told,
+                      any(words in one["line"] for one in found.result["causes"]) == is_told,
                       found.said)
         self.assertEqual(subcode_of(bytes([8, 8, 1, 8 + 2, 3, 8 + 2, 1, 0])), "2321")
 
@@ -175,8 +175,10 @@ class Reasons(OfProgramme):
                  "them")):
             path = self.write("one.ts", stream(without(made, 200, count)))
             found = judged(self, stl, path, "--origin", "0")
-            self.must(f"{count}", [one["ts_packets"] for one in found.result["lost"]] == [lost] and
-                      any(line.endswith(f": {words}") for line in found.told), found.said)
+            self.must(f"{count}", [one["lost_ts_packets"] for one in
+                                   found.result["losses"]] == [lost] and any(
+                                       line.endswith(f": {words}") for line in found.told),
+                      found.said)
         far = 200_000
         one = Packets(1, [Run(0, 4, 0, 10, "h", ""), Run(4, 1, None, 0, "m", ""),
                           Run(5, 4, far, 10, "h", "")], marks=[Mark(4, 30, 3, 0)])
@@ -438,21 +440,23 @@ class Pairs(OfProgramme):
         """Accepted where repeats may keep the page, which is typed and stands in the result; else
         that is said."""
         found = self.judged("", "--keeping")
-        self.must("accepted", found.word == "accepted" and found.result["asked"]["keeping"] is True
+        self.must("accepted", found.word == "accepted" and
+                  found.result["request"]["keeping"] is True
                   and any(" --keeping " in line for line in found.lines("+ ")), found.said)
         found = self.judged("")
         keeping = sum(one != other for (_, one), (_, other) in zip(
             as_houses(self.sent), self.sent))
         words = f"{CLEAR} in {keeping} of {len(self.sent)} headers"
         self.must("refused", found.word == "refused" and found.result["hints"] == [f"67: {words}"]
-                  and words in found.verdict.sentence and found.result["asked"]["keeping"] is False
-                  and all(one["means"] == REPEATS for one in found.result["faults"]), found.said)
+                  and words in found.verdict.sentence and
+                  found.result["request"]["keeping"] is False
+                  and all(one["meaning"] == REPEATS for one in found.result["faults"]), found.said)
 
     def test_left_out(self) -> None:
         """No row comes with one of them: by --keeping that is the cause."""
         found = self.judged("left out", "--keeping")
         self.must("a cause", found.word == "refused" and {one["number"] for one in found.result[
-            "faults"]} == {CONTENT} and [one["words"] for one in found.result["causes"]] ==
+            "faults"]} == {CONTENT} and [one["line"] for one in found.result["causes"]] ==
             [f"not repeated whole: row 22 {REPEATED}"] and
             "(row 22 left out behind a header" in found.verdict.sentence, found.said)
 

@@ -135,8 +135,9 @@ class Recordings(Case):
                     self.must(f"{page} {lost} {recording}", found.word == word and
                               "more place" not in "".join(found.said) and
                               found.parts("pid") == [(page,)] and [
-                                  (one["judged"], one["ts_packets"]) for one in
-                                  found.result["lost"]] == [(True, 1)] * (lost == page), found.said)
+                                  (one["judged"], one["lost_ts_packets"]) for one in
+                                  found.result["losses"]] == [(True, 1)] * (lost == page),
+                      found.said)
 
     def test_other_bytes(self) -> None:
         """Bytes between TS packets, packets of 192 and 204 bytes, and what is no PES packet at the
@@ -214,7 +215,7 @@ class Recordings(Case):
             part, own = found.result["parts"][0], found.result["inputs"]["recording"]
             is_feed = recording != path
             self.must(f"{words} {recording}: part", (part["pid"], part["packet_size"]) ==
-                      (257, 188) and (part["judged"] is None) != is_feed and
+                      (257, 188) and (part["judged_file"] is None) != is_feed and
                       part["pes"] == "0-4", part)
             self.must(f"{words} {recording}: sum", (own["name"], own["size"], own["sha256"]) == (
                 recording, len(data), hashlib.sha256(data).hexdigest()), own)

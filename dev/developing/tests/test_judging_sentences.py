@@ -6,6 +6,7 @@ import itertools
 import json
 import re
 import unittest
+import xml.etree.ElementTree as tree
 from types import SimpleNamespace
 from typing import Any, Callable
 
@@ -182,7 +183,7 @@ class First(OfProgramme):
     def test_a_pair(self) -> None:
         """The sentence names the text; report, JSON result and JUnit begin with it."""
         told = self.told
-        lead = told.result["lead"]
+        lead = told.result["worst_fault"]
         self.must("lead", told.result["line"].startswith("refused 67 ") and
                   lead.startswith("refused 72 ") and "has a wrong text" in told.result["sentence"]
                   and told.result["sentence"].endswith("; also 67 Control."), told.result)
@@ -190,16 +191,16 @@ class First(OfProgramme):
         self.must("report", f'id="verdict">{lead}<' in page and "<title>" in page)
 
     def test_many_pairs(self) -> None:
-        """The table, the page over all and JUnit lead with it."""
+        """The table and the page over all lead with it; JUnit has the sentence."""
         self.write("list", f"{self.path('one.stl')} {self.path('one.pes')} --origin 0\n".encode())
         done = self.tool("qc", "--batch", self.path("list"), "-o", self.path("many"), "--junit",
                          self.path("many.xml"), "-p", self.bench.program)
         known = json.loads(self.read("many/one.json"))
-        place = known["lead"].removeprefix("refused ")
+        place = known["worst_fault"].removeprefix("refused ")
         self.must("table", done.status == 1 and place in done.out.decode(), done)
         self.must("page", place in self.read("many/index.html").decode())
-        self.must("junit", f'message="refused {place}"' in self.read("many.xml").decode(),
-                  self.read("many.xml").decode()[:900])
+        failures = tree.fromstring(self.read("many.xml")).iter("failure")
+        self.must("junit", [one.get("message") for one in failures] == [known["sentence"]])
 
 
 class Ends(OfProgramme):
@@ -437,7 +438,7 @@ class Rows(Case):
                 if word == "refused":
                     self.must(f"{text!r}: sentence", told.result["sentence"].startswith(
                         f"Refused: {words}; in all 3 faults"), told.result["sentence"])
-                    self.must(f"{text!r}: lines", told.result["lead"] == told.said[-1] ==
+                    self.must(f"{text!r}: lines", told.result["worst_fault"] == told.said[-1] ==
                               "refused not shown block 1" and told.said[-2].endswith(
                                   " See refusals.md#not-shown."), told.said)
                     self.must(f"{text!r}: faults", [

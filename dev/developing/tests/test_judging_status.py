@@ -452,4 +452,4 @@ class Lines(Case):
                 found: object = subtitles_shown(lines)
             except Stop as reason:
                 found = str(reason)
-            self.must(f"not read: {lines}", str(found).startswith("show was not answered: "), found)
+            self.must(f"not read: {lines}", str(found).startswith("`show` printed no "), found)

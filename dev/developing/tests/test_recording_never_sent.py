@@ -205,9 +205,9 @@ class Judgements(OfProgramme):
     def is_never_sent(self, name: str, told: Judged, words: str) -> None:
         fault, = told.result["faults"]
         known = told.result
-        self.must(name, (told.word, known["status"], known["line"], known["lead"]) == (
+        self.must(name, (told.word, known["status"], known["line"], known["worst_fault"]) == (
             "refused", 1, "refused never sent", "refused never sent") and (
-                fault["number"], fault["name"], fault["means"]) == (None, "never sent", words)
+                fault["number"], fault["name"], fault["meaning"]) == (None, "never sent", words)
                   and told.verdict.sentence == f"Refused: {words}." and known["parts"] == []
                   and known["subtitle_counts"] is None and known["inputs"]["recording"]["sha256"]
                   and any("announced 888" in line for line in told.said), told.said)

@@ -94,7 +94,7 @@ class Modes(Case):
                 ("--complete --no-complete", ALONE, "--complete goes with"),
                 ("--no-complete --complete", COLLECT, "--complete goes with"),
                 ("--jobs 2 --settled 3", BATCH,
-                 "--settled goes with --watch, and not with --batch"),
+                 "--settled goes with --watch, not with --batch"),
                 ("--every 25 --breaks 1", COLLECT, "--every goes with"),
                 # Also where the value is the one that is taken without.
                 ("--pes=1-2", ALONE, "--pes goes with"),
@@ -310,7 +310,8 @@ class WrongWords(Case):
                       (one["verdict"], one["reason"]) == ("not judged", cell), row)
             cases = list(suite.iter("testcase"))
             self.must(f"{words}: case", len(cases) == 1 and suite.get("errors") == "1" and
-                      [one.get("message") for one in cases[0].iter("error")] == [told],
+                      [one.get("message") for one in cases[0].iter("error")] == [
+                          known.get("sentence", told)],
                       self.read("one.xml"))
         for option, name in names.items():
             path = self.write(name, b"something else")

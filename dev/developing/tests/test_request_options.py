@@ -18,7 +18,7 @@ from subtitles.request.lines import pairs_at, profile_at, request_of_line
 from subtitles.request.request import (
     ALONE, JUDGED, LINE, MEASURE, OPTIONS, Option, Request, add_options, keep_stl,
     option_words as options_of, plain, request_with)
-from subtitles.results.schema import ASKED
+from subtitles.results.schema import REQUEST
 from .. import DEV
 from .bench import Case, example
 from .judged import judged
@@ -36,7 +36,7 @@ from subtitles.common.shapes import Flag, Maybe, Text
 from subtitles.request import request as options
 options.OPTIONS = (*options.OPTIONS, options.Option(
     "--new-one", "K", "a [new](x.md) `one`", options.JUDGED, "`none`", "new_one", of_check=None,
-    of_pages=True, shape=Maybe(Text()), said="What is new."), options.Option(
+    of_pages=True, shape=Maybe(Text()), note="What is new."), options.Option(
     "--newer", None, "it is newer", options.PAIRS, "", "newer", default=False, of_check=False,
     shape=Flag()))
 options.Request = dataclasses.make_dataclass("Request", [
@@ -45,7 +45,7 @@ from developing import pages
 from developing.tests.parts import defaults
 from developing.tests.parts import call_words
 from subtitles.cli.main import parser_of
-from subtitles.results.schema import ASKED
+from subtitles.results.schema import REQUEST
 from subtitles.cli.main import mode_of, refuse_options
 from subtitles.results.schema import schema
 from subtitles.common.command_line import Stop
@@ -73,14 +73,14 @@ print(json.dumps({
     "help": help, "man page": pages.tool_parts(help)["options"],
     "chapter": pages.chapter_parts()["options"],
     "completion": pages.completion_parts("  check STL PES  does\\n", "", [help])["values"],
-    "asked": ASKED.made(asked), "left out": ASKED.made(none), "call": call_words(asked),
+    "asked": REQUEST.made(asked), "left out": REQUEST.made(none), "call": call_words(asked),
     "again": again(asked, CommandWords("tools/qc", program)), "check": asked.check_words(),
     "file": asked.check_words(True), "pages": asked.words_of_pages(),
-    "schema": schema()["definitions"]["asked"]["properties"],
+    "schema": schema()["definitions"]["request"]["properties"],
     "same": request_of(parser_of("").parse_args(call_words(asked))) == asked,
     "not with": [taken("a.stl", *given), taken(*pair, *given),
                  taken("--collect", "x", "--new-one", "5")],
-    "line": ASKED.made(request_of_line([*pair, *given], defaults()))}))
+    "line": REQUEST.made(request_of_line([*pair, *given], defaults()))}))
 """
 # An option with its words, and its member of a result.
 ROWS: list[tuple[str, str, Any]] = [
@@ -106,10 +106,10 @@ class Added(Case):
         made = json.loads(done.out)
         given = ["--new-one", "5", "--newer"]
         for name, line in (
-                ("help", "  --new-one K           a new one; without it: none\n"),
+                ("help", "  --new-one K           a new one (default: none)\n"),
                 ("help", "  --newer               it is newer\n"),
                 ("man page",
-                 ".TP\n\\fB\\-\\-new\\-one\\fP \\fIK\\fP\nA new one; without it: none.\n"),
+                 ".TP\n\\fB\\-\\-new\\-one\\fP \\fIK\\fP\nA new one (default: none).\n"),
                 ("man page", ".TP\n\\fB\\-\\-newer\\fP\nIt is newer.\n"),
                 ("chapter", "| `--new-one K` | a [new](x.md) `one` |\n"),
                 ("chapter", "| `--newer` | it is newer |\n"),
@@ -124,8 +124,9 @@ class Added(Case):
         self.must("again", made["again"] == "tools/qc a.stl a.ts " + " ".join(given), made["again"])
         self.must("check", made["check"] == ["--complete", *given] and made["file"] == given[:2] ==
                   made["pages"], made)
-        self.must("schema", made["schema"]["new_one"]["description"] == "What is new." and
-                  made["schema"]["newer"] == {"type": "boolean"}, made["schema"])
+        self.must("schema", made["schema"]["new_one"]["description"] ==
+                  "A new one. What is new." and made["schema"]["newer"] == {
+                      "description": "It is newer.", "type": "boolean"}, made["schema"])
         alone, pair, collect = made["not with"]
         self.must("modes", pair is None and "--newer goes with" in alone and
                   "--new-one goes with" in collect, made["not with"])
@@ -142,7 +143,7 @@ class Rows(Case):
         parser = Words("")
         add_options(parser)
         plain_words = parser.parse_args([])
-        without = ASKED.made(asked_for("one.stl", "one.pes"))
+        without = REQUEST.made(asked_for("one.stl", "one.pes"))
         for name, value, member in ROWS:
             words = [name, value] if value else [name]
             words += ["--within", "5"] if name == "--late" else []
@@ -151,7 +152,7 @@ class Rows(Case):
                       sorted(call_words(asked)) == sorted([*words, "--", "one.stl", "one.pes"]))
             once_more = request_with("one.stl", "one.pes", parser.parse_args(words))
             self.must(f"{name}: again", once_more == asked)
-            known = ASKED.made(asked)
+            known = REQUEST.made(asked)
             key = name.replace("--no-", "--").strip("-").replace("-", "_")
             self.must(f"{name}: result", known == {
                 **without, **({"within": 5} if name == "--late" else {}), key: member}, known)
@@ -270,7 +271,7 @@ class Files(Case):
 
     def test_wrong_lines(self) -> None:
         """Named by number: what is of one recording, what is no option, a wrong value."""
-        not_there = f"does not stand in a profile, which may have {MAY}"
+        not_there = f"is no option of a profile, which may have {MAY}"
         for text, number, said in (
                 ("--every 25\n\n--breaks 1", 3, f"--breaks {not_there}"),
                 *((f"{name}=1", 1, f"{name} {not_there}") for name in (
@@ -279,15 +280,16 @@ class Files(Case):
                     "--no-keeping", "--no-allow-lost", "--strict", "--open")),
                 *((text, 1, f"its first word {not_there}") for text in (
                     "--json=1", "--new=1", "keeping=1", "one.stl", "root:*:20228:0")),
-                ("--every 0", 1, "argument --every: 0 is no repeat bound: 1 to 2160000 frames"),
+                ("--every 0", 1, "argument --every: 0 is no repeat interval: give 1 to 2160000 "
+                 "frames"),
                 ("#\n--within", 2, "argument --within: expected one argument"),
                 ("--keeping --every 25", 1, "unrecognized arguments: --every 25"),
                 ("--every 25 50", 1, "unrecognized arguments: 50"),
                 ("--every '25", 1, "a quote does not end"),
-                ("--every 25\n--every 25", 2, "--every is said in line 1"),
-                ("--complete\n#\n--no-complete", 3, "--no-complete is said in line 1"),
-                ("--late 0:1", 1, "argument --late: 0:1 are no shares of delays: as "
-                 "0:31,1:40,2:29/0:100, begins before the slash and ends behind it")):
+                ("--every 25\n--every 25", 2, "--every is already in line 1"),
+                ("--complete\n#\n--no-complete", 3, "--no-complete is already in line 1"),
+                ("--late 0:1", 1, "argument --late: 0:1 has no shares of delays: give "
+                 "in-cues, a slash and out-cues, as 0:31,1:40,2:29/0:100")):
             path = self.write("house", text.encode())
             with self.assertRaises(Stop) as refused:
                 profile_at(path)
@@ -379,7 +381,7 @@ class Beside(Case):
             self.must(f"{call} | {line}", (asked.origin, asked.start) == wanted, asked)
         two = self.write("two", b"--start tcp\n--origin 0\n")
         for words in ("--start tcp --origin 0", f"--profile {two}"):
-            with self.assertRaisesRegex(Stop, "--start tells the origin: --origin is too many"):
+            with self.assertRaisesRegex(Stop, "--start and --origin both give the clock"):
                 self.asked(words, None)
 
     def test_shares_go_with_a_bound(self) -> None:
@@ -398,7 +400,7 @@ class Beside(Case):
         good, bad, none = pairs_at(path, defaults())
         self.must("good", good.asked and good.asked.every == 25 and self.path("in/house") in
                   good.files, good)
-        said = f"{path}, line 2: {self.path('in/bad')}, line 2: --breaks does not stand in a "
+        said = f"{path}, line 2: {self.path('in/bad')}, line 2: --breaks is no option of a "
         self.must("bad", bad.asked is None and str(bad.reason).startswith(said), bad.reason)
         self.must("none", none.asked is None and f"{self.path('in/none')}" in str(none.reason),
                   none.reason)
@@ -438,9 +440,9 @@ class Verdicts(Case):
         self.must("line", asked.profile and profile_line(asked.profile) ==
                   f"profile {path}: --every 25 --no-complete --layout fit,up")
         none = profile_at(self.write("none", b"#\n"))
-        self.must("nothing", profile_line(none) == f"profile {none.name}: it says nothing")
+        self.must("nothing", profile_line(none) == f"profile {none.name}: no options")
         found = judged(self, STORY, RECORDING, "--profile", path, "--layout", "up", "--every", "50")
-        known = found.result["asked"]
+        known = found.result["request"]
         self.must("result", known["profile"] == {
             "name": path, "sha256": hashlib.sha256(data).hexdigest()} and
             (known["every"], known["complete"], known["layout"]) == (50, False, "up"), known)

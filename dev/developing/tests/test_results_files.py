@@ -28,7 +28,7 @@ from .bench import Case, example_bytes
 from .judged import judged
 from .parts import asked_for, defaults
 from .results import (
-    ASKED, FAULT, result, row, schema as read_schema, second_reader, wrong_by_schema, wrong_in)
+    REQUEST, FAULT, result, row, schema as read_schema, second_reader, wrong_by_schema, wrong_in)
 
 
 # JSON results: the schema is made of their table, all that is written fits it, and whatever stands
@@ -117,22 +117,22 @@ class Written(Case):
     def test_counts_what_is_left_out_of_each_list(self) -> None:
         """What is left out is counted, of each list; what fits no more is not begun."""
         whole = self.judge()
-        self.must("all", not any(whole["left_out"].values()), whole["left_out"])
+        self.must("all", not any(whole["omitted"].values()), whole["omitted"])
         faults = next(one for one in LISTS if one.name == "faults").shape
         for most in (0, 1, 3, 4):
             with mock.patch.object(faults, "most", most):
                 known = self.judge()
             self.must(f"{most}", known["faults"] == whole["faults"][:most] and
-                      known["left_out"] == {**whole["left_out"], "faults": 4 - most}, known)
+                      known["omitted"] == {**whole["omitted"], "faults": 4 - most}, known)
         with mock.patch.object(files, "MOST_BYTES", 0):
             known = self.judge()
         counts = {one.name: len(whole[one.name]) for one in LISTS}
-        self.must("none", known["left_out"] == counts and known["fault_count"] == 4, known)
+        self.must("none", known["omitted"] == counts and known["fault_count"] == 4, known)
         size = sum(len(json.dumps(one, ensure_ascii=False).encode()) for name in counts
                    for one in whole[name])
         for room, left in ((size, 0), (size - 1, 1)):
             with mock.patch.object(files, "MOST_BYTES", room):
-                self.must(f"{room}", self.judge()["left_out"]["subtitles"] == left)
+                self.must(f"{room}", self.judge()["omitted"]["subtitles"] == left)
 
     def test_a_clock_and_a_verdict(self) -> None:
         """Each word with each status and clock: nothing is accepted or waived without a clock, and
@@ -146,7 +146,7 @@ class Written(Case):
             ("relative", 0, {"relative": True}, True), ("relative", 1, {}, False),
             ("refused", 1, {}, True), ("refused", 3, {}, False), ("lost", 1, {}, True)]
         for word, status, asked, fits in rows:
-            known = result(word, status=status, asked={**ASKED, "origin": None, **asked})
+            known = result(word, status=status, request={**REQUEST, "origin": None, **asked})
             self.must(f"{word} {status} {asked}", (misfit(known) is None) == fits and
                       (not [*wrong_by_schema(known)]) == fits, misfit(known))
 
@@ -225,8 +225,8 @@ class ReadBack(Case):
                 self.write(f"out/{number:03}.json", json.dumps(made).encode())
         self.write("out/none.json", b"{")
         pairs = self.all_read()
-        self.must("some fit", sum("asked" in one for one in pairs) > 5)
-        self.must("by name", all("asked" in one or one["name"] in {"none", *(
+        self.must("some fit", sum("request" in one for one in pairs) > 5)
+        self.must("by name", all("request" in one or one["name"] in {"none", *(
             f"{number:03}" for number in range(CHANGES))} for one in pairs))
 
     def test_no_results(self) -> None:
@@ -256,7 +256,7 @@ class ReadBack(Case):
         self.must("all lists", {one.name for one in VERDICT.members
                                 if isinstance(one.shape, Listed)} == {one.name for one in LISTS})
         self.must("room", files.MOST_READ == 2 * files.MOST_BYTES)
-        text = json.dumps({**FAULT, "cause": {"cause": "late", "words": "a, b, c", "subtitle": 1}})
+        text = json.dumps({**FAULT, "cause": {"name": "late", "line": "a, b, c", "subtitle": 1}})
         values = 20_000 * 2 * sum(map(text.count, ",{[")) + 100_000 * 4
         self.must("values of full lists of faults, causes and subtitles",
                   values < files.MOST_VALUES, values)
@@ -373,7 +373,7 @@ class Collected(Case):
         self.must("as it was read", collection.known_at(path) == known)
         lines = table_lines(map(collection.all_told, [path, path]))
         self.check("lines", len(b"".join(lines).splitlines()), 5)
-        known["left_out"]["faults"] = 7
+        known["omitted"]["faults"] = 7
         self.write("gone.json", json.dumps(known).encode())
         with contextlib.redirect_stderr(io.StringIO()) as told:
             lines = table_lines([collection.all_told(path)])

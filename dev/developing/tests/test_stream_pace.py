@@ -340,7 +340,7 @@ class Holes(OfProgramme):
         self.is_told("whole", whole, "accepted")
         self.must("said", whole.lines("pace: ") == [PACE_LINE] and whole.parts("pace") == [(2,)]
                   and " --complete --pace 2 --all" in whole.verdict.commands[-1] and
-                  whole.result["asked"]["pace"] is None, whole.said)
+                  whole.result["request"]["pace"] is None, whole.said)
         first, lost, silent = 660, "45 Lost pes 660", "79 Silent frame 10:00:26:11"
         for count in (1, 2, 14, 15, 16, 17):
             faults = [*([lost] if count % 16 else []), *([silent] if count > 1 else [])]
@@ -391,7 +391,7 @@ class Holes(OfProgramme):
             told = self.judge_stream(holed_then, words)
             self.must(words, told.word == word and told.lines("pace: ") == lines and
                       told.parts("pace") == [(pace,)], told.said)
-            self.must(f"{words}: asked", told.result["asked"]["pace"] == (
+            self.must(f"{words}: asked", told.result["request"]["pace"] == (
                 words[7:] if words.startswith("--pace") else None))
         feed = in_pipe(self, stream(holed_then))
         self.is_told("a feed", judged(self, self.stl, feed, *self.words), "refused", silent)

@@ -16,7 +16,7 @@ from subtitles.common.times import CLOCK, TICKS
 from subtitles.request.lines import pairs_at
 from subtitles.request.request import request_of
 from subtitles.results.files import found, is_current
-from subtitles.results.schema import ASKED
+from subtitles.results.schema import REQUEST
 from subtitles.stream.gaps import (
     ClockJump, MOST_LATE, Place, SECOND, jumps_of, late_of, marks_told, overlap, places_of,
     reach_of, what_of)
@@ -233,8 +233,8 @@ class Words(Case):
             given = ["--pace", str(pace)] if pace else []
             self.must(word, asked.check_words() == ["--complete", *given] and asked.pace == pace
                       and request_of(self.options(*call_words(asked))) == asked)
-            self.must(f"{word}: result", ASKED.made(asked)["pace"] == str(pace or "none"))
-        self.must("left out", ASKED.made(asked_for("one.stl", "one.ts"))["pace"] is None)
+            self.must(f"{word}: result", REQUEST.made(asked)["pace"] == str(pace or "none"))
+        self.must("left out", REQUEST.made(asked_for("one.stl", "one.ts"))["pace"] is None)
         for word in ("0", "", "-1", "x", "None", "2160001", "9" * 5000, "1.5", "\u0661"):
             with self.assertRaises(Stop, msg=word):
                 asked_for("one.stl", "one.ts", "--pace", word)
@@ -247,7 +247,7 @@ class Words(Case):
                          self.options("--batch", "list", "--pace", "7"))
         self.must("lines", [item.asked and item.asked.pace for item in items] == [7, 9, None, None]
                   and str(items[3].reason).endswith(
-                      "line 4: argument --pace: 0 is no pace: 1 to 2160000 frames"),
+                      "line 4: argument --pace: 0 is no PES interval: give 1 to 2160000 frames"),
                   items)
 
     def test_goes_on(self) -> None:
@@ -256,8 +256,8 @@ class Words(Case):
         asked = [asked_for(self.path("one.stl"), self.path("one.ts"), *words)
                  for words in ((), ("--pace", "none"), ("--pace", "16"))]
         for one in asked:
-            words = ASKED.made(one)
-            known = {"asked": words, "found": found(one), "program": program._asdict()}
+            words = REQUEST.made(one)
+            known = {"request": words, "files_at_start": found(one), "program": program._asdict()}
             self.must(f"{one.pace}", [is_current(known, other, program) for other in asked] ==
                       [other == one for other in asked])
             del words["pace"]

@@ -100,8 +100,8 @@ class Ranges(Case):
         for words in (("--from", "1:00"), ("--to", "24:00:00:00"), ("--from", "00:00:00:25")):
             done = self.tool("qc", self.day(), *words)
             self.must(f"{words}", done.status == 2 and done.told == [
-                f"qc: argument {words[0]}: {words[1]} is no time of the day: HH:MM:SS:FF, 25 "
-                "frames a second"], done)
+                f"qc: argument {words[0]}: {words[1]} is no time of the day: give HH:MM:SS:FF, "
+                "25 frames a second"], done)
 
     def test_parts_in_a_range(self) -> None:
         """Breaks of a programme in a day's file: parts are of the range alone."""

@@ -157,7 +157,7 @@ class Checker:
             return Outcome(None, lines[-1] if lines else "the process that judged it was killed")
         result = left_by_call(os.path.join(self.work, name + ENDING), name,
                               1 if status == UNFINISHED else status, lines)
-        return Outcome(result, result["reason"] or result["lead"], status != UNFINISHED)
+        return Outcome(result, result["reason"] or result["worst_fault"], status != UNFINISHED)
 
     def judge(self, request: Request, name: str, air_time: float, stretch: Unbroken) -> int:
         """Judge a programme in this process; return its exit status."""

@@ -141,7 +141,7 @@ class Judge:
         """Store the files of a result, the JSON result last: it marks the programme as done."""
         assert outcome.result is not None
         work, main = self.checker.work, name + ENDING
-        files = sorted(os.listdir(work)) if "asked" in outcome.result else []
+        files = sorted(os.listdir(work)) if "request" in outcome.result else []
         others = [file for file in files if file.startswith(f"{name}.") and file != main]
         for file in [*others, main]:
             with result_file(os.path.join(self.out, file), is_stored=True) as target:

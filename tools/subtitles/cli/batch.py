@@ -273,7 +273,7 @@ class Calls:
             if known["verdict"] == NOT_JUDGED and is_over:
                 return self.leave(item, f"it took more than {counted(limit, 'second')} of the "
                                         "processor: --limit gives more")
-            return self.leave(item, known["reason"]) if "asked" not in known else \
+            return self.leave(item, known["reason"]) if "request" not in known else \
                 row_of_object(known, item.name)
         finally:
             claim.close()

@@ -204,7 +204,7 @@ class FolderRows:
     """The rows of a folder of results, each of which is read once, with what tells whether it is
     still that of its pair."""
 
-    TELLING = "asked", "found", "program", "verdict"
+    TELLING = "request", "files_at_start", "program", "verdict"
 
     def __init__(self, folder: str) -> None:
         self.folder, self.rows, self.earlier = folder, dict[str, Row](), dict[str, dict[str, Any]]()
@@ -320,7 +320,7 @@ def known_at(place: Place) -> dict[str, Any]:
 def all_told(place: Place) -> dict[str, Any]:
     """An object; that some of its faults are left out is told."""
     known = known_at(place)
-    left_out = known["left_out"]["faults"] if "asked" in known else 0
+    left_out = known["omitted"]["faults"] if "request" in known else 0
     if left_out:
         tell(f"{place} leaves out {counted(left_out, 'fault')}, and so do the lines")
     return known

@@ -40,35 +40,34 @@ seconds_word = number_word("seconds", 0, 99_999)
 limit_word = number_word("seconds", 1, 99_999)
 
 ASKING = (
-    Option("--batch", "FOLDER|LIST", "judge many pairs", (BATCH,), field="batch"),
-    Option("--collect", "DIR", "one table and one page of the JSON results in a folder", (COLLECT,),
+    Option("--batch", "FOLDER|LIST", "judge the pairs of a folder or a list", (BATCH,),
+           field="batch"),
+    Option("--collect", "DIR", "make one table and one page of the JSON results in DIR", (COLLECT,),
            field="collect"),
-    Option("--watch", "IN", "judge the pairs that come into a folder", (WATCH,), field="watch"),
-    Option("--measure", "STL RECORDING", "print a [profile](#a-profile) of recordings that are "
-           "right, of one pair or more, or of a list", (MEASURE,), field="measure", nargs="+"))
+    Option("--watch", "IN", "judge pairs as they arrive in a folder", (WATCH,), field="watch"),
+    Option("--measure", "STL RECORDING", "print a [profile](#a-profile) of right recordings: of "
+           "pairs, or of a list", (MEASURE,), field="measure", nargs="+"))
 OF_CALL = (
-    Option("-o", "DIR", "the folder for report and list", CALLS, field="out"),
-    Option("--keep", None, "keep in DIR the PES packets of the recording, NAME.recording.pes; of a "
-           "pipe all that came, NAME.recording.ts", (PAIR, BATCH, WATCH), field="is_kept",
-           default=False),
-    Option("--json", "FILE", "the verdict as a JSON result", OUTPUT_MODES, field="json"),
-    Option("--csv", "FILE", "a line for each subtitle; of many pairs one for each fault",
+    Option("-o", "DIR", "write report, list and JSON result to DIR", CALLS, field="out"),
+    Option("--keep", None, "keep the recording's PES packets in DIR (NAME.recording.pes); from a "
+           "pipe, everything received (.ts)", (PAIR, BATCH, WATCH), field="is_kept", default=False),
+    Option("--json", "FILE", "write the verdict as a JSON result", OUTPUT_MODES, field="json"),
+    Option("--csv", "FILE", "write a line for each subtitle; of many pairs for each fault",
            OUTPUT_MODES, field="csv"),
-    Option("--junit", "FILE", "the verdict for a CI", OUTPUT_MODES, field="junit"),
-    Option("-p", "PROGRAM", "the program that is asked", (*CALLS, MEASURE), "./subttx",
+    Option("--junit", "FILE", "write a test case for each pair, for CI", OUTPUT_MODES,
+           field="junit"),
+    Option("-p", "PROGRAM", "judge by this program", (*CALLS, MEASURE), "./subttx",
            field="program"),
-    Option("--resume", None, "keep what an earlier call has judged in the same way",
+    Option("--resume", None, "skip pairs that an earlier call judged in the same way",
            (BATCH,), field="is_resumed", default=False),
-    Option("--line", "N", "judge line N of LIST alone, as an engine's job does", (BATCH,),
-           field="line", read=line_word),
-    Option("--jobs", "N", "pairs at a time", (BATCH, WATCH), "as many as processors", field="jobs",
-           read=jobs_word),
-    Option("--limit", "SECONDS", "seconds of the processor that a pair may take, with all that is "
-           "called for it", (BATCH, WATCH), "60, and one more for each 10 MB", field="limit",
-           read=limit_word),
-    Option("--settled", "S", "seconds after which a file that does not change is whole", (WATCH,),
+    Option("--line", "N", "judge only line N of LIST", (BATCH,), field="line", read=line_word),
+    Option("--jobs", "N", "judge N pairs at a time", (BATCH, WATCH), "one for each processor",
+           field="jobs", read=jobs_word),
+    Option("--limit", "SECONDS", "limit the CPU time of a pair, including subprocesses",
+           (BATCH, WATCH), "60, and 1 for each 10 MB", field="limit", read=limit_word),
+    Option("--settled", "S", "treat a file as complete after S seconds without change", (WATCH,),
            "5", field="settled", default=5, read=seconds_word),
-    Option("--quiet", None, "print the verdict's sentence and the last line alone", (ALONE, PAIR),
+    Option("--quiet", None, "print only the sentence and the last line", (ALONE, PAIR),
            field="is_quiet", default=False))
 TAKEN_BY = {one.name: one.modes for one in (*OPTIONS, *OF_CALL)}
 
@@ -109,6 +108,7 @@ def refuse_options(parser: Words, line: Sequence[str], mode: Mode) -> None:
 
 
 def parser_of(text: str) -> Words:
+    """Return the parser of tools/qc, with this text as its help."""
     parser = Words(text)
     parser.add_argument("stl", metavar="STL", nargs="?", help="the subtitle file")
     parser.add_argument("recording", metavar="RECORDING", nargs="?",

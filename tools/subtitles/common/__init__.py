@@ -1,9 +1,9 @@
-"""What any tool needs: its words, its files, times, values of JSON, the program.
+"""What every tool needs: arguments, files, times, JSON values, the program.
 
-command_line   the words of a tool, and how it ends
-files          files: read with a bound, written whole or not at all, SHA-256
+command_line   arguments, messages and exit of a tool
+files          files: read with a limit, written completely or not at all, SHA-256
 times          times of the day, frames, PTS; spans of frames or of PES packets
-shapes         what values of JSON may be
-markup         markup: what goes into a page
-program        the built program: where it is, what PROVED says of it, what is installed with it
+shapes         kinds of JSON values, and their schema
+markup         markup for pages, with escaped text
+program        the built program, its line in PROVED, and its installation
 """

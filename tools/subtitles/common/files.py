@@ -1,4 +1,4 @@
-"""Files: read with a bound, written whole or not at all, SHA-256."""
+"""Files: read with a limit, written completely or not at all, summed up (SHA-256)."""
 from __future__ import annotations
 
 import contextlib
@@ -17,11 +17,11 @@ from typing import BinaryIO, Iterator, NamedTuple, Tuple, TypeVar
 from .command_line import Stop
 
 
-# Files that are read: opened without waiting, looked at once they are open, read with a bound.
+# Files that are read: opened without waiting, checked once they are open, read with a limit.
 
 STANDARD = "-"  # standard input or output, as the name of a file
-PIECE = 1 << 20  # bytes that are read at once, at most
-SPECIAL = ("-", "=", "+", "@")  # with which a name begins that is taken for something else
+PIECE = 1 << 20  # bytes of one read, at most
+SPECIAL = ("-", "=", "+", "@")  # the beginning of an option or a formula
 KINDS = ((stat.S_ISDIR, "a folder"), (stat.S_ISFIFO, "a pipe"), (stat.S_ISCHR, "a device"),
          (stat.S_ISBLK, "a device"), (stat.S_ISLNK, "a link"), (stat.S_ISSOCK, "a socket"))
 
@@ -29,23 +29,23 @@ OF_ERRORS = {errno.ENXIO: "a socket", errno.ELOOP: "a link", errno.EISDIR: "a fo
 
 
 class Damaged(Exception):
-    """Bytes that can't be read on; the text says where and why."""
+    """Bytes that can't be read further; the text says where and why."""
 
 
 Own = TypeVar("Own", bound="Input")
 
 
 class Input:
-    """A file that is read as it comes. Errors name it as it was typed; `-` is standard input."""
+    """A file that is read as it arrives. Errors have its name as typed; `-` is standard input."""
 
-    is_stream = True  # more may come
+    is_stream = True  # more may arrive
 
     def __init__(self, name: str) -> None:
         self.name = name
         self.file = self.open()
 
     def open(self) -> BinaryIO:
-        """Opens it, whatever it is."""
+        """Open it."""
         is_standard = self.name == STANDARD
         with naming(self.name):
             return open(0 if is_standard else self.name, "rb", buffering=0,
@@ -58,12 +58,13 @@ class Input:
         self.file.close()
 
     def read(self, size: int = PIECE, /) -> bytes:
-        """What is there, once there is something: a pipe is not waited for until it is full."""
+        """Return the bytes that are available, at least one before the end: do not wait for a full
+        buffer."""
         with naming(self.name):
             data: bytes | None = self.file.read(size)
-            while data is None:  # nothing is there yet, and the file answers at once
+            while data is None:  # nothing has arrived yet
                 if not self.is_stream:
-                    raise Stop(f"{self.name} has no end, as a file of the system: give a file")
+                    raise Stop(f"{self.name} has no end: give a file")
                 select.select([self.file], [], [])
                 data = self.file.read(size)
         return data
@@ -71,7 +72,7 @@ class Input:
 
 @contextlib.contextmanager
 def naming(name: str) -> Iterator[None]:
-    """An error of the system tells the name that was typed, and no number or other name."""
+    """Give a system's error the name that was typed."""
     try:
         yield
     except OSError as error:
@@ -80,14 +81,14 @@ def naming(name: str) -> Iterator[None]:
 
 
 def kind_of(mode: int) -> str | None:
-    """What it is that is no file; `None` for a file."""
+    """Return what kind of thing has a mode; `None` for a file."""
     return next((words for is_one, words in KINDS if is_one(mode)), None)
 
 
 class File(Input):
-    """A file to read from, by nothing but what is open: whatever had the name before may have been
-    another thing. Nothing is waited for to open it, and what is no file is refused. A pipe, where
-    there may be one, is waited for until somebody writes to it, which a signal ends."""
+    """A file to read. It is opened without waiting and checked once it is open, since a name may be
+    given to something else. What is no file is refused; a pipe, if allowed, is waited for until
+    somebody writes to it."""
 
     def __init__(self, name: str, may_be_pipe: bool = False, is_followed: bool = True) -> None:
         self.flags = os.O_RDONLY | os.O_NONBLOCK | os.O_NOCTTY | os.O_CLOEXEC
@@ -100,7 +101,7 @@ class File(Input):
             raise
 
     def open(self) -> BinaryIO:
-        """Opens it, unless it is what can't be opened."""
+        """Open it; refuse a folder, a link or a socket."""
         if self.name == STANDARD:
             return super().open()
         try:
@@ -114,7 +115,7 @@ class File(Input):
             raise Stop(f"{self.name} is {kind}") from None
 
     def look(self, may_be_pipe: bool) -> None:
-        """Looks what it is."""
+        """Check that it is a file, or an allowed pipe."""
         kind = kind_of(os.fstat(self.file.fileno()).st_mode)
         self.is_stream = kind is not None
         is_endless = kind not in ("a pipe", "a socket") and not self.file.isatty()
@@ -123,11 +124,11 @@ class File(Input):
         if kind and self.name != STANDARD:
             ready = select.poll()
             ready.register(self.file, select.POLLIN)
-            ready.poll()  # at its end, and before anybody writes to it, there is nothing to read
+            ready.poll()  # until somebody writes to it
 
 
 def first_bytes(name: str, most: int, may_be_pipe: bool = False, is_followed: bool = True) -> bytes:
-    """The bytes of a file, as many of them at most."""
+    """Return the first bytes of a file."""
     data, left = [], most
     with File(name, may_be_pipe, is_followed) as file:
         while left and (piece := file.read(min(left, PIECE))):
@@ -138,7 +139,7 @@ def first_bytes(name: str, most: int, may_be_pipe: bool = False, is_followed: bo
 
 def bounded_bytes(name: str, most: int, may_be_pipe: bool = False, is_followed: bool = True) \
         -> bytes:
-    """All bytes of a file, which is refused where it has more than so many."""
+    """Return all bytes of a file; `Stop` if it has more."""
     data = first_bytes(name, most + 1, may_be_pipe, is_followed)
     if len(data) > most:
         raise Stop(f"{name} has more than {most:,} bytes")
@@ -146,7 +147,7 @@ def bounded_bytes(name: str, most: int, may_be_pipe: bool = False, is_followed: 
 
 
 def pieces_of(name: str, may_be_pipe: bool = False) -> Iterator[bytes]:
-    """All bytes of a file."""
+    """Yield all bytes of a file."""
     with File(name, may_be_pipe) as file:
         yield from iter(file.read, b"")
 
@@ -160,8 +161,7 @@ def stamp_in(about: os.stat_result) -> Stamp:
 
 
 def stamp_of(path: str) -> Stamp | None:
-    """Return the stamp of a file, after that of the link, if the path is one; `None` if it is a
-    pipe, or not there."""
+    """Return the stamps of a file and of the link to it, if any; `None` for a pipe or no file."""
     with contextlib.suppress(OSError, ValueError):
         link, about = os.lstat(path), os.stat(path)
         if path != STANDARD and stat.S_ISREG(about.st_mode):
@@ -170,13 +170,13 @@ def stamp_of(path: str) -> Stamp | None:
 
 
 def plain_name(name: str) -> str:
-    """A name that no tool takes for an option, no shell for a command, and no table for a formula.
+    """Return a name that is no option for a tool, no command for a shell, no formula for a table.
     """
     return os.path.join(".", name) if name.startswith(SPECIAL) else name
 
 
 def is_utf_8(name: str) -> bool:
-    """Whether a name is UTF-8; it may be any bytes."""
+    """Return whether a name is UTF-8."""
     try:
         name.encode()
     except UnicodeEncodeError:
@@ -184,40 +184,40 @@ def is_utf_8(name: str) -> bool:
     return True
 
 
-# Files that are written: whole or not at all, over no input, and in a folder of results through no
-# link.
+# Files that are written: completely or not at all, never over an input, and in a folder of results
+# never through a link.
 
 OWN_OUTPUT = {STANDARD, "/dev/stdout", "/dev/fd/1", "/proc/self/fd/1"}
-BEGIN = ".subttx-"  # of the name of a file that is still written
+BEGIN = ".subttx-"  # of the name of a file while it is written
 
 
 class IsInput(Stop):
-    """A file that is to be written is read too; it stays as it is."""
+    """An output is an input, too; it stays as it is."""
 
 
 class Inputs:
-    """Files that are read, by device and inode, so by any of their names: they stay as they are,
-    and so do links by which they were named. There may be thousands on a disk far away: they are
-    looked at once something stands where one is written."""
+    """Files that are read, which no output may replace under any name; nor may it replace a link
+    that named them. There may be thousands on a remote disk: they are looked at only if an output
+    exists."""
 
     def __init__(self, *names: str | None) -> None:
         self.names = [name for name in names if name]
 
     @functools.cached_property
     def known(self) -> dict[tuple[int, int], str]:
-        """Them by what they are."""
+        """Return their names by device and inode."""
         return {one: name for name in self.names for one in identities(name, True)}
 
     def refuse(self, path: str, is_followed: bool) -> None:
-        """Refuses to write to a file, or to take its name away; where it is a link that is
-        followed, both. An input that is gone leaves its inode to others."""
+        """Refuse to write to an input or to remove its name. If an input is gone, another file may
+        have its inode."""
         for one in identities(path, is_followed):
             if one in self.known and one in identities(self.known[one], True):
                 raise IsInput(f"{path} is an input too")
 
 
 def identities(name: str, is_followed: bool) -> set[tuple[int, int]]:
-    """What has a name, and where that is a link that is followed, what it leads to."""
+    """Return device and inode of a name, and of the target if it is a link that is followed."""
     found = set()
     for follow in (False, True)[:1 + is_followed]:
         with contextlib.suppress(OSError, ValueError):
@@ -227,11 +227,11 @@ def identities(name: str, is_followed: bool) -> set[tuple[int, int]]:
     return found
 
 
-NOTHING = Inputs()  # where none is there to be written to
+NOTHING = Inputs()
 
 
 def refuse_name(name: str) -> None:
-    """A name under which nothing can be written is refused, before anything is done for it."""
+    """Refuse a name under which nothing can be written, before any work."""
     target = os.path.realpath(name)
     if name != STANDARD and not os.path.isdir(os.path.dirname(target)):
         raise Stop(f"{name}: {os.strerror(errno.ENOENT)}")
@@ -241,10 +241,10 @@ def refuse_name(name: str) -> None:
 
 @contextlib.contextmanager
 def whole_file(path: str) -> Iterator[BinaryIO]:
-    """A file to write to that somebody has named, who may mean what a link leads to. It takes the
-    name `path` when all went well; else that is as it was.
+    """Open an output of the operator, following links. It takes its name only if all goes well;
+    else that stays as it was.
 
-    A device, which has no other name, is written to as it is, and so is standard output, `-`.
+    A device and standard output, `-`, are written directly.
     """
     if path in OWN_OUTPUT:
         with own_output() as file:
@@ -260,32 +260,32 @@ def whole_file(path: str) -> Iterator[BinaryIO]:
 
 @contextlib.contextmanager
 def result_file(path: str, is_stored: bool = False) -> Iterator[BinaryIO]:
-    """A file to write to in a folder of results, where others may write too: a link in its place is
-    replaced, and never followed. One that is stored is there also where the machine stops."""
+    """Open an output in a folder of results, which others may use: a link is replaced, not
+    followed. A stored one survives a stop of the machine."""
     yield from replaced(path, path, is_stored)
 
 
 def is_replaced(path: str) -> bool:
-    """Whether `whole_file` can write a file once more, in the place of what it wrote before: a
-    pipe, a device and standard output keep that."""
+    """Return whether `whole_file` replaces an earlier output; pipes, devices and standard output
+    keep it."""
     return path not in OWN_OUTPUT and (
         not os.path.exists(path) or stat.S_ISREG(os.stat(path).st_mode))
 
 
 @contextlib.contextmanager
 def own_output() -> Iterator[BinaryIO]:
-    """Standard output for bytes: what is written goes out whole, whatever Python was told of it."""
+    """Open standard output for bytes, without Python's buffer."""
     sys.stdout.flush()
     with open(sys.stdout.fileno(), "wb", closefd=False) as file:
         yield file
 
 
 def replaced(path: str, target: str, is_stored: bool = False) -> Iterator[BinaryIO]:
-    """A file to write to, which takes the place of `target` at the end; errors name `path`."""
+    """Open a file that takes the name `target` at the end; errors have `path`."""
     name = new_name(os.path.dirname(target), BEGIN)
     try:
         with naming(path):
-            file = open(name, "xb")  # it is made: a link of that name would be refused
+            file = open(name, "xb")  # x: refuse a link of that name
         with written(file, path):
             yield file
             if is_stored:
@@ -296,12 +296,12 @@ def replaced(path: str, target: str, is_stored: bool = False) -> Iterator[Binary
         if is_stored:
             store_names(os.path.dirname(target))
     finally:
-        with contextlib.suppress(OSError):  # it has the other name by now
+        with contextlib.suppress(OSError):  # it was renamed
             os.unlink(name)
 
 
 def store_names(folder: str) -> None:
-    """Stores which names stand in a folder, where its file system knows such a thing."""
+    """Store the names in a folder, if its file system can do that."""
     handle = os.open(folder, os.O_RDONLY | os.O_DIRECTORY | os.O_CLOEXEC)
     with contextlib.suppress(OSError):
         os.fsync(handle)
@@ -309,13 +309,13 @@ def store_names(folder: str) -> None:
 
 
 def new_name(folder: str, begin: str) -> str:
-    """A name that nothing has: it is known before anything has it, so that a signal finds it."""
+    """Return a new name; it is known before the file exists, so that a signal can remove it."""
     return os.path.join(folder, begin + os.urandom(8).hex())
 
 
 @contextlib.contextmanager
 def temporary_folder(begin: str) -> Iterator[str]:
-    """A folder that is gone at the end, whenever a signal comes."""
+    """Make a folder that is removed at the end, whenever a signal comes."""
     path = new_name(tempfile.gettempdir(), begin)
     try:
         os.mkdir(path, 0o700)
@@ -323,13 +323,13 @@ def temporary_folder(begin: str) -> Iterator[str]:
     finally:
         try:
             shutil.rmtree(path, ignore_errors=True)
-        finally:  # also where a signal came meanwhile
+        finally:  # also if a signal came meanwhile
             shutil.rmtree(path, ignore_errors=True)
 
 
 @contextlib.contextmanager
 def written(file: BinaryIO, path: str) -> Iterator[None]:
-    """Closes a file; an error that names no file is that of writing to it."""
+    """Close a file; an error without a name is an error of writing to it."""
     try:
         with file:
             yield
@@ -340,11 +340,11 @@ def written(file: BinaryIO, path: str) -> Iterator[None]:
 
 # SHA-256 and sizes of files.
 
-ROOM = 1 << 18  # bytes that are read at once, into the same room
+ROOM = 1 << 18  # bytes of one read
 
 
 class SummedFile(NamedTuple):
-    """A file that was read: its name as it was typed, its size and its SHA-256."""
+    """A file that was read: its name as typed, its size and its SHA-256."""
 
     name: str
     size: int
@@ -352,13 +352,13 @@ class SummedFile(NamedTuple):
 
 
 class BackgroundSum:
-    """A file that is summed up while something else is done."""
+    """Sum up a file in the background."""
 
     def __init__(self, name: str) -> None:
         self.name, self.found = name, list[SummedFile]()
         self.reason: Exception | None = None
         self.thread = threading.Thread(target=self.work, daemon=True)
-        with contextlib.suppress(RuntimeError):  # there is no memory for another thread
+        with contextlib.suppress(RuntimeError):  # no memory for another thread
             self.thread.start()
 
     def work(self) -> None:
@@ -369,7 +369,7 @@ class BackgroundSum:
             self.reason = reason
 
     def result(self) -> SummedFile:
-        """Return the file and its sum, once it is summed up."""
+        """Return the file with its sum, once that is known."""
         if self.thread.ident is None:  # it was not started
             self.work()
         else:
@@ -380,7 +380,7 @@ class BackgroundSum:
 
 
 def file_of(path: str, name: str) -> SummedFile:
-    """Sum up a file, under the name that was typed."""
+    """Return the sum of a file, under the name that was typed."""
     digest, room, size = hashlib.sha256(), memoryview(bytearray(ROOM)), 0
     with File(path) as file:
         while count := file.file.readinto(room):  # type: ignore[attr-defined]

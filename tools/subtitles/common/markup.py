@@ -1,4 +1,4 @@
-"""Markup: what goes into a page. Text becomes markup by being escaped, and in no other way."""
+"""Markup for pages. Text becomes markup only by escaping."""
 from __future__ import annotations
 
 import html
@@ -8,13 +8,13 @@ from typing import Iterable, Union
 from .command_line import shown_lines
 
 
-# Nothing is loaded, run, sent or framed, whatever stands in a page; its style stands in it.
+# A page has its style in it, and loads, runs, sends and frames nothing.
 POLICY = ("default-src 'none'; style-src 'unsafe-inline'; base-uri 'none'; form-action 'none'")
 ANCHOR = re.compile(' id="| href="#')
 
 
 class Markup:
-    """Some markup. It is no text: it can't be put into one, and no text can stand for it."""
+    """Escaped markup. It can't be mixed up with text: neither is put into the other by mistake."""
 
     __slots__ = ("source",)
 
@@ -34,16 +34,16 @@ class Markup:
         return Markup(self.source * times)
 
     def capital(self) -> Markup:
-        """The same with a capital letter in front."""
+        """Return it with a capital letter in front."""
         return Markup(self.source[:1].upper() + self.source[1:])
 
     def anchored(self, prefix: str) -> Markup:
-        """The same with a prefix for each anchor, and for links to them: as one of several parts.
-        A text has no quotes, so that these words stand in tags alone."""
+        """Return it with a prefix for each anchor and each link to one: a page has several parts.
+        Text has no quotes, so that these patterns match only in tags."""
         return Markup(ANCHOR.sub(lambda found: found[0] + prefix, self.source))
 
     def page(self) -> bytes:
-        """The bytes of a page."""
+        """Return the bytes of a page."""
         return self.source.encode("utf-8", "replace")
 
 
@@ -51,30 +51,30 @@ Value = Union[Markup, str, int, float]
 
 
 def escape(text: str) -> str:
-    """Any text as XML: marks escaped, and what turns or hides what is read by its number."""
+    """Return a text as XML, with hidden characters by number."""
     return html.escape(shown_lines(text))
 
 
 def markup(template: str, *values: Value) -> Markup:
-    """Markup by a template, which is a literal, as a test sees to: in its places `{}` stand markup
-    as it is, numbers, and text escaped. A place within a tag stands in quotes."""
+    """Fill a template, which has to be a literal, as a test checks: its places `{}` take markup,
+    numbers and text, which is escaped. A place within a tag has quotes."""
     return Markup(template.format(*map(put, values)))
 
 
 def put(value: Value) -> str | int | float:
-    """A value as it is put into markup."""
+    """Return a value as it is put into markup."""
     if isinstance(value, Markup):
         return value.source
     return escape(value) if isinstance(value, str) else value
 
 
 def joined(parts: Iterable[Value], between: Value = "") -> Markup:
-    """Values one after another, with something between them."""
+    """Join values with something between them."""
     return Markup(str(put(between)).join(str(put(one)) for one in parts))
 
 
 def own_style(path: str) -> Markup:
-    """The style of a page, from a file of these tools."""
+    """Return the style of a page, from a file of these tools."""
     with open(path, encoding="utf-8") as file:
         return Markup(file.read())
 

@@ -1,4 +1,4 @@
-"""The built program: where it is, what PROVED says of it, and what is installed with it."""
+"""The built program, its line in PROVED, and its installation."""
 from __future__ import annotations
 
 import functools
@@ -20,7 +20,7 @@ TOP = os.path.realpath(os.path.join(os.path.dirname(__file__), "..", "..", "..")
 
 
 def sources() -> str:
-    """The line that changes with each source of the program."""
+    """Return the line that changes with each source of the program."""
     done = subprocess.run([os.path.join(TOP, "tools", "sources")], stdin=subprocess.DEVNULL,
                           stdout=subprocess.PIPE, check=False)
     if done.returncode:
@@ -29,14 +29,14 @@ def sources() -> str:
 
 
 def chosen(top: str) -> tuple[str, str]:
-    """What tools/program of a repository prints: the program's path, or why there is none."""
+    """Return the program's path in a repository by tools/program, and why there is none."""
     done = subprocess.run([os.path.join(top, "tools", "program")], stdin=subprocess.DEVNULL,
                           stdout=subprocess.PIPE, stderr=subprocess.PIPE, check=False)
     return done.stdout.decode().rstrip("\n"), done.stderr.decode().strip()
 
 
 def built_program(path: str | None = None) -> str:
-    """The file of the program: at `path`, or as it was built for the sources as they stand."""
+    """Return the program at `path`, or the one that was built from the current sources."""
     if path:
         if os.path.isdir(path) or not os.access(path, os.X_OK):
             raise Stop(f"{path} is no program")
@@ -48,7 +48,7 @@ def built_program(path: str | None = None) -> str:
 
 
 def behind_script(path: str) -> str:
-    """The program that a script ./subttx of a repository runs; else the path itself."""
+    """Return the program that a repository's script ./subttx runs; else the path itself."""
     top = os.path.dirname(os.path.realpath(path))
     with open(path, "rb") as file:
         is_script = file.read(2) == b"#!"
@@ -58,16 +58,16 @@ def behind_script(path: str) -> str:
 
 
 def read(path: str) -> str | None:
-    """The text of a file, `None` where there is none."""
+    """Return the text of a file; `None` if there is none."""
     if not os.path.isfile(path):
         return None
     with open(path, encoding="utf-8", errors="replace") as file:
         return file.read()
 
 
-# The program that a verdict is made with: its version, its sum, the prover's line.
+# The program of a verdict: its version, its sum, the prover's line.
 
-PROVED = "PROVED"  # lies beside a program, or over the folder of one that is installed
+PROVED = "PROVED"  # in the program's folder, or in the one above if it is installed
 OF_PROGRAM = re.compile(r"crate subttx \S+ (logic=proved .*)")
 
 
@@ -80,7 +80,7 @@ class MadeWith(NamedTuple):
 
 
 def about_program(path: str) -> MadeWith:
-    """What there is to say of the program at a path."""
+    """Return version, SHA-256 and proof of the program at a path."""
     real = os.path.realpath(behind_script(path))
     with naming(path):
         about = os.stat(real)
@@ -90,12 +90,12 @@ def about_program(path: str) -> MadeWith:
 
 @functools.lru_cache(maxsize=None)
 def sum_of(path: str, like: Stamp) -> str:
-    """The sum of a file, which stays while the file is like that: a batch works it out once."""
+    """Return the sum of a file, computed once while its stamp stays the same."""
     return file_of(path, path).sha256
 
 
 def proved_line(program: str, sha256: str) -> str | None:
-    """The prover's line of the program with this sum, where a file PROVED says that it is of it."""
+    """Return the prover's line from the file PROVED that has this program's sum."""
     beside = os.path.dirname(program)
     for folder in (beside, os.path.dirname(beside), os.path.join(TOP, "dist")):
         lines = (read(os.path.join(folder, PROVED)) or "").splitlines()
@@ -105,7 +105,7 @@ def proved_line(program: str, sha256: str) -> str | None:
     return None
 
 
-# What is installed under a folder: the program, its man page and the tools beside it.
+# The installation: the program, man pages, tools, documents.
 
 TOOLS = ["qc", "air"]
 PAGES = ["subttx.1", "subttx-qc.1", "subttx-air.1"]
@@ -115,12 +115,12 @@ COMPLETION = os.path.join("tools", "completion.bash")
 HOME = os.path.join("lib", "subttx")
 MAN = os.path.join("share", "man", "man1")
 COMPLETIONS = os.path.join("share", "bash-completion", "completions")
-FOLDERS = "FOLDERS"  # in HOME: the folders that were made for it, and that others may use too
+FOLDERS = "FOLDERS"  # in HOME: new folders that others may use too
 LINK = re.compile(r"!?\[([^\]]*)\]\(([^)\s#]+)[^)\s]*\)")
 
 
 def copy(source: str, target: str, mode: int = 0o644) -> None:
-    """Copies a file under another name first, so that a program that runs can be replaced."""
+    """Copy a file under another name first, so that a running program can be replaced."""
     os.makedirs(os.path.dirname(target), exist_ok=True)
     shutil.copyfile(source, target + ".new")
     os.chmod(target + ".new", mode)
@@ -128,7 +128,7 @@ def copy(source: str, target: str, mode: int = 0o644) -> None:
 
 
 def write(path: str, text: str) -> None:
-    """Writes a text in the same way."""
+    """Write a text in the same way."""
     os.makedirs(os.path.dirname(path), exist_ok=True)
     with open(path + ".new", "w", encoding="utf-8") as file:
         file.write(text)
@@ -136,7 +136,7 @@ def write(path: str, text: str) -> None:
 
 
 def link(words: str, name: str) -> None:
-    """A link that says the words."""
+    """Make a symbolic link."""
     os.makedirs(os.path.dirname(name), exist_ok=True)
     if os.path.lexists(name):
         os.remove(name)
@@ -144,7 +144,7 @@ def link(words: str, name: str) -> None:
 
 
 def copy_tools(prefix: str) -> None:
-    """The tools, what they share and what they read, as they stand in the repository."""
+    """Copy the tools, their packages and the files that they read."""
     home = os.path.join(prefix, HOME)
     shutil.rmtree(os.path.join(home, "tools"), ignore_errors=True)
     for name in TOOLS:
@@ -159,18 +159,16 @@ def copy_tools(prefix: str) -> None:
 
 
 def compile_tools(prefix: str) -> None:
-    """Compiles what the tools share, so that no call does so again. Nobody looks at the times of
-    these files, since what stands under PREFIX may be moved, copied and restored."""
-    import compileall  # here alone: each call of any tool would wait for it
+    """Compile the packages once for all calls, without times: PREFIX may be moved or restored."""
+    import compileall  # only here: it is slow
     import py_compile
-    sys.pycache_prefix = None  # beside the tools, wherever those of this call are
+    sys.pycache_prefix = None  # into the folder of the tools
     compileall.compile_dir(os.path.join(prefix, HOME, "tools", "subtitles"), quiet=1,
                            invalidation_mode=py_compile.PycInvalidationMode.UNCHECKED_HASH)
 
 
 def documents() -> list[str]:
-    """README, the manual, and what these link, one from another, by their names from the top; but
-    not what says of which sources another program is."""
+    """Return README, the manual, and the files that these link, but for dist/."""
     names = list(READ)
     for name in names:
         text = (read(os.path.join(TOP, name)) or "") if name.endswith(".md") else ""
@@ -182,7 +180,7 @@ def documents() -> list[str]:
 
 
 def copy_documents(home: str) -> None:
-    """The documents and the examples; a link to what is not installed is its words."""
+    """Copy documents and examples, without links to files that are not installed."""
     for folder in ("docs", "examples"):
         shutil.rmtree(os.path.join(home, folder), ignore_errors=True)
     shutil.copytree(os.path.join(TOP, "examples"), os.path.join(home, "examples"))
@@ -197,7 +195,7 @@ def copy_documents(home: str) -> None:
 
 
 def without_dead_links(text: str, folder: str) -> str:
-    """A document of a folder in which a link to a file that is not there is its words alone."""
+    """Replace links to missing files in a document by their text."""
     def kept(link: re.Match[str]) -> str:
         is_there = ":" in link[2] or os.path.exists(os.path.join(folder, link[2]))
         return link[0] if is_there else link[1]
@@ -206,7 +204,7 @@ def without_dead_links(text: str, folder: str) -> str:
 
 
 def copy_completion(prefix: str) -> None:
-    """Completion for the program and for each tool."""
+    """Install the completion of the program and of each tool."""
     folder = os.path.join(prefix, COMPLETIONS)
     copy(os.path.join(TOP, COMPLETION), os.path.join(folder, "subttx"))
     for name in TOOLS:
@@ -214,7 +212,7 @@ def copy_completion(prefix: str) -> None:
 
 
 def install(program: str, prefix: str) -> list[str]:
-    """Puts all there is under a folder; answers the files that a user calls or reads."""
+    """Install everything under a folder; return the files that a user calls or reads."""
     copy(program, os.path.join(prefix, "bin", "subttx"), 0o755)
     pages = [os.path.join(prefix, MAN, page) for page in PAGES]
     for page in pages:
@@ -226,7 +224,7 @@ def install(program: str, prefix: str) -> list[str]:
 
 
 def shared_folders(prefix: str) -> list[str]:
-    """The folders in which others may have files too, the innermost ones first."""
+    """Return the folders that others may use too, innermost first."""
     names = ["bin", MAN, COMPLETIONS, "lib"]
     folders: list[str] = []
     for name in names:
@@ -237,7 +235,7 @@ def shared_folders(prefix: str) -> list[str]:
 
 
 def install_and_note(program: str, prefix: str) -> list[str]:
-    """The same, compiled, and what `remove` has to know: which folders were not there before."""
+    """Install and compile, and store for `remove` which folders are new."""
     made = [os.path.relpath(path, prefix) for path in shared_folders(prefix)
             if not os.path.isdir(path)]
     paths = install(program, prefix)
@@ -249,8 +247,8 @@ def install_and_note(program: str, prefix: str) -> list[str]:
 
 
 def remove(prefix: str) -> list[str]:
-    """Takes away what was put under a folder, and the folders that were made for it, as far as
-    nobody else has a file there; answers what was taken away."""
+    """Remove an installation, and its folders unless they have other files; return what was
+    removed."""
     home = os.path.join(prefix, HOME)
     if not os.path.isfile(os.path.join(home, "tools", "qc")):
         raise Stop(f"{prefix} has no subttx: there is no {os.path.join(home, 'tools', 'qc')}")
@@ -273,7 +271,7 @@ def remove(prefix: str) -> list[str]:
 
 
 def links_into(prefix: str) -> list[str]:
-    """The tools, and the completion of each, of this version or of another."""
+    """Return the links to tools and completions, of any version."""
     starts = {"bin": os.path.join("..", HOME, "tools", ""), COMPLETIONS: "subttx"}
     return [path for folder, start in starts.items()
             for path in sorted(glob.glob(os.path.join(glob.escape(prefix), folder,

@@ -1,4 +1,4 @@
-"""What values of JSON may be."""
+"""Kinds of JSON values: to write values, to check values that were read, to make a schema."""
 from __future__ import annotations
 
 import itertools
@@ -9,45 +9,41 @@ from .command_line import NO_PID
 from .times import CLOCK
 
 
-# What values of JSON may be: kinds with bounds, each of which makes a value, says where another one
-# does not fit, and stands in a JSON schema.
-#
-# `misfit` answers `None` for a value that fits, else where in it the first thing does not, as
-# `.faults[3].number`, which is empty for the value itself.
+# `misfit` returns the place that does not fit, as `.faults[3].number`; empty for the value
+# itself.
 
-MOST_TEXT = 65_536  # characters of a text, where nothing else is said
+MOST_TEXT = 65_536  # characters of a text, by default
 Schema = dict[str, Any]
 
 
 class Shape:
-    """What a value has to be. One that has a `name` stands once in a schema, under it."""
+    """A kind of value. One that has a `name` is defined once in a schema, under it."""
 
     name, meaning = "", ""
 
     def made(self, value: Any) -> Any:
-        """The value as it is written, of one that tools have."""
+        """Return a value as it is written."""
         return value
 
     def misfit(self, value: object) -> str | None:
-        """Where a value does not fit."""
+        """Return where a value does not fit; `None` if it fits."""
         raise NotImplementedError
 
     def schema(self) -> Schema:
-        """The shape in a schema."""
+        """Return the kind in a schema."""
         raise NotImplementedError
 
     def inner(self) -> Iterator[Shape]:
-        """The shapes of which it is made."""
+        """Yield the kinds that it contains."""
         return iter(())
 
     def reference(self) -> Schema:
-        """The shape where another one has it."""
+        """Return the kind as another one refers to it."""
         return {"$ref": f"#/definitions/{self.name}"} if self.name else self.schema()
 
 
 class Text(Shape):
-    """A text of a length, all of which a pattern matches; one that is longer is cut where nothing
-    is asked of what stands in it."""
+    """A text of limited length that matches a pattern. Without a pattern a longer text is cut."""
 
     def __init__(self, pattern: str = "", most: int = MOST_TEXT, least: int = 0) -> None:
         self.pattern, self.most, self.least = pattern and re.compile(pattern), most, least
@@ -68,7 +64,7 @@ class Text(Shape):
 
 
 class Integer(Shape):
-    """A whole number in bounds, both of them included."""
+    """A whole number between two bounds, inclusive."""
 
     def __init__(self, least: int, most: int) -> None:
         self.least, self.most = least, most
@@ -81,7 +77,7 @@ class Integer(Shape):
 
 
 class Number(Shape):
-    """A number from 0 to a greatest one."""
+    """A number from 0 to a bound."""
 
     def __init__(self, most: int) -> None:
         self.most = most
@@ -96,7 +92,7 @@ class Number(Shape):
 
 
 class OneOf(Shape):
-    """One of some values: words, numbers, true, `None`."""
+    """One of some values: texts, numbers, true, `None`."""
 
     def __init__(self, *values: str | int | None) -> None:
         self.values = values
@@ -119,7 +115,7 @@ class Flag(Shape):
 
 
 class Maybe(Shape):
-    """A value of a shape, or `None`."""
+    """A value of another kind, or `None`."""
 
     def __init__(self, shape: Shape) -> None:
         self.shape = shape
@@ -138,7 +134,7 @@ class Maybe(Shape):
 
 
 class Listed(Shape):
-    """Values of a shape, so many of them; of more those are left out that come last."""
+    """A list of values of a kind; the last ones are omitted if there are too many."""
 
     def __init__(self, shape: Shape, most: int, least: int = 0) -> None:
         self.shape, self.most, self.least = shape, most, least
@@ -164,17 +160,17 @@ class Listed(Shape):
 
 
 class Member(NamedTuple):
-    """A member of an object: its name, its shape, what it means, and how it is found in the value
-    of which the object is made; that has it under the same name where nothing is said."""
+    """A member of an object: its name, its kind, its meaning, and how to get it from the value that
+    is written; by default by the same name."""
 
     name: str
     shape: Shape
     meaning: str = ""
     of: Callable[[Any], Any] | None = None
-    is_always: bool = True  # whether each such object has it
+    is_always: bool = True  # whether every object has it
 
     def made(self, value: Any) -> Any:
-        """The member of such a value, as it is written."""
+        """Return the member of a value as it is written."""
         if self.of is not None:
             member = self.of(value)
         else:
@@ -182,7 +178,7 @@ class Member(NamedTuple):
         return self.shape.made(member)
 
     def schema(self) -> Schema:
-        """The member in a schema; beside a reference nothing else is read."""
+        """Return the member in a schema, which allows nothing next to a reference."""
         known = self.shape.reference()
         if not self.meaning:
             return known
@@ -190,8 +186,7 @@ class Member(NamedTuple):
 
 
 class Record(Shape):
-    """An object with these members and no other one. `rules` are other shapes that it has to fit,
-    by members that hang on each other."""
+    """An object with exactly these members. Each of `rules` has to fit, too."""
 
     def __init__(self, name: str, meaning: str, *members: Member,
                  rules: Sequence[Rules] = ()) -> None:
@@ -229,31 +224,30 @@ class Record(Shape):
 
 
 class Rules(NamedTuple):
-    """Rows of what members of an object are together: it fits one row at least. A member that is an
-    object may have rules of its own."""
+    """Alternatives for some members of an object; at least one has to fit."""
 
     rows: Sequence[dict[str, Shape | Rules]]
 
     def misfit(self, value: Any) -> str | None:
-        """The first member of the first row, where no row fits."""
+        """Return the first member of the first alternative, if none fits."""
         is_one = any(all(shape.misfit(value[name]) is None for name, shape in row.items())
                      for row in self.rows)
         return None if is_one else f".{next(iter(self.rows[0]))}"
 
     def schema(self) -> Schema:
-        """All rows in a schema."""
+        """Return all alternatives in a schema."""
         return {"anyOf": [{"properties": {name: shape.schema() for name, shape in row.items()}}
                           for row in self.rows]}
 
 
 def named(name: str, shape: Shape, meaning: str = "") -> Shape:
-    """A shape that stands once in a schema, under this name."""
+    """Name a kind, which is then defined once in a schema."""
     shape.name, shape.meaning = name, meaning
     return shape
 
 
 def definitions(shapes: Sequence[Shape]) -> Schema:
-    """All shapes with a name of which some are made, in the order in which they come."""
+    """Return the named kinds that some kinds contain, in order."""
     known: Schema = {}
     waiting = [*shapes]
     while waiting:
@@ -267,10 +261,10 @@ def definitions(shapes: Sequence[Shape]) -> Schema:
     return known
 
 
-# Kinds of values that JSON results have in several places; each stands once in the schema.
+# Kinds of values that JSON results have in several places.
 
-Members = dict[str, Any]  # of a fault, cause or cell, by the rows that `results.schema` has
-MOST_NUMBER = (1 << 53) - 1  # the greatest that each reader of JSON takes as it is
+Members = dict[str, Any]  # of a fault, cause or cell, by `results.schema`
+MOST_NUMBER = (1 << 53) - 1  # the greatest that every JSON reader keeps exactly
 
 TIME = named("time", Text(r"[0-9]{2}:[0-9]{2}:[0-9]{2}:[0-9]{2}"))
 COUNT = named("count", Integer(0, MOST_NUMBER))

@@ -11,31 +11,30 @@ from typing import Callable, Iterable, Iterator, NamedTuple, Sequence, TypeVar
 
 # Times of the day, their frames at 25 a second, the PTS of a frame, and the frame of a PTS.
 #
-# Within 0 frames a PES packet has the frame whose PTS it has, and no other PTS has one. Within
-# more, as `check --within N` judges, it is of the frame in which it lies: from a quarter of a frame
-# before the PTS of that frame on, so that PTS may be a little early, and two fields are of one
-# frame.
+# By default a PES packet has a frame only if its PTS is exactly that of the frame. With `check
+# --within N` a frame begins a quarter of a frame before its PTS, so that a PTS may be a little
+# early, and both fields are in one frame.
 
 FRAMES_A_SECOND = 25
 FRAMES_OF_A_DAY = 2_160_000
 CLOCK = 2**33  # a PTS has 33 bits
-TICKS = 3600  # of a frame, at 90 kHz
-NO_FRAME = -1  # stands for a frame where there is none, before all others
-EARLY = TICKS // 4  # ticks that a PTS may be before its frame, within 1 and more
+TICKS = 3600  # of 90 kHz in a frame
+NO_FRAME = -1  # for a PTS without a frame; less than all frames
+EARLY = TICKS // 4  # a PTS may be so early, with --within 1 or more
 
 
 class Between(NamedTuple):
-    """The frames from `begin` on and before `end`: a subtitle is of them whose TCI is."""
+    """The frames from `begin` to before `end`; a subtitle is among them by its TCI."""
 
     begin: int = 0
     end: int = FRAMES_OF_A_DAY
 
     def has(self, frame: int) -> bool:
-        """Whether a frame is one of them."""
+        """Return whether a frame is among them."""
         return self.begin <= frame < self.end
 
     def words(self) -> list[str]:
-        """The options --from and --to for them, where they are not all frames."""
+        """Return the options --from and --to for them, if they are not the whole day."""
         return [*(["--from", time_of(self.begin)] if self.begin else []),
                 *(["--to", time_of(self.end)] if self.end < FRAMES_OF_A_DAY else [])]
 
@@ -44,14 +43,15 @@ ALL_DAY = Between()
 
 
 def frame_of(time: str) -> int | None:
-    """The frame of the day of HH:MM:SS:FF, `None` where that is none."""
+    """Return the frame of the day of HH:MM:SS:FF; `None` if it is no such time."""
     if not re.fullmatch(r"\d\d:\d\d:\d\d:\d\d", time, re.ASCII):
         return None
     return frame_of_code(map(int, time.split(":")))
 
 
 def frame_of_code(code: Iterable[int]) -> int | None:
-    """The frame of the day of hours, minutes, seconds and frames, `None` where they are none."""
+    """Return the frame of the day of hours, minutes, seconds and frames; `None` if they are none.
+    """
     hours, minutes, seconds, frames = code
     if hours > 23 or minutes > 59 or seconds > 59 or frames > 24:
         return None
@@ -59,18 +59,18 @@ def frame_of_code(code: Iterable[int]) -> int | None:
 
 
 def time_of_code(code: bytes) -> str:
-    """HH:MM:SS:FF of four bytes of a TTI block, also where they are no time of the day."""
+    """Return HH:MM:SS:FF of four bytes of a TTI block, even if that is no time of the day."""
     return ":".join(f"{part:02}" for part in code)
 
 
 def time_of(frame: int) -> str:
-    """HH:MM:SS:FF of a frame; 24:00:00:00 is the frame after the day's last."""
+    """Return HH:MM:SS:FF of a frame; 24:00:00:00 follows the last frame of the day."""
     seconds, frames = divmod(frame, FRAMES_A_SECOND)
     return f"{seconds // 3600:02}:{seconds // 60 % 60:02}:{seconds % 60:02}:{frames:02}"
 
 
 def length_words(frames: int) -> str:
-    """Return a length as `10 h 15 min`, without what is zero."""
+    """Return a length as `10 h 15 min`."""
     seconds, rest = divmod(frames, FRAMES_A_SECOND)
     parts = [(seconds // 3600, "h"), (seconds // 60 % 60, "min"), (seconds % 60, "s"),
              (rest, "frame" if rest == 1 else "frames")]
@@ -78,18 +78,18 @@ def length_words(frames: int) -> str:
 
 
 def wrapped(ticks: int) -> int:
-    """Ticks as a PTS has them, which begins again at 2^33."""
+    """Return ticks as a PTS has them, modulo 2^33."""
     return ticks % CLOCK
 
 
 def ticks_between(first: int, second: int) -> int:
-    """How many ticks a second PTS is later than a first one; below 0 where it is earlier."""
+    """Return by how many ticks the second PTS is later; negative: earlier."""
     return wrapped(second - first + CLOCK // 2) - CLOCK // 2
 
 
 def ticks_within(first: int, length: int, pts: int) -> int:
-    """How many ticks a PTS is later than a first one, below 0 where it is earlier, where those that
-    are asked for come up to so many ticks later, which may be more than half of the clock."""
+    """Return by how many ticks a PTS is later than a first one; negative: earlier. PTS up to
+    `length` ticks later count as later, which may be more than half of the clock."""
     before = (CLOCK - length) // 2
     return wrapped(pts - first + before) - before
 
@@ -101,12 +101,12 @@ def ticks_after(origin: int, pts: int) -> int:
 
 
 def pts_of(frame: int, origin: int) -> int:
-    """The PTS of a frame of the day; `origin` is that of 00:00:00:00."""
+    """Return the PTS of a frame of the day by the origin."""
     return wrapped(origin + TICKS * frame)
 
 
 def frame_in(pts: int, origin: int, within: int = 0) -> int:
-    """The frame in which a PTS lies, also after the day's end; within 0, from its own PTS on."""
+    """Return the frame of a PTS, also after the end of the day."""
     return wrapped(pts - origin + EARLY * (within > 0)) // TICKS
 
 
@@ -117,20 +117,20 @@ def time_in(pts: int, origin: int) -> str | None:
 
 
 def frame_at(pts: int, origin: int, within: int = 0) -> int | None:
-    """The frame of the day of a PTS, `None` where it has none."""
+    """Return the frame of the day of a PTS; `None` if it has none."""
     frame = frames_at([pts], origin, within)[0]
     return None if frame == NO_FRAME else frame
 
 
 def frames_at(several: Sequence[int], origin: int, within: int = 0) -> Sequence[int]:
-    """The frame of the day of each of several PTS, `NO_FRAME` where it has none."""
+    """Return the frame of the day of each PTS; `NO_FRAME` if it has none."""
     early = EARLY * (within > 0)
     end, count = TICKS * FRAMES_OF_A_DAY, len(several)
     if count and several[-1] == several[0] + TICKS * (count - 1) and all(
             map(operator.eq, several, range(several[0], several[-1] + 1, TICKS))):
         ticks = wrapped(several[0] - origin + early)
         if (within or ticks % TICKS == 0) and ticks // TICKS + count <= FRAMES_OF_A_DAY:
-            return range(ticks // TICKS, ticks // TICKS + count)  # as of most recordings
+            return range(ticks // TICKS, ticks // TICKS + count)  # as in most recordings
     distances = ((pts - origin + early) % CLOCK for pts in several)
     if within:
         return [ticks // TICKS if ticks < end else NO_FRAME for ticks in distances]
@@ -154,8 +154,8 @@ Item = TypeVar("Item")
 
 
 def count_until(items: Sequence[Item], is_later: Callable[[Item], bool]) -> int:
-    """Return how many items there are before the first of those that are later, as
-    `bisect.bisect_right` with a `key` does since Python 3.10."""
+    """Return the number of items before the first later one, as `bisect.bisect_right` with a `key`
+    does since Python 3.10."""
     low, high = 0, len(items)
     while low < high:
         middle = (low + high) // 2
@@ -164,14 +164,14 @@ def count_until(items: Sequence[Item], is_later: Callable[[Item], bool]) -> int:
 
 
 class Span(NamedTuple):
-    """Frames, or PES packets, by the first and the last of them."""
+    """Consecutive frames, or PES packets."""
 
     first: int
     last: int
 
 
 class Spans:
-    """Spans, each by its first and its last. Neighbours are one span."""
+    """Spans in their order of addition; neighbours become one."""
 
     def __init__(self, spans: Iterable[tuple[int, int]] = ()) -> None:
         self.begins, self.ends = array.array("I"), array.array("I")
@@ -185,7 +185,7 @@ class Spans:
         return len(self.begins)
 
     def add(self, begin: int, end: int) -> None:
-        """One more, most often behind all others."""
+        """Add a span, usually after all others."""
         if self.begins and self.begins[-1] <= begin <= self.ends[-1] + 1:
             self.ends[-1] = max(self.ends[-1], end)
         else:
@@ -193,15 +193,16 @@ class Spans:
             self.ends.append(end)
 
     def is_rising(self) -> bool:
+        """Return whether they rise."""
         return all(map(int.__le__, self.begins, self.begins[1:]))
 
     def between(self, begin: int, end: int) -> Iterator[Span]:
-        """The spans that have one from `begin` to the one before `end`; these rise."""
+        """Yield the spans that have an item from `begin` to before `end`; all have to rise."""
         first, last = bisect.bisect_left(self.ends, begin), bisect.bisect_left(self.begins, end)
         return map(Span, self.begins[first:last], self.ends[first:last])
 
     def without(self, others: Iterable[tuple[int, int]]) -> Spans:
-        """The same without what is in others."""
+        """Return them without the items of others."""
         found: list[tuple[int, int]] = [*self]
         for begin, end in others:
             parts = [part for first, last in found for part in (
@@ -210,11 +211,11 @@ class Spans:
         return Spans(found)
 
     def total(self) -> int:
-        """How many all of them have."""
+        """Return how many items they have."""
         return sum(last + 1 - first for first, last in self)
 
 
 def joined_spans(several: Iterable[Spans]) -> Spans:
-    """All spans of some, in order."""
+    """Return all spans of several lists, in order."""
     rising = [each if each.is_rising() else Spans(sorted(each)) for each in several]
     return Spans(heapq.merge(*rising))

@@ -1,7 +1,6 @@
-"""How a house draws a subtitle's text as rows of a page: the layouts of `--layout TEXT`.
+"""The layouts of `--layout TEXT`: how an inserter draws a subtitle's text as rows of a page.
 
-What a line becomes, its column and its row stand here once more, as the manual says it, for what
-looks for a layout; the program's own drawing decides.
+The search for a layout draws by this; the program's own drawing decides.
 """
 from __future__ import annotations
 
@@ -25,14 +24,14 @@ NUMBERS = {"left": range(40), "right": range(40), "free": range(1, 4),
 TAKES = {"strip": "codes 00 to 1F, each once", "before": "up to 6 codes 01 to 0D and one * at most",
          "after": "up to 4 codes 01 to 0D", "left": "0 to 39", "right": "0 to 39",
          "free": "1, 2 or 3", "row": "-22 to 22"}
-KEPT = 1 << 14  # texts of which the lines are known
+KEPT = 1 << 14  # texts in the cache
 NUMBER = re.compile(r"[0-9]{1,2}")
 HEX = re.compile(r"(?:[0-9A-Fa-f]{2})*")
 
 
 class Layout(NamedTuple):
-    """A value for each item. `before` is what stands before a line's own leading codes, `behind`
-    what stands between these and the rest of the line."""
+    """The items of a layout. `before` goes before a line's own leading codes, `behind` between
+    these and the rest of the line."""
 
     strip: bytes = b""
     before: bytes = b"\x0b\x0b"
@@ -61,14 +60,15 @@ PLAIN = Layout()
 
 
 class Refused(NamedTuple):
-    """The first fault of a text: its number, and the place of the byte, or the line's number."""
+    """The first fault of a text: its number, and the offset of the byte or the number of the line.
+    """
 
     number: int
     at: int
 
 
 class DrawnLine(NamedTuple):
-    """A line as it is drawn: its number in the text, its row and column, and its cells."""
+    """A drawn line: its number in the text, its row and column, and its cells."""
 
     number: int
     row: int
@@ -77,14 +77,14 @@ class DrawnLine(NamedTuple):
 
 
 def codes_in(text: str, most: int, allowed: Sequence[int]) -> bytes | None:
-    """The codes of hexadecimal digits; None where they are no such codes."""
+    """Return the codes of hexadecimal digits; None if they are not allowed."""
     codes = bytes.fromhex(text) if HEX.fullmatch(text) else None
     fits = codes is not None and len(codes) <= most and all(code in allowed for code in codes)
     return codes if fits else None
 
 
 def item_of(name: str, value: str | None) -> dict[str, object] | None:
-    """What an item says; None where there is no such item, or where it has no such value."""
+    """Return the value of an item; None if there is no such item or value."""
     if name in FLAGS:
         return {name: True} if value is None else None
     if value is None:
@@ -110,7 +110,7 @@ def item_of(name: str, value: str | None) -> dict[str, object] | None:
 
 
 def layout_of(text: str) -> Layout | None:
-    """The layout that a TEXT of `--layout` means; None where it means none."""
+    """Return the layout of a TEXT of `--layout`; None if it is none."""
     values: dict[str, object] = {}
     names: set[str] = set()
     for word in text.split(","):
@@ -124,12 +124,12 @@ def layout_of(text: str) -> Layout | None:
 
 
 def fault_in(text: str) -> str | None:
-    """What is wrong with a TEXT, by its first item that means nothing; None where nothing is."""
+    """Return the first fault of a TEXT of `--layout`; None if there is none."""
     names = set[str]()
     for word in text.split(","):
         name, equals, value = word.partition("=")
         if name in names:
-            return f"{name} is there twice"
+            return f"{name} is given twice"
         if item_of(name, value if equals else None) is None:
             takes = TAKES.get(name, "no value" if name in FLAGS else "")
             return f"{word or 'nothing between commas'} is no item" + f": {name} takes {takes}" * \
@@ -139,8 +139,7 @@ def fault_in(text: str) -> str | None:
 
 
 def items_of(layout: Layout) -> list[str]:
-    """The items of a layout that are not as they are where they are left out, in the order of their
-    bytes."""
+    """Return the items of a layout that differ from the default, in byte order."""
     items = [name for name in FLAGS if getattr(layout, name)]
     items += [f"{name}={getattr(layout, name)}" for name in NUMBERS
               if getattr(layout, name) != getattr(PLAIN, name)]
@@ -153,12 +152,12 @@ def items_of(layout: Layout) -> list[str]:
 
 
 def layout_text(layout: Layout) -> str:
-    """The TEXT of a layout, empty where all of it is as it is where it is left out."""
+    """Return the TEXT of a layout, empty for the default one."""
     return ",".join(items_of(layout))
 
 
 def simplicity(layout: Layout) -> tuple[int, int, str]:
-    """By this the simplest layout comes first."""
+    """Return a key that sorts simple layouts first."""
     text = layout_text(layout)
     return text.count(",") + bool(text), len(text), text
 
@@ -166,7 +165,7 @@ def simplicity(layout: Layout) -> tuple[int, int, str]:
 @functools.lru_cache(maxsize=KEPT)
 def cell_lines(text: bytes, option: NationalOption, strip: bytes = b"") \
         -> tuple[bytes, ...] | Refused:
-    """The lines of a text, each as the cells that its bytes give; or the first that gives none."""
+    """Return the lines of a text as cells; or the first character that has none."""
     lines = [bytearray()]
     for at, byte, cell in cells_in(text, option):
         if byte == NEW_LINE:
@@ -181,12 +180,12 @@ def cell_lines(text: bytes, option: NationalOption, strip: bytes = b"") \
 
 
 def leading(cells: bytes) -> int:
-    """How many codes stand at the beginning of a line's cells."""
+    """Return how many codes begin a line."""
     return len(cells) - len(cells.lstrip(CODES))
 
 
 def prepared(cells: bytes, layout: Layout) -> bytes:
-    """A line's cells as they are sent."""
+    """Return a line's cells as they are sent."""
     if not cells or START_BOX in cells:
         return cells
     if layout.trim:
@@ -203,7 +202,7 @@ def prepared(cells: bytes, layout: Layout) -> bytes:
 
 
 def start_of(cells: bytes, justify: int, layout: Layout) -> int:
-    """The column at which a line of 1 to 40 cells would start on a row without ends."""
+    """Return the start column of a line of 1 to 40 cells on an endless row."""
     skipped, width = (leading(cells), len(cells.strip(CODES))) if layout.text else (0, len(cells))
     justify = justify or layout.free
     if justify == 1:
@@ -214,12 +213,12 @@ def start_of(cells: bytes, justify: int, layout: Layout) -> int:
 
 
 def column_of(cells: bytes, justify: int, layout: Layout) -> int:
-    """The column at which a line of 1 to 40 cells starts."""
+    """Return the start column of a line of 1 to 40 cells."""
     return min(max(start_of(cells, justify, layout), 0), COLUMNS - len(cells))
 
 
 def placed_rows(lines: Sequence[bytes], first: int, layout: Layout) -> list[int]:
-    """The row of each prepared line, where the vertical position (VP) is `first`."""
+    """Return the row of each prepared line; the vertical position (VP) is `first`."""
     places, place = [], 0
     for number, line in enumerate(lines):
         places.append(place if layout.pack else number)
@@ -231,17 +230,17 @@ def placed_rows(lines: Sequence[bytes], first: int, layout: Layout) -> list[int]
 
 def drawn(text: bytes, first: int, justify: int, layout: Layout, option: NationalOption
           ) -> list[DrawnLine] | Refused:
-    """The lines of a subtitle's text that are not empty, as they are drawn; or its first fault."""
+    """Draw the lines of a subtitle's text that are not empty; or return its first fault."""
     cells = cell_lines(text, option, layout.strip)
     return cells if isinstance(cells, Refused) else drawn_lines(cells, first, justify, layout)
 
 
 def drawn_lines(cells: Sequence[bytes], first: int, justify: int, layout: Layout
                 ) -> list[DrawnLine] | Refused:
-    """The lines of cells that are not empty, as they are drawn; or the first fault."""
+    """Draw the lines of cells that are not empty; or return the first fault."""
     lines = [prepared(one, layout) for one in cells]
     placed: list[DrawnLine] = []
-    above = b""  # the line that is numbered before this one
+    above = b""  # the line with the number before this one
     for number, (line, row) in enumerate(zip(lines, placed_rows(lines, first, layout))):
         is_under = DOUBLE in above and not layout.double
         above = above if layout.pack and not line else line
@@ -258,7 +257,7 @@ def drawn_lines(cells: Sequence[bytes], first: int, justify: int, layout: Layout
 
 
 def page_rows(lines: Sequence[DrawnLine]) -> tuple[bytes, ...]:
-    """Rows 1 to 24 of the page that shows drawn lines."""
+    """Return rows 1 to 24 of the page with some drawn lines."""
     rows = [b" " * COLUMNS] * 24
     for line in lines:
         rows[line.row - 1] = (b" " * line.column + line.cells).ljust(COLUMNS)
@@ -266,15 +265,15 @@ def page_rows(lines: Sequence[DrawnLine]) -> tuple[bytes, ...]:
 
 
 def letters_of_text(text: bytes, option: NationalOption) -> bytes | None:
-    """The cells over 20 that a text's bytes give, in their order; None where one has no cell. No
-    layout changes them."""
+    """Return the cells over 20 of a text; None if a character has no cell. No layout changes them.
+    """
     lines = cell_lines(text, option, bytes(range(0x20)))
     return None if isinstance(lines, Refused) else bytes(
         cell for line in lines for cell in line if cell > SPACE)
 
 
 def letters_on(rows: Sequence[bytes]) -> bytes:
-    """The cells over 20 of a page, rows rising and in each row columns rising."""
+    """Return the cells over 20 of a page, row by row."""
     return bytes(cell for row in rows for cell in row if cell > SPACE)
 
 
@@ -282,7 +281,7 @@ def letters_on(rows: Sequence[bytes]) -> bytes:
 
 
 def raw_lines(text: bytes, option: NationalOption) -> list[bytes]:
-    """The lines of a text as cells, with all codes that stand there."""
+    """Return the lines of a text as cells, with all their codes."""
     lines = [bytearray()]
     for _, byte, cell in cells_in(text, option):
         if byte == NEW_LINE:
@@ -293,21 +292,21 @@ def raw_lines(text: bytes, option: NationalOption) -> list[bytes]:
 
 
 def letter_cells(cells: bytes) -> bytes:
-    """The cells of a line over 20."""
+    """Return the cells of a line over 20."""
     return bytes(cell for cell in cells if cell > SPACE)
 
 
 def inner(cells: bytes) -> bytes:
-    """What stands from the first letter to the last one."""
+    """Return a line from its first to its last character."""
     at = [place for place, cell in enumerate(cells) if cell > SPACE]
     return cells[at[0]:at[-1] + 1]
 
 
 def stripped(cells: bytes, strip: Iterable[int]) -> bytes:
-    """A line without some codes."""
+    """Return a line without some codes."""
     return cells.translate(None, bytes(strip))
 
 
 def spaces_before(cells: bytes) -> int:
-    """How many spaces stand at the beginning."""
+    """Return how many spaces begin a line."""
     return len(cells) - len(cells.lstrip(b" "))

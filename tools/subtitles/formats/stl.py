@@ -1,4 +1,4 @@
-"""EBU STL: blocks of a subtitle file, their texts, and the subtitles that they make."""
+"""EBU STL: the blocks of a subtitle file, their texts and their subtitles."""
 from __future__ import annotations
 
 import array
@@ -19,13 +19,14 @@ from .teletext import ACCENTS, BY_WORD, codes_of, letters_of
 
 GSI, TTI, TEXT = 1024, 128, 112  # bytes of the blocks, and of a TTI block's text field
 USER_DATA, LAST = 0xFE, 0xFF  # extension block numbers (EBN)
-MOST_STL = GSI + TTI * 99_999 + 1  # bytes of a subtitle file: `check` refuses one more
+MOST_STL = GSI + TTI * 99_999 + 1  # bytes: `check` refuses a larger file
 UNUSED, NEW_LINE = b"\x8f", b"\x8a"
 LAST_OF_MORE = 0xEF  # the highest EBN of a block that others follow
 
 
 class StoredSubtitle(NamedTuple):
-    """`begin` and `end` are the four bytes of TCI and TCO, `text` the blocks' text joined."""
+    """A subtitle as stored: `begin` and `end` are the four bytes of TCI and TCO, `text` is joined
+    from its blocks."""
 
     number: int
     begin: bytes
@@ -36,15 +37,12 @@ class StoredSubtitle(NamedTuple):
 
 
 def subtitles_in(data: bytes) -> Iterator[StoredSubtitle]:
-    """The subtitles of a file, without comments and user data, as they stand; `Damaged` where a
-    block can't be read on.
-
-    Nothing is judged but what is needed for reading: `subttx check` does.
-    """
+    """Yield the subtitles of a file without comments and user data; `Damaged` if a block can't be
+    read. Only `subttx check` judges them."""
     if len(data) < GSI or data[3:8] not in (b"STL25", b"STL30"):
-        raise Damaged("no subtitle file: its GSI block is cut, or has another format than STL")
+        raise Damaged("no EBU STL file: its GSI block is cut, or its DFC is not STL25.01")
     if data[3:8] == b"STL30":
-        raise Damaged("30 frames a second: only files of 25 (STL25.01) can be read")
+        raise Damaged("30 frames a second (STL30.01): give a file of 25 (STL25.01)")
     first: bytes | None = None
     texts: list[bytes] = []
     block = 0
@@ -58,7 +56,7 @@ def subtitles_in(data: bytes) -> Iterator[StoredSubtitle]:
         if LAST_OF_MORE < ebn < LAST:
             raise Damaged(f"block {block} has the reserved extension block number {ebn:02X}")
         if first is not None and first[:3] != tti[:3]:
-            raise Damaged(f"block {block} is of another subtitle than the one that it follows")
+            raise Damaged(f"block {block} belongs to another subtitle than the block before it")
         first = first or tti
         texts.append(tti[16:].split(UNUSED)[0])
         if ebn == LAST:
@@ -71,18 +69,17 @@ def subtitles_in(data: bytes) -> Iterator[StoredSubtitle]:
 
 
 def subtitle_times(subtitle: StoredSubtitle) -> tuple[int | None, int | None]:
-    """The frames of the day of a subtitle's TCI and TCO, `None` for what is no time of the day."""
+    """Return the frames of a subtitle's TCI and TCO; `None` for no time of the day."""
     return frame_of_code(subtitle.begin), frame_of_code(subtitle.end)
 
 
 def stl_bytes(path: str) -> bytes:
-    """The bytes of a subtitle file, which may come through a pipe, as far as `check` reads them."""
+    """Return the bytes of a subtitle file, or of a pipe, as far as `check` reads them."""
     return first_bytes(path, MOST_STL, may_be_pipe=True)
 
 
 def readable(name: str, data: bytes) -> Iterator[StoredSubtitle]:
-    """The subtitles that can be read of a file's bytes. Where it is damaged that is told; `Stop`
-    where there is none before the damage."""
+    """Yield the subtitles before the first damage, which is reported; `Stop` if there are none."""
     is_empty = True
     try:
         for stored in subtitles_in(data):
@@ -91,25 +88,25 @@ def readable(name: str, data: bytes) -> Iterator[StoredSubtitle]:
     except Damaged as reason:
         if is_empty:
             raise Stop(f"{name}: {reason}") from None
-        tell(f"{name}: {reason}; what stands before is used")
+        tell(f"{name}: {reason}; only what is before it is used")
 
 
 def letters_on_page(text: bytes, option: str) -> bytes:
-    """The codes of a text's letters on the page, without spaces and without what has no code."""
+    """Return the codes of a text on the page, without spaces and characters that have no code."""
     return bytes(code for code in codes_of(text, BY_WORD[option])
                  if code is not None and code > 0x20)
 
 
 # The texts of a GSI block (EBU Tech 3264).
 
-CODE_PAGE = slice(0, 3)  # CPN: that of the texts of this block
+CODE_PAGE = slice(0, 3)  # CPN: the code page of this block
 ORIGINAL, TRANSLATED = slice(16, 48), slice(80, 112)  # OPT and TPT, titles of the programme
 CODE_PAGES = {"437", "850", "860", "863", "865"}
 
 
 def titles_in(path: str) -> list[str]:
-    """The titles of the programme of a subtitle file, the original one and the translated one;
-    none that is empty, or stands twice."""
+    """Return the programme titles of a subtitle file, original and translated, that are not empty
+    or the same."""
     block = first_bytes(path, GSI)
     number = block[CODE_PAGE].decode("latin-1")
     code_page = f"cp{number}" if number in CODE_PAGES else "cp850"
@@ -122,7 +119,7 @@ def titles_in(path: str) -> list[str]:
     return titles
 
 
-# The subtitles of a file as the program shows them, and which of them is due.
+# The subtitles of a file as `show` prints them, and which of them is expected.
 
 SHOWN = re.compile(r"(?P<number>\d{5}) (?P<begin>[\d:]+) (?P<end>[\d:]+) vp (?P<row>\d+) "
                    r"jc (?P<justify>\d+) text (?P<text>-|[\da-f]+)")
@@ -131,8 +128,8 @@ NO_TEXT = "-"
 
 @dataclass(frozen=True)
 class Subtitle:
-    """A subtitle: its place in the file from 1, its SN, the frames of its TCI and its TCO, the row
-    of its first line (VP), its justification code (JC) and its text, as the program reads them."""
+    """A subtitle as the program reads it: its position from 1, its SN, the frames of TCI and TCO,
+    VP, JC and text."""
 
     index: int
     number: int
@@ -144,28 +141,28 @@ class Subtitle:
 
     @property
     def name(self) -> str:
-        """It as all tools name it: its place, and its SN where that is another number."""
+        """The subtitle as all tools print it."""
         return subtitle_name(self.index, self.number)
 
 
 def subtitle_name(position: int, number: int) -> str:
-    """A subtitle by its place in the file, from 1, and its SN where that is another number."""
+    """Return a subtitle's name: its position from 1, and its SN if that differs."""
     return f"subtitle {position}" if number == position else f"subtitle {position} (SN {number})"
 
 
 def subtitles_shown(lines: Sequence[str]) -> list[Subtitle]:
-    """The subtitles of the lines of `show`, the last of which counts them, or says why the file is
-    refused: then they are those before."""
+    """Return the subtitles in the lines of `show`; if the file is refused, those before the fault.
+    """
     subtitles = [subtitle_of(index, line) for index, line in enumerate(lines[:-1], 1)]
     last = "".join(lines[-1:])
     fault = fault_of_line(last)
     if not (fault and fault.is_fault) and last.split(" ")[0] != str(len(subtitles)):
-        raise Stop(f"show was not answered: {last or 'it printed nothing'}")
+        raise Stop(f"`show` printed no list of subtitles: {last or 'it printed nothing'}")
     return subtitles
 
 
 def subtitles_read(data: bytes) -> list[Subtitle]:
-    """The subtitles of a file's bytes that come and go within a day, as they stand."""
+    """Return the stored subtitles that begin and end within a day."""
     subtitles: list[Subtitle] = []
     for index, stored in enumerate(subtitles_in(data), 1):
         begin, end = subtitle_times(stored)
@@ -176,11 +173,11 @@ def subtitles_read(data: bytes) -> list[Subtitle]:
 
 
 def subtitle_of(index: int, line: str) -> Subtitle:
-    """The subtitle of a line of `show`."""
+    """Return the subtitle of a line of `show`."""
     match = SHOWN.fullmatch(line)
     begin, end = (frame_of(match[name]) if match else None for name in ("begin", "end"))
     if not match or begin is None or end is None:
-        raise Stop(f"show was not answered: {line}")
+        raise Stop(f"`show` printed no subtitle: {line}")
     text = b"" if match["text"] == NO_TEXT else bytes.fromhex(match["text"])
     return Subtitle(index, int(match["number"]), begin, end, int(match["row"]),
                     int(match["justify"]), text)
@@ -194,35 +191,35 @@ class SubtitleList:
         self.begins = [subtitle.begin for subtitle in self.subtitles]
 
     def place_at(self, frame: int) -> int:
-        """The place of the last subtitle that has begun at a frame; -1 before the first."""
+        """Return the place of the last subtitle that has begun at a frame; -1 before the first."""
         return bisect.bisect_right(self.begins, frame) - 1
 
     def due(self, frame: int) -> tuple[int, bool]:
-        """How many subtitles have begun at a frame, and whether the last of them is due."""
+        """Return how many subtitles have begun at a frame, and whether the last is expected."""
         place = self.place_at(frame)
         return place + 1, place >= 0 and frame < self.subtitles[place].end
 
     def subtitle(self, frame: int) -> Subtitle | None:
-        """The subtitle that is due, `None` where none is."""
+        """Return the expected subtitle; `None` if there is none."""
         count, is_due = self.due(frame)
         return self.subtitles[count - 1] if is_due else None
 
     def before(self, place: int) -> int:
-        """The TCO of the subtitle before one."""
+        """Return the TCO of the previous subtitle."""
         return self.subtitles[place - 1].end if place > 0 else 0
 
     def after(self, place: int) -> int:
-        """The TCI of the subtitle after one."""
+        """Return the TCI of the next subtitle."""
         is_last = place + 1 == len(self.subtitles)
         return FRAMES_OF_A_DAY if is_last else self.begins[place + 1]
 
     def nearest(self, places: Sequence[int], frame: int) -> int:
-        """Which of some subtitles begins nearest to a frame."""
+        """Return the place whose subtitle begins nearest to a frame."""
         at = count_until(places, lambda place: self.begins[place] >= frame)
         return min(places[max(at - 1, 0):at + 1], key=lambda one: abs(self.begins[one] - frame))
 
     def edges(self, first: int, last: int) -> list[int]:
-        """The frames from `first` on to `last` at which something else is due."""
+        """Return the cues after `first` up to `last`."""
         frames = []
         for subtitle in self.subtitles[max(self.place_at(first), 0):self.place_at(last) + 1]:
             frames += [frame for frame in (subtitle.begin, subtitle.end) if first < frame <= last]
@@ -235,7 +232,7 @@ COMMENT = 1  # CF
 
 
 class NamedSubtitle(NamedTuple):
-    """A subtitle, its place in the file from 1 and its SN; from TCI to TCO, as words."""
+    """A subtitle's position from 1, its SN, its TCI and TCO as text."""
 
     position: int
     number: int
@@ -244,15 +241,14 @@ class NamedSubtitle(NamedTuple):
 
 
 class SubtitleFile:
-    """A subtitle file, read as far as there are blocks, whatever stands in them; of one of which
-    some frames are judged, subtitles that come in others are passed over as comments are. Those
-    that are `left_out`, by their places in the file, are not among those that are due."""
+    """A subtitle file, as far as it has blocks, whatever they contain. Subtitles outside `between`
+    are skipped like comments; positions in `left_out` are not expected."""
 
     def __init__(self, path: str, between: Between = ALL_DAY,
                  left_out: Collection[int] = ()) -> None:
         self.between = between
         self.data = stl_bytes(path)
-        self.firsts = array.array("I", [0])  # of each block the first one of its subtitle
+        self.firsts = array.array("I", [0])  # of each block: the first block of its subtitle
         self.starts = array.array("I")  # the first block of each subtitle
         self.begins, self.blocks = array.array("I"), array.array("I")
         first, is_open = 0, False
@@ -276,7 +272,7 @@ class SubtitleFile:
         return self.data[at:at + TTI]
 
     def at_block(self, block: int) -> NamedSubtitle | None:
-        """The subtitle that a block is of; `None` for the GSI block, and for one that is cut."""
+        """Return the subtitle of a block; `None` for the GSI block and a cut one."""
         if not 0 < block < len(self.firsts):
             return None
         tti = self.block(self.firsts[block])
@@ -285,34 +281,34 @@ class SubtitleFile:
                              time_of_code(tti[9:13]))
 
     def is_outside(self, block: int) -> bool:
-        """Whether the subtitle of a block comes in another frame than is judged."""
+        """Return whether a block's subtitle is outside the judged frames."""
         begin = frame_of_code(self.block(self.firsts[block])[5:9])
         return begin is not None and not self.between.has(begin)
 
     def count(self) -> int:
-        """How many blocks there are."""
+        """Return the number of blocks."""
         return len(self.firsts) - 1
 
     def ended(self) -> tuple[int, int]:
-        """How many subtitles have a last block: without comments, and with them."""
+        """Return how many subtitles have a last block: without comments, and with them."""
         own = sum(1 for _ in self.lasts())
         lasts = sum(self.block(number)[3] == LAST for number in range(1, len(self.firsts)))
         return own, lasts
 
     def first_before(self, block: int) -> int | None:
-        """The first block of the subtitle before the one of a block."""
+        """Return the first block of the subtitle before a block's subtitle."""
         at = bisect.bisect_left(self.blocks, self.firsts[block])
         return self.blocks[at - 1] if at else None
 
     def all(self) -> Iterator[NamedSubtitle]:
-        """All subtitles, of a file that is read without a fault."""
+        """Yield all subtitles of a file without faults."""
         for block in self.blocks:
             subtitle = self.at_block(block)
             assert subtitle
             yield subtitle
 
     def at_frame(self, frame: int) -> NamedSubtitle | None:
-        """The subtitle that is due at a frame, of a file whose subtitles rise."""
+        """Return the expected subtitle at a frame, if the subtitles are in order."""
         at = bisect.bisect_right(self.begins, frame) - 1
         if at < 0:
             return None
@@ -321,20 +317,20 @@ class SubtitleFile:
         return self.at_block(block) if end is not None and frame < end else None
 
     def text(self, block: int) -> bytes:
-        """The text of the subtitle whose last block it is."""
+        """Return the text of the subtitle that ends with a block."""
         blocks = (self.block(one) for one in range(self.firsts[block], block + 1))
         return b"".join(one[16:].split(UNUSED)[0] for one in blocks
                         if one[3] != USER_DATA and one[15] != COMMENT)
 
     def lasts(self) -> Iterator[int]:
-        """The last block of each subtitle."""
+        """Yield the last block of each subtitle."""
         for number in range(1, len(self.firsts)):
             tti = self.block(number)
             if tti[3] == LAST and tti[15] != COMMENT and not self.is_outside(number):
                 yield number
 
     def letter(self, block: int, at: int) -> tuple[str | None, str | None]:
-        """A byte of that text in hexadecimal, and its character; a control code has none."""
+        """Return a byte of that text in hexadecimal, and its character; a control code has none."""
         text = self.text(block) if 0 < block < len(self.firsts) else b""
         if at >= len(text):
             return None, None

@@ -1,4 +1,4 @@
-"""Teletext (EN 300 706): codes, letters, national options; and where PES packets begin."""
+"""Teletext (EN 300 706): codes, characters, national options."""
 from __future__ import annotations
 
 import functools
@@ -9,7 +9,7 @@ from typing import Iterator, NamedTuple
 # Codes of Teletext packets, and pages (EN 300 706).
 
 CODE_WORDS = bytes.fromhex("1502495E6473382FD0C78C9BA1B6FDEA")  # Hamming 8/4, of 0 to F
-# The number of each byte with at most one wrong bit, else `None`.
+# The number of each byte with at most one wrong bit; else `None`.
 NUMBER: list[int | None] = [None] * 256
 for number, word in enumerate(CODE_WORDS):
     for wrong in (0, 1, 2, 4, 8, 16, 32, 64, 128):
@@ -24,22 +24,22 @@ Page = tuple[int, int]  # its magazine, 0 for 8, and its number
 
 
 def is_odd(byte: int) -> bool:
-    """Whether a byte has odd parity."""
+    """Return whether a byte has odd parity."""
     return bin(byte).count("1") % 2 == 1
 
 
 def has_bit(header: bytes, bit: int) -> bool:
-    """Whether a control bit, 4 to 14, of a header's eight numbers is set."""
+    """Return whether a control bit, 4 to 14, is set in a header's eight numbers."""
     place, value = CONTROL_BITS[bit]
     return header[place] & value != 0
 
 
 def page_name(magazine: int, page: int) -> str:
-    """A page as 888 of its magazine, 0 for 8, and its number."""
+    """Return a page as 888, by its magazine (0 is 8) and number."""
     return f"{magazine or 8}{page:02X}"
 
 
-# The letters of a subtitle file's text (EBU Tech 3264, code table 00, which is ISO 6937).
+# The characters of a subtitle file's text (EBU Tech 3264, code table 00, which is ISO 6937).
 
 # As Unicode puts them after a letter; a space where the table has none.
 ACCENTS = dict(zip(range(0xC1, 0xD0),
@@ -57,12 +57,12 @@ NO_LETTER = "\ufffd"
 
 
 def letter_of(byte: int) -> str:
-    """The letter of one byte; 24 is read as a dollar, as `subttx` does."""
+    """Return the character of one byte; 24 is a dollar, as for `subttx`."""
     return chr(byte) if 0x20 <= byte <= 0x7E else UPPER.get(byte, NO_LETTER)
 
 
 def letters_of(text: bytes) -> str:
-    """The letters of text bytes of code table 00; an accent stands before its letter there."""
+    """Return the characters of text bytes; in code table 00 an accent is before its letter."""
     text_so_far, at = "", 0
     while at < len(text):
         accent = ACCENTS.get(text[at], " ")
@@ -79,20 +79,20 @@ def letters_of(text: bytes) -> str:
 # each. A new option is a row here and a word in `tools/completion.bash`.
 #
 # Text bytes are of code table 00 of EBU Tech 3264, which is ISO 6937: a letter with a diacritical
-# mark is two bytes, the mark's first. What the program makes of a byte it says itself; here stands
-# what is looked for in a recording, drawn on a page, and advised.
+# mark has two bytes, the mark first. The tools use this to search a recording, to draw a page and
+# to advise; the program decides.
 
 PLACES = bytes.fromhex("23 24 40 5B 5C 5D 5E 5F 60 7B 7C 7D 7E")  # the 13 codes of a sub-set
 
-# The bytes that give the same cell in each sub-set: colours, boxes, sizes, letters, figures, signs.
+# The bytes with the same cell in each sub-set: colours, boxes, sizes, letters, figures, signs.
 COMMON = (*range(0x01, 0x0E), 0x1C, 0x1D, *range(0x20, 0x23), *range(0x25, 0x40),
           *range(0x41, 0x5B), *range(0x61, 0x7B))
 
 
 class NationalOption(NamedTuple):
-    """`bits` is C12 and twice C13 and four times C14. `cells` has in the order of the 13 places the
-    byte or the pair of bytes that gives each, several of them with a comma, `-` where none does.
-    `languages` are those of a GSI block (LC) that it is taken for, `tracks` those of a PMT."""
+    """A national option. `bits` is C12 + 2 C13 + 4 C14. `cells` has the bytes or pairs of bytes for
+    each of the 13 places, with commas between, or `-`. `languages` are for a GSI block (LC),
+    `tracks` for a PMT."""
 
     word: str
     name: str
@@ -130,40 +130,38 @@ OPTIONS = (ENGLISH, GERMAN, SWEDISH, ITALIAN, FRENCH, SPANISH, CZECH)
 WORDS = tuple(one.word for one in OPTIONS)
 BY_WORD = {one.word: one for one in OPTIONS}
 BY_BITS = {one.bits: one for one in OPTIONS}
-RESERVED = 7  # C12, C13 and C14 all set name none in the default region
-# The languages of a PMT whose letters are in no option: receivers take another region for them.
+RESERVED = 7  # no option in the default region has C12, C13 and C14 set
+# Languages of a PMT for which receivers use another region.
 OTHER_REGIONS = ("ara bul ell est gre heb hrv lit pol ron rum rus scc scr slv srp ukr").split()
-UNKNOWN = "\u25a1"  # a letter of an option that is not known
+UNKNOWN = "\u25a1"  # a character of an unknown option
 MARKS = {byte for byte, mark in ACCENTS.items() if mark != " "}  # diacritical marks
 
 def named_by(language: bytes) -> NationalOption:
-    """The option of the language that a GSI block names (field LC); English where it names one that
-    no other option is of."""
+    """Return the option of a GSI block's language (LC); English by default."""
     word = language.decode("ascii", "replace").upper()
     return next((option for option in OPTIONS if word in option.languages.split()), ENGLISH)
 
 
 def of_track(language: str) -> NationalOption | None:
-    """The option of a language that a PMT names, where one of the seven is of it."""
+    """Return the option for a PMT's language, if there is one."""
     return next((option for option in OPTIONS if language.lower() in option.tracks.split()), None)
 
 
 def as_sent(option: NationalOption) -> int:
-    """C12, C13 and C14 of an option, C12 the highest bit: so packets X/28 and M/29 have them."""
+    """Return C12, C13 and C14 of an option, C12 first, as packets X/28 and M/29 have them."""
     return sum((option.bits >> at & 1) << 2 - at for at in range(3))
 
 
 @functools.lru_cache(maxsize=None)
 def cells_of(option: NationalOption) -> dict[bytes, int]:
-    """The cell of each byte or pair of bytes that is one of the option's own 13."""
+    """Return the cells of the option's own 13 characters, by their bytes."""
     return {bytes.fromhex(one): place
             for place, words in zip(PLACES, option.cells.split())
             for one in words.split(",") if one != "-"}
 
 
 def cells_in(text: bytes, option: NationalOption) -> Iterator[tuple[int, int, int | None]]:
-    """What a text has, a byte or a pair of bytes after another: the place and the first byte of
-    each, and its cell; None for what has none."""
+    """Yield the offset, the first byte and the cell of each character; `None` if it has no cell."""
     own, at = cells_of(option), 0
     while at < len(text):
         size = 2 if text[at:at + 2] in own and text[at] in MARKS else 1
@@ -172,31 +170,31 @@ def cells_in(text: bytes, option: NationalOption) -> Iterator[tuple[int, int, in
 
 
 def codes_of(text: bytes, option: NationalOption) -> list[int | None]:
-    """The codes on the page of a line's bytes, a pair of bytes as one; None for what has none."""
+    """Return the codes of a line's characters; `None` for one without a code."""
     return [cell for _, _, cell in cells_in(text, option)]
 
 
 def has_characters(text: bytes, option: NationalOption) -> bool:
-    """Whether the option has each character of a text; new lines and what gives no cell aside."""
+    """Return whether the option has all characters of a text, control codes aside."""
     shown = bytes(byte for byte in text if byte not in range(0x80, 0x90))
     return None not in codes_of(shown, option)
 
 
 def letter_at(text: bytes, at: int) -> bytes:
-    """The byte at a place of a text, with the letter behind it where it is a diacritical mark."""
+    """Return the byte at an offset, with the next letter if it is a diacritical mark."""
     is_pair = text[at] in MARKS and text[at + 1:at + 2].isalpha()
     return text[at:at + 1 + is_pair]
 
 
 def options_with(letter: bytes) -> list[NationalOption]:
-    """The options that have a letter, a byte or a pair of bytes."""
+    """Return the options that have a character."""
     if len(letter) == 1 and letter[0] in COMMON:
         return list(OPTIONS)
     return [option for option in OPTIONS if letter in cells_of(option)]
 
 
 def character_of(letter: bytes) -> str | None:
-    """The character of a byte or a pair of bytes of code table 00; None where it is none."""
+    """Return the character of a byte or a pair of bytes of code table 00, if there is one."""
     if len(letter) == 1 and letter[0] in MARKS:
         return None
     character = letters_of(letter)
@@ -205,15 +203,15 @@ def character_of(letter: bytes) -> str | None:
 
 # The characters of the codes 20 to 7F under each national option (EN 300 706, Latin G0).
 #
-# `test_national` compares them with those of libzvbi.
+# `test_national` compares them with libzvbi.
 
 BLOCK = "\u25a0"  # code 7F
 
 
 @functools.lru_cache(maxsize=None)
 def letters(option: int) -> list[str]:
-    """The character of each code; what has none, a spacing attribute, is a space. `option` is C12
-    and twice C13 and four times C14 of a page's header."""
+    """Return the character of each code; a space for a spacing attribute. `option` is C12 + 2 C13 +
+    4 C14 of a page header."""
     table = [" "] * 32 + [chr(code) for code in range(32, 127)] + [BLOCK]
     national = BY_BITS.get(option)
     for code, letter in zip(PLACES, national.characters if national else UNKNOWN * len(PLACES)):

@@ -474,11 +474,11 @@ class Wording:
         return {
             "subtitle": {"position": subtitle.index, "number": subtitle.number,
                          "begin": time_of(subtitle.begin), "end": time_of(subtitle.end)},
-            "cause": cause.name, "frames": cause.frames, "text": self.due_text(cause),
-            "sent": None if cause.sent is None else page_text(cause.sent, self.option),
-            "other": None if other is None else other.number,
+            "name": cause.name, "frames": cause.frames, "expected_text": self.due_text(cause),
+            "decoded_text": None if cause.sent is None else page_text(cause.sent, self.option),
+            "other_number": None if other is None else other.number,
             "other_position": None if other is None else other.index,
-            "words": self.said(cause),
+            "line": self.said(cause),
         }
 
     def due_text(self, cause: Cause) -> str:

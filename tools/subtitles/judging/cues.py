@@ -292,15 +292,15 @@ def judged_values(part: Part, severity: Severity) -> Iterator[Members]:
         subtitle, verdict = cue.subtitle, judge.verdict(cue)
         yield {
             "part": part.number, "position": subtitle.index, "number": subtitle.number,
-            "into_recording": into_recording(part, start, subtitle.begin) or None,
+            "recording_offset": into_recording(part, start, subtitle.begin) or None,
             "expected_in": time_of(subtitle.begin), "expected_out": time_of(subtitle.end),
             "actual_in": None if cue.begin is None else time_of(cue.begin),
             "actual_out": None if cue.end is None else time_of(cue.end),
-            "late_in": cue.late_in, "late_out": cue.late_out,
-            "text": page_text(cue.expected, option),
-            "decoded": None if cue.decoded is None else page_text(cue.decoded, option),
+            "delay_in": cue.late_in, "delay_out": cue.late_out,
+            "expected_text": page_text(cue.expected, option),
+            "decoded_text": None if cue.decoded is None else page_text(cue.decoded, option),
             "verdict": verdict.word, "reason": judge.reason(verdict) or None,
-            "whole_after": part.delays[place] if part.delays else None}
+            "complete_after": part.delays[place] if part.delays else None}
     if part.recording is None and not part.answer.numbers:
         for subtitle in subtitles_read(part.subtitle_file().data):
             text = " / ".join(map(letters_of, subtitle.text.split(b"\x8a")))
@@ -324,8 +324,8 @@ def refused_values(part: Part, severity: Severity, beside: JudgedBeside | None) 
 def file_values(part: Part, subtitle: NamedSubtitle, verdict: str, reason: str | None,
                 text: str | None) -> Members:
     """Return the values of a subtitle of which the file alone is known."""
-    unknown = dict.fromkeys(("into_recording", "actual_in", "actual_out", "late_in", "late_out",
-                             "decoded", "whole_after"))
+    unknown = dict.fromkeys(("recording_offset", "actual_in", "actual_out", "delay_in",
+                             "delay_out", "decoded_text", "complete_after"))
     return {"part": part.number, "position": subtitle.position, "number": subtitle.number,
-            "expected_in": subtitle.begin, "expected_out": subtitle.end, "text": text,
+            "expected_in": subtitle.begin, "expected_out": subtitle.end, "expected_text": text,
             "verdict": verdict, "reason": reason, **unknown}

@@ -299,13 +299,13 @@ class PartFaults:
             "name": fault.name, "severity": self.verdict.severity.of(fault.number),
             "file": "stl" if is_stl else "pes", "block": fault.block,
             "subtitle": subtitle and words_of_subtitle(subtitle),
-            "byte": byte, "character": character, "text_at": fault.at,
+            "byte": byte, "character": character, "text_offset": fault.at,
             "pes": place.pes if fault.pes is None else fault.pes,
             "pes_pts": place.pts, "pes_time": self.time_at(place.pts), "packet": fault.packet,
             "frame": fault.frame, "time": fault.time, "row": fault.row, "column": fault.column,
-            "due": self.cell(due, fault),
-            "held": self.cell(place.rows, fault) if fault.number == CONTENT else None,
-            "until": end.time, "until_pes": end.pes, "means": means, "do": do,
+            "expected": self.cell(due, fault),
+            "decoded": self.cell(place.rows, fault) if fault.number == CONTENT else None,
+            "last_time": end.time, "last_pes": end.pes, "meaning": means, "remedy": do,
             "cause": self.cause_of(fault),
         }
 
@@ -340,8 +340,8 @@ class PartFaults:
 
 
 # Details that a fault without a number lacks.
-NO_NUMBER = ("number", "byte", "character", "text_at", "pes", "pes_pts", "pes_time", "packet",
-             "row", "column", "due", "held", "until_pes", "cause")
+NO_NUMBER = ("number", "byte", "character", "text_offset", "pes", "pes_pts", "pes_time", "packet",
+             "row", "column", "expected", "decoded", "last_pes", "cause")
 
 
 def words_of_subtitle(subtitle: NamedSubtitle) -> Members:
@@ -362,8 +362,8 @@ def named_fault(verdict: Verdict, fault: NamedFault) -> Members:
             "name": fault.name, "severity": verdict.severity.of(fault.name),
             "file": "pes" if fault.block is None else "stl", "block": fault.block,
             "subtitle": subtitle and words_of_subtitle(subtitle), "frame": frame,
-            "time": fault.time, "until": fault.until, "means": fault.words,
-            "do": plain(meaning.do) if meaning else ""}
+            "time": fault.time, "last_time": fault.until, "meaning": fault.words,
+            "remedy": plain(meaning.do) if meaning else ""}
 
 
 def faults_of(verdict: Verdict) -> Iterator[Members]:

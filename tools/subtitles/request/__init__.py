@@ -1,6 +1,6 @@
-"""What is asked for a pair, and what a person could type.
+"""The request for a pair, from a call or a list, and the commands that an operator could type.
 
-request        what is asked for a pair: the table of options, a request, a profile
-commands       the commands that a person could type, the files that they make
-lines          what lines say: of a list, a profile, a call; the pairs of a folder and a list
+request        the request for a pair: the table of options, a profile, the choices of qc
+commands       the commands that an operator could type, the names of their files, printing
+lines          lines of lists and profiles; the pairs of a folder and of a list
 """

@@ -1,4 +1,4 @@
-"""What lines say: those of a list, of a profile and of a call; the pairs of a folder and a list."""
+"""Lines of lists and profiles, the options of a line; the pairs of a folder and of a list."""
 from __future__ import annotations
 
 import argparse
@@ -18,13 +18,13 @@ from .request import (
     Mode, OPTIONS, Profile, Request, Setting, add_options, pair_options, request_of, request_with)
 
 
-# Lists that people write: their lines, each split into words as a shell splits it.
+# Lines of lists and profiles, split into words as by a shell.
 
-# Python takes some 600 bytes for a line that is no pair, and 150 for each of its words.
+# Python needs some 600 bytes for a line that is no pair, and 150 for each of its words.
 MOST_BYTES, MOST_LINES, MOST_WORDS = 16_000_000, 100_000, 1_000_000  # of a list
 MOST_OF_LINE, MOST_WORDS_OF_LINE = 65_536, 256  # characters, and words
 BYTE_ORDER_MARKS = codecs.BOM_UTF8, codecs.BOM_UTF16_LE, codecs.BOM_UTF16_BE
-# What a word is made of, a blank or the comment behind the words; else a quote that does not end.
+# A part of a word, a blank or a comment; anything else is an open quote.
 PIECE_OF_LIST = re.compile(r"""(?P<blank>[ \t\r\n]+) | (?P<comment>\#.*)
                        | (?P<plain>[^ \t\r\n\\'"\#]+)
                        | \\(?P<letter>.) | '(?P<single>[^']*)' | "(?P<double>(?:[^"\\]|\\.)*)" """,
@@ -33,8 +33,8 @@ ESCAPED = re.compile(r'\\(["\\])')
 
 
 class Line(NamedTuple):
-    """A line of a list that is neither empty nor a comment: its number, and its words; of one that
-    has none, as where a quote does not end, its beginning and why."""
+    """A line of a list with arguments: its number and its arguments; of a faulty line its beginning
+    and the fault."""
 
     number: int
     words: tuple[str, ...]
@@ -47,20 +47,19 @@ def list_at(path: str, may_be_pipe: bool = False) -> str:
 
 
 def text_in(name: str, data: bytes) -> str:
-    """Return the text in the bytes of a file; `Stop` if a byte order mark would be part of its
-    first word."""
+    """Return the text of a file; `Stop` if a byte order mark would belong to its first word."""
     if data.startswith(BYTE_ORDER_MARKS):
         raise Stop(f"{name} begins with a byte order mark (BOM): save it as UTF-8 without one")
     return data.decode("utf-8", "surrogateescape")
 
 
 def folder_of(path: str) -> str:
-    """The folder in which a list stands, for what its lines name beside it; none of a pipe."""
+    """Return the folder of a list, for the files that its lines name; none for a pipe."""
     return os.path.dirname(path) if os.path.isfile(path) else ""
 
 
 def lines_in(text: str) -> Iterator[Line]:
-    """Yield the lines of a list that have words; `Stop` if the list has too many of either."""
+    """Yield the lines of a list that have words; `Stop` if it has too many."""
     line_count = word_count = 0
     for number, text_line in enumerate(io.StringIO(text, newline="\n"), 1):
         line = line_of(number, text_line.removesuffix("\n"))
@@ -74,7 +73,7 @@ def lines_in(text: str) -> Iterator[Line]:
 
 
 def line_of(number: int, text: str) -> Line:
-    """Return a line of a list; one without words is empty, or a comment."""
+    """Return a line of a list; an empty line or a comment has no words."""
     try:
         return Line(number, tuple(split(text)))
     except ValueError as reason:
@@ -82,18 +81,18 @@ def line_of(number: int, text: str) -> Line:
 
 
 def split(line: str) -> list[str]:
-    """Return the words of a line; `ValueError` if it is too long, a quote does not end, or a word
-    can't be a name. The time is linear in the length: `shlex`, which splits in the same way, takes
-    the square of that."""
+    """Return the words of a line; `ValueError` if it is too long, has an open quote or an
+    impossible name. Takes linear time; `shlex`, which splits in the same way, takes quadratic time.
+    """
     if len(line) > MOST_OF_LINE:
         raise ValueError(f"it has more than {MOST_OF_LINE:,} characters")
-    words: list[list[str]] = [[]]  # each in pieces; the last one may be none
+    words: list[list[str]] = [[]]  # each in parts
     at = 0
     while at < len(line):
         piece = PIECE_OF_LIST.match(line, at)
         if piece is None:
             raise ValueError("a quote does not end" if line[at] in "'\"" else
-                             "nothing stands behind the last backslash")
+                             "it ends with a backslash")
         at, kind = piece.end(), piece.lastgroup or ""
         if kind in ("blank", "comment"):
             words += [[]] * bool(words[-1])
@@ -108,21 +107,20 @@ def split(line: str) -> list[str]:
     return found
 
 
-# A profile: the file in which a house says once how it sends.
+# Profiles.
 
-MOST_OF_PROFILE = 65_536  # bytes, of a severity file too: each pair reads them
-PATHS = {"severity"}  # of the fields those that name a file
+MOST_OF_PROFILE = 65_536  # bytes, also of a severity file: each pair reads them
+PATHS = {"severity"}  # fields that name a file
 
 
 def setting_in(words: Sequence[str]) -> Setting:
-    """Return what a line of a profile sets; `Stop` if that can't be set there. Only the name of an
-    option is repeated: the file may be no profile, and not for the eyes of who reads the message.
-    """
+    """Return the setting of a profile's line; `Stop` if a profile can't have it. The message
+    repeats only the option's name: the file may be private and no profile."""
     name = words[0].partition("=")[0]
     option = next((one for one in OPTIONS if one.name == name), None)
     if option is None or not option.in_profile:
         names = ", ".join(one.name for one in OPTIONS if one.in_profile)
-        raise Stop(f"{option.name if option else 'its first word'} does not stand in a profile, "
+        raise Stop(f"{option.name if option else 'its first word'} is no option of a profile, "
                    f"which may have {names}")
     parser = Words("")
     add_options(parser, [option])
@@ -130,13 +128,12 @@ def setting_in(words: Sequence[str]) -> Setting:
 
 
 def profile_at(path: str, may_be_pipe: bool = False) -> Profile:
-    """Return the profile in a file. `Stop` names the first line that sets nothing, or what another
-    one sets."""
+    """Return the profile in a file; `Stop` with the first faulty or repeated line."""
     name = plain_name(path)
     try:
         data = bounded_bytes(name, MOST_OF_PROFILE, may_be_pipe)
     except OSError as reason:
-        raise Stop(error_line(reason)) from None  # the line of a list that names it is no pair
+        raise Stop(error_line(reason)) from None
     settings, lines = dict[str, Setting](), dict[str, int]()
     for line in lines_in(text_in(name, data)):
         try:
@@ -144,7 +141,7 @@ def profile_at(path: str, may_be_pipe: bool = False) -> Profile:
                 raise Stop(line.fault)
             setting = setting_in(line.words)
             if setting.field in lines:
-                raise Stop(f"{setting.name} is said in line {lines[setting.field]}")
+                raise Stop(f"{setting.name} is already in line {lines[setting.field]}")
         except Stop as reason:
             raise Stop(f"{name}, line {line.number}: {reason}") from None
         lines[setting.field] = line.number
@@ -153,23 +150,22 @@ def profile_at(path: str, may_be_pipe: bool = False) -> Profile:
 
 
 def in_folder(setting: Setting, folder: str) -> Setting:
-    """A setting; a file that it names stands in the folder of the profile, unless its path begins
-    at the root."""
+    """Return a setting with its file in the folder of the profile, unless its path is absolute."""
     if setting.field not in PATHS:
         return setting
     return setting._replace(value=os.path.join(folder, setting.value))
 
 
-# What a line says, and what comes first: the line, the call, a profile.
+# The options of a line, of the call and of a profile.
 
 
 def read_options(parser: Words, line: Sequence[str], known: Mapping[str, Any],
                  bare: Mapping[str, Any], folder: str = "", is_typed: bool = False) \
         -> argparse.Namespace:
-    """What a line says, and where it says nothing what is known. Where it names a profile, by a
-    path from a folder, that comes before what is known, which is `bare` then: what the call says
-    without its own profile. So is `bare` of what is answered. Only a profile that was typed may be
-    a pipe: a list could name one to which nobody writes."""
+    """Return the options of a line, by default the `known` ones. A profile that the line names
+    replaces the profile of the call: it goes before `bare`, the call's options without its own
+    profile; the result has its own `bare`. Only a typed profile may be a pipe: a list could name a
+    pipe without a writer."""
     typed = {word.partition("=")[0] for word in line}
     known, bare = without_other_clock(known, typed), without_other_clock(bare, typed)
     words = parser.parse_args([*line], argparse.Namespace(**known))
@@ -183,28 +179,28 @@ def read_options(parser: Words, line: Sequence[str], known: Mapping[str, Any],
         words = parser.parse_args([*line], argparse.Namespace(**known))
         words.profile, words.bare = profile, alone
     if words.within != known.get("within", words.within) and "--late" not in typed:
-        words.late = None  # the shares are those of another bound
+        words.late = None  # its shares belong to another --within
     return words
 
 
 def without_other_clock(known: Mapping[str, Any], given: Collection[str]) -> dict[str, Any]:
-    """Return what is known, without the `--origin` that a given `--start` replaces, and the other
-    way round."""
+    """Return options without the `--origin` that a given `--start` replaces, and the other way
+    round."""
     replaced = [other for one, other in (("origin", "start"), ("start", "origin"))
                 if f"--{one}" in given]
     return {**known, **dict.fromkeys(replaced)}
 
 
 def goes_with(name: str, modes: Sequence[Mode], mode: Mode) -> str:
-    """That an option goes with some calls, and not with another one."""
+    """Return the message that an option does not go with a call."""
     *others, last = (one.words for one in modes)
     known = f"{', '.join(others)} or {last}" if others else last
-    return f"{name} goes with {known}, and not with {mode.words}"
+    return f"{name} goes with {known}, not with {mode.words}"
 
 
 @functools.lru_cache(maxsize=None)
 def line_parser() -> Words:
-    """What a line of a list is read by; it takes longer to make than to use."""
+    """Return the parser for lines of a list; it takes longer to make than to use."""
     parser = Words("")
     parser.add_argument("stl")
     parser.add_argument("recording")
@@ -213,25 +209,24 @@ def line_parser() -> Words:
 
 
 def request_of_line(line: Sequence[str], defaults: argparse.Namespace, folder: str = "") -> Request:
-    """The pair of a line of a list in a folder, with the options that hold for all where it has
-    none."""
+    """Return the request of a line of a list in a folder; options of the call are the defaults."""
     known, bare = pair_options(defaults), pair_options(getattr(defaults, "bare", defaults))
     asked = request_of(read_options(line_parser(), line, known, bare, folder))
     if asked.recording == "-":
-        raise Stop("- is no recording of a list: give a file")
+        raise Stop("a list can't have - as a recording: give a file")
     return asked
 
 
-# The pairs of a folder, by their names, and those of a list, by its lines.
+# The pairs of a folder, by names, and of a list, by lines.
 
 SUBTITLES = ".stl"
-# The endings of transport streams of all kinds of packets, and of files of PES packets.
+# Transport streams of all packet sizes, and PES packets.
 RECORDINGS = (".ts", ".m2t", ".m2ts", ".mts", ".trp", ".pes")
 
 
 class Item(NamedTuple):
-    """A pair to be judged; or, without one, a file or a line and why it is none; `files` are all
-    that it names."""
+    """A pair to judge, or a file or line that is none, with the reason; `files` are all that it
+    names."""
 
     name: str
     asked: Request | None
@@ -240,7 +235,7 @@ class Item(NamedTuple):
 
 
 def pairs_at(path: str, defaults: argparse.Namespace) -> list[Item]:
-    """The pairs of a folder or a list, each with a name of its own."""
+    """Return the pairs of a folder or a list, each with its own name."""
     items = of_folder(path, defaults) if os.path.isdir(path) else [
         *map(with_files, of_list(path, lines_in(list_at(path, may_be_pipe=True)), defaults))]
     if not items:
@@ -249,7 +244,7 @@ def pairs_at(path: str, defaults: argparse.Namespace) -> list[Item]:
 
 
 def of_folder(folder: str, defaults: argparse.Namespace) -> list[Item]:
-    """Files of one name, whatever the case of its letters and of the ending."""
+    """Return the pairs of a folder: files with the same name, in upper or lower case."""
     alike: dict[str, list[str]] = collections.defaultdict(list)
     for file in sorted(os.listdir(folder)):
         stem, ending = os.path.splitext(file)
@@ -259,12 +254,12 @@ def of_folder(folder: str, defaults: argparse.Namespace) -> list[Item]:
 
 
 def inputs_of(items: Iterable[Item], *more: str) -> Inputs:
-    """All files that are read of some pairs, and others."""
+    """Return all files that some pairs read, and others."""
     return Inputs(*more, *(name for item in items for name in item.files))
 
 
 def no_file(path: str) -> str | None:
-    """Why a name is none of a file that can be judged; a pipe would never end."""
+    """Return why a path is no file that can be judged; a pipe might never end."""
     try:
         kind = kind_of(os.stat(path).st_mode)
     except OSError as error:
@@ -275,7 +270,7 @@ def no_file(path: str) -> str | None:
 
 
 def item_of(name: str, stl: str, recording: str, defaults: argparse.Namespace) -> Item:
-    """The pair of two files, or why it can't be judged."""
+    """Return the pair of two files, or why it can't be judged."""
     try:
         asked = request_with(stl, recording, defaults)
     except Stop as reason:
@@ -284,7 +279,7 @@ def item_of(name: str, stl: str, recording: str, defaults: argparse.Namespace) -
 
 
 def with_files(item: Item) -> Item:
-    """An item as it is, where both of its names are those of files."""
+    """Return an item, without its pair if a name is no file."""
     asked = item.asked
     if asked is None:
         return item
@@ -295,7 +290,8 @@ def with_files(item: Item) -> Item:
 
 
 def of_files(folder: str, files: list[str], defaults: argparse.Namespace) -> Iterable[Item]:
-    """The pair of files that are alike; where there are more, those of the very same name."""
+    """Return the pair of files with similar names; if there are more, pairs of the very same name.
+    """
     subtitles, recordings = sorted_out(files)
     if len(subtitles) > 1 or len(recordings) > 1:
         same: dict[str, list[str]] = collections.defaultdict(list)
@@ -317,15 +313,15 @@ def of_files(folder: str, files: list[str], defaults: argparse.Namespace) -> Ite
 
 
 def sorted_out(files: list[str]) -> tuple[list[str], list[str]]:
-    """Subtitle files and recordings."""
+    """Return subtitle files and recordings."""
     is_subtitles = [os.path.splitext(file)[1].lower() == SUBTITLES for file in files]
     return ([file for file, is_one in zip(files, is_subtitles) if is_one],
             [file for file, is_one in zip(files, is_subtitles) if not is_one])
 
 
 def of_list(path: str, lines: Iterable[Line], defaults: argparse.Namespace) -> Iterator[Item]:
-    """The lines of a list: a subtitle file, a recording, and options of their own. Nobody has
-    looked at the files yet."""
+    """Yield the pairs of a list's lines: subtitle file, recording, options. The files are not
+    looked at yet."""
     names, folder = NamesOfList(), folder_of(path)
     for line in lines:
         try:
@@ -340,16 +336,16 @@ def of_list(path: str, lines: Iterable[Line], defaults: argparse.Namespace) -> I
 
 
 def named_in(words: Sequence[str], folder: str) -> list[str]:
-    """All that may be a file in the words of a line that is none: it stays as it is too."""
+    """Return all words of a faulty line that may name a file: these stay as they are, too."""
     values = [value for word in words for value in {word, word.partition("=")[2]} if value]
     return [*values, *(os.path.join(folder, value) for value in values)]
 
 
 def at_line(path: str, number: int, defaults: argparse.Namespace) -> tuple[Item, list[str]]:
-    """The pair of a line of a list, or why it is none, and the words of all lines, any of which may
-    name an input. Those before it tell its name; of no other one the files are looked at."""
+    """Return the pair of a line of a list, or why it is none, and the words of all lines, which may
+    name inputs. Earlier lines decide its name; the files of others are not looked at."""
     if os.path.isdir(path):
-        raise Stop(f"{path} is no list: --line goes with a LIST")
+        raise Stop(f"{path} is no list: --line needs a LIST")
     lines = [*lines_in(list_at(path, may_be_pipe=True))]
     before = [line for line in lines if line.number <= number]
     if not before or before[-1].number < number:

@@ -1,5 +1,5 @@
 """Results for machines: JSON, CSV, JUnit.
 
-schema         the table of JSON results: a row for each member, of which the schema is made
-files          results as files: JSON objects, written and read back; CSV, JUnit
+schema         the tables of JSON results, from which the schema is made
+files          results as files: JSON, written and read back; CSV, JUnit
 """

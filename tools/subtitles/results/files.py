@@ -1,4 +1,4 @@
-"""Results as files: JSON objects, written and read back; lines of CSV; testcases of JUnit."""
+"""Results as files: JSON, written and read back; CSV; JUnit."""
 from __future__ import annotations
 
 import collections
@@ -16,22 +16,21 @@ from ..common.command_line import Stop, error_line, shown_lines
 from ..common.files import bounded_bytes, first_bytes, is_replaced, result_file, whole_file
 from ..common.program import MadeWith
 from ..common.shapes import Listed, Member, Members
-from ..judging.status import ACCEPTED, NOT_JUDGED, RELATIVE, STATUSES, is_of_call
+from ..judging.status import ACCEPTED, NOT_JUDGED, STATUSES, is_of_call
 from ..judging.subtitles import Counts
 from ..judging.verdict import Verdict
 from ..request.request import Request
 from .schema import (
-    ASKED, CUE, FORMAT, LEFT_OUT, LISTS, NO_PAIR, VERDICT, Writing, misfit, subtitle_rows)
+    CUE, FORMAT, LISTS, NO_PAIR, OMITTED, REQUEST, VERDICT, Writing, misfit, subtitle_rows)
 
 
-# A verdict as one JSON object, made by the table of results and written a piece after another:
-# there may be any number of faults, of which as many stand in it as are read back.
+# JSON results, written item by item: there may be any number of faults.
 
-MOST_BYTES = 32 << 20  # of the items of all lists; what is read back may have twice as many
+MOST_BYTES = 32 << 20  # of the items of all lists
 
 
 class Room:
-    """How many bytes are left for items of lists, and how many of each list were left out."""
+    """The bytes left for items of lists, and the number of omitted items of each list."""
 
     def __init__(self) -> None:
         self.left = MOST_BYTES
@@ -39,7 +38,7 @@ class Room:
 
 
 def object_of(verdict: Verdict, program: MadeWith) -> Iterator[str]:
-    """Return the text of the object. Tests hold it against the table; who reads it back does."""
+    """Yield the text of a JSON result; it is checked when it is read back."""
     known, room = Writing(verdict, program), Room()
     before = "{"
     for member in VERDICT.members:
@@ -47,14 +46,14 @@ def object_of(verdict: Verdict, program: MadeWith) -> Iterator[str]:
         if member in LISTS:
             yield from listed(member, known, room)
         else:
-            value = room.left_out if member.shape is LEFT_OUT else member.made(known)
+            value = room.left_out if member.shape is OMITTED else member.made(known)
             yield json.dumps(value, ensure_ascii=False)
         before = ","
     yield "\n}\n"
 
 
 def listed(member: Member, known: Writing, room: Room) -> Iterator[str]:
-    """The items of a list, a line each, as many as there is room for."""
+    """Yield the items of a list, one a line, as many as fit."""
     assert isinstance(member.shape, Listed) and member.of
     items, before = iter(member.of(known)), "["
     for count, item in enumerate(items):
@@ -68,21 +67,21 @@ def listed(member: Member, known: Writing, room: Room) -> Iterator[str]:
     yield "[]" if before == "[" else "]"
 
 
-# Objects of pairs that were judged, wherever they were made, as rows of a table.
+# Results as rows of a table.
 
 ENDING = ".json"
-LINES = 100  # of the faults of a pair, in a row
-MOST_READ = 2 * MOST_BYTES  # bytes of an object
-MOST_VALUES = 2_000_000  # of it: Python takes 70 bytes for each, and 160 for one with a name
-MOST_DIGITS = 20  # of a number in it
+LINES = 100  # faults of a row
+MOST_READ = 2 * MOST_BYTES  # bytes of a result
+MOST_VALUES = 2_000_000  # Python needs 70 bytes for one, 160 for one with a name
+MOST_DIGITS = 20  # of a number
 
 
 NO_CLOCK, LATER_CLOCK = "no clock was given", "the clock after a break was estimated"
 
 
 class Row(NamedTuple):
-    """A pair that was judged, or was not; what `title` names are its two files, `hint` what to know
-    of its first fault, `counts` how many subtitles were judged, where some are refused."""
+    """A pair in a table: `title` has its two files, `hint` is about its first fault, `counts` says
+    how many subtitles were judged if some are refused, `clock` which delay was not checked."""
 
     name: str
     title: str
@@ -96,7 +95,7 @@ class Row(NamedTuple):
     hint: str
     counts: str = ""
     sentence: str = ""
-    clock: str = ""  # what to know of it: which delay was not checked
+    clock: str = ""
 
     @property
     def is_judged(self) -> bool:
@@ -105,16 +104,16 @@ class Row(NamedTuple):
 
 
 def unjudged(name: str, reason: str) -> dict[str, Any]:
-    """The object of what is no pair, or of a call that did not end by itself."""
+    """Return the result of no pair, or of a call that ended early."""
     known = {"format": FORMAT, "verdict": NOT_JUDGED, "status": STATUSES[NOT_JUDGED], "name": name,
-             "reason": reason or "nobody said why"}
+             "reason": reason or "no reason was given"}
     made: dict[str, Any] = NO_PAIR.made(known)
     return made
 
 
 def may_take(path: str, begins: bytes = b"{") -> bool:
-    """Whether an object, or what begins otherwise, may take the place of a file, whatever words are
-    wrong: one that holds something else may be an input."""
+    """Return whether a result, or what begins otherwise, may replace a file, even if the arguments
+    are wrong: a file with other contents may be an input."""
     if not is_replaced(path) or not os.path.exists(path):
         return True
     return first_bytes(path, len(begins)) in (begins, b"")
@@ -128,19 +127,19 @@ def put_file(path: str | None, pieces: Callable[[], Iterable[bytes]]) -> None:
 
 
 def object_text(known: dict[str, Any]) -> bytes:
-    """Such an object as the text of a file."""
+    """Return such a result as the bytes of a file."""
     return json.dumps(known).encode() + b"\n"
 
 
 def put_object(path: str, known: dict[str, Any]) -> None:
-    """Writes such an object into a folder of results."""
+    """Write such a result into a folder of results."""
     with result_file(path) as file:
         file.write(object_text(known))
 
 
 def object_at(path: str) -> dict[str, Any] | None:
-    """The object in a file; one that can't be read, is of another format, or is not as a whole what
-    the table of results says, as not judged. `None` where the file holds something else."""
+    """Return the result in a file; as not judged if it can't be read, has another format, or does
+    not match the schema. `None` if the file is something else."""
     name = os.path.basename(path).removesuffix(ENDING)
     try:
         known = value_at(path)
@@ -158,11 +157,12 @@ def object_at(path: str) -> dict[str, Any] | None:
                         f"{FORMAT}: judge it again")
     wrong = misfit(known)
     return known if wrong is None else \
-        unjudged(name, f"its JSON result is none that qc writes, by its {wrong}: judge it again")
+        unjudged(name, f"its JSON result does not match docs/verdict.schema.json at {wrong}: "
+                 "judge it again")
 
 
 def value_at(path: str) -> object:
-    """What a file holds as JSON."""
+    """Return the JSON value in a file."""
     data = bounded_bytes(path, MOST_READ, is_followed=False)
     if sum(map(data.count, (b",", b"{", b"["))) > MOST_VALUES:
         raise ValueError(f"it has more than {MOST_VALUES:,} values")
@@ -170,54 +170,56 @@ def value_at(path: str) -> object:
 
 
 def number_in(digits: str) -> int:
-    """A whole number, of which a machine knows the greatest."""
+    """Return a number of at most 20 digits."""
     return int(digits) if len(digits) <= MOST_DIGITS else refuse_constant(digits)
 
 
 def refuse_constant(text: str) -> int:
-    """No number of a result."""
+    """Reject a number."""
     raise ValueError(f"{text[:MOST_DIGITS]} is no number of a result")
 
 
 def why(reason: Exception) -> str:
-    """Why something can't be read, in a line."""
+    """Return in a line why something can't be read."""
     return error_line(reason) if isinstance(reason, (Stop, OSError)) else \
         " ".join(str(reason).split())
 
 
 def left_by_call(path: str, name: str, ended: int, told: Sequence[str]) -> dict[str, Any]:
-    """The object that a call for a pair left, where it ended with the status that stands there;
-    else one that is not judged, with what the call told last."""
+    """Return the result of a call, if its status is that of the call; else `not judged`, with the
+    call's last message."""
     known = object_at(path) if os.path.exists(path) else None
     if known is not None and is_of_call(known["verdict"], known["status"], ended):
         return known
-    is_told = ended >= 0 and bool(told)
-    return unjudged(name, told[-1].partition(": ")[2] if is_told else "it did not end by itself")
+    if ended < 0:
+        return unjudged(name, "the process was killed")
+    return unjudged(name, told[-1].partition(": ")[2] if told else "the process left no result")
 
 
 def row_of_object(known: dict[str, Any], name: str) -> Row:
-    """A row by an object."""
-    if "asked" not in known:
+    """Return a table's row for a result."""
+    if "request" not in known:
         return Row(name, name, known["verdict"], known["status"], known["reason"], 0, {}, [], 0.0,
                    "")
-    title = " ".join(known["asked"][word] for word in ("stl", "recording") if known["asked"][word])
+    request = known["request"]
+    title = " ".join(request[word] for word in ("stl", "recording") if request[word])
     counts = known["subtitle_counts"]
     return Row(name, title or name, known["verdict"], known["status"],
-               known["reason"] or known["lead"], known["fault_count"], causes_in(known),
+               known["reason"] or known["worst_fault"], known["fault_count"], causes_in(known),
                [fault["line"] for fault in known["faults"][:LINES]], known["seconds"],
                hint_in(known), Counts(**counts).words() if counts else "", known["sentence"],
                clock_in(known))
 
 
 def clock_in(known: dict[str, Any]) -> str:
-    """What to know of the clock of an object: that none was given, or none after a break."""
+    """Return the note about a clock that was estimated, from the start or after a break."""
     fitted = [part["clock"] and part["clock"]["source"] == RECORDING for part in known["parts"]]
     return NO_CLOCK if fitted and fitted[0] else LATER_CLOCK if any(fitted) else ""
 
 
 def hint_in(known: dict[str, Any]) -> str:
-    """What to know of the fault that the line of an object names, where there is something."""
-    refused = (known["lead"] or "").partition("refused ")[2]
+    """Return the hint about the worst fault of a result, if there is one."""
+    refused = (known["worst_fault"] or "").partition("refused ")[2]
     for hint in known["hints"]:
         number, _, words = hint.partition(": ")
         if refused.startswith(f"{number} "):
@@ -226,8 +228,8 @@ def hint_in(known: dict[str, Any]) -> str:
 
 
 def causes_in(known: dict[str, Any]) -> dict[str, int]:
-    """How many subtitles there are with which cause; of faults without one how many, by number and
-    name."""
+    """Return how many subtitles have each cause, and how many faults without a cause have each
+    number and name."""
     counts: collections.Counter[str] = collections.Counter()
     for fault in known["faults"]:
         if not fault["cause"]:
@@ -236,7 +238,7 @@ def causes_in(known: dict[str, Any]) -> dict[str, int]:
 
 
 def objects_in(folder: str) -> Iterator[tuple[str, dict[str, Any] | None]]:
-    """The files of a folder that can hold an object, in the order of their names."""
+    """Yield the files of a folder that can be results, by name."""
     for file in sorted(os.listdir(folder)):
         path, name = os.path.join(folder, file), file.removesuffix(ENDING)
         if name != file and not file.startswith(".") and os.path.isfile(path):
@@ -244,20 +246,20 @@ def objects_in(folder: str) -> Iterator[tuple[str, dict[str, Any] | None]]:
 
 
 def in_order(rows: dict[str, Row]) -> list[Row]:
-    """Rows in the order of their names."""
+    """Return rows in the order of their names."""
     return [rows[name] for name in sorted(rows)]
 
 
-# ---- whether an object is still that of its pair
+# Whether a result is up to date.
 
 def modified(about: os.stat_result) -> str:
-    """When a file was last written to, in UTC, to the nanosecond."""
+    """Return the time of a file's last change, in UTC."""
     second, rest = divmod(about.st_mtime_ns, 1_000_000_000)
     return f"{time.strftime('%Y-%m-%dT%H:%M:%S', time.gmtime(second))}.{rest:09}Z"
 
 
 def found_at(path: str | None) -> dict[str, Any] | None:
-    """The size of a file and when it was written; `None` for what is no file."""
+    """Return size and last change of a file; `None` if it is none."""
     if path is None or not os.path.isfile(path):
         return None
     about = os.stat(path)
@@ -265,89 +267,82 @@ def found_at(path: str | None) -> dict[str, Any] | None:
 
 
 def found(asked: Request) -> dict[str, Any]:
-    """Both files of a pair as they are found."""
+    """Return the files of a pair as they are now."""
     return {"stl": found_at(asked.stl), "recording": found_at(asked.recording),
             "severity": found_at(asked.severity)}
 
 
 def is_current(known: dict[str, Any], asked: Request, program: MadeWith) -> bool:
-    """Whether a pair would be judged with the same words, by the same program and tools, on files
-    of the same size and time."""
-    return "asked" in known and known["asked"] == ASKED.made(asked) \
-        and known["found"] == found(asked) \
+    """Return whether a pair would be judged with the same options, by the same program and tools,
+    from files of the same size and time."""
+    return "request" in known and known["request"] == REQUEST.made(asked) \
+        and known["files_at_start"] == found(asked) \
         and known["program"]["sha256"] == program.sha256 \
         and known["program"]["version"] == program.version
 
 
-# Many pairs and their faults as lines of CSV: one for each pair, then one for each of its faults.
-# Of one pair: a line for the pair, then one for each subtitle.
+# CSV: of many pairs a line for each pair and each fault; of one pair a line for the pair and each
+# subtitle. A column has the name of its key in the JSON result, after the name of the object.
 
-OF_FAULT = ["part", "number", "name", "severity", "file", "block", "subtitle", "begin", "end",
-            "byte", "character", "pes", "pes_time", "packet", "frame", "time", "row", "column",
-            "due", "held", "until", "until_pes", "line", "means", "do"]
-OF_CAUSE = ["cause", "cause_frames", "cause_subtitle", "cause_text", "cause_sent", "cause_words"]
+OF_SUBTITLE = ["subtitle_number", "subtitle_begin", "subtitle_end"]
+OF_FAULT = ["part", "number", "name", "severity", "file", "block", *OF_SUBTITLE, "byte",
+            "character", "pes", "pes_time", "packet", "frame", "time", "row", "column", "expected",
+            "decoded", "last_time", "last_pes", "line", "meaning", "remedy"]
+OF_CAUSE = ["cause_name", "cause_frames", "cause_subtitle_number", "cause_expected_text",
+            "cause_decoded_text", "cause_line"]
 OF_PAIR = ["verdict", "status", "reason"]
-PLACES = ["position", "cause_position"]
-OF_JUDGED = ["pid", "packet_size", "range"]  # what is judged of the recording, or of a part
-FORMULA = ("=", "+", "-", "@", "\t", "\r")  # with which a formula may begin
-COUNTS = {"subtitles_judged": "judged", "subtitles_refused": "refused"}
-COLUMNS = ["stl", "recording", *OF_FAULT, *OF_PAIR, *OF_CAUSE, *PLACES, "sentence", *OF_JUDGED,
-           *COUNTS]
-OF_SUBTITLE = ["stl", "recording", *(member.name for member in CUE.members)]
+POSITIONS = ["subtitle_position", "cause_subtitle_position"]
+OF_PART = ["part_pid", "part_packet_size", "part_pes"]
+OF_COUNTS = ["subtitle_counts_judged", "subtitle_counts_refused"]
+FORMULA = ("=", "+", "-", "@", "\t", "\r")  # the beginning of a formula
+FILES = ["stl", "recording"]
+COLUMNS = [*FILES, *OF_FAULT, *OF_PAIR, *OF_CAUSE, *POSITIONS, "sentence", *OF_PART,
+           *OF_COUNTS]
+CUE_COLUMNS = [*FILES, *(member.name for member in CUE.members)]
 
-Known = dict[str, object]  # the columns that there is something to say of
+Known = dict[str, object]  # the columns of a line that are not empty
 
 
 def cell_words(cell: Members | None) -> str:
-    """A cell as its code, and its character where it has one."""
+    """Return a cell as its code, with its character if it has one."""
     if cell is None:
         return ""
     code: str = cell["code"]
     return f"{code} {cell['character']}" if cell["character"] else code
 
 
-def count_columns(counts: dict[str, Any] | None) -> Known:
-    """The columns of how many subtitles were judged, and how many are refused."""
-    return {column: counts[name] for column, name in COUNTS.items()} if counts else {}
+def columns_of(name: str, members: Members | None) -> Known:
+    """Return the columns of an object with this name: one for each of its members."""
+    return {f"{name}_{key}": value for key, value in (members or {}).items()}
 
 
 def part_columns(parts: Sequence[dict[str, Any]], number: int | None) -> Known:
-    """The columns of what is judged with a part, by its number; with the only one where none is
-    given."""
-    found = [one for one in parts if one["part"] == number or number is None]
+    """Return the columns of a part by its number; of the only part if there is no number."""
+    found = [part for part in parts if part["part"] == number or number is None]
     if len(found) != 1:
         return {}
-    pid = found[0]["pid"]
-    return {"pid": pid if pid is None else f"0x{pid:X}", "range": found[0]["pes"],
-            "packet_size": found[0]["packet_size"]}
+    columns, pid = columns_of("part", found[0]), found[0]["pid"]
+    return {**columns, "part_pid": pid if pid is None else f"0x{pid:X}"}
 
 
 def of_object(known: dict[str, Any]) -> Known:
-    """The same of a pair by its object; what is no pair has a name alone."""
+    """Return the columns of a pair by its result; a result without a pair has only a name."""
     pair = {name: known[name] for name in OF_PAIR}
-    if "asked" not in known:
+    if "request" not in known:
         return {"stl": known["name"], **pair}
-    return {"stl": known["asked"]["stl"], "recording": known["asked"]["recording"], **pair,
+    return {"stl": known["request"]["stl"], "recording": known["request"]["recording"], **pair,
             "line": known["line"], "sentence": known["sentence"],
-            **count_columns(known["subtitle_counts"]), **part_columns(known["parts"], None)}
+            **columns_of("subtitle_counts", known["subtitle_counts"]),
+            **part_columns(known["parts"], None)}
 
 
 def with_fault(pair: Known, parts: Sequence[dict[str, Any]], fault: Members) -> Known:
-    """The columns of a fault of a pair with these parts."""
-    subtitle, cause = fault["subtitle"], fault["cause"]
-    known: Known = {
-        **pair, **part_columns(parts, fault["part"]), **fault,
-        "subtitle": subtitle and subtitle["number"],
-        "position": subtitle and subtitle["position"], "begin": subtitle and subtitle["begin"],
-        "end": subtitle and subtitle["end"], "due": cell_words(fault["due"]),
-        "held": cell_words(fault["held"]), "cause": cause and cause["cause"],
-    }
-    if cause:
-        known |= {"cause_frames": cause["frames"], "cause_subtitle": cause["subtitle"]["number"],
-                  "cause_text": cause["text"], "cause_sent": cause["sent"],
-                  "cause_words": cause["words"],
-                  "cause_position": cause["subtitle"]["position"]}
-    return known
+    """Return the columns of a fault of a pair with these parts."""
+    cause = fault["cause"]
+    return {**pair, **part_columns(parts, fault["part"]), **fault,
+            **columns_of("subtitle", fault["subtitle"]), **columns_of("cause", cause),
+            **columns_of("cause_subtitle", cause and cause["subtitle"]),
+            "expected": cell_words(fault["expected"]), "decoded": cell_words(fault["decoded"])}
 
 
 def subtitle_lines(verdict: Verdict) -> Iterator[bytes]:
@@ -356,12 +351,12 @@ def subtitle_lines(verdict: Verdict) -> Iterator[bytes]:
     pair: Known = {**files, "verdict": verdict.word,
                    "reason": verdict.why_not or verdict.sentence}
     rows = ({**files, **row} for row in subtitle_rows(verdict))
-    return map(str.encode, column_lines(itertools.chain([pair], rows), OF_SUBTITLE))
+    return map(str.encode, column_lines(itertools.chain([pair], rows), CUE_COLUMNS))
 
 
 def column_lines(rows: Iterable[Known], columns: Sequence[str]) -> Iterator[str]:
-    """Yield the names of the columns, then a line for each row, in which a column is empty if it
-    does not apply."""
+    """Yield the names of the columns, then a line for each row; a column that does not apply is
+    empty."""
     text = io.StringIO()
     writer = csv.writer(text, lineterminator="\n")
     values: Iterator[list[object]] = (
@@ -375,8 +370,8 @@ def column_lines(rows: Iterable[Known], columns: Sequence[str]) -> Iterator[str]
 
 
 def said(value: object) -> object:
-    """A value without what a terminal would obey; a reason may have several lines. A text that a
-    table would take for a formula is led by an apostrophe."""
+    """Return a value for a table: text without control characters, an apostrophe before a formula.
+    """
     if not isinstance(value, str):
         return value
     text = shown_lines(value)
@@ -384,23 +379,23 @@ def said(value: object) -> object:
 
 
 def table_lines(objects: Iterable[dict[str, Any]]) -> Iterator[bytes]:
-    """The lines of many pairs and of their faults, by their objects, under one head."""
+    """Yield the lines of many pairs and their faults, after the names of the columns."""
     rows = (row for known in objects for row in column_rows(known))
     return map(str.encode, column_lines(rows, COLUMNS))
 
 
 def column_rows(known: dict[str, Any]) -> Iterator[Known]:
-    """The columns of a pair, and of each of its faults, by its object."""
+    """Yield the columns of a pair, then of each of its faults."""
     pair = of_object(known)
     yield pair
-    for fault in known["faults"] if "asked" in known else ():
+    for fault in known["faults"] if "request" in known else ():
         yield with_fault(pair, known["parts"], fault)
 
 
-# Pairs as testcases of JUnit, which any CI shows.
+# JUnit, which any CI shows.
 
 class TestCase(NamedTuple):
-    """A pair: what is said of it, the first lines of its list, the seconds that it took, how many
+    """A pair: its worst fault or reason, the first lines of its list, its seconds, how many
     subtitles were judged if some are refused, and its sentence."""
 
     name: str
@@ -416,20 +411,20 @@ class TestCase(NamedTuple):
 def element_of(case: TestCase) -> tree.Element:
     element = tree.Element("testcase", classname="subttx", name=shown_lines(case.name),
                            time=f"{case.seconds:.3f}")
-    sentence = [case.sentence] * (case.verdict == RELATIVE)
-    text = shown_lines("\n".join([case.line, *sentence, *[case.counts] * bool(case.counts),
-                                  *case.lines]))
+    text = shown_lines("\n".join(
+        [case.sentence] * bool(case.sentence) + [case.line] * (case.line not in case.sentence)
+        + [case.counts] * bool(case.counts) + [*case.lines]))
     if case.status:
         kind = "error" if case.verdict == NOT_JUDGED else "failure"
-        told = tree.SubElement(element, kind, message=shown_lines(case.line), type=case.verdict)
-        told.text = text
+        message = shown_lines(case.sentence or case.line)
+        tree.SubElement(element, kind, message=message, type=case.verdict).text = text
     elif case.verdict != ACCEPTED:
         tree.SubElement(element, "system-out").text = text
     return element
 
 
 def junit_file(cases: Sequence[TestCase], date: str) -> bytes:
-    """The whole file."""
+    """Return the JUnit file of some pairs."""
     def count(kind: str) -> str:
         return str(sum(case.status != 0 and (case.verdict == NOT_JUDGED) == (kind == "errors")
                        for case in cases))
