@@ -18,7 +18,7 @@ from subtitles.judging.causes import (
     ATTRIBUTE, Cause, EARLY, IN_PAUSE, LATE, NEVER, NOT_ERASED, OTHER, PLACE, TEXT, UNKNOWN)
 from subtitles.judging.faults import end_words, fault_place, gap_words, hints_of
 from subtitles.judging.part import tell_causes
-from subtitles.judging.sentence import Count, Facts, of_causes, what_is_wrong
+from subtitles.judging.sentence import Count, Facts, describe_causes, describe_faults
 from subtitles.judging.transmissions import program_answer
 from subtitles.request.commands import CLEAR, Listener, Progress, Speech
 from subtitles.request.request import Unclear
@@ -90,7 +90,7 @@ class Words(Case):
                  "another text was sent in 2 pauses, the first at 10:02"),
                 ([cause(8, ATTRIBUTE)],
                  'at 00:00:08:00 subtitle 9, "text", has a wrong colour or attribute')):
-            self.assertEqual(of_causes(causes_of(*several), "english"), wanted, several)
+            self.assertEqual(describe_causes(causes_of(*several), "english"), wanted, several)
         wrong = cause(0, TEXT)._replace(sent=(b"]".ljust(40),) + BLANK_PAGE[1:])
         part = part_with(0, 9, 0, answer(["refused 72 X frame 00:00:00:00", "1 faults"]),
                          causes=causes_of(wrong, text=b"["))
@@ -112,18 +112,18 @@ class Words(Case):
                  "; also 67 Name, 68 Name (1,234), 79 Name, 69 Name and 1 more number"),
                 ({79: 1, 73: 1, 69: 1, 68: 1, 67: 1, 66: 1},
                  "; also 67 Name, 68 Name, 79 Name, 66 Name and 2 more numbers")):
-            words = what_is_wrong(Facts(
+            words = describe_faults(Facts(
                 "refused", 9, content, True, 9, [Count(number, "Name", count)
                                                  for number, count in numbers.items()],
                 causes=several))
-            self.must(f"{numbers}", words == of_causes(several, "english") + wanted, words)
+            self.must(f"{numbers}", words == describe_causes(several, "english") + wanted, words)
 
     def test_several_numbers(self) -> None:
         """Where there is no cause it is said how many faults there are, and of which numbers."""
         for counts, wanted in (([Count(68, "Parity", 3)], "; in all 3 faults"),
                                ([Count(73, "Gap", 1), Count(68, "Parity", 2)],
                                 "; in all 3 faults: 68 Parity (2) and 73 Gap")):
-            words = what_is_wrong(Facts("refused", 9, fault_of_line(
+            words = describe_faults(Facts("refused", 9, fault_of_line(
                 "refused 68 Parity frame 00:00:01:00 packet 1"), False, 3, counts, "a letter"))
             self.must(wanted, words == f"at 00:00:01:00 a letter{wanted}", words)
 

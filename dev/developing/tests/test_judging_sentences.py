@@ -20,7 +20,7 @@ from subtitles.formats.teletext import ENGLISH, OPTIONS
 from subtitles.judging.causes import IN_PAUSE, NAMES
 from subtitles.judging.pages import (
     HIDDEN as HIDDEN_KIND, Sight, hidden_rows, hidden_words, letters_in, may_hide, sight_of)
-from subtitles.judging.sentence import Count, Facts, SAID, WORDS, of_causes, sentence_of
+from subtitles.judging.sentence import Count, Facts, SAID, WORDS, describe_causes, sentence_of
 from subtitles.judging.status import (
     ACCEPTED, LOST, NOT_JUDGED, REFUSALS, REFUSED, RELATIVE, WAIVED, WARNED)
 from subtitles.judging.transmissions import control_words
@@ -138,7 +138,7 @@ class Sentences(unittest.TestCase):
         """The sentence of each cause, of one subtitle and of two: what is wrong, and with which."""
         for name in [one for one in NAMES if one != IN_PAUSE]:
             for several in ([cause(2, name, 3)], [cause(2, name, 3), cause(4, name, 5)]):
-                words = of_causes(causes_of(*several), "english")
+                words = describe_causes(causes_of(*several), "english")
                 said = SAID[name][len(several) > 1] if name in SAID else \
                     f"{'are' if len(several) > 1 else 'is'} 3 "
                 with self.subTest(name, count=len(several)):

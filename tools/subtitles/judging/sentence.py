@@ -247,12 +247,12 @@ def sentence_of(seen: Facts) -> str:
     if seen.word == NOT_JUDGED:
         return f"Not judged: {(seen.reason or 'check was not answered').splitlines()[0]}."
     if seen.word == REFUSED:
-        waived = f"; waived: {numbers_words(seen.waived)}" if seen.waived else ""
-        return f"Refused: {what_is_wrong(seen)}{waived}."
+        waived = f"; waived: {describe_counts(seen.waived)}" if seen.waived else ""
+        return f"Refused: {describe_faults(seen)}{waived}."
     if seen.word == RELATIVE:
-        return f"{relative_words(seen)} was not checked: {clock_advice(seen.has_picture)}."
+        return f"{describe_relative_match(seen)} was not checked: {clock_advice(seen.has_picture)}."
     if seen.word == WAIVED:
-        return f"{waived_words(seen)}."
+        return f"{describe_waived_faults(seen)}."
     good = "all faults that were seen are named warnings" if seen.faults or seen.refused else \
         "what was received is right"
     if seen.word == LOST:
@@ -263,19 +263,19 @@ def sentence_of(seen: Facts) -> str:
         kinds = ", ".join(dict.fromkeys(seen.warnings))
         return f"Not accepted: there are warnings, which count ({kinds}); {good}."
     assert seen.word == ACCEPTED
-    return f"Accepted: {what_is_good(seen)}."
+    return f"Accepted: {describe_success(seen)}."
 
 
-def waived_words(seen: Facts) -> str:
+def describe_waived_faults(seen: Facts) -> str:
     """Return the clause on faults that are all warnings."""
-    return f"Waived, since these faults are named warnings: {what_is_wrong(seen)}"
+    return f"Waived, since these faults are named warnings: {describe_faults(seen)}"
 
 
-def relative_words(seen: Facts) -> str:
+def describe_relative_match(seen: Facts) -> str:
     """Return how the subtitles match by an estimated clock, and which delay it hides."""
     within = f" within {counted(seen.within, 'frame')}" if seen.within else ""
     if seen.faults or seen.refused:
-        found, delay = waived_words(seen), "a delay that all subtitles share"
+        found, delay = describe_waived_faults(seen), "a delay that all subtitles share"
     elif seen.subtitles == 1:
         found, delay = f"The subtitle has the right text and length{within}", "its delay"
     elif seen.parts == 1:
@@ -287,48 +287,48 @@ def relative_words(seen: Facts) -> str:
     return f"{found}. No clock was given, so {delay}"
 
 
-def what_is_good(seen: Facts) -> str:
+def describe_success(seen: Facts) -> str:
     """Return the clause on subtitles without a fault."""
     subtitles = counted(seen.subtitles, "subtitle")
     if seen.is_file:
         return f"nothing is wrong with {subtitles}"
     if seen.subtitles > 1:
-        return f"all {subtitles} have the right text {since(seen)}"
-    return f"{subtitles} has the right text {since(seen)}"
+        return f"all {subtitles} have the right text {describe_text_period(seen)}"
+    return f"{subtitles} has the right text {describe_text_period(seen)}"
 
 
-def beside_refused(seen: Facts) -> str:
+def describe_valid_subtitles(seen: Facts) -> str:
     """Return which subtitles are refused, and the result of judging the others."""
     others = f"{counted(seen.subtitles, 'other subtitle')} " \
         f"{'was' if seen.subtitles == 1 else 'were'} judged"
     sent = seen._replace(refused="")
     if seen.first is None:
         is_one = seen.subtitles == 1
-        how = f"{'it has' if is_one else 'all have'} the right text {since(seen)}"
+        how = f"{'it has' if is_one else 'all have'} the right text {describe_text_period(seen)}"
     else:
-        how = what_is_wrong(sent)
+        how = describe_faults(sent)
     return f"{seen.refused}; {others}: {how}"
 
 
-def since(seen: Facts) -> str:
+def describe_text_period(seen: Facts) -> str:
     """Return during which frames subtitles must have their text."""
     return f"within {counted(seen.within, 'frame')}" if seen.within else \
         "from the first frame to the last"
 
 
-def what_is_wrong(seen: Facts) -> str:
+def describe_faults(seen: Facts) -> str:
     """Return the worst fault with its first place, then counts of the others."""
     if seen.refused:
-        return beside_refused(seen)
+        return describe_valid_subtitles(seen)
     words = fault_clause(seen)
     if seen.delay and seen.first and seen.first.number in WITH_CAUSE:
-        return delay_words(seen.subtitles, seen.delay) + also(seen)
+        return describe_delay(seen.subtitles, seen.delay) + describe_other_faults(seen)
     if seen.is_caused and seen.causes:
-        words = of_causes(seen.causes, seen.option) + also(seen)
+        words = describe_causes(seen.causes, seen.option) + describe_other_faults(seen)
     return words
 
 
-def delay_words(subtitles: int, delay: int) -> str:
+def describe_delay(subtitles: int, delay: int) -> str:
     """Return by how many frames all subtitles are late, or early."""
     which = f"all {subtitles:,} subtitles are" if subtitles > 1 else "the subtitle is"
     return f"{which} {counted(abs(delay), 'frame')} {LATE if delay > 0 else EARLY}"
@@ -343,7 +343,7 @@ def fault_clause(seen: Facts) -> str:
         return f"{counted(seen.faults, 'fault')}"
     if fault.number == LOST_PACKETS and seen.lost:
         more = f", and in {counted(len(seen.lost) - 1, 'more place')}" if len(seen.lost) > 1 else ""
-        return f"{seen.lost[0]}{more}; that part was not recorded{also(seen)}"
+        return f"{seen.lost[0]}{more}; that part was not recorded{describe_other_faults(seen)}"
     words = WORDS.get(fault.number, fault.name)
     block = f"{seen.of_block} (block {fault.block})," if seen.of_block else f"block {fault.block}"
     place = fault.time or (f"PES packet {fault.pes}" if fault.pes is not None else
@@ -354,19 +354,19 @@ def fault_clause(seen: Facts) -> str:
         words = seen.hint if fault.number in BY_HINT else f"{words}: {seen.hint}"
     place = place and f"{'at' if fault.time else 'in'} {place} "
     more = f"; in all {counted(seen.faults, 'fault')}" if seen.faults > 1 else ""
-    several = f": {numbers_words(seen.counts)}" if len(seen.counts) > 1 else ""
+    several = f": {describe_counts(seen.counts)}" if len(seen.counts) > 1 else ""
     return f"{place}{words}{more}{several}"
 
 
-def also(seen: Facts) -> str:
+def describe_other_faults(seen: Facts) -> str:
     """Return counts of the faults other than content faults and the first fault's number."""
     first = seen.first.number if seen.first else None
     others = [count for count in seen.counts
               if count.number not in WITH_CAUSE and count.number != first]
-    return f"; also {numbers_words(others)}" if others else ""
+    return f"; also {describe_counts(others)}" if others else ""
 
 
-def numbers_words(several: Sequence[Count]) -> str:
+def describe_counts(several: Sequence[Count]) -> str:
     """Return counts by fault number, worst first; only the first few if there are many."""
     rising = sorted(several, key=lambda count: (rank_of(count.number), count.number))
     words = [f"{count.number} {count.name}" + (f" ({count.faults:,})" if count.faults > 1 else "")
@@ -376,14 +376,15 @@ def numbers_words(several: Sequence[Count]) -> str:
     return " and ".join(filter(None, (", ".join(words[:-1]), words[-1])))
 
 
-def of_causes(causes: Causes, option: str) -> str:
+def describe_causes(causes: Causes, option: str) -> str:
     """Return the worst cause with its first subtitle, and counts of the other causes."""
     every = causes.all()
     worst = worst_cause(every)
     assert worst
     alike = [cause for cause in every if cause.name == worst.name]
     subtitles = causes.programme.subtitles
-    words = of_one(worst, causes, option) if len(alike) == 1 else of_several(alike, subtitles)
+    words = describe_single_cause(worst, causes, option) if len(alike) == 1 else \
+        describe_shared_cause(alike, subtitles)
     others = collections.Counter(cause.name for cause in every if cause.name != worst.name)
     if not others:
         return words
@@ -392,7 +393,7 @@ def of_causes(causes: Causes, option: str) -> str:
     return f"{words}; {counted(sum(others.values()), 'other')}: {counts}"
 
 
-def of_one(cause: Cause, causes: Causes, option: str) -> str:
+def describe_single_cause(cause: Cause, causes: Causes, option: str) -> str:
     """Return the clause on the cause of one subtitle."""
     subtitle = causes.programme.subtitles[cause.place]
     if cause.name == IN_PAUSE:
@@ -408,7 +409,7 @@ def of_one(cause: Cause, causes: Causes, option: str) -> str:
     return f"at {time_of(subtitle.begin)} {subtitle.name}, \"{text}\", {said}{more}"
 
 
-def of_several(causes: Sequence[Cause], subtitles: Sequence[Subtitle]) -> str:
+def describe_shared_cause(causes: Sequence[Cause], subtitles: Sequence[Subtitle]) -> str:
     """Return the clause on a cause that several subtitles share: their count, first and last."""
     first, last = subtitles[causes[0].place], subtitles[causes[-1].place]
     name = causes[0].name

@@ -18,7 +18,7 @@ from ..judging.cues import (
     into_recording, recording_start, refused_subtitles)
 from ..judging.pages import page_text
 from ..judging.part import Part
-from ..judging.sentence import OF_CAUSE, of_one, of_several, rank_of
+from ..judging.sentence import OF_CAUSE, describe_shared_cause, describe_single_cause, rank_of
 from ..judging.status import Severity
 from ..judging.subtitles import JudgedBeside
 from .blocks import fault_lines, marked_text, marked_times
@@ -168,8 +168,9 @@ class CueList:
         rows = []
         for name in sorted(by_name, key=lambda name: (OF_CAUSE[name], NAMES.index(name))):
             alike = by_name[name]
-            words = of_one(alike[0], self.causes, self.part.request.option) \
-                if len(alike) == 1 else of_several(alike, self.causes.programme.subtitles)
+            words = describe_single_cause(alike[0], self.causes, self.part.request.option) \
+                if len(alike) == 1 else \
+                describe_shared_cause(alike, self.causes.programme.subtitles)
             first = self.causes.programme.subtitles[alike[0].place]
             rows.append(markup('<tr><td>{}{}</td><td><a href="#s{}">{}</a></td><td>{}</td></tr>',
                                words[0].upper(), words[1:], first.index, len(alike),
