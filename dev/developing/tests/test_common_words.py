@@ -178,7 +178,7 @@ class Words(Case):
         with File(self.path("file")) as file, mock.patch.object(
                 file, "file", mock.Mock(**{"read.return_value": None})):
             self.check("a file of the system that waits", refused(lambda: file.read()),
-                       f"{self.path('file')} has no end, as a file of the system: give a file")
+                       f"{self.path('file')} has no end: give a file")
         with subprocess.Popen(["sh", "-c", "sleep 0.2; yes >\"$0\"", self.path("pipe")]):
             self.must("a pipe", first_bytes(self.path("pipe"), 100_001, True) ==
                       (b"y\n" * 50_001)[:100_001])

@@ -78,8 +78,8 @@ class Blocks(unittest.TestCase):
 
     def test_gsi_that_is_none(self) -> None:
         good = gsi_block(b"", 0, 0)
-        for data, words in ((good, ""), (good[:-1], "no subtitle file"), (b"", "no subtitle file"),
-                            (good[:3] + b"STL24" + good[8:], "no subtitle file"),
+        for data, words in ((good, ""), (good[:-1], "no EBU STL file"), (b"", "no EBU STL file"),
+                            (good[:3] + b"STL24" + good[8:], "no EBU STL file"),
                             (good[:3] + b"STL30" + good[8:], "30 frames a second"),
                             (good[:3] + b"STL25.02" + good[11:], "")):
             told = refused(lambda: list(stl.subtitles_in(data)), Damaged)

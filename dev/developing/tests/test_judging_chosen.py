@@ -59,8 +59,9 @@ LANGUAGES = {b"08": ("german", "the language of the file (LC) is 08"),
 
 def told(found: Judged) -> list[tuple[Any, ...]]:
     """What a result says that was chosen, in the order of the options."""
-    return sorted((tuple(one[name] for name in ("what", "value", "agree", "among", "part", "line"))
-                   for one in found.result["choices"]), key=lambda one: CHOICES.index(one[0]))
+    keys = ("option", "value", "matches", "total", "part", "line")
+    return sorted((tuple(choice[key] for key in keys) for choice in found.result["choices"]),
+                  key=lambda values: CHOICES.index(values[0]))
 
 
 class Chosen(Case):

@@ -113,7 +113,7 @@ class Words(Case):
         """It is gone: what to type is said."""
         done = self.tool("qc", "one.stl", "one.ts", "--layout", "auto")
         self.must("auto", done.status == 2 and len(done.told) == 1 and
-                  "`--measure STL RECORDING ..` finds how a house draws" in done.told[0], done)
+                  "find your inserter's by `--measure STL RECORDING ..`" in done.told[0], done)
 
     def test_names_the_cells_in_which_pages_differ(self) -> None:
         """In which cells a page with the same letters differs."""
