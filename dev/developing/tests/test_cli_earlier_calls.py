@@ -24,6 +24,7 @@ from subtitles.request.request import Profile
 from subtitles.results.files import (
     MOST_VALUES, Row, found, is_current, left_by_call, may_take, object_at, objects_in,
     row_of_object, unjudged)
+from subtitles.results import schema
 from subtitles.results.schema import FORMAT, REQUEST
 from .bench import Case, example, example_bytes
 from .parts import asked_for, defaults
@@ -358,7 +359,7 @@ class Watched(Case):
                               "--every", "99")
             files = {**found(asked), **({"stl": None} if name == "b" else {})}
             have = result(request=REQUEST.made(asked), files_at_start=files,
-                          program=program._asdict())
+                          program=schema.PROGRAM.made(program))
             self.write(f"out/{name}.json", json.dumps(have).encode())
         reads = []
 
@@ -428,7 +429,7 @@ class Watched(Case):
             self.path("in/a.ts")
         self.write("out/a.json", json.dumps(result(
             request=REQUEST.made(asked), files_at_start=found(asked),
-            program=about_program(self.bench.program)._asdict())).encode())
+            program=schema.PROGRAM.made(about_program(self.bench.program)))).encode())
         before = os.stat(path).st_mtime_ns
 
         def change(look: int) -> None:

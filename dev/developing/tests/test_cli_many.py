@@ -26,7 +26,7 @@ from subtitles.request.commands import CommandWords
 from subtitles.request.lines import Item, at_line, inputs_of, no_file, pairs_at
 from subtitles.request.request import Request
 from subtitles.results.files import Row, found, object_at, put_object, unjudged
-from subtitles.results.schema import REQUEST
+from subtitles.results.schema import PROGRAM, REQUEST
 from .bench import Case, SECONDS
 from .programmes import until
 from .parts import asked_for, call_words, defaults, qc
@@ -68,7 +68,7 @@ class Lists(Case):
                 f"{self.path('folder')} is a folder",
                 f"{self.path('none.stl')}: No such file or directory",
                 f"{self.path('pipe')} is a pipe",
-                f"{self.path('list')}, line 11: - is no recording", "/dev/null is a device",
+                f"{self.path('list')}, line 11: a list can't have -", "/dev/null is a device",
                 f"{self.path('socket')} is a socket", "caf\udce9.stl: No such file")):
             self.must(words, reason.startswith(words), reason)
         self.must("reasons", len(reasons) == 9, reasons)
@@ -470,14 +470,14 @@ class Judged(Case):
         items.append(Item("five", None, "no pair"))
         program = about_program(self.typed.program_path)
         mores: list[dict[str, Any]] = [
-            {}, {}, {"program": {**program._asdict(), "sha256": "1" * 64}}, {}, {"format": 2},
+            {}, {}, {"program": {**PROGRAM.made(program), "sha256": "1" * 64}}, {}, {"format": 2},
             {"files_at_start": None}, {"request": None}]
         verdicts = ("refused", "not judged", "accepted", "waived", *["accepted"] * 3)
         for item, verdict, more in zip(items, verdicts, mores):
             assert item.asked
             have = {**result(verdict), "request": REQUEST.made(item.asked),
                     "files_at_start": found(item.asked),
-                    "program": program._asdict(), **more}
+                    "program": PROGRAM.made(program), **more}
             self.write(f"out/{item.name}.json", json.dumps(have).encode())
         self.write("out/five.json", json.dumps(result()).encode())
         for text in (b"", b"{", b"[]"):

@@ -16,7 +16,7 @@ from subtitles.common.times import CLOCK, TICKS
 from subtitles.request.lines import pairs_at
 from subtitles.request.request import request_of
 from subtitles.results.files import found, is_current
-from subtitles.results.schema import REQUEST
+from subtitles.results.schema import PROGRAM, REQUEST
 from subtitles.stream.gaps import (
     ClockJump, MOST_LATE, Place, SECOND, jumps_of, late_of, marks_told, overlap, places_of,
     reach_of, what_of)
@@ -257,7 +257,8 @@ class Words(Case):
                  for words in ((), ("--pace", "none"), ("--pace", "16"))]
         for one in asked:
             words = REQUEST.made(one)
-            known = {"request": words, "files_at_start": found(one), "program": program._asdict()}
+            known = {"request": words, "files_at_start": found(one),
+                     "program": PROGRAM.made(program)}
             self.must(f"{one.pace}", [is_current(known, other, program) for other in asked] ==
                       [other == one for other in asked])
             del words["pace"]
