@@ -21,7 +21,7 @@ from typing import Any, Callable, Iterator, NamedTuple, Sequence
 from unittest import mock
 
 from subtitles.cli.main import main
-from subtitles.cli.single import claimed
+from subtitles.cli.single import claim_pair
 from subtitles.common.command_line import run
 from subtitles.judging import faults, subtitles
 from subtitles.report import page as report
@@ -149,7 +149,7 @@ def said_of_name(name: str, program: str) -> Said:
             with open(file, "w", encoding="ascii") as one:
                 one.write(text)
         if name == "claimed":
-            stack.enter_context(claimed("out", "b"))
+            stack.enter_context(claim_pair("out", "b"))
         said = called(NAMED[name].split(), program)
     return said
 

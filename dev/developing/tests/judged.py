@@ -8,10 +8,10 @@ import shlex
 import tempfile
 from typing import Any, Iterable, NamedTuple, Sequence
 
-from subtitles.cli.main import parser_of
+from subtitles.cli.main import make_parser
 from subtitles.cli.measure import Unprinted
 from subtitles.cli.single import (
-    Files, PairCall, claimed, end_pair, judge_pair, stamps_of, verdict_of)
+    OutputFiles, PairOptions, claim_pair, judge_pair, new_verdict, report_pair, stamp_inputs)
 from subtitles.common.program import MadeWith
 from subtitles.judging.pair import Pair
 from subtitles.judging.status import decide
@@ -83,20 +83,20 @@ def judged(case: Case, *words: str, by: str | None = None, heard: Heard | None =
 def judged_by(program: str, *words: str, heard: Heard | None = None) -> Judged:
     """A pair judged by the words of a command line, by a program."""
     heard = heard or Heard()
-    known = read_options(parser_of(""), ["-p", program, *words], {}, {})
+    known = read_options(make_parser(""), ["-p", program, *words], {}, {})
     asked, typed = request_of(known), CommandWords("tools/qc", program)
     listener = Listener(heard)
-    stamps = stamps_of(asked)
-    verdict = verdict_of(asked, listener)
-    with tempfile.TemporaryDirectory() as folder, claimed(known.out, "one"):
+    stamps = stamp_inputs(asked)
+    verdict = new_verdict(asked, listener)
+    with tempfile.TemporaryDirectory() as folder, claim_pair(known.out, "one"):
         names = Names("one", folder, known.out)
         names.give(asked.stl)
-        files = Files(PairCall(program, known.out, known.is_kept, known.json, known.csv,
+        files = OutputFiles(PairOptions(program, known.out, known.is_kept, known.json, known.csv,
                                known.junit), verdict, typed, names, stamps)
         verdict.files = found(asked)
         pair = Pair(verdict, typed, names, listener, True)
         judge_pair(pair, files)
-        end_pair(verdict, heard, files)
+        report_pair(verdict, heard, files)
         result = json.loads("".join(object_of(verdict, MadeWith("1", "0" * 64, None))))
         listed = [line for part in verdict.parts for line in part.answer.lines()]
         # Of what comes through a pipe what is kept stands for the recording.

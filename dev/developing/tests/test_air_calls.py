@@ -15,7 +15,7 @@ from subtitles.air import check
 from subtitles.air.check import Checker, Outcome
 from subtitles.air.schedule import read_schedule
 from subtitles.air.segments import Unbroken, segment_name, segments_between, stretches_in
-from subtitles.cli.single import locking
+from subtitles.cli.single import hold_lock
 from .air import Air, DAY
 from .bench import SECONDS, tool_path
 from .muxed import in_frames
@@ -149,7 +149,7 @@ class Calls(Feeds):
         date = datetime.datetime.fromtimestamp(begin, datetime.timezone.utc)
         self.write_schedule(" ".join([f"{date:%Y-%m-%dT%H:%M:%SZ}", "one.stl", *options]))
 
-    def judge_call(self, *words: str) -> list[str]:
+    def judge_command(self, *words: str) -> list[str]:
         """Return a call of `judge`."""
         return [tool_path("air"), "judge", self.path("schedule"), self.path("segments"), "-o",
                 self.path("out"), "-p", self.bench.program, *words]
@@ -172,7 +172,7 @@ class Calls(Feeds):
             self.record(self.feed(is_wrong))
             self.put_on_air(begin - 120)
             self.spread(begin - 200, begin)
-            done = self.call(self.judge_call("--once", "--margin", "110"))
+            done = self.call(self.judge_command("--once", "--margin", "110"))
             self.check(f"{verdict}: the call", (done.status, done.told), (0, []))
             self.check(f"{verdict}: results", [*self.verdicts().values()], [verdict])
             endings = {os.path.splitext(name.lstrip("."))[1] for name in
@@ -213,7 +213,7 @@ class Calls(Feeds):
 
     def start_judge(self) -> subprocess.Popen[bytes]:
         """Start the judge."""
-        return self.start(subprocess.DEVNULL, *self.judge_call(
+        return self.start(subprocess.DEVNULL, *self.judge_command(
             "--margin", "120", "--pause", "60", "--every-seconds", "1")[1:])
 
     def test_wrong_words_are_one_line_and_status_2(self) -> None:
@@ -232,6 +232,6 @@ class Calls(Feeds):
         self.write("schedule", b"")
         for name, folder, line in (("recorder", "segments", "record segments"),
                                    ("air", "out", "judge schedule segments -o out")):
-            with locking(self.path(folder), name, ""):
+            with hold_lock(self.path(folder), name, ""):
                 done = self.tool("air", *line.split())
             self.must(name, done.status == 2 and done.told[0].startswith("air: another "), done)

@@ -14,8 +14,8 @@ from typing import Any, Callable, Iterator
 from unittest import mock
 
 from subtitles.cli import batch, collection
-from subtitles.cli.batch import Calls, Watch, refuse_folders
-from subtitles.cli.single import claimed
+from subtitles.cli.batch import FolderWatch, PairRunner, refuse_folders
+from subtitles.cli.single import claim_pair
 from subtitles.common.command_line import Lateness, Stop
 from subtitles.common.program import MadeWith, about_program
 from subtitles.judging.status import STATUSES
@@ -281,20 +281,20 @@ class Watched(Case):
         self.must("rows", list(results.rows) == ["old", "older"])
         out = io.StringIO()
         with contextlib.redirect_stdout(out):
-            results.take(row("b", "accepted", "accepted 5"))
-            results.take(row("a", "refused", "refused 72 X", "a hint"))
+            results.add(row("b", "accepted", "accepted 5"))
+            results.add(row("a", "refused", "refused 72 X", "a hint"))
         results.write_page(is_last=True)
         self.must("lines", [line[21:] for line in out.getvalue().splitlines()] ==
                   ["b  accepted", "a  refused: 72 X: a hint"], out.getvalue())
         page = self.read("out/index.html").decode()
         self.must("page", "4 pairs" in page and page.index("<td>a<") < page.index("<td>b<"))
         with contextlib.redirect_stdout(out):
-            results.take(row("b", "not judged", "why"))
+            results.add(row("b", "not judged", "why"))
         results.write_page(is_last=True)
         results.next_page = 0.0
         with contextlib.redirect_stdout(out), contextlib.redirect_stderr(io.StringIO()) as told, \
                 mock.patch.object(collection, "result_file", side_effect=OSError(28, "full")):
-            results.take(row("c", "accepted", "accepted 5"))  # it goes on where no page is written
+            results.add(row("c", "accepted", "accepted 5"))  # it goes on where no page is written
         self.must("told", "full" in told.getvalue() and "c  accepted" in out.getvalue())
         self.must("once more", "4 pairs: 2 accepted, 1 not judged, 1 refused" in self.read(
             "out/index.html").decode())
@@ -315,12 +315,12 @@ class Watched(Case):
                 pages.clear()
                 with mock.patch.object(time, "monotonic", return_value=now):
                     if what == "new":
-                        results.take(row("one", "accepted"))
+                        results.add(row("one", "accepted"))
                     else:
                         results.write_page(is_last=what == "last")
                 self.check(f"{now}: {what}", len(pages), count)
 
-    def looked(self, looks: int, judged: Callable[[Calls, Item], Row],
+    def looked(self, looks: int, judged: Callable[[PairRunner, Item], Row],
                change: Callable[[int], None] = lambda look: None) -> list[str]:
         """The lines of a call that watches, which looks so many times."""
         count = 0
@@ -328,12 +328,12 @@ class Watched(Case):
         def next_look(seconds: float) -> None:
             nonlocal count
             count += 1
-            self.assertEqual(seconds, batch.LOOK)
+            self.assertEqual(seconds, batch.SCAN_SECONDS)
             if count == looks:
                 raise KeyboardInterrupt
             change(count)
 
-        def judge(calls: Calls, waiting: collections.deque[Item], jobs: int) -> Iterator[Row]:
+        def judge(calls: PairRunner, waiting: collections.deque[Item], jobs: int) -> Iterator[Row]:
             self.must("its words", (calls.typed.program_path, calls.is_kept, calls.limit, jobs) ==
                       (self.path("program"), True, 7, 3) and calls.inputs.names and
                       waiting[0].asked.every == 99)  # type: ignore[union-attr]
@@ -341,7 +341,7 @@ class Watched(Case):
                 yield judged(calls, waiting.popleft())
 
         with mock.patch("signal.signal"), mock.patch("time.sleep", next_look), \
-                mock.patch.object(batch, "judged_next", judge), \
+                mock.patch.object(batch, "judge_next", judge), \
                 contextlib.redirect_stdout(io.StringIO()) as out:
             os.symlink(self.bench.program, self.path("program"))
             status = batch.watch(self.words(program=self.path("program")), "tools/qc")
@@ -378,13 +378,13 @@ class Watched(Case):
         self.write_pair()
         begun = list[str]()
 
-        def judged(calls: Calls, item: Item) -> Row:
+        def judged(calls: PairRunner, item: Item) -> Row:
             begun.append(item.name)
-            row_of = calls.begin(item)
+            row_of = calls.start(item)
             assert row_of
             return row_of
 
-        with claimed(self.path("out"), "a"):
+        with claim_pair(self.path("out"), "a"):
             lines = self.looked(5, judged)
         self.must("once", len(lines) == 1 and "another call is writing the files of a" in lines[0]
                   and not os.path.exists(self.path("out/a.json")), lines)
@@ -395,14 +395,14 @@ class Watched(Case):
         self.write_pair()
         begun = list[bool]()
 
-        def judged(calls: Calls, item: Item) -> Row:
-            row_of = calls.begin(item)
+        def judged(calls: PairRunner, item: Item) -> Row:
+            row_of = calls.start(item)
             begun.append(row_of is None)
             return row_of or row(item.name, "accepted")
 
         other = contextlib.ExitStack()
-        other.enter_context(claimed(self.path("out"), "a"))
-        with other, mock.patch.object(Calls, "begin_claimed", return_value=None):
+        other.enter_context(claim_pair(self.path("out"), "a"))
+        with other, mock.patch.object(PairRunner, "start_claimed", return_value=None):
             lines = self.looked(8, judged, lambda look: other.close() if look == 4 else None)
         self.must("judged once", begun == [False, False, False, True] and len(lines) == 2 and
                   lines[1] == "a  accepted", (begun, lines))
@@ -443,9 +443,9 @@ class Watched(Case):
     def test_what_is_no_pair(self) -> None:
         """It is told once, and again where its reason is another one."""
         os.mkdir(self.path("in"))
-        watch, told = Watch(self.path("in"), 0), io.StringIO()
+        watch, told = FolderWatch(self.path("in"), 0), io.StringIO()
         with contextlib.redirect_stderr(told):
             for reason in ("first", "first", "second", "second", "first", "first"):
-                self.must(reason, watch.due([Item("a", None, reason)]) == [])
+                self.must(reason, watch.ready_items([Item("a", None, reason)]) == [])
         lines = [line.partition(": ")[2] for line in told.getvalue().splitlines()]
         self.must("told", lines == ["first", "second", "first"], lines)

@@ -291,7 +291,7 @@ class Mistakes(Story):
         """An error in a step, before these, while words are read, and while a file is made."""
         for place in ("judging.pair.Pair.judge", "judging.pair.check_alone", "judging.timing.find",
                       "judging.pair.explained", "judging.part.Part.is_read",
-                      "judging.check.Answer.take", "cli.main.parser_of", "cli.single.request_of",
+                      "judging.check.Answer.take", "cli.main.make_parser", "cli.single.request_of",
                       "cli.single.CommandWords", "cli.single.found", "results.files.listed",
                       "cli.single.about_program"):
             with self.subTest(place):

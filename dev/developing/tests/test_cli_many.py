@@ -15,9 +15,10 @@ from typing import Any, Callable
 from unittest import mock
 
 from subtitles.cli import batch
-from subtitles.cli.batch import Calls, Forked, all_rows, ended_of, kept_rows, signals_held
+from subtitles.cli.batch import (
+    ForkedProcess, PairRunner, hold_signals, judge_all, resumed_rows, wait_for_any)
 from subtitles.cli.collection import progress_line
-from subtitles.cli.single import PairCall
+from subtitles.cli.single import PairOptions
 from subtitles.common import files
 from subtitles.common.command_line import Stop
 from subtitles.common.program import about_program
@@ -151,7 +152,7 @@ class Batches(Case):
             "limit": 7, "is_resumed": False, "line": None, "json": None, "csv": None,
             "junit": None, **more})
 
-        def all_rows(calls: Calls, items: list[Item], kept: dict[str, Row], jobs: int) \
+        def judge_all(calls: PairRunner, items: list[Item], kept: dict[str, Row], jobs: int) \
                 -> dict[str, Row]:
             self.seen = calls, [item.name for item in items], kept, jobs
             self.must("folders", os.path.isdir(words.out or calls.folder) and
@@ -159,15 +160,15 @@ class Batches(Case):
                       (self.path("program"), words.out, words.is_kept, 7))
             rows = {}
             for item, verdict in reversed(list(zip(items, judged.split(", ")))):
-                with open(calls.path(item), "w", encoding="ascii") as file:
+                with open(calls.result_path(item), "w", encoding="ascii") as file:
                     json.dump(result(verdict, **{
                         "reason" if verdict == "not judged" else "worst_fault": item.name}), file)
                 rows[item.name] = row(item.name, verdict, item.name)
-            calls.is_stopped, calls.unwritten = is_stopped, unwritten
+            calls.is_stopped, calls.unwritten_results = is_stopped, unwritten
             return rows
 
         out, told = io.StringIO(), io.StringIO()
-        with mock.patch.object(batch, "all_rows", all_rows), contextlib.redirect_stdout(out), \
+        with mock.patch.object(batch, "judge_all", judge_all), contextlib.redirect_stdout(out), \
                 contextlib.redirect_stderr(told):
             status = batch.judge_batch(words, "tools/qc")
         return status, out.getvalue().splitlines(), told.getvalue().splitlines()
@@ -208,7 +209,7 @@ class Batches(Case):
     def test_goes_on(self) -> None:
         """With what is there of an earlier call, where that is asked; which needs a folder."""
         earlier = {"two": row("two", "lost")}
-        with mock.patch.object(batch, "kept_rows", lambda calls, items: earlier):
+        with mock.patch.object(batch, "resumed_rows", lambda calls, items: earlier):
             for is_resumed, kept in ((False, []), (True, ["two"])):
                 self.batch("accepted, accepted, accepted", out=self.path("out"),
                            is_resumed=is_resumed, is_kept=True)
@@ -258,7 +259,7 @@ class Judged(Case):
             self.write(verdict, json.dumps(result(verdict, notes=["WORDS"])).encode())
         self.typed = CommandWords("tools/qc", self.bench.program)
 
-        def execute(asked: Request, call: PairCall) -> int:
+        def execute(asked: Request, call: PairOptions) -> int:
             kept = ["-o", call.out] if call.out else ["--json", call.json or ""]
             words = [f"--name={call.name}", *["--claimed"] * call.is_claimed, *kept,
                      *["--keep"] * call.is_kept, "-p", call.program or "", *call_words(asked)]
@@ -268,30 +269,31 @@ class Judged(Case):
             signal.signal(signal.SIGTERM, signal.SIG_DFL)  # one that came before is heeded here
             os.execv(path, [path, *words])
 
-        asking = mock.patch.object(batch, "judge_alone", execute)
+        asking = mock.patch.object(batch, "judge_forked_pair", execute)
         asking.start()
         self.addCleanup(asking.stop)
         os.mkdir(self.path("temporary"))
         os.mkdir(self.path("out"))
         self.write("one.ts", b"1")
-        self.calls = Calls(self.typed, self.path("temporary"), self.path("out"), False)
+        self.calls = PairRunner(self.typed, self.path("temporary"), self.path("out"), False)
 
     def item(self, kind: str, name: str = "one", *words: str) -> Item:
         """A pair whose call ends so."""
         stl = self.write(f"{name}.stl", kind.encode())
         return Item(name, asked_for(stl, self.path("one.ts"), *words), None)
 
-    def judged(self, calls: Calls, item: Item) -> Row:
+    def judged(self, calls: PairRunner, item: Item) -> Row:
         """The row of a pair that is judged alone."""
-        return calls.begin(item) or next(calls.rows(SECONDS))
+        return calls.start(item) or next(calls.finished_rows(SECONDS))
 
     def test_gives_each_call_its_files_and_options(self) -> None:
         """Of the call for a pair: where its object goes, and what is asked."""
         for out, is_kept in ((None, False), (self.path("out"), False), (self.path("out"), True)):
-            calls = Calls(self.typed, self.path("temporary"), out, is_kept)
+            calls = PairRunner(self.typed, self.path("temporary"), out, is_kept)
             item = self.item("refused", "one", "--every", "50")._replace(name="pair")
             path = os.path.join(out or self.path("temporary"), "pair.json")
-            self.must("row", self.judged(calls, item).name == "pair" and calls.path(item) == path)
+            self.must("row", (self.judged(calls, item).name, calls.result_path(item)) == (
+                "pair", path))
             have = object_at(path)
             kept = f"-o {out}{' --keep' * is_kept}" if out else f"--json {path}"
             [called] = have["notes"] if have else [""]
@@ -313,7 +315,7 @@ class Judged(Case):
             found_row = self.judged(self.calls, item)
             self.must(kind, (found_row.name, found_row.verdict, found_row.line) == (
                 "one", verdict, line), found_row)
-            have = object_at(self.calls.path(item))
+            have = object_at(self.calls.result_path(item))
             self.must("its object", have is not None and have["verdict"] == verdict, have)
         none = self.judged(self.calls, Item("two", None, "no pair"))
         self.must("no pair", (none.name, none.verdict, none.line) == (
@@ -323,27 +325,27 @@ class Judged(Case):
             gone = self.judged(self.calls, self.item("accepted"))
         self.must("no call", gone.line == "no process was begun: Try again", gone)
         for name in ("one", "two"):
-            self.calls.begin(self.item("waits", name))
+            self.calls.start(self.item("waits", name))
         self.calls.stop()
         self.must("all are ended", not self.calls.running)
-        self.calls.leave(Item("three", None, "x"), "stopped")
+        self.calls.record_unjudged(Item("three", None, "x"), "stopped")
         self.must("nothing is written then", not os.path.exists(self.path("out/three.json")))
-        nowhere = Calls(self.typed, self.path("temporary"), self.path("none"), False)
-        row = nowhere.leave(Item("four", None, "x"), "why")
+        nowhere = PairRunner(self.typed, self.path("temporary"), self.path("none"), False)
+        row = nowhere.record_unjudged(Item("four", None, "x"), "why")
         self.must("it has no place", row.verdict == "not judged" and row.line.startswith("why; ")
-                  and nowhere.unwritten["four"]["reason"] == row.line, row)
+                  and nowhere.unwritten_results["four"]["reason"] == row.line, row)
 
     def test_does_not_judge_a_pair_that_takes_too_long(self) -> None:
         """A pair that takes more of the processor than it may is not judged, nor one of which what
         it calls does so and hears no signal; the one beside it is."""
-        for kind, most in (("busy", batch.TO_WRITE), ("deaf", 0)):
-            calls = Calls(self.typed, self.path("temporary"), self.path("out"), False, 1)
-            with mock.patch.object(batch, "TO_WRITE", most):
-                rows = all_rows(calls, [self.item(kind, "long"), self.item("accepted")], {}, 2)
+        for kind, most in (("busy", batch.GRACE_SECONDS), ("deaf", 0)):
+            calls = PairRunner(self.typed, self.path("temporary"), self.path("out"), False, 1)
+            with mock.patch.object(batch, "GRACE_SECONDS", most):
+                rows = judge_all(calls, [self.item(kind, "long"), self.item("accepted")], {}, 2)
             self.must(kind, (rows["long"].verdict, rows["long"].line) == (
                 "not judged", "it took more than 1 second of the processor: --limit gives more")
-                and rows["one"].verdict == "accepted" and not calls.over, rows)
-            have = object_at(calls.path(self.item(kind, "long")))
+                and rows["one"].verdict == "accepted" and not calls.over_limit, rows)
+            have = object_at(calls.result_path(self.item(kind, "long")))
             self.must("its object", have is not None and have["reason"] == rows["long"].line, have)
         self.must("all is gone", until(
             lambda: not os.path.exists(f"/proc/{int(self.read('its'))}/fd/0")))
@@ -354,8 +356,8 @@ class Judged(Case):
                               ((0, 4_000_000_000), 460)):
             found_files = {name: None if size is None else {"size": size, "modified": ""}
                            for name, size in zip(("stl", "recording"), sizes)}
-            self.must(f"{sizes}", batch.limit_of(found_files) == wanted)
-        self.must("none of a process that is gone", batch.seconds_of("0") == 0.0)
+            self.must(f"{sizes}", batch.default_limit(found_files) == wanted)
+        self.must("none of a process that is gone", batch.cpu_seconds_of("0") == 0.0)
 
     def test_one_that_dies(self) -> None:
         """It costs its own pair alone, however it ends, behind its result too; what it told last is
@@ -370,12 +372,12 @@ class Judged(Case):
                     put_object(self.path("out/dies.json"), result("accepted"))
                 return end()
 
-            with mock.patch.object(batch, "judge_alone", judge):
-                self.calls.begin(self.item("accepted", "dies"))
-            self.calls.begin(self.item("accepted", "other"))
+            with mock.patch.object(batch, "judge_forked_pair", judge):
+                self.calls.start(self.item("accepted", "dies"))
+            self.calls.start(self.item("accepted", "other"))
             rows: dict[str, Row] = {}
             while self.calls.running:
-                rows.update((one.name, one) for one in self.calls.rows(SECONDS))
+                rows.update((one.name, one) for one in self.calls.finished_rows(SECONDS))
             reason = "--none" if name == "no words" else "the process "
             self.must(f"{name} {is_written}", [rows[one].verdict for one in ("dies", "other")] == [
                 "not judged", "accepted"] and reason in rows["dies"].line, rows)
@@ -399,9 +401,9 @@ class Judged(Case):
 
         for one, taken in ((signal.SIGTERM, signal.SIG_DFL), (signal.SIGHUP, signal.SIG_IGN)):
             self.addCleanup(signal.signal, one, signal.signal(one, taken))
-        with signals_held():
-            call = Forked(look)
-        ended = call.end()
+        with hold_signals():
+            call = ForkedProcess(look)
+        ended = call.wait()
         self.must("all", ended == (7, [str([True] * 5)]), ended)
 
     def test_judges_each_pair_once_with_its_own_options(self) -> None:
@@ -409,20 +411,20 @@ class Judged(Case):
         items = [self.item(kind, f"name{at}", *(["--strict"] if at == 1 else []))
                  for at, kind in enumerate(("accepted", "refused", "accepted", "not judged"))]
         kept = {"name2": row("name2", "waived", "kept")}
-        rows = all_rows(self.calls, items, kept, 2)
+        rows = judge_all(self.calls, items, kept, 2)
         self.must("verdicts", {name: one.verdict for name, one in rows.items()} == {
             "name0": "accepted", "name1": "refused", "name2": "waived", "name3": "not judged"}
             and len(kept) == 1, rows)
-        self.must("strict", ["--strict" in (object_at(self.calls.path(one)) or {})["notes"][0]
-                             for one in items[:2]] == [False, True])
-        self.must("not called", not os.path.exists(self.calls.path(items[2])))
+        notes = [(object_at(self.calls.result_path(item)) or {})["notes"][0] for item in items[:2]]
+        self.must("strict", ["--strict" in note for note in notes] == [False, True])
+        self.must("not called", not os.path.exists(self.calls.result_path(items[2])))
 
     def test_keeps_what_was_judged_before_a_signal(self) -> None:
         """A signal ends the calls that run, and no other is begun: what was judged is kept. What
         else ends them is told."""
         kinds = ("accepted", "waits", "waits", "waits")
         for reason in (KeyboardInterrupt(), ValueError("odd")):
-            calls = Calls(self.typed, self.path("temporary"), self.path("out"), False)
+            calls = PairRunner(self.typed, self.path("temporary"), self.path("out"), False)
             items = [self.item(kind, f"name{at}") for at, kind in enumerate(kinds)]
             lines: list[str] = []
 
@@ -435,10 +437,10 @@ class Judged(Case):
             with mock.patch("subtitles.request.commands.Progress.show", show), \
                     mock.patch.object(batch, "ignore_signals") as ignored:
                 if isinstance(reason, KeyboardInterrupt):
-                    rows = all_rows(calls, items, {}, 2)
+                    rows = judge_all(calls, items, {}, 2)
                     self.must("rows", list(rows) == ["name0"], rows)
                 else:
-                    self.assertRaises(ValueError, all_rows, calls, items, {}, 2)
+                    self.assertRaises(ValueError, judge_all, calls, items, {}, 2)
             self.must("ended", calls.is_stopped and not calls.running and lines and
                       ignored.called == isinstance(reason, KeyboardInterrupt))
             self.must("objects", os.listdir(self.path("out")) == ["name0.json"])
@@ -449,8 +451,8 @@ class Judged(Case):
 
         def are_over() -> bool:
             running = self.calls.running  # none, where all ended before the first look
-            return all(os.path.exists(self.calls.path(item)) for item in items) and (
-                not running or len(ended_of(running, SECONDS)) == len(running))
+            return all(os.path.exists(self.calls.result_path(item)) for item in items) and (
+                not running or len(wait_for_any(running, SECONDS)) == len(running))
 
         def stopped(*_: object) -> None:
             until(are_over)
@@ -458,7 +460,7 @@ class Judged(Case):
 
         with mock.patch("subtitles.request.commands.Progress.show", stopped), \
                 mock.patch.object(batch, "ignore_signals"):
-            rows = all_rows(self.calls, items, {}, 3, taken.append)
+            rows = judge_all(self.calls, items, {}, 3, taken.append)
         self.must("all", sorted(rows) == sorted(one.name for one in taken) == [
             "name0", "name1", "name2"], rows)
 
@@ -482,7 +484,7 @@ class Judged(Case):
         self.write("out/five.json", json.dumps(result()).encode())
         for text in (b"", b"{", b"[]"):
             self.write("out/eight.json", text)
-            rows = kept_rows(self.calls, items)
+            rows = resumed_rows(self.calls, items)
             self.must("kept", {name: one.verdict for name, one in rows.items()} ==
                       {"one": "refused", "four": "waived"}, rows)
 

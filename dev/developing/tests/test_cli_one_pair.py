@@ -14,8 +14,8 @@ from unittest import mock
 
 from subtitles.cli import batch, collection, single
 from subtitles.cli.single import (
-    Files, InUse, KEPT_SECONDS, Output, PairCall, claimed, clear, end_pair, judge_pair, now,
-    pair_title, refuse_outputs, say_verdict)
+    FilesInUse, KEPT_SECONDS, Output, OutputFiles, PairOptions, claim_pair, judge_pair, now,
+    pair_title, print_verdict, refuse_outputs, remove_results, report_pair)
 from subtitles.clock.start import Clock, FITTED, FITTED_LATER, Found, GIVEN, RECORDING
 from subtitles.common.command_line import Stop, Unanswered
 from subtitles.common.markup import HEAD
@@ -57,7 +57,7 @@ class Ends(Case):
 
     def said(self, verdict: Verdict) -> list[str]:
         heard = Heard()
-        say_verdict(verdict, heard)
+        print_verdict(verdict, heard)
         return heard.lines
 
     def test_prints_the_sentence_and_then_the_accepted_line(self) -> None:
@@ -125,7 +125,7 @@ class Ends(Case):
                 (parts, None, ". See refusals.md#n72."), (accepted, "a.html", "."),
                 (parts, "out/one.html", ". See out/one.html."), (accepted, None, ".")):
             heard = Heard()
-            say_verdict(self.verdict(some), heard, page)
+            print_verdict(self.verdict(some), heard, page)
             self.must(f"{page}: where to look", heard.lines[-2] ==
                       self.verdict(some).sentence.removesuffix(".") + where, heard.lines)
 
@@ -151,7 +151,7 @@ class Ends(Case):
         for last, wanted in rows:
             heard = Heard()
             heard.last = last
-            say_verdict(self.verdict([], unjudged=Unjudged("why")), heard)
+            print_verdict(self.verdict([], unjudged=Unjudged("why")), heard)
             self.must(last, heard.lines == [*wanted, "! why"], heard.lines)
 
 
@@ -163,10 +163,10 @@ class Writes(Case):
         os.mkdir(self.path("out"))
         self.write("one.pes", b"")
 
-    def files(self, verdict: Verdict, **words: Any) -> Files:
-        known = PairCall(None, **words)
+    def files(self, verdict: Verdict, **words: Any) -> OutputFiles:
+        known = PairOptions(None, **words)
         names = Names("one", self.folder, known.out)
-        return Files(known, verdict, CommandWords("tools/qc", self.bench.program), names)
+        return OutputFiles(known, verdict, CommandWords("tools/qc", self.bench.program), names)
 
     def part(self, number: int = 1, lines: Sequence[str] = REFUSED) -> Part:
         """A part that is refused, with its list."""
@@ -186,7 +186,7 @@ class Writes(Case):
 
     def refused(self, asked: Request, **words: Any) -> str:
         """Why the outputs of a call for a pair are refused."""
-        known = PairCall(None, **words)
+        known = PairOptions(None, **words)
         return refused(lambda: refuse_outputs(known, asked, words.get("out"), "one"))
 
     def test_removes_earlier_results_and_never_writes_an_input(self) -> None:
@@ -195,7 +195,7 @@ class Writes(Case):
         for name in ("one.json", "one.html", "one.txt", "one.1.html", "one.12.txt", *others):
             self.write(f"out/{name}", b"")
         os.symlink("nowhere", self.path("out/one.3.txt"))
-        clear(self.path("out"), "one")
+        remove_results(self.path("out"), "one")
         self.must("left", {*os.listdir(self.path("out"))} == others)
         os.symlink(example("story.stl"), self.path("link"))
         asked = self.verdict().request
@@ -264,16 +264,16 @@ class Writes(Case):
         for does, count in rows:
             os.symlink(kept, path)
             before = os.listdir("/proc/self/fd")
-            with mock.patch("fcntl.flock", side_effect=does) as locked, \
-                    claimed(self.path("out"), "one"):
-                self.must(f"{does}", locked.call_count == count and os.path.isfile(path) and
+            with mock.patch("fcntl.flock", side_effect=does) as open_locked, \
+                    claim_pair(self.path("out"), "one"):
+                self.must(f"{does}", open_locked.call_count == count and os.path.isfile(path) and
                           not os.path.islink(path), calls)
             self.must("left", (os.listdir("/proc/self/fd"), os.listdir(self.path("out")),
                                self.read("kept")) == (before, [], b"1"))
-        with claimed(self.path("out"), "one"):
+        with claim_pair(self.path("out"), "one"):
             before = os.listdir("/proc/self/fd")
             for _ in range(2):
-                self.assertRaises(InUse, claimed(self.path("out"), "one").__enter__)
+                self.assertRaises(FilesInUse, claim_pair(self.path("out"), "one").__enter__)
             self.must("in use", os.listdir("/proc/self/fd") == before and os.path.exists(path))
 
     def test_sums_up_the_inputs_only_where_a_file_has_the_sums(self) -> None:
@@ -282,7 +282,7 @@ class Writes(Case):
             ({}, False), ({"json": "x"}, True), ({"csv": "x"}, True), ({"junit": "x"}, False),
             ({"out": self.path("out")}, True)]
         for words, wanted in rows:
-            self.must(f"{words}", self.files(self.verdict(), **words).are_any() == wanted)
+            self.must(f"{words}", self.files(self.verdict(), **words).needs_sums() == wanted)
 
     def test_writes_each_file_that_was_requested(self) -> None:
         """The object, the lines and the testcase; with a folder the page."""
@@ -335,12 +335,12 @@ class Writes(Case):
         def fail() -> Any:
             raise ValueError("wrong")
 
-        for is_object, is_raw in ((True, False), (False, False), (False, True)):
+        for is_json, is_raw in ((True, False), (False, False), (False, True)):
             files = self.files(self.verdict())
-            path = self.path(f"{is_object}.json")
+            path = self.path(f"{is_json}.json")
             self.must("failed", not files.try_to_put(
-                Output(path, fail, is_object=is_object, is_raw=is_raw)))
-            self.must(f"{is_object} {is_raw}", os.path.exists(path) == is_object and
+                Output(path, fail, is_json=is_json, is_raw=is_raw)))
+            self.must(f"{is_json} {is_raw}", os.path.exists(path) == is_json and
                       "wrong" in files.verdict.failed[0], files.verdict.failed)
         self.must("why", "wrong" in json.loads(self.read("True.json"))["reason"])
 
@@ -365,7 +365,7 @@ class Writes(Case):
             with contextlib.redirect_stderr(io.StringIO()), mock.patch.object(
                     single, "ignore_signals"), mock.patch.object(single, "silence"), \
                     mock.patch.object(heard, "say", side_effect=[reason, *[None] * 9]):
-                end_pair(verdict, heard, files)
+                report_pair(verdict, heard, files)
             self.must(f"{reason!r}", json.loads(self.read("one.json"))["status"] == 2 and
                       verdict.status == 2, verdict.failed)
         pair = mock.Mock(verdict=self.verdict())
@@ -395,9 +395,9 @@ class Writes(Case):
         """The process of a pair that ends by a mistake of these tools leaves an object that says
         so."""
         asked = asked_for(example("hello.stl"), example("hello.pes"))
-        with mock.patch.object(batch, "judged", side_effect=ZeroDivisionError("one")), \
+        with mock.patch.object(batch, "judge_and_report", side_effect=ZeroDivisionError("one")), \
                 contextlib.redirect_stderr(io.StringIO()):
-            status = batch.judge_alone(asked, PairCall(
+            status = batch.judge_forked_pair(asked, PairOptions(
                 self.bench.program, json=self.path("one.json"), name="one"))
         known = json.loads(self.read("one.json"))
         self.must("not judged", status == 2 and known["verdict"] == "not judged" and
@@ -436,12 +436,12 @@ class Overview(Case):
         box = in_page(report_page.verdict_box(verdict))
         self.must("box", box.startswith('<div class="verdict refused">') and verdict.sentence in
                   box and box.count("3 TS packets lost") == 1 and "strange" in box, box)
-        scope = in_page(report_page.scope(verdict))
+        scope = in_page(report_page.scope_section(verdict))
         self.must("scope", "00:00:00:00 to 00:00:05:24, " in scope, scope)
         verdict.request = asked_for("piped.stl", "one.pes")  # what came through a pipe is kept
         verdict.request.kept_stl = example("story.stl")
         self.must("a pipe", "Programme" in scope and "piped.stl" in
-                  in_page(report_page.scope(verdict)), scope)
+                  in_page(report_page.scope_section(verdict)), scope)
 
     def test_page_of_several(self) -> None:
         """All parts follow one another, each with anchors of its own, and links lead to them."""
@@ -482,14 +482,14 @@ class Overview(Case):
                 one("c", "waived", 0, "waived: x", 1, 1),
                 one("d<", "refused", 1, "refused 72", 9, 7, "a hint"),
                 one("e", "lost", 1, "not accepted")]
-        self.must("order", [row.name for row in sorted(rows, key=collection.rank)] ==
+        self.must("order", [row.name for row in sorted(rows, key=collection.sort_key)] ==
                   ["d<", "e", "b", "c", "a"])
         for name in ("a.html", "a.json", "b.json", "b.txt"):
             self.write(name, b"")
         page = collection.index_page(self.folder, rows, "now").decode()
         self.must("counts", page.count("5 pairs: 1 accepted, 1 lost, 1 not judged, 1 refused, "
                                        "1 waived") == 2, page[:900])
-        lines = {row.name: collection.pair_line(self.folder, row).source for row in rows}
+        lines = {row.name: collection.pair_row(self.folder, row).source for row in rows}
         self.must("links", [lines[name].count("<a ") for name in "abc"] == [2, 2, 0] and
                   ">list</a>" in lines["b"] and 'href="./a.html">a</a>' in lines["a"], lines)
         self.must("why", "why" in lines["b"] and "refused 72" in lines["d<"], lines)
@@ -497,6 +497,6 @@ class Overview(Case):
                   "&hellip;" not in lines["c"] and "9 faults</b><br/>" in lines["d<"] and
                   "1 fault</b><br/>" in lines["c"] and "faults" not in lines["e"] and
                   "fault" not in lines["b"], lines)
-        six = collection.pair_line(self.folder, one("f", "refused", 1, "refused 72", 9, 6)).source
+        six = collection.pair_row(self.folder, one("f", "refused", 1, "refused 72", 9, 6)).source
         self.must("all causes", six.count("&times;") == 6 and "&hellip;" not in six, six)
         self.must("name", "d&lt;" in lines["d<"] and 'class="not-judged"' in lines["b"])

@@ -8,7 +8,7 @@ import signal
 import subprocess
 from unittest import mock
 
-from subtitles.cli.single import claimed_for_batch
+from subtitles.cli.single import claim_folder
 from subtitles.common.command_line import counted
 from subtitles.common.program import TOP
 from subtitles.formats.stl import MOST_STL
@@ -91,7 +91,7 @@ class Batches(Case):
     def test_two_batches(self) -> None:
         """Into one folder no other one judges meanwhile."""
         self.write("list", f"{STORY} {RECORDING}\n".encode())
-        with claimed_for_batch(self.path("out")):
+        with claim_folder(self.path("out")):
             self.must("refused", qc(self, "--batch", "list", "-o", "out") == Done(2, b"", [
                 "qc: another batch is judging into out"]))
 

@@ -16,9 +16,10 @@ from typing import Any, ContextManager
 from unittest import mock
 
 from subtitles.cli import batch, collection, single
-from subtitles.cli.batch import Calls, LEAST_SECONDS, judged_next
+from subtitles.cli.batch import LEAST_SECONDS, PairRunner, judge_next
 from subtitles.cli.single import (
-    Files, Output, PairCall, SIGNALS, claimed, claimed_for_batch, heed_signals, ignore_signals)
+    Output, OutputFiles, PairOptions, SIGNALS, claim_folder, claim_pair, handle_signals,
+    ignore_signals)
 from subtitles.common.command_line import Stop, ended
 from subtitles.common.files import Inputs
 from subtitles.request.commands import CommandWords, Names, Speech
@@ -42,8 +43,8 @@ class NotBegun(Case):
         for name in ("one.stl", "one.ts"):
             self.write(name, b"1")
 
-    def calls(self) -> Calls:
-        return Calls(CommandWords("tools/qc", self.bench.program), self.path("temporary"),
+    def calls(self) -> PairRunner:
+        return PairRunner(CommandWords("tools/qc", self.bench.program), self.path("temporary"),
                      self.path("out"), False)
 
     def test_files_for_machines(self) -> None:
@@ -63,7 +64,7 @@ class NotBegun(Case):
             if name in ("an input", "no result"):
                 self.write("out/one.html", b"67 warning\n")
             self.write("list", f"one.stl {recording or 'one.ts'} {words}\n".encode())
-            held: ContextManager[object] = claimed("out", "one") if name == "in use" else \
+            held: ContextManager[object] = claim_pair("out", "one") if name == "in use" else \
                 contextlib.nullcontext()
             with held, contextlib.redirect_stdout(io.StringIO()) as out, \
                     contextlib.redirect_stderr(io.StringIO()):
@@ -85,23 +86,24 @@ class NotBegun(Case):
         item, calls = Item("one", asked_for(self.path("one.stl"), self.path("one.ts")), None), \
             self.calls()
         for does in (signal.pause, time.tzset):  # one that waits to be stopped, one that ends
-            with mock.patch.object(batch, "judge_alone", lambda *_: does() or 2):
-                self.must("begun", calls.begin(item) is None)
+            with mock.patch.object(batch, "judge_forked_pair", lambda *_: does() or 2):
+                self.must("begun", calls.start(item) is None)
             other = self.calls()
-            row = other.begin(item)
+            row = other.start(item)
             self.must("another call", row and not row.is_judged and other.in_use == {"one"} and
-                      "another call" in other.unwritten["one"]["reason"] and not other.running, row)
+                      "another call" in other.unwritten_results["one"]["reason"]
+                      and not other.running, row)
             if does == signal.pause:
                 calls.stop()
             else:
-                self.must("its row", len([*calls.rows(SECONDS)]) == 1)
-            with claimed(self.path("out"), "one"):
+                self.must("its row", len([*calls.finished_rows(SECONDS)]) == 1)
+            with claim_pair(self.path("out"), "one"):
                 self.must("free again", not calls.running)
             self.must("no lock is left", ".one.lock" not in os.listdir(self.path("out")))
-        with claimed(self.path("out"), "one"):
-            self.must("in use", calls.begin(item) and calls.in_use == {"one"})
+        with claim_pair(self.path("out"), "one"):
+            self.must("in use", calls.start(item) and calls.in_use == {"one"})
         self.write("out/one.html", b"theirs")
-        row = calls.begin(item)
+        row = calls.start(item)
         self.must("no result", row and "is no result" in row.line and not calls.in_use, row)
 
     def test_at_a_time(self) -> None:
@@ -109,9 +111,9 @@ class NotBegun(Case):
         for jobs, count in itertools.product((1, 2, 3), range(4)):
             calls, waiting = self.calls(), deque(Item(f"{at}", None, None) for at in range(count))
             running: Any = calls.running
-            with mock.patch.object(calls, "begin", lambda item: running.update({item: item})), \
-                    mock.patch.object(calls, "rows", return_value=[]):
-                left = [*judged_next(calls, waiting, jobs)]
+            with mock.patch.object(calls, "start", lambda item: running.update({item: item})), \
+                    mock.patch.object(calls, "finished_rows", return_value=[]):
+                left = [*judge_next(calls, waiting, jobs)]
             self.must(f"{jobs} of {count}", (len(running), len(waiting), left) == (
                 min(jobs, count), max(count - jobs, 0), []))
 
@@ -121,8 +123,8 @@ class NotBegun(Case):
         for limit, wanted in ((None, LEAST_SECONDS), (5, 5)):
             calls = self.calls()
             calls.limit = limit
-            with mock.patch.object(batch, "Forked"):
-                calls.begin(Item("one", asked, None))
+            with mock.patch.object(batch, "ForkedProcess"):
+                calls.start(Item("one", asked, None))
             [begun] = calls.running.values()
             begun.claim.close()
             self.check(f"{limit}", begun.limit, wanted)
@@ -134,9 +136,9 @@ class NotBegun(Case):
             self.write(f"out/{name}", b"theirs")
         with mock.patch("os.listdir", side_effect=os.listdir) as listed:
             calls = self.calls()
-            rows = [calls.begin(Item(f"{at}", None, "no pair")) for at in range(20)]
+            rows = [calls.start(Item(f"{at}", None, "no pair")) for at in range(20)]
             self.write("out/three.1.html", b"theirs")
-            rows += [calls.begin(Item(name, None, "no pair")) for name in ("one", "two", "three")]
+            rows += [calls.start(Item(name, None, "no pair")) for name in ("one", "two", "three")]
         self.check("listings", [call.args for call in listed.call_args_list],
                    [(self.path("out"),)])
         self.check("reasons", [row and row.line.replace(self.path(""), "") for row in rows],
@@ -148,21 +150,22 @@ class NotBegun(Case):
     def test_claimed_files(self) -> None:
         """The process of a pair does not list the folder again, whose files are its caller's."""
         asked = asked_for(example("hello.stl"), example("hello.pes"), "--origin", "0")
-        call = PairCall(self.bench.program, self.path("out"), name="one", is_claimed=True)
+        call = PairOptions(self.bench.program, self.path("out"), name="one", is_claimed=True)
         with mock.patch("subtitles.request.commands.PartFiles", side_effect=ZeroDivisionError), \
                 mock.patch.object(single, "ignore_signals"), \
                 contextlib.redirect_stdout(io.StringIO()), \
                 contextlib.redirect_stderr(io.StringIO()):
-            self.check("its verdict", single.judged(asked, call, "tools/qc").word, "accepted")
+            verdict = single.judge_and_report(asked, call, "tools/qc")
+            self.check("its verdict", verdict.word, "accepted")
 
     def test_pipe_that_comes_meanwhile(self) -> None:
         """It is not waited for, though a file had its name when the list was read."""
         os.mkfifo(self.path("pipe"))
         for pair in (("pipe", "one.ts"), ("one.stl", "pipe")):
             asked = asked_for(*map(self.path, pair))
-            with mock.patch.object(batch, "judged", return_value=mock.Mock(status=0)), \
+            with mock.patch.object(batch, "judge_and_report", return_value=mock.Mock(status=0)), \
                     contextlib.redirect_stderr(io.StringIO()) as told:
-                status = batch.judge_alone(asked, PairCall(None))
+                status = batch.judge_forked_pair(asked, PairOptions(None))
             self.check(f"{pair}", (status, f"{self.path('pipe')} is a pipe" in told.getvalue()),
                        (2, True))
 
@@ -175,24 +178,25 @@ class NotBegun(Case):
             ("refused", 0, False), *((verdict, -number, False) for verdict in (
                 "accepted", "refused") for number in (1, 2, 9))]
         for (verdict, status, counts), is_over in itertools.product(rows, (False, True)):
-            calls, call = self.calls(), mock.Mock(**{"end.return_value": (status, ["qc: why"])})
-            calls.running[call] = batch.Begun(Item("one", asked, None), 7, contextlib.ExitStack())
-            calls.over |= {call} if is_over else {mock.Mock()}
+            calls, call = self.calls(), mock.Mock(**{"wait.return_value": (status, ["qc: why"])})
+            calls.running[call] = batch.RunningPair(
+                Item("one", asked, None), 7, contextlib.ExitStack())
+            calls.over_limit |= {call} if is_over else {mock.Mock()}
             put_object(self.path("out/one.json"), result(verdict))
-            row = calls.end(call)
+            row = calls.finish(call)
             self.must(f"{verdict} {status} {is_over}", row.verdict == (
-                verdict if counts else "not judged") and call not in calls.over and (
+                verdict if counts else "not judged") and call not in calls.over_limit and (
                     "it took more than 7 seconds" in row.line) == (is_over and not counts) and
                 json.loads(self.read("out/one.json"))["verdict"] == row.verdict, row)
 
     def test_strange_words(self) -> None:
         """What a call told last is why, whatever its bytes are, and whatever others are."""
         calls = self.calls()
-        calls.over.add(mock.Mock())
-        with mock.patch.object(batch, "judge_alone", lambda *_: 2 * bool(os.write(
+        calls.over_limit.add(mock.Mock())
+        with mock.patch.object(batch, "judge_forked_pair", lambda *_: 2 * bool(os.write(
                 2, b"qc: first\nqc: caf\xe9: \x1b\n"))):
-            calls.begin(Item("one", asked_for(self.path("one.stl"), self.path("one.ts")), None))
-        [row] = calls.rows(SECONDS)
+            calls.start(Item("one", asked_for(self.path("one.stl"), self.path("one.ts")), None))
+        [row] = calls.finished_rows(SECONDS)
         self.must("its line", (row.verdict, row.line) == ("not judged", "caf\ufffd: \x1b"), row)
 
     def test_forked_call_reads_nothing_and_has_no_file_of_its_parent(self) -> None:
@@ -200,11 +204,11 @@ class NotBegun(Case):
         files = [os.open(self.path("one.ts"), os.O_RDONLY) for _ in range(3)]
         before = os.dup(0)
         os.dup2(files[0], 0)
-        call = batch.Forked(lambda: len(os.read(0, 9)) + 2 * any(os.path.exists(
+        call = batch.ForkedProcess(lambda: len(os.read(0, 9)) + 2 * any(os.path.exists(
             f"/proc/self/fd/{one}") and os.path.samefile(f"/proc/self/fd/{one}", files[0])
             for one in files))
         os.dup2(before, 0)
-        self.must("nothing to read", call.end() == (0, []))
+        self.must("nothing to read", call.wait() == (0, []))
         for one in (before, *files):
             os.close(one)
 
@@ -228,14 +232,14 @@ class NotBegun(Case):
             self.write(name, b"72 warning\n")
         self.write("list", b"one.stl one.ts\ntwo.stl two.ts --severity levels\n")
 
-        def judge(_: object, call: PairCall) -> int:
+        def judge(_: object, call: PairOptions) -> int:
             put_object(os.path.join(call.out or "", f"{call.name}.json"), result("accepted"))
             return 0
 
         self.addCleanup(os.chdir, os.getcwd())
         os.chdir(self.folder)
         words = ["--batch", "list", "--line", "1", "-o", "out", "-p", self.bench.program]
-        with mock.patch.object(batch, "judge_alone", judge), claimed_for_batch("out"), \
+        with mock.patch.object(batch, "judge_forked_pair", judge), claim_folder("out"), \
                 contextlib.redirect_stdout(io.StringIO()), \
                 contextlib.redirect_stderr(io.StringIO()) as told:
             self.must("judged", qc(words) == 0 and
@@ -251,7 +255,7 @@ class NotBegun(Case):
         for count in range(3):
             known = {**result(), "omitted": {**result()["omitted"], "faults": count}}
             with contextlib.redirect_stderr(io.StringIO()) as told:
-                self.must("itself", collection.all_told(known) == known)
+                self.must("itself", collection.load_for_csv(known) == known)
             self.must(f"{count}", bool(told.getvalue()) == bool(count), told.getvalue())
 
     def test_outputs_of_all(self) -> None:
@@ -264,8 +268,8 @@ class NotBegun(Case):
             words = argparse.Namespace(**{"json": None, "csv": None, "junit": None,
                                           option: self.path(name)})
             with self.assertRaises(Stop):
-                collection.refuse_names(words, Inputs(path))
-            collection.refuse_names(words, Inputs(self.path("one.ts")))
+                collection.refuse_output_names(words, Inputs(path))
+            collection.refuse_output_names(words, Inputs(self.path("one.ts")))
 
 
 class Beside(Story):
@@ -300,7 +304,7 @@ class Beside(Story):
                 io.StringIO()) as told, mock.patch.object(collection, "silence") as silenced:
             statuses = [qc(words)]
             self.must("not as for a reader that leaves", not silenced.called)
-            with mock.patch("subtitles.cli.main.answer", return_value=0):
+            with mock.patch("subtitles.cli.main.dispatch", return_value=0):
                 statuses += [ended(lambda _: 0, []), qc(["--json", self.path("two.json")])]
         self.must("told", statuses == [2] * 3 and told.getvalue().count(
             ": the output: No space left on device\n") == 3, told.getvalue())
@@ -336,7 +340,7 @@ class Beside(Story):
                     mock.patch.object(single, "ignore_signals"), \
                     contextlib.redirect_stdout(io.StringIO()), \
                     contextlib.redirect_stderr(io.StringIO()):
-                verdict = single.judged(asked, PairCall(
+                verdict = single.judge_and_report(asked, PairOptions(
                     program, self.path("out"), is_kept, name="own"), "tools/qc")
             [part] = self.object("out/own.json")["parts"]
             kept = part["judged_file"]["name"]
@@ -348,14 +352,16 @@ class Beside(Story):
         names, verdict = Names("one", self.folder, self.folder), mock.Mock(parts=[])
         for is_kept, count, ending in itertools.product(
                 (False, True), (0, 1), (None, "recording.pes")):
-            files = Files(PairCall(None, self.folder, is_kept), verdict, mock.Mock(), names)
-            outputs = files.raw(mock.Mock(**{"packets.count": count, "kept_ending": ending}))
+            files = OutputFiles(
+                PairOptions(None, self.folder, is_kept), verdict, mock.Mock(), names)
+            outputs = files.raw_outputs(mock.Mock(
+                **{"packets.count": count, "kept_ending": ending}))
             self.must(f"{is_kept} {count} {ending}", [one.path for one in outputs] == [
                 self.path("one.recording.pes")] * bool(is_kept and count and ending), outputs)
-            self.must("none", files.raw(None) == [])
-        files = Files(PairCall(None, self.folder), verdict, CommandWords(
+            self.must("none", files.raw_outputs(None) == [])
+        files = OutputFiles(PairOptions(None, self.folder), verdict, CommandWords(
             "tools/qc", self.bench.program), names)
-        self.must("the object is last", [os.path.basename(one.path) for one in files.wanted(
+        self.must("the object is last", [os.path.basename(one.path) for one in files.outputs(
             None)] == ["one.html", "one.json"])
         os.symlink(self.write("theirs", b""), self.path("link"))
         for is_result in (False, True):
@@ -373,7 +379,7 @@ class Beside(Story):
         for some in itertools.product((False, True), repeat=len(SIGNALS)):
             for one, is_ignored in zip(SIGNALS, some):
                 signal.signal(one, signal.SIG_IGN if is_ignored else signal.SIG_DFL)
-            heed_signals()
+            handle_signals()
             self.must(f"{some}: heeded", [signal.getsignal(one) for one in SIGNALS] == [
                 signal.SIG_IGN if one else signal.default_int_handler for one in some])
             ignore_signals()

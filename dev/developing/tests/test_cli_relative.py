@@ -180,9 +180,9 @@ class Clocks(Feeds):
 
         def sleep(seconds: float) -> None:
             looks.append(seconds)
-            if looks.count(batch.LOOK) > 1:
+            if looks.count(batch.SCAN_SECONDS) > 1:
                 raise KeyboardInterrupt
-            real(0 if seconds == batch.LOOK else seconds)
+            real(0 if seconds == batch.SCAN_SECONDS else seconds)
 
         with mock.patch("signal.signal"), mock.patch("time.sleep", sleep):
             _, lines = self.qc("--watch", self.path("in"), "-o", self.path("out"), "--settled", "0",

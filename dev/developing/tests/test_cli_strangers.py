@@ -10,7 +10,7 @@ import subprocess
 import xml.etree.ElementTree as tree
 from unittest import mock
 
-from subtitles.cli.single import claimed, claimed_for_batch
+from subtitles.cli.single import claim_folder, claim_pair
 from subtitles.common.command_line import Stop
 from .bench import Case, Done, example, example_bytes, tool_path
 from .muxed import beside_video, teletext_descriptor
@@ -131,7 +131,7 @@ class Hostile(Case):
                   not controls(told.replace("\n", "").encode()), done)
 
     def test_says_that_a_folder_is_in_use(self) -> None:
-        with claimed(self.path("out"), "story"):
+        with claim_pair(self.path("out"), "story"):
             done = qc(self, STORY, RECORDING, "-o", "out")
         self.must("two", done == Done(2, b"", [
             "qc: another call is writing the files of story in out"]), done)
@@ -186,36 +186,36 @@ class Claims(Case):
         """A folder and the files of a pair belong to one call at a time; each may come after."""
         folder = self.path("claimed/here")
         for turn in range(2):
-            with claimed(folder, "one"), claimed(folder, "two"), claimed_for_batch(folder):
-                for again, why in ((claimed(folder, "one"), "another call is writing the files of "
-                                    f"one in {folder}"), (
-                        claimed_for_batch(folder), f"another batch is judging into {folder}")):
+            with claim_pair(folder, "one"), claim_pair(folder, "two"), claim_folder(folder):
+                for again, why in ((claim_pair(folder, "one"),
+                                    f"another call is writing the files of one in {folder}"), (
+                        claim_folder(folder), f"another batch is judging into {folder}")):
                     with self.assertRaises(Stop) as refused, again:
                         self.must("never", False)
                     self.must("why", str(refused.exception) == why, refused.exception)
             self.must(f"turn {turn}", os.listdir(folder) == [])
-        with claimed(None, "one"), claimed_for_batch(None):
+        with claim_pair(None, "one"), claim_folder(None):
             self.must("no folder", True)
-        locked: list[str] = []
+        open_locked: list[str] = []
 
         def flock(handle: int, kind: int) -> None:
             """The first time somebody takes the file away, and then locks are not known."""
-            locked.append(os.readlink(f"/proc/self/fd/{handle}"))
-            if len(locked) == 1:
-                os.unlink(locked[0])
-            elif len(locked) == 3:
+            open_locked.append(os.readlink(f"/proc/self/fd/{handle}"))
+            if len(open_locked) == 1:
+                os.unlink(open_locked[0])
+            elif len(open_locked) == 3:
                 raise OSError(errno.ENOLCK, "No locks")
 
         with mock.patch("fcntl.flock", flock):
             for count in (2, 3):
-                with claimed(folder, "one"):
+                with claim_pair(folder, "one"):
                     self.must("its file", os.listdir(folder) == [".one.lock"]
-                              and len(locked) == count, locked)
+                              and len(open_locked) == count, open_locked)
         self.must("nothing is left", os.listdir(folder) == [])
-        with claimed(folder, "one"):  # meanwhile somebody has changed the folder
+        with claim_pair(folder, "one"):  # meanwhile somebody has changed the folder
             os.unlink(f"{folder}/.one.lock")
             self.write("claimed/here/.one.lock", b"another one's")
         self.must("another one's file stays", os.listdir(folder) == [".one.lock"])
-        with self.assertRaises(OSError) as told, claimed_for_batch(self.write("file", b"")):
+        with self.assertRaises(OSError) as told, claim_folder(self.write("file", b"")):
             self.must("never", False)
         self.must("its name", told.exception.filename == self.path("file"))

@@ -20,7 +20,7 @@ from subtitles.formats.teletext import (
     PLACES, RESERVED, SPANISH, SWEDISH, character_of, codes_of, has_bit, has_characters,
     letter_at, letters, named_by, of_track, options_with)
 from subtitles.judging.subtitles import advice_of
-from subtitles.recording.notices import of_character_sets, of_option
+from subtitles.recording.notices import character_set_notices, option_notices
 from subtitles.request.request import Request
 from .bench import Case, Done, example_bytes
 from .parts import packets_told
@@ -379,7 +379,7 @@ class Warnings(Case):
             ("another magazine's", naming(29, 8, magazine=1), [])]
         for name, more, lines in cases:
             told = packets_told(self, pes_packet(0, [HEADER, ROW, CLOSING, more]))
-            found = list(of_character_sets(told, ASKED))
+            found = list(character_set_notices(told, ASKED))
             self.must(name, [one.line for one in found] == lines, found)
             self.must(f"{name}: kind", {one.kind for one in found} <= {"character_set"}, found)
 
@@ -387,7 +387,8 @@ class Warnings(Case):
         told = packets_told(self, pes_packet(0, [HEADER, naming(29, 0b100)]))
         for option in OPTIONS:
             asked = dataclasses.replace(ASKED, option=option.word)
-            self.must(option.word, bool([*of_character_sets(told, asked)]) == (option != FRENCH))
+            self.must(option.word, bool([*character_set_notices(told, asked)]) == (
+                option != FRENCH))
 
     def test_verdict_stays(self) -> None:
         """It is said, stands in the report and in the object, and counts with --strict alone."""
@@ -418,7 +419,7 @@ class Languages(unittest.TestCase):
             (["fre", "eng"], "english", ""), (["nld"], "english", ""), (["nld"], "czech", ""),
             (["fre", "und"], "english", ""), ([], "english", "")]
         for languages, option, words in cases:
-            found = [one.line for one in of_option(languages, dataclasses.replace(
+            found = [one.line for one in option_notices(languages, dataclasses.replace(
                 ASKED, option=option))]
             line = f"the PMT announces page 888 in {words}; it was judged by --option {option}"
             with self.subTest(languages=languages, option=option):
@@ -433,6 +434,7 @@ class Languages(unittest.TestCase):
         for row in rows:
             language, word = row["ISO 639-2"], row["option"]
             for option in OPTIONS:
-                found = [*of_option([language], dataclasses.replace(ASKED, option=option.word))]
+                asked = dataclasses.replace(ASKED, option=option.word)
+                found = [*option_notices([language], asked)]
                 with self.subTest(language=language, option=option.word):
                     self.assertEqual(bool(found), word != option.word)

@@ -16,7 +16,7 @@ from developing.every_place import due as defined
 from developing.every_place.words import parse_options
 from developing.multiplex import BEGINS, PACKET, PAYLOAD, head
 from developing.stl import gsi_block, tti_block
-from subtitles.cli.collection import pair_line, table_of
+from subtitles.cli.collection import pair_row, summary_table
 from subtitles.common.command_line import counted
 from subtitles.common.times import ALL_DAY, Between
 from subtitles.formats.listing import fault_of_line
@@ -123,8 +123,8 @@ class Beside(Case):
         words, case = "8 subtitles judged, 2 refused", tree.fromstring(self.read("x.xml"))
         self.must("case", words in "".join(case.itertext()))
         row = row_of_object(known, "one")
-        self.must("collected", words in "".join(table_of([row])) and
-                  words in pair_line(self.folder, row).source)
+        self.must("collected", words in "".join(summary_table([row])) and
+                  words in pair_row(self.folder, row).source)
         for more, counts in (((self.stl, self.pes, *WORDS), {"judged": 10, "refused": 0}),
                              ((self.stl,), {"judged": 10, "refused": 0}),
                              ((self.file(3),), None)):

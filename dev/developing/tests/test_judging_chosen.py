@@ -8,7 +8,7 @@ from collections import Counter
 from typing import Any, Sequence
 
 from developing.pes import data_field, pes_packet, pts_in, teletext_packets
-from subtitles.cli.main import parser_of
+from subtitles.cli.main import make_parser
 from subtitles.cli.measure import (
     Delays, Measured as Shown, every_of, measure, never_words, pace_found, profile_lines)
 from subtitles.common.program import TOP, read
@@ -117,7 +117,7 @@ class Chosen(Case):
         for language, (option, why) in LANGUAGES.items():
             path = self.write(
                 "one.stl", b"" if language is None else data[:14] + language + data[16:])
-            asked = request_of(parser_of("").parse_args([path, "--option", "auto"]))
+            asked = request_of(make_parser("").parse_args([path, "--option", "auto"]))
             self.must(f"{language!r}", asked.option == option and
                       option_line(asked) == f"option: {option}, since {why}", option_line(asked))
 
@@ -439,7 +439,7 @@ class Measured(Case):
             done = self.tool("qc", "--measure", *words)
             self.must(said, done.status == 2 and not done.out and len(done.told) == 1 and
                       said in done.told[0], done)
-        known = read_options(parser_of(""), ["--measure", stl, pes], {}, {})
+        known = read_options(make_parser(""), ["--measure", stl, pes], {}, {})
         self.must("a call", measure(known, "tools/qc") == 0)
 
     def test_never_proposes_what_no_site_does(self) -> None:

@@ -11,7 +11,7 @@ from unittest import mock
 
 from developing.pes import pes_packet
 from developing.stl import gsi_block, tti_block
-from subtitles.cli.batch import Sighting, Watch
+from subtitles.cli.batch import FolderWatch, Sighting
 from subtitles.clock.origin import Origin
 from subtitles.clock.start import Clock, Found, RECORDING, START
 from subtitles.common.times import Between, Span, TICKS
@@ -19,7 +19,7 @@ from subtitles.formats.stl import Subtitle, SubtitleFile
 from subtitles.judging.part import parted, refuse_others
 from subtitles.judging.timing import unclear_origin, with_delay
 from subtitles.judging.verdict import frames_until
-from subtitles.recording.notices import count_notices, of_character_sets, of_page
+from subtitles.recording.notices import character_set_notices, count_notices, page_notices
 from subtitles.request.lines import of_folder, request_of_line
 from subtitles.request.request import Unclear
 from subtitles.results.files import hint_in
@@ -124,13 +124,14 @@ class Folders(Case):
     def test_judges_a_pair_once_it_has_not_changed_for_a_while(self) -> None:
         """A pair is judged when it has not changed for a while, and again when it has changed."""
         os.mkdir(self.path("in"))
-        watch = Watch(self.path("in"), 10)
+        watch = FolderWatch(self.path("in"), 10)
         for name in ("in/one.stl", "in/one.ts"):
             self.write(name, b"1")
 
         def due(clock: Callable[[], float]) -> list[str]:
             with mock.patch("time.monotonic", clock):
-                return [item.name for item in watch.due(of_folder(self.path("in"), defaults()))]
+                return [item.name for item in watch.ready_items(
+                    of_folder(self.path("in"), defaults()))]
 
         for now, wanted in ((100, []), (109, []), (110, ["one"]), (111, []), (150, [])):
             self.must(f"at {now}", due(lambda: now) == wanted)
@@ -153,12 +154,12 @@ class Folders(Case):
     def test_told_once(self) -> None:
         """What is no pair is told once, and again after it was one."""
         os.mkdir(self.path("in"))
-        watch = Watch(self.path("in"), 0)
+        watch = FolderWatch(self.path("in"), 0)
 
         def told(now: float) -> int:
             with contextlib.redirect_stderr(io.StringIO()) as told:
                 with mock.patch("time.monotonic", lambda: now):
-                    watch.due(of_folder(self.path("in"), defaults()))
+                    watch.ready_items(of_folder(self.path("in"), defaults()))
             return len(told.getvalue().splitlines())
 
         self.write("in/one.stl", b"1")
@@ -189,7 +190,7 @@ class Files(Case):
                 ((2, 2), ("ger", "mul"), []), ((2,), ("GER",), ["language", "option"]),
                 ((2,), ("pol",), ["language", "option"])):
             own = [Announced(PAGE, language, kind) for kind, language in zip(kinds, languages)]
-            found = [warned.kind for warned in of_page(own, asked)]
+            found = [warned.kind for warned in page_notices(own, asked)]
             self.must(f"{kinds} {languages}", found == wanted, found)
 
     def test_character_sets(self) -> None:
@@ -200,7 +201,7 @@ class Files(Case):
             told = ["unreadable" if None in (region, option) else
                     f"{option:03b} of region {region:04b}"] * ((region, option) != (0, 0))
             told += ["001 of region 0000"] * more
-            found = [one.line for one in of_character_sets(packets, asked)]
+            found = [one.line for one in character_set_notices(packets, asked)]
             self.assertEqual(len(found), len(told), found)
             self.assertTrue(all(map(str.__contains__, found, told)), found)
 

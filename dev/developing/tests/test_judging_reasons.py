@@ -12,9 +12,9 @@ from subtitles.formats.teletext import CODE_WORDS, OPTIONS
 from subtitles.judging.causes import EVEN, Faulty, IN_PARTS, Namer, REPEATED, UNSEEN
 from subtitles.judging.check import Answer
 from subtitles.judging.transmissions import (
-    DuePages, Headed, REPEATS, control_words, effect_of, header_words, headed, kept_in, left_at,
+    DuePages, Headed, REPEATS, control_words, effect_of, headed, header_words, kept_in, left_at,
     left_rows_words, unerased_words)
-from subtitles.recording.recording import header_bytes, pes_header_words
+from subtitles.recording.recording import pes_header_problem, read_pes_header
 from subtitles.stream.gaps import Place, places_of, what_of
 from subtitles.stream.packets import Clocked, Mark, Packets, Run, subcode_of, turns_of
 from subtitles.stream.receiver import BLANK_PAGE, Meeting, Rows, TUNED, Timeline
@@ -106,13 +106,13 @@ class Reasons(OfProgramme):
                 data, "--pid", "0x101").verdict.sentence)
             words = words.replace(" of PID 0x101", "")
             for one in (of_length[0], b"\0\0\1\xbe" + of_length[0][4:]):
-                self.assertEqual(pes_header_words(one, 0), words, one)
+                self.assertEqual(pes_header_problem(one, 0), words, one)
         found = judged(self, self.stl, self.write("one.pes", b"".join(of_length)), "--origin", "0")
         self.must("PES packets", words in found.verdict.sentence, found.said)
         for data in (b"", b"refused 60", self.pes[0], self.pes[0][:8]):
-            self.assertEqual(pes_header_words(data, 0), "", data)
+            self.assertEqual(pes_header_problem(data, 0), "", data)
         path = self.write("none", b"\x47\x41\x01\x30\xff".ljust(188, b"\0") * 9)
-        self.assertEqual(header_bytes(self.bench.program, path, TELETEXT_PID, 188), b"refused 6")
+        self.assertEqual(read_pes_header(self.bench.program, path, TELETEXT_PID, 188), b"refused 6")
 
     def test_rows_of_a_page_that_is_not_open(self) -> None:
         """Another header, or one that ends all pages, between header and rows: that is told with

@@ -27,8 +27,8 @@ from subtitles.judging.timing import (
     PartSearch, cut_within, fitted_origin, found_in, left_by_pictures)
 from subtitles.judging.transmissions import control_words
 from subtitles.recording.notices import (
-    Notice, count_notices, length_words, of_character_sets, of_jumps, of_pauses, of_repeat,
-    of_tables, there_are)
+    Notice, character_set_notices, count_notices, count_text, duration_text, jump_notices,
+    pause_notices, pmt_notices, repeat_notices)
 from subtitles.recording.recording import is_recording
 from subtitles.request.commands import (
     CommandWords, Names, NamesOfList, again, files_in, pair_name, part_name, shell_line)
@@ -117,7 +117,7 @@ class Warnings(Case):
                 (9, 1), (10, 90_000), (15, -90_000), (20, 8_640_000), (21, 5)))]
             with mock.patch("subtitles.recording.notices.jumps_of", lambda packets: jumps):
                 found = [(one.kind, one.time, one.line.partition(" at ")[0])
-                         for one in of_jumps(Packets(1), origin, 10, 20)]
+                         for one in jump_notices(Packets(1), origin, 10, 20)]
             self.assertEqual(found, [
                 ("clock_jump", "00:00:00:10", "the clock jumps by 1.00 s"),
                 ("clock_jump", "00:00:00:15", "the clock jumps back by 1.00 s"),
@@ -125,7 +125,7 @@ class Warnings(Case):
         for ticks, words in ((0, "0.00 s"), (45_000, "0.50 s"), (59 * 90_000, "59.00 s"),
                              (60 * 90_000, "0:01:00"), (3599 * 90_000, "0:59:59"),
                              (8641 * 90_000, "2:24:01")):
-            self.assertEqual(length_words(ticks), words, ticks)
+            self.assertEqual(duration_text(ticks), words, ticks)
 
     def test_warns_of_what_the_pmt_announces(self) -> None:
         """What the PMT announces: nothing, others, the page among others; in the second programme
@@ -144,7 +144,7 @@ class Warnings(Case):
         for pages, words in of_pages:
             listing: Any = SimpleNamespace(programmes_of=lambda pid: [
                 SimpleNamespace(pages={0x101: some, 0x102: [other]}) for some in pages])
-            found = said(of_tables(listing, 0x101, asked))
+            found = said(pmt_notices(listing, 0x101, asked))
             self.assertEqual([kind for kind, *_ in found], ["page"] * bool(words), pages)
             self.assertTrue(not found or found[0][1].endswith(words), found)
 
@@ -153,7 +153,7 @@ class Warnings(Case):
         for sets, count in (((0,), 0), ((8,), 1), ((0, 8), 1), ((8, 0), 1), ((8, 9), 2)):
             packets = packets_told(self, pes_packet(0, [HEADER, *(
                 naming(number, one) for number, one in zip((29, 28), sets)), CLOSING]))
-            found = said(of_character_sets(packets, asked_for("one.stl", "one.ts")))
+            found = said(character_set_notices(packets, asked_for("one.stl", "one.ts")))
             self.assertEqual([one[0] for one in found], ["character_set"] * count, (sets, found))
 
     def test_warns_of_wrong_counts_in_the_gsi_block(self) -> None:
@@ -171,7 +171,7 @@ class Warnings(Case):
             "one.stl", data + blocks[0]))))], [
                 ("subtitles", "the GSI block counts 0 subtitles (TNS), and there is 1: is the "
                  "subtitle file whole?")])
-        self.assertEqual([there_are(one) for one in (0, 1, 2, 1234)],
+        self.assertEqual([count_text(one) for one in (0, 1, 2, 1234)],
                          ["there are 0", "there is 1", "there are 2", "there are 1,234"])
         comment = tti_block(2, 30, 40, 20, 2, b"", comment=1)
         for count in (1, 2):
@@ -183,7 +183,7 @@ class Warnings(Case):
         """Frames without a PES packet, of what sends one in each but few: one in twenty."""
         def pauses(frames: Sequence[int], origin: int = 0) -> list[tuple[str, str | None]]:
             pts = [(origin + TICKS * frame) % CLOCK for frame in frames]
-            warned = of_pauses(pts, asked_for("one.stl", "one.pes"), origin)
+            warned = pause_notices(pts, asked_for("one.stl", "one.pes"), origin)
             return [(one.line.partition(" from ")[0], one.time) for one in warned
                     if one.kind == "pause"]
 
@@ -203,7 +203,7 @@ class Warnings(Case):
         def warned(step: int, every: int) -> list[str]:
             headers = [TICKS * frame for frame in range(0, 600, step)]
             asked = asked_for("one.stl", "one.pes", "--every", str(every))
-            return [one.line for one in of_repeat(headers, asked, 0, [(0, 599)])]
+            return [one.line for one in repeat_notices(headers, asked, 0, [(0, 599)])]
 
         for step, every, words in ((25, 51, "25 frames; --every 25"), (25, 50, ""), (25, 25, ""),
                                    (1, 3, "frame; --every 1"), (1, 2, ""), (2, 5, "2 frames")):

@@ -10,8 +10,8 @@ from unittest import mock
 from developing.pes import pes_packet, pts_in
 from subtitles.common.times import CLOCK, TICKS, frame_at
 from subtitles.recording.notices import (
-    Announcement, NeverSent, Notice, announcements_of, is_due_in, of_timing, origin_by,
-    refuse_elsewhere, refuse_unsent, silent_beside, unsent_by)
+    Announcement, NeverSent, Notice, find_announcements, find_origin, find_unsent, is_page_expected,
+    refuse_other_pid, refuse_unsent, silent_pids, timing_notices)
 from subtitles.recording.recording import Recording
 from subtitles.request.request import Unclear
 from subtitles.stream.gaps import SECOND
@@ -31,7 +31,7 @@ ONE, TWO, THREE = 257, 258, 259
 
 def heard(*lines: str) -> list[Announcement]:
     """What is announced of the page by lines of `survey`."""
-    return [*announcements_of(surveyed(*lines).programmes, PAGE)]
+    return [*find_announcements(surveyed(*lines).programmes, PAGE)]
 
 
 def at(seconds: float | None) -> int | None:
@@ -67,9 +67,9 @@ class Announced(Case):
             packets = Packets(1, samples=[(pts, -SECOND // 10), (pts, 9), (pts, 9)])
             time = None if frame < 0 else f"00:00:{frame // 25:02}:{frame % 25:02}"
             where = f"from {time or f'PTS {pts}'} on"
-            self.must(f"{origin} {frame}", [*of_timing(packets, origin)] == [Notice(
+            self.must(f"{origin} {frame}", [*timing_notices(packets, origin)] == [Notice(
                 "pts_behind", f"{where} PTS of the Teletext are behind the PCR, by up to 0.10 s: 1 "
-                "of 3 that were looked at", time)], [*of_timing(packets, origin)])
+                "of 3 that were looked at", time)], [*timing_notices(packets, origin)])
 
     def test_finds_an_announced_page_that_is_not_sent(self) -> None:
         """Of the subtitles' time, from 10 to 20 seconds, by the programme that carries the page,
@@ -92,11 +92,11 @@ class Announced(Case):
                   (18, None, False), (25, None, False), (5, 30, True), (12, 15, True))
               for one in [Announcement(1, frozenset({TWO}), at(first), at(last))])]
         for name, announced, carriers, wanted in rows:
-            self.must(name, unsent_by(announced, carriers, begin, end) == wanted)
+            self.must(name, find_unsent(announced, carriers, begin, end) == wanted)
             shifted = [one._replace(begin=one.begin and (one.begin - 15 * SECOND) % CLOCK,
                                     end=one.end and (one.end - 15 * SECOND) % CLOCK)
                        for one in announced]
-            found = unsent_by(shifted, carriers, (begin - 15 * SECOND) % CLOCK, 5 * SECOND)
+            found = find_unsent(shifted, carriers, (begin - 15 * SECOND) % CLOCK, 5 * SECOND)
             self.must(f"{name}: over the wrap", (found is None) == (wanted is None), found)
 
     def test_finds_programmes_that_never_send_the_page(self) -> None:
@@ -110,7 +110,7 @@ class Announced(Case):
                 ([*table(1, ONE, TWO)], {ONE}, set()),
                 ([*table(1, ONE), *table(2, ONE)], {ONE}, set())]
         for lines, carriers, wanted in rows:
-            self.must(f"{lines} {carriers}", silent_beside(heard(*lines), carriers) == wanted)
+            self.must(f"{lines} {carriers}", silent_pids(heard(*lines), carriers) == wanted)
             for pes in (None, (0, 9)):  # of a range it is known which is meant
                 found = self.why_unclear(lines, carriers, pes)
                 pids = [f"--pid 0x{pid:X}" for pid in sorted(carriers | wanted)]
@@ -140,10 +140,10 @@ class Announced(Case):
                 (7, 507, None, True), (0, 499, None, False)):
             for shift in (0, CLOCK - 300 * TICKS):
                 clock = (shift + first * TICKS) % CLOCK, (shift + last * TICKS) % CLOCK
-                found = is_due_in(clock, subtitles, None if origin is None else shift)
+                found = is_page_expected(clock, subtitles, None if origin is None else shift)
                 self.must(f"{first} {last} {origin} {shift}", found == wanted)
-        self.must("no PCR", not is_due_in(None, subtitles, 0))
-        self.must("no subtitle", not is_due_in((0, CLOCK // 2), [], 0))
+        self.must("no PCR", not is_page_expected(None, subtitles, 0))
+        self.must("no subtitle", not is_page_expected((0, CLOCK // 2), [], 0))
 
     def test_refuses_a_page_that_is_sent_nowhere(self) -> None:
         """Nowhere, or elsewhere alone; not where a PID is asked for that is not announced, what one
@@ -175,14 +175,14 @@ class Announced(Case):
             asked = asked_for("a.stl", "a.ts", *words)
             try:
                 if sent in lines:
-                    refuse_elsewhere(asked, survey, SECOND, 9 * SECOND)
+                    refuse_other_pid(asked, survey, SECOND, 9 * SECOND)
                 else:
                     refuse_unsent(asked, survey, [(100, 150)])
             except NeverSent as reason:
                 found = str(reason)
             self.must(f"{lines} {words}", bool(found) == is_refused, found)
         stl = self.write("none.stl", b" " * 1024)
-        self.must("no TCP", origin_by(asked_for(stl, "a.ts", "--start", "tcp"), surveyed(
+        self.must("no TCP", find_origin(asked_for(stl, "a.ts", "--start", "tcp"), surveyed(
             *table(1, ONE), *start, f"stream {ONE} 6"), ONE) is None)
 
 

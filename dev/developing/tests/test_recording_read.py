@@ -34,7 +34,7 @@ def recorded(survey: Survey, *words: str, name: str = "one.ts", kind: int = stat
         made: Any = Recording(asked_for("a.stl", name, *words), mock.Mock(),
                               Names("one", folder, None), listener, [(100, 150)])
     made.survey, made.again = survey, lambda *more: " ".join(more)
-    made.said, made.header_words = str, lambda packets: ""
+    made.said, made.header_problem = str, lambda packets: ""
     return made
 
 
@@ -141,7 +141,7 @@ class Told(Case):
             one.packets = Packets(ONE, [Run(0, 9, 0, TICKS, "-", "")] + [
                 Run(9 + at, 1, None, 0, "m", "") for at in range(marks)], damage=damage,
                 refusal=refusal, marks=[Mark(9 + at, 8 * TICKS, 1, 0) for at in range(marks)])
-            one.say_read()
+            one.print_losses()
             wanted = [["is damaged"] * bool(damage), [
                 *["refused 31 Start"] * bool(refusal),
                 *["40 bytes of no TS packet"] * bool(skipped),

@@ -12,8 +12,8 @@ from subtitles.judging.cues import Cue, CueJudge, decoded_cue
 from subtitles.judging.status import (
     ACCEPTED, LOST, NOT_JUDGED, REFUSED, RELATIVE, WAIVED, WARNED)
 from subtitles.judging.transmissions import DuePages
-from subtitles.report.blocks import field, marked_text, marked_times, readable
-from subtitles.report.cue_list import marked_difference, signed
+from subtitles.report.blocks import field_markup, marked_text, marked_times, readable
+from subtitles.report.cue_list import mark_difference, signed
 from subtitles.report.page import SHAPES, with_options
 from subtitles.stream.packets import PES, Packets
 from subtitles.stream.receiver import BLANK_PAGE, Rows, Timeline
@@ -120,7 +120,7 @@ class Words(Case):
                 ("", "abc", ("", "[abc]")), ("aXbYc", "a1b2c", ("a[X]b[Y]c", "a[1]b[2]c")),
                 ("aa", "a", ("a[a]", "a")), ("<a>", "<b>", ("&lt;[a]&gt;", "&lt;[b]&gt;"))):
             told = tuple(in_page(one).replace("<mark>", "[").replace("</mark>", "]")
-                         for one in marked_difference(first, second))
+                         for one in mark_difference(first, second))
             self.must(f"{first} {second}", told == wanted, told)
 
     def test_writes_numbers_with_their_signs(self) -> None:
@@ -152,9 +152,9 @@ class BlocksOfFile(Case):
         for number in range(10, 60):
             line = f"refused {number} X block {int(number > 14)}"
             head, _, value = fields.get(number, "").rpartition(" ")
-            told = in_page(field(made, fault_of(line))).strip()
+            told = in_page(field_markup(made, fault_of(line))).strip()
             self.must(line, told == (f"{head} <mark>{value}</mark>" if head else ""), told)
-        self.must("no block", in_page(field(made, fault_of("refused 14 Cct"))) == "")
+        self.must("no block", in_page(field_markup(made, fault_of("refused 14 Cct"))) == "")
 
     def test_marks_the_byte_or_line_that_a_fault_names(self) -> None:
         """The byte or the line that a fault names, in a text and in tables."""

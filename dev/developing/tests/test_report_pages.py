@@ -7,7 +7,8 @@ from typing import Any
 
 from subtitles.formats.teletext import ENGLISH
 from subtitles.report.pictures import (
-    CellStyle, LOW_ROWS, cut_of, differences, frames_of, is_boxed, picture, row_drawing, spans_of)
+    CellStyle, LOW_ROWS, differences, draw_row, frames_of, is_boxed, picture, rows_to_draw,
+    styled_spans)
 from subtitles.stream.receiver import BLANK_PAGE, HIT, OLD, Rows
 from .parts import in_page
 
@@ -27,7 +28,7 @@ class Attributes(unittest.TestCase):
 
     def look(self, row: bytes, number: int = 20, is_boxed_page: bool = True) -> CellStyle:
         """The look of the last cell of a row."""
-        return spans_of(row, number, 0, is_boxed_page)[-1]
+        return styled_spans(row, number, 0, is_boxed_page)[-1]
 
     def test_applies_each_spacing_attribute_until_it_ends(self) -> None:
         """White on black outside of a box at first; each attribute by itself, and what ends it."""
@@ -72,7 +73,7 @@ class Attributes(unittest.TestCase):
                  "     f      ", " ddddddd    "),
                 ("0b 61 0a 62 0b 0b 02 1d 07 61 0a 0a", "777777722777", "000000022222",
                  "     bbbbbb ", " " * 12, " " * 12)):
-            cells = [one for one in spans_of(bytes.fromhex(codes), 20, ENGLISH.bits, True)
+            cells = [one for one in styled_spans(bytes.fromhex(codes), 20, ENGLISH.bits, True)
                      for _ in one.letters]
             found = ["".join(letters) for letters in zip(*(
                 (str(cell.ink), str(cell.paper), " b"[cell.boxed], " f"[cell.flash],
@@ -108,7 +109,7 @@ class Rowed(unittest.TestCase):
         for last, is_there in ((21, False), (22, True)):
             drawn = in_page(picture(rows, PLAIN_HEADER, (18, last)))
             self.assertEqual("seen" in drawn, is_there, last)
-        marked = in_page(row_drawing(bytes([OLD] * 3 + [0x41, HIT, HIT]).ljust(40), 20, 0, True)[0])
+        marked = in_page(draw_row(bytes([OLD] * 3 + [0x41, HIT, HIT]).ljust(40), 20, 0, True)[0])
         self.assertIn('<rect class="old" x="1" y="1" width="34" height="13"/>', marked)
         self.assertIn('<rect class="hit" x="49" y="1" width="22" height="13"/>', marked)
         self.assertEqual([is_boxed(bytes([8, 8, 0, 0, 0, bits, 1, 0])) for bits in (0, 4, 8, 12)],
@@ -133,7 +134,7 @@ class Rowed(unittest.TestCase):
                 ([BLANK_PAGE], LOW_ROWS), ([page(r20=b"x")], (19, 21)),
                 ([page(r1=b"x")], (1, 2)), ([page(r24=b"x")], (23, 24)),
                 ([page(r20=b"x"), page(r5=b"x")], (4, 21))):
-            self.assertEqual(cut_of(pages), wanted, pages)
+            self.assertEqual(rows_to_draw(pages), wanted, pages)
 
     def test_finds_cells_whose_codes_differ(self) -> None:
         """Cells whose codes differ, whatever says more than the code."""

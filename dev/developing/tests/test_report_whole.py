@@ -80,7 +80,8 @@ class Whole(Case):
             page = in_page(report_page.report_page(verdict, typed))
             box, text = (re.sub("<[^>]*>", "", one) for one in (
                 page.partition("</div></div>")[0], page))
-            told = [verdict.sentence, *verdict.notes, *(one.said() for one in verdict.warnings)]
+            told = [verdict.sentence, *verdict.notes]
+            told += [warning.warning_text() for warning in verdict.warnings]
             told += ["not judged", "why", "type <this>"] if why else [
                 verdict.lead or "", *(f"{one.line}: {one.words}" for one in verdict.named),
                 *[gap.line() for gap in verdict.gaps] * bool(kinds)]

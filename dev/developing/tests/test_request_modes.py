@@ -19,8 +19,8 @@ from unittest import mock
 
 from subtitles.cli import batch, collection, main, measure, single
 from subtitles.cli.main import (
-    TAKEN_BY, file_in, jobs_word, line_word, mode_of, name_in, parser_of, refuse_options,
-    seconds_word)
+    OPTION_MODES, find_mode, make_parser, output_path_in, pair_name_in, read_jobs, read_line_number,
+    read_seconds, refuse_options)
 from subtitles.common.command_line import Stop, ended
 from subtitles.common.program import TOP, read
 from subtitles.request.commands import CommandWords
@@ -45,7 +45,7 @@ VALUES = {"--page": "801", "--every": "25", "--within": "1", "--option": "german
           "--from": "00:00:01:00",
           "--to": "00:00:02:00", "--layout": "fit", "--pace": "9", "--late": "0:9/0:9"}
 MANUAL = os.path.join(TOP, "docs", "manual", "qc.md")
-ASKING = {"--batch", "--watch", "--collect", "--measure", "--help", "-h", "--version"}
+MODE_OPTIONS = {"--batch", "--watch", "--collect", "--measure", "--help", "-h", "--version"}
 
 
 def words_of(name: str, folder: str) -> list[str]:
@@ -62,7 +62,7 @@ def refusal(mode: Mode, name: str, folder: str) -> str | None:
             request_of_line(["a.stl", "a.ts", *words_of(name, folder)], defaults())
         else:
             line = [*CALLS[mode], *words_of(name, folder)]
-            refuse_options(parser_of(""), line, mode_of(parser_of("").parse_args(line)))
+            refuse_options(make_parser(""), line, find_mode(make_parser("").parse_args(line)))
     except Stop as reason:
         return str(reason)
     return None
@@ -74,7 +74,7 @@ class Modes(Case):
     def test_options_and_refusals(self) -> None:
         """Each option with each of what can be asked for: taken, or refused by its name."""
         self.write("house", b"--every 25\n")
-        for name, taken_by in TAKEN_BY.items():
+        for name, taken_by in OPTION_MODES.items():
             for mode in MODES:
                 said = refusal(mode, name, self.folder)
                 is_right = said is None if mode in taken_by else said is not None and name in said
@@ -87,7 +87,7 @@ class Modes(Case):
                 ("--no-complete --complete", "is_complete", True),
                 ("--complete --no-complete", "is_complete", False), ("-o a -o b", "out", "b"),
                 ("--page 801 --page 8A2", "page", (0, 0xA2))):
-            found = vars(parser_of("").parse_args(["a.stl", "a.ts", *words.split()]))
+            found = vars(make_parser("").parse_args(["a.stl", "a.ts", *words.split()]))
             self.must(words, found[name] == value, found)
         for words, mode, said in (
                 ("--every 25 --every 50", COLLECT, "--every goes with"),
@@ -102,18 +102,18 @@ class Modes(Case):
                 ("--breaks=0", ALONE, "--breaks goes with"),
                 ("--start tcp", ALONE, "--start goes with")):
             with self.assertRaises(Stop) as refused:
-                refuse_options(parser_of(""), [*CALLS[mode], *words.split()], mode)
+                refuse_options(make_parser(""), [*CALLS[mode], *words.split()], mode)
             self.must(words, str(refused.exception).startswith(said), refused.exception)
 
     def test_what_is_called(self) -> None:
         """Each call by its own function, with what is taken where nothing is said, and 0 as it is.
         """
         rows: list[tuple[list[str], ModuleType, str, dict[str, object]]] = [
-            (CALLS[PAIR], single, "judge_call", {"recording": "a.ts", "out": None}),
-            (CALLS[ALONE], single, "judge_call", {"stl": "a.stl", "recording": None}),
-            ([*CALLS[PAIR], "-o", "x", "--keep"], single, "judge_call",
+            (CALLS[PAIR], single, "judge_command", {"recording": "a.ts", "out": None}),
+            (CALLS[ALONE], single, "judge_command", {"stl": "a.stl", "recording": None}),
+            ([*CALLS[PAIR], "-o", "x", "--keep"], single, "judge_command",
              {"out": "x", "is_kept": True}),
-            ([*CALLS[PAIR], "-o@x"], single, "judge_call", {"out": "./@x"}),
+            ([*CALLS[PAIR], "-o@x"], single, "judge_command", {"out": "./@x"}),
             (CALLS[BATCH], batch, "judge_batch", {"batch": "in"}),
             (CALLS[COLLECT], collection, "collect", {"collect": "in"}),
             ([*CALLS[MEASURE], "--page", "801"], measure, "measure",
@@ -122,29 +122,29 @@ class Modes(Case):
             ([*CALLS[WATCH], "--settled", "0"], batch, "watch", {"settled": 0})]
         for line, module, name, wanted in rows:
             with mock.patch.object(module, name, return_value=7) as called:
-                self.must(f"{line}", main.answer("", "tools/qc", line) == 7)
+                self.must(f"{line}", main.dispatch("", "tools/qc", line) == 7)
             words, *others = called.call_args.args
             self.must(f"{line}: words", {one: vars(words)[one] for one in wanted} == wanted and
                       others == ["tools/qc"] * (module is not collection), words)
         nothing: list[str] = []
         for line in (nothing, [*CALLS[PAIR], "--keep"]):
             with self.assertRaises(Stop):
-                main.answer("", "tools/qc", line)
+                main.dispatch("", "tools/qc", line)
 
     def test_names_all_options(self) -> None:
         """The table has each option that the parser has."""
-        names = {name for action in parser_of("")._actions for name in action.option_strings}
-        self.must("all", names - ASKING == set(TAKEN_BY), names ^ set(TAKEN_BY))
+        names = {name for action in make_parser("")._actions for name in action.option_strings}
+        self.must("all", names - MODE_OPTIONS == set(OPTION_MODES), names ^ set(OPTION_MODES))
 
     def test_modes_of_words(self) -> None:
         """What is asked for, by the words; two at once are refused."""
         for mode, line in CALLS.items():
-            found = mode_of(parser_of("").parse_args(line))
+            found = find_mode(make_parser("").parse_args(line))
             self.must(mode.words, found is mode, found)
         for line in (["--batch", "a", "--collect", "b"], ["--watch", "a", "--batch", "b"],
                      ["--batch", "a", "b.stl"]):
             with self.assertRaises(Stop):
-                mode_of(parser_of("").parse_args(line))
+                find_mode(make_parser("").parse_args(line))
 
     def test_ends_a_call(self) -> None:
         """Nothing is done: one line, and status 2."""
@@ -183,14 +183,14 @@ class Words(unittest.TestCase):
                            (["--json", "a", "--json", "b"], "b"), (["--jsonx", "a"], None),
                            (["--json=a", "--json", "b"], "b"), ([], None)]
         for line, path in paths:
-            self.assertEqual(file_in(line, "--json"), path, line)
+            self.assertEqual(output_path_in(line, "--json"), path, line)
             others = [word.replace("json", "junit") for word in line]
-            self.assertEqual(file_in(others, "--junit"), path, others)
+            self.assertEqual(output_path_in(others, "--junit"), path, others)
         names: list[tuple[list[str], str]] = [
             (["a.STL", "b.ts"], "a"), (["--x", "dir/one.stl"], "one"), ([], ""), (["b.ts"], ""),
             (["one.stl", "two.stl"], "one")]
         for line, name in names:
-            self.assertEqual(name_in(line), name, line)
+            self.assertEqual(pair_name_in(line), name, line)
 
     def test_says_in_each_requested_file_why_a_call_ended_early(self) -> None:
         """Of a call that ends early each file that is asked for says why; whichever of the others
@@ -204,7 +204,7 @@ class Words(unittest.TestCase):
                     if kind == "other":
                         with open(path, "wb") as file:
                             file.write(b"other")
-                main.leave("one", paths, "the reason")
+                main.write_unjudged("one", paths, "the reason")
                 for option, kind in zip(main.PIECES, kinds):
                     data = read(paths[option] or "") or ""
                     self.assertEqual(("the reason" in data, data == "other"),
@@ -212,9 +212,9 @@ class Words(unittest.TestCase):
 
     def test_takes_numbers_within_their_bounds(self) -> None:
         for taken, good, bad in (
-                (line_word, ("1", "9999999"), ("0", "10000000", "-1", "", "x", "\u00b2")),
-                (jobs_word, ("1", "9999"), ("0", "10000", "-1", "", "x", "\u00b2")),
-                (seconds_word, ("0", "99999"), ("100000", "-1", "", "1.5", "\u0663"))):
+                (read_line_number, ("1", "9999999"), ("0", "10000000", "-1", "", "x", "\u00b2")),
+                (read_jobs, ("1", "9999"), ("0", "10000", "-1", "", "x", "\u00b2")),
+                (read_seconds, ("0", "99999"), ("100000", "-1", "", "1.5", "\u0663"))):
             self.assertEqual([taken(word) for word in good], list(map(int, good)),
                              (taken, good, bad))
             for word in bad:

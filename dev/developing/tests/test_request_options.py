@@ -44,9 +44,9 @@ options.Request = dataclasses.make_dataclass("Request", [
 from developing import pages
 from developing.tests.parts import defaults
 from developing.tests.parts import call_words
-from subtitles.cli.main import parser_of
+from subtitles.cli.main import make_parser
 from subtitles.results.schema import REQUEST
-from subtitles.cli.main import mode_of, refuse_options
+from subtitles.cli.main import find_mode, refuse_options
 from subtitles.results.schema import schema
 from subtitles.common.command_line import Stop
 from subtitles.request.lines import request_of_line
@@ -61,14 +61,14 @@ def said(does):
         return str(reason)
 
 def taken(*line):
-    mode = mode_of(parser_of("").parse_args(line))
-    return said(lambda: refuse_options(parser_of(""), line, mode))
+    mode = find_mode(make_parser("").parse_args(line))
+    return said(lambda: refuse_options(make_parser(""), line, mode))
 
 program, folder = sys.argv[1:]
 pair, given = ["a.stl", "a.ts"], ["--new-one", "5", "--newer"]
-asked = request_of(parser_of("").parse_args([*pair, *given]))
-none = request_of(parser_of("").parse_args(pair))
-help = parser_of("").format_help()
+asked = request_of(make_parser("").parse_args([*pair, *given]))
+none = request_of(make_parser("").parse_args(pair))
+help = make_parser("").format_help()
 print(json.dumps({
     "help": help, "man page": pages.tool_parts(help)["options"],
     "chapter": pages.chapter_parts()["options"],
@@ -77,7 +77,7 @@ print(json.dumps({
     "again": again(asked, CommandWords("tools/qc", program)), "check": asked.check_words(),
     "file": asked.check_words(True), "pages": asked.words_of_pages(),
     "schema": schema()["definitions"]["request"]["properties"],
-    "same": request_of(parser_of("").parse_args(call_words(asked))) == asked,
+    "same": request_of(make_parser("").parse_args(call_words(asked))) == asked,
     "not with": [taken("a.stl", *given), taken(*pair, *given),
                  taken("--collect", "x", "--new-one", "5")],
     "line": REQUEST.made(request_of_line([*pair, *given], defaults()))}))

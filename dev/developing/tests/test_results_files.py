@@ -12,7 +12,7 @@ from typing import Any, Iterator, Sequence
 from unittest import mock
 
 from subtitles.cli import collection
-from subtitles.cli.batch import Calls, kept_rows
+from subtitles.cli.batch import PairRunner, resumed_rows
 from subtitles.common.command_line import Stop
 from subtitles.common.program import MadeWith, TOP, read
 from subtitles.common.shapes import Integer, Listed
@@ -207,9 +207,9 @@ class ReadBack(Case):
         names = sorted(name.removesuffix(".json") for name in os.listdir(self.path("out"))
                        if name.endswith(".json"))
         self.must("names", sorted(rows) == names, rows)
-        calls = Calls(typed, self.folder, self.path("out"), False)
+        calls = PairRunner(typed, self.folder, self.path("out"), False)
         asked = asked_for(self.path("story.stl"), self.path("x.pes"))
-        kept_rows(calls, [Item(name, asked, None) for name in names])
+        resumed_rows(calls, [Item(name, asked, None) for name in names])
         pairs: list[dict[str, Any]] = json.loads(self.read("x.json"))["pairs"]
         self.must("all pairs", len(pairs) == len(names) and status == 2, (len(pairs), names))
         self.must("all fit", all(misfit(one) is None for one in pairs))
@@ -274,13 +274,13 @@ class Collected(Case):
 
     def test_prints_columns_as_wide_as_their_widest_cell(self) -> None:
         """Columns as wide as their widest, and how many there are of which verdict."""
-        self.must("table", list(collection.table_of(self.ROWS)) == [
+        self.must("table", list(collection.summary_table(self.ROWS)) == [
             "pair    verdict     faults  worst fault", "one     accepted         0",
             "second  refused         12  72 Content frame 1: a hint",
             "c       not judged          why", "d       waived           3  waived: refused 5 X",
             "4 pairs: 1 accepted, 1 refused, 1 not judged, 1 waived"],
-                  list(collection.table_of(self.ROWS)))
-        self.must("one", list(collection.table_of(self.ROWS[:1]))[-1] == "1 pair: 1 accepted")
+                  list(collection.summary_table(self.ROWS)))
+        self.must("one", list(collection.summary_table(self.ROWS[:1]))[-1] == "1 pair: 1 accepted")
 
     def end(self, **outputs: str) -> tuple[int, str, str]:
         """The status of all rows, what is printed, and what is told."""
@@ -298,7 +298,7 @@ class Collected(Case):
 
     def test_prints_the_table_on_standard_output_unless_a_file_goes_there(self) -> None:
         """The table goes to standard output unless a file does, and what failed is told."""
-        table = "".join(f"{line}\n" for line in collection.table_of(self.ROWS))
+        table = "".join(f"{line}\n" for line in collection.summary_table(self.ROWS))
         self.must("none", self.end() == (2, table, ""), self.end())
         for name in ("csv", "junit", "json"):
             with mock.patch.object(collection, "put_file"):
@@ -352,7 +352,8 @@ class Collected(Case):
         self.must("accepted", status == 0 and "1 pair: 1 accepted" in out and
                   told.count(".json is no JSON result of a pair, and is skipped") == 2, told)
         with self.assertRaises(Stop):
-            collection.refuse_names(argparse.Namespace(json=None, csv=self.path("in"), junit=None))
+            collection.refuse_output_names(argparse.Namespace(
+                json=None, csv=self.path("in"), junit=None))
         self.write("in/two.json", json.dumps(result()).encode())
         self.must("refused", collect()[0] == 1)
         self.write("in/three.json", b"{")
@@ -366,17 +367,17 @@ class Collected(Case):
         for data in (None, b"[]", b"{"):
             if data is not None:
                 self.write("gone.json", data)
-            have = collection.known_at(path)
+            have = collection.load_result(path)
             self.must("gone", have["verdict"] == "not judged" and have["name"] == "gone", have)
         known = result(faults=[FAULT])
         self.write("gone.json", b'{"status": 0, ' + json.dumps(known, indent=3).encode()[1:])
-        self.must("as it was read", collection.known_at(path) == known)
-        lines = table_lines(map(collection.all_told, [path, path]))
+        self.must("as it was read", collection.load_result(path) == known)
+        lines = table_lines(map(collection.load_for_csv, [path, path]))
         self.check("lines", len(b"".join(lines).splitlines()), 5)
         known["omitted"]["faults"] = 7
         self.write("gone.json", json.dumps(known).encode())
         with contextlib.redirect_stderr(io.StringIO()) as told:
-            lines = table_lines([collection.all_told(path)])
+            lines = table_lines([collection.load_for_csv(path)])
             self.check("lines of some", len([*lines]), 3)
         self.must("told", told.getvalue().endswith(
             f": {path} leaves out 7 faults, and so do the lines\n"), told.getvalue())

@@ -9,7 +9,7 @@ from typing import Optional, Tuple
 from developing.multiplex import PACKET
 from developing.pes import pts_in
 from developing.stl import boxed
-from subtitles.cli.main import parser_of
+from subtitles.cli.main import make_parser
 from subtitles.common.command_line import Stop
 from subtitles.common.program import MadeWith
 from subtitles.common.times import CLOCK, TICKS
@@ -224,7 +224,7 @@ class Words(Case):
             self.write(name, b"")
 
     def options(self, *words: str) -> argparse.Namespace:
-        return parser_of("").parse_args(words)
+        return make_parser("").parse_args(words)
 
     def test_passes_the_pace_to_check(self) -> None:
         """What is taken, what `check` gets, and what is asked once more."""

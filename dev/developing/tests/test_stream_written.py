@@ -2,7 +2,7 @@
 from __future__ import annotations
 
 
-from subtitles.recording.recording import silent_in
+from subtitles.recording.recording import unreadable_packets
 from subtitles.stream.gaps import why_refused
 from subtitles.stream.packets import Packets, Run
 from subtitles.stream.survey import Survey, names_of
@@ -38,7 +38,7 @@ class Written(Case):
             one.runs += [Run(0, count, 0, 0, "", "")] * bool(count)
             known.by_pid[pid] = one
             self.must(f"{pid:#x}", why_refused(one) == words, why_refused(one))
-        silent = [one.pid for one in silent_in(known)]
+        silent = [one.pid for one in unreadable_packets(known)]
         self.must("silent", silent == [1, 2, 5, 6, 9], silent)
 
     def test_names_the_languages_of_ebu_tech_3264(self) -> None:

@@ -11,7 +11,7 @@ import shutil
 from typing import Any, Callable, Mapping, NamedTuple
 
 from ..cli import single
-from ..cli.batch import Forked, ended_of, signals_held
+from ..cli.batch import ForkedProcess, hold_signals, wait_for_any
 from ..common.command_line import Stop, ended, error_line, tell
 from ..common.files import new_name
 from ..common.times import FRAMES_A_SECOND, TICKS, pts_of, ticks_between
@@ -25,7 +25,7 @@ from ..stream.survey import survey
 from .schedule import RECORDING
 from .segments import Unbroken
 
-LEAST_SECONDS, BYTES_A_SECOND = 60.0, 2_000_000  # for judging; one more for each so many bytes
+LEAST_SECONDS, BYTES_PER_SECOND = 60.0, 2_000_000  # for judging; one more for each so many bytes
 WORK = ".work-"  # begins the name of the folder in which a programme is judged
 HEAD = "head.ts"  # in it: the recording up to a time
 SPARE = 1 << 20  # bytes of the disk that are left to others
@@ -146,7 +146,7 @@ class Checker:
                 return Outcome(None, f"no room in {self.place} for {needed:,} bytes")
             status, lines = run_forked(
                 lambda: ended(lambda _: self.judge(request, name, air_time, stretch), ()),
-                LEAST_SECONDS + size / BYTES_A_SECOND)
+                LEAST_SECONDS + size / BYTES_PER_SECOND)
         except (OSError, Stop) as reason:
             return Outcome(None, error_line(reason))
         finally:
@@ -172,13 +172,13 @@ class Checker:
             return {pid: packets.count for pid, packets in found.by_pid.items()}
 
         begin = BeginCheck(air_time, self.margin, max(first, stretch.begin), packets_by)
-        call = single.PairCall(self.program, out=self.out, here=self.work, name=name,
+        call = single.PairOptions(self.program, out=self.out, staging_folder=self.work, name=name,
                                is_claimed=True, is_kept=self.is_kept, examine=begin.examine)
         try:
             with open(recording, "xb") as file:
                 file.writelines(stretch.read(first, math.inf))
-            return exit_status(single.judged(dataclasses.replace(request, recording=recording),
-                                             call, self.program_name))
+            request = dataclasses.replace(request, recording=recording)
+            return exit_status(single.judge_and_report(request, call, self.program_name))
         except (OSError, MemoryError) as reason:  # as if a segment was deleted just now
             tell(error_line(reason))
             return FAILED
@@ -187,13 +187,13 @@ class Checker:
 def run_forked(does: Callable[[], int], longest: float) -> tuple[int, list[str]]:
     """Run a function in a process of its own; return its exit status and its lines on standard
     error. `Stop` if it takes longer than so many seconds. Nothing of it goes on afterwards."""
-    with signals_held():
-        process = Forked(does)
+    with hold_signals():
+        process = ForkedProcess(does)
     try:
-        if not ended_of([process], longest):
+        if not wait_for_any([process], longest):
             raise Stop(f"it was not judged within {longest:.0f} seconds")
-        return process.end()
+        return process.wait()
     except BaseException:
         process.kill()
-        process.end()
+        process.wait()
         raise

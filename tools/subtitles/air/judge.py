@@ -10,7 +10,7 @@ import subprocess
 import sys
 import time
 
-from ..cli.single import heed_signals, locking, now as date
+from ..cli.single import handle_signals, hold_lock, now as date
 from ..common.command_line import Stop, error_line, say
 from ..common.files import BEGIN, result_file
 from ..request.commands import CommandWords
@@ -166,9 +166,9 @@ class Judge:
 
 def judge_schedule(args: argparse.Namespace, program_name: str) -> int:
     """Judge a schedule, once or until a signal ends it; return the exit status."""
-    heed_signals()
+    handle_signals()
     os.makedirs(args.work or args.out, exist_ok=True)
-    with locking(args.out, "air", "another call is judging into "):
+    with hold_lock(args.out, "air", "another call is judging into "):
         for name in os.listdir(args.out):
             if name.startswith(BEGIN):  # an earlier call was killed while it wrote this file
                 os.unlink(os.path.join(args.out, name))

@@ -3,7 +3,7 @@ from __future__ import annotations
 
 import os
 
-from ..cli.main import number_word, seconds_word
+from ..cli.main import number_reader, read_seconds
 from ..common.command_line import Stop, Words, add_program
 from ..common.files import plain_name
 from ..common.program import TOP
@@ -12,15 +12,15 @@ from ..request.request import add_options
 from .judge import judge_schedule
 from .recorder import Limits, record
 
-hours_word = number_word("hours", 1, 99_999)
-megabytes_word = number_word("megabytes", 0, 999_999_999)
+hours_word = number_reader("hours", 1, 99_999)
+megabytes_word = number_reader("megabytes", 0, 999_999_999)
 
 
 def record_parser() -> Words:
     """Return the parser of `record`."""
     parser = Words("Records a feed in segments that are named by time, and deletes the oldest.")
     parser.add_argument("segments", metavar="SEGMENTS", help="the folder of the segments")
-    parser.add_argument("--length", metavar="S", type=seconds_word, default=10,
+    parser.add_argument("--length", metavar="S", type=read_seconds, default=10,
                         help="seconds of a segment; without it: 10")
     parser.add_argument("--keep", metavar="HOURS", type=hours_word, default=48,
                         help="hours for which a segment is kept; without it: 48")
@@ -37,13 +37,13 @@ def judge_parser() -> Words:
     parser.add_argument("segments", metavar="SEGMENTS", help="the folder of the segments")
     parser.add_argument("-o", dest="out", metavar="OUT", required=True,
                         help="the folder of the results")
-    parser.add_argument("--margin", metavar="S", type=seconds_word, default=300,
+    parser.add_argument("--margin", metavar="S", type=read_seconds, default=300,
                         help="seconds by which a programme may begin early or late; without it: "
                              "300")
-    parser.add_argument("--pause", metavar="S", type=seconds_word, default=5,
+    parser.add_argument("--pause", metavar="S", type=read_seconds, default=5,
                         help="seconds without a byte between two segments, from which on something "
                              "was not recorded; without it: 5")
-    parser.add_argument("--every-seconds", metavar="S", type=seconds_word, default=5,
+    parser.add_argument("--every-seconds", metavar="S", type=read_seconds, default=5,
                         help="seconds between two looks; without it: 5")
     parser.add_argument("--once", dest="is_once", action="store_true",
                         help="judge what is over, and end, as a timer does")

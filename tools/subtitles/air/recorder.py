@@ -10,7 +10,7 @@ import threading
 import time
 from typing import NamedTuple
 
-from ..cli.single import locking
+from ..cli.single import hold_lock
 from ..common.command_line import tell
 from .segments import names_in, segment_name
 
@@ -115,7 +115,7 @@ def record(source: int, folder: str, limits: Limits) -> None:
     """Record a feed up to its end."""
     with contextlib.suppress(OSError):  # it is no pipe
         fcntl.fcntl(source, getattr(fcntl, "F_SETPIPE_SZ", 1031), PIPE_SIZE)
-    with locking(folder, "recorder", "another feed is being recorded in "):
+    with hold_lock(folder, "recorder", "another feed is being recorded in "):
         recorder = Recorder(folder, limits)
         while data := os.read(source, MOST_READ):
             recorder.take(data)

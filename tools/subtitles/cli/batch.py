@@ -24,10 +24,10 @@ from ..request.lines import Item, at_line, inputs_of, no_file, of_folder, pairs_
 from ..request.request import Request
 from ..results.files import (
     ENDING, Row, found, is_current, left_by_call, object_at, put_object, row_of_object, unjudged)
-from .main import leave
+from .main import write_unjudged
 from .single import (
-    InUse, PairCall, SIGNALS, claimed, claimed_for_batch, clear, heed_signals, ignore_signals,
-    judged, refuse_files_of, refuse_files_of_all)
+    FilesInUse, PairOptions, SIGNALS, claim_folder, claim_pair, handle_signals, ignore_signals,
+    judge_and_report, refuse_folder_files, refuse_pair_files, remove_results)
 
 
 # A call of this tool in a process of its own, forked from one that has all loaded and no thread.
@@ -35,51 +35,51 @@ from .single import (
 # Python's start and the loading of all modules take ten times as long as a small pair does. One
 # that dies, is killed or hangs costs its own pair alone.
 
-LOADED = page  # which one pair loads only if it draws a report
+PRELOADED = page  # which one pair loads only if it draws a report
 INPUT, OUTPUT, ERRORS = range(3)
 FILES = "/proc/self/fd"  # those that this process has open
 
 
-def judge_alone(asked: Request, call: PairCall) -> int:
+def judge_forked_pair(request: Request, call: PairOptions) -> int:
     """Judge a pair in a process of its own; return its status. If that ends early, its object says
     why. A pipe that has come in the place of a file meanwhile would be waited for."""
     def judge(_: Sequence[str]) -> int:
         try:
-            if reason := no_file(asked.stl) or no_file(asked.recording or ""):
+            if reason := no_file(request.stl) or no_file(request.recording or ""):
                 raise Stop(reason)
-            return judged(asked, call, os.path.join(TOP, "tools", "qc")).status
+            return judge_and_report(request, call, os.path.join(TOP, "tools", "qc")).status
         except (Exception, KeyboardInterrupt) as reason:
             if not isinstance(reason, IsInput):
-                leave(call.name or "", {"--json": call.json}, error_line(reason))
+                write_unjudged(call.name or "", {"--json": call.json}, error_line(reason))
             raise
 
     return ended(judge, ())
 
 
-class Forked:
+class ForkedProcess:
     """A process that does something, and ends with the status of that. Nothing is read and printed
     there; its lines on standard error are known once it has ended."""
 
     def __init__(self, does: Callable[[], int]) -> None:
         # In memory: the disk may be full.
-        self.told = open(os.memfd_create("told"), "w+b", buffering=0)
+        self.errors = open(os.memfd_create("told"), "w+b", buffering=0)
         # Open there as long as it goes on: what it calls does not get it.
-        self.alive, alive = os.pipe()
-        with signals_held():
+        self.alive_pipe, alive = os.pipe()
+        with hold_signals():
             try:
                 self.pid = os.fork()
             except OSError as error:
-                self.told.close()
-                os.close(self.alive)
+                self.errors.close()
+                os.close(self.alive_pipe)
                 os.close(alive)
                 raise Stop(f"no process was begun: {error.strerror}") from None
             if not self.pid:
-                become(does, self.told.fileno(), alive)
+                run_and_exit(does, self.errors.fileno(), alive)
             os.close(alive)
 
     def fileno(self) -> int:
         """What can be waited for: it has come to its end when this has."""
-        return self.alive
+        return self.alive_pipe
 
     def stop(self) -> None:
         """Asks it to end."""
@@ -92,24 +92,24 @@ class Forked:
             with contextlib.suppress(ProcessLookupError):
                 kill(self.pid, signal.SIGKILL)
 
-    def seconds(self) -> float:
+    def cpu_seconds(self) -> float:
         """The seconds of the processor that it has taken, and what it calls."""
         with contextlib.suppress(OSError):
             with open(f"/proc/{self.pid}/task/{self.pid}/children", encoding="ascii") as file:
-                return sum(map(seconds_of, [str(self.pid), *file.read().split()]))
-        return seconds_of(str(self.pid))
+                return sum(map(cpu_seconds_of, [str(self.pid), *file.read().split()]))
+        return cpu_seconds_of(str(self.pid))
 
-    def end(self) -> tuple[int, list[str]]:
+    def wait(self) -> tuple[int, list[str]]:
         """Its status, below 0 where a signal ended it, and what it told, once it has ended."""
         _, status = os.waitpid(self.pid, 0)
-        os.close(self.alive)
-        with self.told:
-            self.told.seek(0)
-            lines = self.told.read().decode("utf-8", "replace").splitlines()
+        os.close(self.alive_pipe)
+        with self.errors:
+            self.errors.seek(0)
+            lines = self.errors.read().decode("utf-8", "replace").splitlines()
         return os.waitstatus_to_exitcode(status), lines
 
 
-def seconds_of(process: str) -> float:
+def cpu_seconds_of(process: str) -> float:
     """The seconds of the processor that a process has taken, with those of its own that have ended;
     none of one that is gone."""
     try:
@@ -121,7 +121,7 @@ def seconds_of(process: str) -> float:
 
 
 @contextlib.contextmanager
-def signals_held() -> Iterator[None]:
+def hold_signals() -> Iterator[None]:
     """Signals come later that end this call: what is done here is done as a whole."""
     before = signal.pthread_sigmask(signal.SIG_BLOCK, SIGNALS)
     try:
@@ -130,7 +130,7 @@ def signals_held() -> Iterator[None]:
         signal.pthread_sigmask(signal.SIG_SETMASK, before)
 
 
-def become(does: Callable[[], int], told: int, alive: int) -> NoReturn:
+def run_and_exit(does: Callable[[], int], told: int, alive: int) -> NoReturn:
     """Makes this process, which was forked, one of its own, and ends it: nothing that its parent
     has to do at an end is done here."""
     status = 2
@@ -138,8 +138,8 @@ def become(does: Callable[[], int], told: int, alive: int) -> NoReturn:
         try:
             gc.freeze()  # what the parent has is neither looked at nor given back
             os.setsid()
-            take_files(told, alive)
-            heed_signals()
+            redirect_files(told, alive)
+            handle_signals()
             signal.pthread_sigmask(signal.SIG_UNBLOCK, SIGNALS)
             status = does()
         finally:
@@ -148,7 +148,7 @@ def become(does: Callable[[], int], told: int, alive: int) -> NoReturn:
         os._exit(2)  # a signal came just then
 
 
-def take_files(told: int, alive: int) -> None:
+def redirect_files(told: int, alive: int) -> None:
     """Leaves open what a call has: nothing to read, what it tells, and what says that it goes on.
     All else is the parent's, locks too."""
     told, alive = (fcntl.fcntl(one, fcntl.F_DUPFD_CLOEXEC, ERRORS + 1) for one in (told, alive))
@@ -161,7 +161,7 @@ def take_files(told: int, alive: int) -> None:
                 os.close(int(name))
 
 
-def ended_of(calls: Collection[Forked], seconds: float) -> list[Forked]:
+def wait_for_any(calls: Collection[ForkedProcess], seconds: float) -> list[ForkedProcess]:
     """Those that have ended, once one has, or after some seconds."""
     by_file, poll = {call.fileno(): call for call in calls}, select.poll()
     for file in by_file:
@@ -171,19 +171,19 @@ def ended_of(calls: Collection[Forked], seconds: float) -> list[Forked]:
 
 # Many pairs: each judged by a call of its own, as many at a time as there are processors.
 
-WAIT = 0.2  # seconds between two looks at what is done
+POLL_SECONDS = 0.2  # seconds between two looks at what is done
 # Seconds of the processor that a pair may take without --limit: a small file can take hours.
-LEAST_SECONDS, BYTES_A_SECOND = 60, 10_000_000  # one more for each so many bytes
-TO_WRITE = 10  # seconds in which it may write then what is known
+LEAST_SECONDS, BYTES_PER_SECOND = 60, 10_000_000  # one more for each so many bytes
+GRACE_SECONDS = 10  # seconds in which it may write then what is known
 
 
-def limit_of(files: Mapping[str, Any]) -> int:
+def default_limit(files: Mapping[str, Any]) -> int:
     """The seconds of a pair, by its files. RLIMIT_CPU would not say which limit ended a program."""
     size: int = sum(about["size"] for about in files.values() if about)
-    return LEAST_SECONDS + size // BYTES_A_SECOND
+    return LEAST_SECONDS + size // BYTES_PER_SECOND
 
 
-class Begun(NamedTuple):
+class RunningPair(NamedTuple):
     """A pair that is judged, the seconds of the processor that it may take, and what keeps other
     calls from writing its results."""
 
@@ -192,7 +192,7 @@ class Begun(NamedTuple):
     claim: contextlib.ExitStack
 
 
-class Calls:
+class PairRunner:
     """The calls for pairs, each of which writes the object of its pair when it is judged.
 
     Objects stand in the folder `out`, with reports and lists, or in one that is temporary.
@@ -203,90 +203,92 @@ class Calls:
         self.typed, self.folder, self.out, self.is_kept = typed, folder, out, is_kept
         self.limit = limit  # seconds of the processor, where they are given
         self.parts = PartFiles(out) if out is not None else None
-        self.running: dict[Forked, Begun] = {}
-        self.over: set[Forked] = set()  # those that took more than their limit
+        self.running: dict[ForkedProcess, RunningPair] = {}
+        self.over_limit: set[ForkedProcess] = set()  # those that took more than their limit
         self.inputs = NOTHING  # of all pairs
-        self.unwritten: dict[str, dict[str, Any]] = {}  # objects that stand in no file
+        self.unwritten_results: dict[str, dict[str, Any]] = {}  # objects that stand in no file
         self.in_use: set[str] = set()  # pairs whose files another call was writing
         self.is_stopped = False
         about_program(typed.program_path)  # whose sum is then known to each of them
 
-    def path(self, item: Item) -> str:
+    def result_path(self, item: Item) -> str:
         """The file of a pair's object."""
         return os.path.join(self.out or self.folder, item.name + ENDING)
 
-    def begin(self, item: Item) -> Row | None:
+    def start(self, item: Item) -> Row | None:
         """Begins to judge a pair; its row, where that is known at once. Where its files are inputs,
         or no results, or another call writes them, nothing is done."""
-        self.unwritten.pop(item.name, None)
+        self.unwritten_results.pop(item.name, None)
         self.in_use.discard(item.name)
         claim = contextlib.ExitStack()
         try:
             if self.out is not None:
-                refuse_files_of(self.out, item.name, self.inputs, self.parts)
-            claim.enter_context(claimed(self.out, item.name))
-            return self.begin_claimed(item, claim)
+                refuse_pair_files(self.out, item.name, self.inputs, self.parts)
+            claim.enter_context(claim_pair(self.out, item.name))
+            return self.start_claimed(item, claim)
         except (Stop, OSError) as reason:
-            if isinstance(reason, InUse):
+            if isinstance(reason, FilesInUse):
                 self.in_use.add(item.name)
-            self.unwritten[item.name] = known = unjudged(item.name, error_line(reason))
+            self.unwritten_results[item.name] = known = unjudged(item.name, error_line(reason))
             return row_of_object(known, item.name)
         finally:
             claim.close()  # unless it goes on with the call
 
-    def begin_claimed(self, item: Item, claim: contextlib.ExitStack) -> Row | None:
+    def start_claimed(self, item: Item, claim: contextlib.ExitStack) -> Row | None:
         """Begins to judge a pair whose files no other call writes now."""
         if self.out is not None:
-            clear(self.out, item.name, self.parts)
+            remove_results(self.out, item.name, self.parts)
         if item.asked is None:
-            return self.leave(item, item.reason or "")
-        asked, call = item.asked, PairCall(self.typed.program_path, name=item.name, is_claimed=True)
+            return self.record_unjudged(item, item.reason or "")
+        request = item.asked
+        call = PairOptions(self.typed.program_path, name=item.name, is_claimed=True)
         call = call._replace(out=self.out, is_kept=self.is_kept) if self.out else \
-            call._replace(json=self.path(item))
-        limit = self.limit or limit_of(found(asked))
+            call._replace(json=self.result_path(item))
+        limit = self.limit or default_limit(found(request))
         try:
-            with signals_held():
-                process = Forked(lambda: judge_alone(asked, call))
-                self.running[process] = Begun(item, limit, claim.pop_all())
+            with hold_signals():
+                process = ForkedProcess(lambda: judge_forked_pair(request, call))
+                self.running[process] = RunningPair(item, limit, claim.pop_all())
         except Stop as reason:
-            return self.leave(item, str(reason))
+            return self.record_unjudged(item, str(reason))
         return None
 
-    def rows(self, seconds: float) -> Iterator[Row]:
+    def finished_rows(self, seconds: float) -> Iterator[Row]:
         """The rows of pairs that are judged by now, or once one is, after some seconds at most."""
-        for call in ended_of(self.running, seconds):
-            yield self.end(call)
+        for call in wait_for_any(self.running, seconds):
+            yield self.finish(call)
         for call, begun in self.running.items():
-            more = call.seconds() - begun.limit
+            more = call.cpu_seconds() - begun.limit
             if more >= 0:
-                self.over.add(call)
-                (call.kill if more >= TO_WRITE else call.stop)()
+                self.over_limit.add(call)
+                (call.kill if more >= GRACE_SECONDS else call.stop)()
 
-    def end(self, call: Forked) -> Row:
+    def finish(self, call: ForkedProcess) -> Row:
         """Ends a call that is over; the row of its pair."""
         item, limit, claim = self.running.pop(call)
-        is_over = call in self.over
-        self.over.discard(call)
+        is_over = call in self.over_limit
+        self.over_limit.discard(call)
         try:
-            status, lines = call.end()
-            known = left_by_call(self.path(item), item.name, status, lines)
+            status, lines = call.wait()
+            known = left_by_call(self.result_path(item), item.name, status, lines)
             if known["verdict"] == NOT_JUDGED and is_over:
-                return self.leave(item, f"it took more than {counted(limit, 'second')} of the "
-                                        "processor: --limit gives more")
-            return self.leave(item, known["reason"]) if "request" not in known else \
+                return self.record_unjudged(
+                    item, f"it took more than {counted(limit, 'second')} of the processor: "
+                    "--limit gives more")
+            return self.record_unjudged(item, known["reason"]) if "request" not in known else \
                 row_of_object(known, item.name)
         finally:
             claim.close()
 
-    def leave(self, item: Item, reason: str) -> Row:
+    def record_unjudged(self, item: Item, reason: str) -> Row:
         """The row and the object of what is not judged; that may stand in no file."""
         known = unjudged(item.name, reason)
         try:
             if not self.is_stopped:
-                put_object(self.path(item), known)
+                put_object(self.result_path(item), known)
         except OSError as error:
             known = unjudged(item.name, f"{reason}; {error_line(error)}")
-            self.unwritten[item.name] = known
+            self.unwritten_results[item.name] = known
         return row_of_object(known, item.name)
 
     def stop(self) -> None:
@@ -296,58 +298,58 @@ class Calls:
             call.stop()
         while self.running:
             call, begun = next(iter(self.running.items()))
-            if not self.end(call).is_judged:  # else it ended by itself
+            if not self.finish(call).is_judged:  # else it ended by itself
                 with contextlib.suppress(OSError):
-                    os.unlink(self.path(begun.item))
+                    os.unlink(self.result_path(begun.item))
 
 
-def judge_batch(words: argparse.Namespace, called: str) -> int:
+def judge_batch(args: argparse.Namespace, program_name: str) -> int:
     """Judges all pairs; answers the status."""
-    typed = CommandWords(called, words.program)
-    if words.is_resumed and words.out is None:
+    typed = CommandWords(program_name, args.program)
+    if args.is_resumed and args.out is None:
         raise Stop("--resume goes with -o, where the results of an earlier call are")
-    if words.line is None:
-        items, more, of_all = pairs_at(words.batch, words), list[str](), words.out
+    if args.line is None:
+        items, more, of_all = pairs_at(args.batch, args), list[str](), args.out
     else:  # others judge the other lines: nothing is written over all of them
-        item, more = at_line(words.batch, words.line, words)
+        item, more = at_line(args.batch, args.line, args)
         items, of_all = [item], None
-    inputs = inputs_of(items, words.batch, *more)
-    collection.refuse_names(words, inputs, of_all)
+    inputs = inputs_of(items, args.batch, *more)
+    collection.refuse_output_names(args, inputs, of_all)
     with temporary_folder("subttx-qc-") as folder, \
-            claimed_for_batch(of_all):
-        calls = Calls(typed, folder, words.out, words.is_kept, words.limit)
+            claim_folder(of_all):
+        calls = PairRunner(typed, folder, args.out, args.is_kept, args.limit)
         calls.inputs = inputs
-        kept = kept_rows(calls, items) if words.is_resumed else {}
-        known = all_rows(calls, items, kept, words.jobs or os.cpu_count() or 1)
+        kept = resumed_rows(calls, items) if args.is_resumed else {}
+        known = judge_all(calls, items, kept, args.jobs or os.cpu_count() or 1)
         done = [item for item in items if item.name in known]
         rows = [known[item.name] for item in done]
-        status = collection.write_collection(words, rows, [
-            calls.unwritten.get(item.name) or calls.path(item) for item in done],
+        status = collection.write_collection(args, rows, [
+            calls.unwritten_results.get(item.name) or calls.result_path(item) for item in done],
             calls.is_stopped, of_all)
         if calls.is_stopped:
             tell(f"stopped when {len(done)} of {counted(len(items), 'pair')} were judged"
-                 + ("; --resume judges the others" if words.out is not None else ""))
+                 + ("; --resume judges the others" if args.out is not None else ""))
         return status
 
 
-def kept_rows(calls: Calls, items: list[Item]) -> dict[str, Row]:
+def resumed_rows(calls: PairRunner, items: list[Item]) -> dict[str, Row]:
     """The rows of pairs that an earlier call has judged as they would be judged now."""
     program, rows = about_program(calls.typed.program_path), {}
     for item in items:
-        path = calls.path(item)
+        path = calls.result_path(item)
         known = object_at(path) if item.asked and os.path.exists(path) else None
-        if known and is_kept(known, item, program):
+        if known and is_reusable(known, item, program):
             rows[item.name] = row_of_object(known, item.name)
     return rows
 
 
-def is_kept(known: dict[str, Any] | None, item: Item, program: MadeWith) -> bool:
+def is_reusable(known: dict[str, Any] | None, item: Item, program: MadeWith) -> bool:
     """Whether what an earlier call has judged of a pair would be judged so now."""
     return known is not None and item.asked is not None and known["verdict"] != NOT_JUDGED \
         and is_current(known, item.asked, program)
 
 
-def all_rows(calls: Calls, items: list[Item], kept: dict[str, Row], jobs: int,
+def judge_all(calls: PairRunner, items: list[Item], kept: dict[str, Row], jobs: int,
              take: Callable[[Row], None] = lambda row: None) -> dict[str, Row]:
     """The rows of all pairs, with a line of progress, each `taken` once it is known; where a signal
     ends it, of those that were judged before."""
@@ -355,7 +357,7 @@ def all_rows(calls: Calls, items: list[Item], kept: dict[str, Row], jobs: int,
     waiting = collections.deque(item for item in items if item.name not in kept)
     try:
         while waiting or calls.running:
-            for row in judged_next(calls, waiting, jobs):
+            for row in judge_next(calls, waiting, jobs):
                 rows[row.name] = row
                 progress.clear()
                 take(row)
@@ -363,7 +365,7 @@ def all_rows(calls: Calls, items: list[Item], kept: dict[str, Row], jobs: int,
     except BaseException as reason:
         if isinstance(reason, KeyboardInterrupt):
             ignore_signals()  # what is known is written now
-        for row in calls.rows(0.0):
+        for row in calls.finished_rows(0.0):
             rows[row.name] = row
             take(row)
         calls.stop()
@@ -373,104 +375,105 @@ def all_rows(calls: Calls, items: list[Item], kept: dict[str, Row], jobs: int,
     return rows
 
 
-def judged_next(calls: Calls, waiting: collections.deque[Item], jobs: int) -> Iterator[Row]:
+def judge_next(calls: PairRunner, waiting: collections.deque[Item], jobs: int) -> Iterator[Row]:
     """Begins with pairs that are waited for, so many at a time; the rows of those that are judged
     by then, or after a while."""
     while waiting and len(calls.running) < jobs:
-        row = calls.begin(waiting.popleft())
+        row = calls.start(waiting.popleft())
         if row:
             yield row
-    yield from calls.rows(WAIT)
+    yield from calls.finished_rows(POLL_SECONDS)
 
 
 # A folder into which pairs are written: judged as a batch of it is that is resumed, again and
 # again, each pair once both of its files are whole.
 
-LOOK = 1.0  # seconds between two looks: no notice comes of what another machine writes
-DONE = ".done"  # after the name of a pair: both of its files are whole
+SCAN_SECONDS = 1.0  # seconds between two looks: no notice comes of what another machine writes
+DONE_SUFFIX = ".done"  # after the name of a pair: both of its files are whole
 
 
 class Sighting(NamedTuple):
     """What files are like, or why they are no pair, and since when by this machine's clock."""
 
-    is_like: object
-    since: float
+    file_state: object
+    seen_at: float
 
 
-class Watch:
+class FolderWatch:
     """What was seen in a folder: `known` is what each pair was like that has its result, and why
     another one is none, as it was told."""
 
     def __init__(self, folder: str, settled: int) -> None:
         self.folder, self.settled = folder, settled
         self.seen: dict[str, Sighting] = {}
-        self.known: dict[str, object] = {}
+        self.handled: dict[str, object] = {}
 
-    def due(self, items: Iterable[Item]) -> list[Item]:
+    def ready_items(self, items: Iterable[Item]) -> list[Item]:
         """The pairs that are whole, and new or changed; what is no pair is told, once."""
-        now, due = time.monotonic(), []
+        now, ready = time.monotonic(), []
         for item in items:
-            is_like = found(item.asked) if item.asked else item.reason
-            if self.known.get(item.name) == is_like or not self.is_whole(item.name, is_like, now):
+            file_state = found(item.asked) if item.asked else item.reason
+            if self.handled.get(item.name) == file_state or not self.is_complete(
+                    item.name, file_state, now):
                 continue
-            self.known[item.name] = is_like
+            self.handled[item.name] = file_state
             if item.asked:
-                due.append(item)
+                ready.append(item)
             else:
                 tell(item.reason or item.name)
-        return due
+        return ready
 
-    def is_whole(self, name: str, is_like: object, now: float) -> bool:
+    def is_complete(self, name: str, file_state: object, now: float) -> bool:
         """Whether the files of a pair are whole: somebody says so, or they have not changed from
         when they were seen first to when this look began."""
-        if os.path.exists(os.path.join(self.folder, name + DONE)):
+        if os.path.exists(os.path.join(self.folder, name + DONE_SUFFIX)):
             return True
         seen = self.seen.get(name)
-        if seen is None or seen.is_like != is_like:
-            self.seen[name] = Sighting(is_like, time.monotonic())
+        if seen is None or seen.file_state != file_state:
+            self.seen[name] = Sighting(file_state, time.monotonic())
             return False
-        return now - seen.since >= self.settled
+        return now - seen.seen_at >= self.settled
 
 
-def refuse_folders(words: argparse.Namespace) -> None:
+def refuse_folders(args: argparse.Namespace) -> None:
     """Both folders have to be there, and be two."""
-    if words.out is None:
+    if args.out is None:
         raise Stop("--watch goes with -o, the folder for results and reports")
-    if not os.path.isdir(words.watch):
-        raise Stop(f"{words.watch} is no folder")
-    os.makedirs(words.out, exist_ok=True)
-    if os.path.samefile(words.watch, words.out):
-        raise Stop(f"{words.out} is the folder that is watched: give another one with -o")
-    refuse_files_of_all(words.out, NOTHING)
+    if not os.path.isdir(args.watch):
+        raise Stop(f"{args.watch} is no folder")
+    os.makedirs(args.out, exist_ok=True)
+    if os.path.samefile(args.watch, args.out):
+        raise Stop(f"{args.out} is the folder that is watched: give another one with -o")
+    refuse_folder_files(args.out, NOTHING)
 
 
-def watch(words: argparse.Namespace, called: str) -> int:
+def watch(args: argparse.Namespace, program_name: str) -> int:
     """Judges what comes, until a signal ends that; answers the status 2. Pairs that are judged then
     have no result, and are judged after a new start."""
-    refuse_folders(words)
-    typed = CommandWords(called, words.program)
-    calls = Calls(typed, words.out, words.out, words.is_kept, words.limit)
+    refuse_folders(args)
+    typed = CommandWords(program_name, args.program)
+    calls = PairRunner(typed, args.out, args.out, args.is_kept, args.limit)
     program = about_program(typed.program_path)
-    watching = Watch(words.watch, words.settled)
-    results = collection.FolderRows(words.out)
+    watching = FolderWatch(args.watch, args.settled)
+    results = collection.FolderRows(args.out)
 
     def take(row: Row) -> None:
         if row.name in calls.in_use:  # it is judged again at the next look, and told once
-            watching.known.pop(row.name, None)
+            watching.handled.pop(row.name, None)
             if results.rows.get(row.name) == row:
                 return
-        results.take(row)
+        results.add(row)
 
-    heed_signals()
+    handle_signals()
     try:
         while not calls.is_stopped:
-            items = of_folder(words.watch, words)
+            items = of_folder(args.watch, args)
             calls.inputs = inputs_of(items)
-            due = [item for item in watching.due(items)
-                   if not is_kept(results.earlier.pop(item.name, None), item, program)]
-            all_rows(calls, due, {}, words.jobs or os.cpu_count() or 1, take)
+            due = [item for item in watching.ready_items(items)
+                   if not is_reusable(results.identities.pop(item.name, None), item, program)]
+            judge_all(calls, due, {}, args.jobs or os.cpu_count() or 1, take)
             results.write_page()
-            time.sleep(LOOK)
+            time.sleep(SCAN_SECONDS)
     except KeyboardInterrupt:
         ignore_signals()
     results.write_page(is_last=True)

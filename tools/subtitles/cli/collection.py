@@ -20,7 +20,7 @@ from ..results.files import (
     ENDING, NO_CLOCK, Row, TestCase, in_order, junit_file, object_at, objects_in, put_file,
     row_of_object, table_lines, unjudged)
 from ..results.schema import FORMAT
-from .single import now, refuse_files_of_all
+from .single import now, refuse_folder_files
 
 
 # All pairs of a folder on one page, those that somebody has to look at first; without a script.
@@ -69,7 +69,7 @@ def index_page(folder: str, rows: Sequence[Row], date: str) -> bytes:
     counts = ", ".join(f"{verdicts[one]} {one}" for one in sorted(verdicts))
     title = f"{counted(len(rows), 'pair')}: {counts}"
     heads = joined(markup('<th scope="col">{}</th>', text) for text in PAGE_HEADS)
-    lines = joined((pair_line(folder, row) for row in sorted(rows, key=rank)), "\n")
+    lines = joined((pair_row(folder, row) for row in sorted(rows, key=sort_key)), "\n")
     hiding = joined(markup('main:has([value="{}"]:checked) .pairs tbody tr:not(.{}) '
                            "{{ display: none; }}\n", *[one.replace(" ", "-")] * 2)
                     for one in sorted(verdicts))
@@ -85,12 +85,12 @@ def index_page(folder: str, rows: Sequence[Row], date: str) -> bytes:
         "</style></head><body><main>\n<h1>{}</h1>\n<p><small>Made {}. Pairs that somebody has to "
         "look at come first.</small></p>\n{}{}\n<fieldset><legend>Show</legend>{}</fieldset>\n"
         '<table class="pairs"><caption>All pairs</caption><thead><tr>{}</tr></thead><tbody>\n{}\n'
-        "</tbody></table>\n</main></body></html>\n", title, date, note, totals(rows), radios, heads,
-        lines)
+        "</tbody></table>\n</main></body></html>\n", title, date, note, cause_totals(rows), radios,
+        heads, lines)
     return page.page()
 
 
-def totals(rows: Sequence[Row]) -> Markup:
+def cause_totals(rows: Sequence[Row]) -> Markup:
     """How many subtitles, or faults, of how many pairs have which cause."""
     causes, pairs = collections.Counter[str](), collections.Counter[str]()
     for row in rows:
@@ -101,14 +101,14 @@ def totals(rows: Sequence[Row]) -> Markup:
     return markup("<p>Subtitles or faults by cause: {}.</p>", words) if causes else NO_MARKUP
 
 
-def rank(row: Row) -> tuple[int, str]:
+def sort_key(row: Row) -> tuple[int, str]:
     """Return the key that sorts what is broken first, then what is not judged, then what is waived
     or relative, then what is accepted."""
     ranks = {NOT_JUDGED: 1, WAIVED: 2, RELATIVE: 2, ACCEPTED: 3}
     return ranks.get(row.verdict, 0), row.name
 
 
-def pair_line(folder: str, row: Row) -> Markup:
+def pair_row(folder: str, row: Row) -> Markup:
     """The line of a pair."""
     causes = list(row.causes.items())
     told = [markup("<b>{}</b>", counted(row.faults, "fault"))] if row.faults else []
@@ -126,10 +126,10 @@ def pair_line(folder: str, row: Row) -> Markup:
         '<tr class="{}"><td class="verdict">{}</td><td>{}<br/><small>{}</small></td><td>{}<br/>'
         "<small>{}</small></td><td>{}</td><td>{}</td></tr>", row.verdict.replace(" ", "-"), verdict,
         name, row.title, joined(why, BREAK), row.line if row.sentence and row.is_judged else "",
-        joined(told, BREAK), links(folder, row.name))
+        joined(told, BREAK), file_links(folder, row.name))
 
 
-def links(folder: str, name: str) -> Markup:
+def file_links(folder: str, name: str) -> Markup:
     """Links to what there is of a pair beside its report."""
     found = []
     for ending, word in ((".txt", "list"), (ENDING, "JSON")):
@@ -140,14 +140,14 @@ def links(folder: str, name: str) -> Markup:
 
 # Objects of many pairs in one table, one page, and one file for each kind of machine.
 
-Place = Union[str, dict[str, Any]]  # of an object: its file, or itself where it has none
-LINE_HEADS = ("pair", "verdict", "faults", "worst fault")
+ResultSource = Union[str, dict[str, Any]]  # of an object: its file, or itself where it has none
+TABLE_HEADS = ("pair", "verdict", "faults", "worst fault")
 
 
-def collect(words: argparse.Namespace) -> int:
+def collect(args: argparse.Namespace) -> int:
     """Makes all there is to make of the objects in a folder; answers the status."""
-    folder = words.collect
-    refuse_names(words)
+    folder = args.collect
+    refuse_output_names(args)
     if not os.path.isdir(folder):
         raise Stop(f"{folder} is no folder")
     rows, paths = [], []
@@ -160,11 +160,11 @@ def collect(words: argparse.Namespace) -> int:
         paths.append(path)
     if not rows:
         raise Stop(f"{folder} has no JSON result of a pair")
-    refuse_names(words, Inputs(*paths), folder)
-    return write_collection(words, rows, paths, folder=folder)
+    refuse_output_names(args, Inputs(*paths), folder)
+    return write_collection(args, rows, paths, folder=folder)
 
 
-def write_collection(words: argparse.Namespace, rows: Sequence[Row], places: Sequence[Place],
+def write_collection(args: argparse.Namespace, rows: Sequence[Row], places: Sequence[ResultSource],
                      is_stopped: bool = False, folder: str | None = None) -> int:
     """Writes the page over a folder, and the files for machines, by the objects, and prints the
     table; answers the status, which is 2 where others were to be judged too, or a file could not be
@@ -176,9 +176,9 @@ def write_collection(words: argparse.Namespace, rows: Sequence[Row], places: Seq
 
     written: list[Callable[[], None]] = [
         lambda: write_index(folder, rows), lambda: put_file(
-            words.csv, lambda: table_lines(map(all_told, places))),
-        lambda: put_file(words.junit, lambda: testcases(rows, date)),
-        lambda: put_file(words.json, lambda: objects(places, status(), date))]
+            args.csv, lambda: table_lines(map(load_for_csv, places))),
+        lambda: put_file(args.junit, lambda: junit_chunks(rows, date)),
+        lambda: put_file(args.json, lambda: json_chunks(places, status(), date))]
     for write in written:
         try:
             write()
@@ -186,10 +186,10 @@ def write_collection(words: argparse.Namespace, rows: Sequence[Row], places: Seq
             failed.append(error_line(reason))
             tell(failed[-1])
     why = "stopped before the others" if is_stopped else "not all was written" if failed else ""
-    is_output_taken = any(path in OWN_OUTPUT for path in (words.json, words.csv, words.junit))
+    is_output_taken = any(path in OWN_OUTPUT for path in (args.json, args.csv, args.junit))
     out = sys.stderr if is_output_taken else sys.stdout
     try:
-        for line in table_of(rows, why) if rows else ():
+        for line in summary_table(rows, why) if rows else ():
             print(shown(line), file=out)
         out.flush()
     except BrokenPipeError:  # who reads it wants no more: what is written stays
@@ -197,25 +197,27 @@ def write_collection(words: argparse.Namespace, rows: Sequence[Row], places: Seq
     return status()
 
 
-PAIRS_A_SECOND = 1000  # of a folder that is watched: so often its page is written again
+PAIRS_PER_SECOND = 1000  # of a folder that is watched: so often its page is written again
 
 
 class FolderRows:
     """The rows of a folder of results, each of which is read once, with what tells whether it is
     still that of its pair."""
 
-    TELLING = "request", "files_at_start", "program", "verdict"
+    IDENTITY_KEYS = "request", "files_at_start", "program", "verdict"
 
     def __init__(self, folder: str) -> None:
-        self.folder, self.rows, self.earlier = folder, dict[str, Row](), dict[str, dict[str, Any]]()
+        self.folder, self.rows = folder, dict[str, Row]()
+        self.identities = dict[str, dict[str, Any]]()
         self.is_page_old, self.next_page = False, 0.0
         for path, known in objects_in(folder):
             if known is not None:
                 name = os.path.basename(path).removesuffix(ENDING)
                 self.rows[name] = row_of_object(known, name)
-                self.earlier[name] = {word: known[word] for word in self.TELLING if word in known}
+                self.identities[name] = {key: known[key] for key in self.IDENTITY_KEYS
+                                         if key in known}
 
-    def take(self, row: Row) -> None:
+    def add(self, row: Row) -> None:
         """Print a verdict, and keep it for the page over all pairs."""
         self.rows[row.name], self.is_page_old = row, True
         line = worst_fault(row)
@@ -233,19 +235,19 @@ class FolderRows:
         except OSError as reason:
             tell(error_line(reason))
         self.is_page_old = False
-        self.next_page = time.monotonic() + len(self.rows) / PAIRS_A_SECOND
+        self.next_page = time.monotonic() + len(self.rows) / PAIRS_PER_SECOND
 
 
-def refuse_names(words: argparse.Namespace, inputs: Inputs = NOTHING,
+def refuse_output_names(args: argparse.Namespace, inputs: Inputs = NOTHING,
                  folder: str | None = None) -> None:
     """Names under which nothing can be written, and those of inputs, are refused before anything is
     done; also those of the files over all pairs of a folder."""
-    for path in (words.json, words.csv, words.junit):
+    for path in (args.json, args.csv, args.junit):
         if path is not None:
             refuse_name(path)
             inputs.refuse(path, True)
     if folder is not None:
-        refuse_files_of_all(folder, inputs)
+        refuse_folder_files(folder, inputs)
 
 
 def write_index(folder: str | None, rows: Sequence[Row]) -> None:
@@ -256,10 +258,10 @@ def write_index(folder: str | None, rows: Sequence[Row]) -> None:
         file.write(index_page(folder, rows, now()))
 
 
-def table_of(rows: Sequence[Row], why: str = "") -> Iterator[str]:
+def summary_table(rows: Sequence[Row], why: str = "") -> Iterator[str]:
     """The table, and a line of how many there are of which verdict; where more than these decides
     the status, it says so."""
-    lines = [LINE_HEADS, *((row.name, row.verdict, str(row.faults) if row.is_judged else "",
+    lines = [TABLE_HEADS, *((row.name, row.verdict, str(row.faults) if row.is_judged else "",
                             worst_fault(row)) for row in rows)]
     widths = [max(len(line[column]) for line in lines) for column in range(3)]
     for name, verdict, faults, first in lines:
@@ -298,18 +300,18 @@ def worst_fault(row: Row) -> str:
     return (f"{line}: {row.hint}" if row.hint else line) + more
 
 
-def objects(places: Sequence[Place], status: int, date: str) -> Iterator[bytes]:
+def json_chunks(places: Sequence[ResultSource], status: int, date: str) -> Iterator[bytes]:
     """One object with those of all pairs."""
     head = {"format": FORMAT, "status": status, "date": date}
     yield json.dumps(head, indent=1).removesuffix("\n}").encode() + b',\n "pairs": ['
     before = b"\n"
     for place in places:
-        yield before + json.dumps(known_at(place)).encode()
+        yield before + json.dumps(load_result(place)).encode()
         before = b",\n"
     yield b"]\n}\n"
 
 
-def known_at(place: Place) -> dict[str, Any]:
+def load_result(place: ResultSource) -> dict[str, Any]:
     """The object of a pair, wherever it stands; its file may be gone by now."""
     if isinstance(place, dict):
         return place
@@ -317,16 +319,16 @@ def known_at(place: Place) -> dict[str, Any]:
     return object_at(place) or unjudged(name, "its JSON result is gone: judge it again")
 
 
-def all_told(place: Place) -> dict[str, Any]:
+def load_for_csv(place: ResultSource) -> dict[str, Any]:
     """An object; that some of its faults are left out is told."""
-    known = known_at(place)
+    known = load_result(place)
     left_out = known["omitted"]["faults"] if "request" in known else 0
     if left_out:
         tell(f"{place} leaves out {counted(left_out, 'fault')}, and so do the lines")
     return known
 
 
-def testcases(rows: Sequence[Row], date: str) -> Iterator[bytes]:
+def junit_chunks(rows: Sequence[Row], date: str) -> Iterator[bytes]:
     """A testcase for each pair."""
     yield junit_file([
         TestCase(row.title, row.verdict, row.status, row.line, row.lines, row.seconds,

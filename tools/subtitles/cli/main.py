@@ -22,7 +22,7 @@ CALLS = (PAIR, ALONE, BATCH, WATCH)
 OUTPUT_MODES = (PAIR, ALONE, BATCH, COLLECT)
 
 
-def number_word(what: str, least: int, most: int) -> Callable[[str], int]:
+def number_reader(what: str, least: int, most: int) -> Callable[[str], int]:
     """What reads a number of something, in bounds."""
 
     def read(text: str) -> int:
@@ -34,12 +34,12 @@ def number_word(what: str, least: int, most: int) -> Callable[[str], int]:
     return read
 
 
-line_word = number_word("a line", 1, 9_999_999)
-jobs_word = number_word("pairs at a time", 1, 9_999)
-seconds_word = number_word("seconds", 0, 99_999)
-limit_word = number_word("seconds", 1, 99_999)
+read_line_number = number_reader("a line", 1, 9_999_999)
+read_jobs = number_reader("pairs at a time", 1, 9_999)
+read_seconds = number_reader("seconds", 0, 99_999)
+read_limit = number_reader("seconds", 1, 99_999)
 
-ASKING = (
+MODE_OPTIONS = (
     Option("--batch", "FOLDER|LIST", "judge the pairs of a folder or a list", (BATCH,),
            field="batch"),
     Option("--collect", "DIR", "make one table and one page of the JSON results in DIR", (COLLECT,),
@@ -47,7 +47,7 @@ ASKING = (
     Option("--watch", "IN", "judge pairs as they arrive in a folder", (WATCH,), field="watch"),
     Option("--measure", "STL RECORDING", "print a [profile](#a-profile) of right recordings: of "
            "pairs, or of a list", (MEASURE,), field="measure", nargs="+"))
-OF_CALL = (
+CALL_OPTIONS = (
     Option("-o", "DIR", "write report, list and JSON result to DIR", CALLS, field="out"),
     Option("--keep", None, "keep the recording's PES packets in DIR (NAME.recording.pes); from a "
            "pipe, everything received (.ts)", (PAIR, BATCH, WATCH), field="is_kept", default=False),
@@ -60,83 +60,85 @@ OF_CALL = (
            field="program"),
     Option("--resume", None, "skip pairs that an earlier call judged in the same way",
            (BATCH,), field="is_resumed", default=False),
-    Option("--line", "N", "judge only line N of LIST", (BATCH,), field="line", read=line_word),
+    Option("--line", "N", "judge only line N of LIST", (BATCH,), field="line",
+           read=read_line_number),
     Option("--jobs", "N", "judge N pairs at a time", (BATCH, WATCH), "one for each processor",
-           field="jobs", read=jobs_word),
+           field="jobs", read=read_jobs),
     Option("--limit", "SECONDS", "limit the CPU time of a pair, including subprocesses",
-           (BATCH, WATCH), "60, and 1 for each 10 MB", field="limit", read=limit_word),
+           (BATCH, WATCH), "60, and 1 for each 10 MB", field="limit", read=read_limit),
     Option("--settled", "S", "treat a file as complete after S seconds without change", (WATCH,),
-           "5", field="settled", default=5, read=seconds_word),
+           "5", field="settled", default=5, read=read_seconds),
     Option("--quiet", None, "print only the sentence and the last line", (ALONE, PAIR),
            field="is_quiet", default=False))
-TAKEN_BY = {one.name: one.modes for one in (*OPTIONS, *OF_CALL)}
+OPTION_MODES = {one.name: one.modes for one in (*OPTIONS, *CALL_OPTIONS)}
 
 
-def mode_of(words: argparse.Namespace) -> Mode:
+def find_mode(args: argparse.Namespace) -> Mode:
     """What is asked for; `Stop` where that is two things."""
-    asked = {BATCH: words.batch, COLLECT: words.collect, WATCH: words.watch,
-             MEASURE: words.measure}
+    asked = {BATCH: args.batch, COLLECT: args.collect, WATCH: args.watch,
+             MEASURE: args.measure}
     given = [mode for mode, value in asked.items() if value is not None]
     if len(given) > 1:
         raise Stop(f"{given[0].words} and {given[1].words} are two calls")
-    if given and words.stl is not None:
+    if given and args.stl is not None:
         own = "behind it" if given[0] is MEASURE else f"from {asked[given[0]]}"
-        raise Stop(f"{words.stl} stands beside {given[0].words}, which takes its pairs {own}")
-    return given[0] if given else ALONE if words.recording is None else PAIR
+        raise Stop(f"{args.stl} stands beside {given[0].words}, which takes its pairs {own}")
+    return given[0] if given else ALONE if args.recording is None else PAIR
 
 
-def options_in(parser: Words, line: Sequence[str]) -> list[str]:
-    """The options that a command line gives, as `TAKEN_BY` names them and in its order."""
+def given_options(parser: Words, line: Sequence[str]) -> list[str]:
+    """The options that a command line gives, as `OPTION_MODES` names them and in its order."""
     names, left_out = parser.fields, object()
     values = parser.parse_args([*line], argparse.Namespace(**dict.fromkeys(
         names.values(), left_out)))
     given = {field for field, value in vars(values).items() if value is not left_out}
     # One that has two words is the one that stands there.
     words = {word.partition("=")[0] for word in line}
-    return [name for name in TAKEN_BY if names.get(name) in given and (
+    return [name for name in OPTION_MODES if names.get(name) in given and (
         name in words or not words & {other for other in names if names[other] == names[name]})]
 
 
 def refuse_options(parser: Words, line: Sequence[str], mode: Mode) -> None:
     """`Stop` with the first option that does not go with what is asked for."""
-    for name in options_in(parser, line):
-        if mode not in TAKEN_BY[name]:
-            raise Stop(goes_with(name, TAKEN_BY[name], mode))
+    for name in given_options(parser, line):
+        if mode not in OPTION_MODES[name]:
+            raise Stop(goes_with(name, OPTION_MODES[name], mode))
 
 
 # The words of tools/qc.
 
 
-def parser_of(text: str) -> Words:
+def make_parser(text: str) -> Words:
     """Return the parser of tools/qc, with this text as its help."""
     parser = Words(text)
     parser.add_argument("stl", metavar="STL", nargs="?", help="the subtitle file")
     parser.add_argument("recording", metavar="RECORDING", nargs="?",
                         help="the recording, - for standard input")
     add_options(parser)
-    add_options(parser, [*ASKING, *OF_CALL])
+    add_options(parser, [*MODE_OPTIONS, *CALL_OPTIONS])
     return parser
 
 
-def main(text: str, called: str, line: list[str]) -> int:
+def main(text: str, program_name: str, line: list[str]) -> int:
     """Does what the words ask; answers the status. Where that ends early, what is asked for by
     --json, --csv and --junit says why, as nothing else may."""
     try:
-        status = answer(text, called, line)
+        status = dispatch(text, program_name, line)
         sys.stdout.flush()
         return status
     except (Exception, KeyboardInterrupt) as reason:
         if not isinstance(reason, IsInput):
-            leave(name_in(line), {one: file_in(line, one) for one in PIECES}, error_line(reason))
+            paths = {option: output_path_in(line, option) for option in PIECES}
+            write_unjudged(pair_name_in(line), paths, error_line(reason))
         raise
 
 
-def leave(name: str, paths: dict[str, str | None], reason: str) -> None:
+def write_unjudged(name: str, paths: dict[str, str | None], reason: str) -> None:
     """Writes the files that are asked for, each with one entry that is not judged."""
     known = files.unjudged(name, reason)
     for option, path in paths.items():
         with contextlib.suppress(Stop, OSError):
-            if path is not None and files.may_take(path, BEGINS[option]):
+            if path is not None and files.may_take(path, FIRST_BYTES[option]):
                 files.put_file(path, lambda: PIECES[option](known))
 
 
@@ -152,10 +154,10 @@ PIECES: dict[str, Callable[[dict[str, Any]], Iterable[bytes]]] = {
     "--json": lambda known: [files.object_text(known)],
     "--csv": lambda known: files.table_lines([known]), "--junit": testcase}
 # What a file begins with that an earlier call wrote: another one may be an input.
-BEGINS = {"--json": b"{", "--csv": b"stl,recording,", "--junit": b"<?xml version='1.0' "}
+FIRST_BYTES = {"--json": b"{", "--csv": b"stl,recording,", "--junit": b"<?xml version='1.0' "}
 
 
-def file_in(line: Sequence[str], option: str) -> str | None:
+def output_path_in(line: Sequence[str], option: str) -> str | None:
     """The file of an option in the words of a command line, whatever else is wrong with them: a
     parser that knows that option alone finds it."""
     parser = Words(None)
@@ -166,32 +168,32 @@ def file_in(line: Sequence[str], option: str) -> str | None:
         return None
 
 
-def name_in(line: Sequence[str]) -> str:
+def pair_name_in(line: Sequence[str]) -> str:
     """The name of the pair of a command line, by its subtitle file, which its ending tells, as the
     other words may be wrong; none where there is no such word."""
     stl = next((word for word in line if word.lower().endswith(".stl")), "")
     return os.path.splitext(os.path.basename(stl))[0]
 
 
-def answer(text: str, called: str, line: list[str]) -> int:
+def dispatch(text: str, program_name: str, line: list[str]) -> int:
     """Does what the words ask; answers the status."""
-    refuse_options(parser_of(text), line, mode_of(parser_of(text).parse_args(line)))
-    words = read_options(parser_of(text), line, {}, {}, is_typed=True)
-    if words.is_kept and words.out is None:
+    refuse_options(make_parser(text), line, find_mode(make_parser(text).parse_args(line)))
+    args = read_options(make_parser(text), line, {}, {}, is_typed=True)
+    if args.is_kept and args.out is None:
         raise Stop("--keep goes with -o DIR, where it keeps what was judged")
-    words.out = words.out and plain_name(words.out)
-    if words.collect is not None:
+    args.out = args.out and plain_name(args.out)
+    if args.collect is not None:
         from . import collection  # one pair needs nothing of these
-        return collection.collect(words)
-    if words.batch is not None:
+        return collection.collect(args)
+    if args.batch is not None:
         from . import batch
-        return batch.judge_batch(words, called)
-    if words.measure is not None:
+        return batch.judge_batch(args, program_name)
+    if args.measure is not None:
         from . import measure
-        return measure.measure(words, called)
-    if words.watch is not None:
+        return measure.measure(args, program_name)
+    if args.watch is not None:
         from . import batch
-        return batch.watch(words, called)
-    if words.stl is None:
+        return batch.watch(args, program_name)
+    if args.stl is None:
         raise Stop("give a subtitle file, and a recording; --help lists all options")
-    return single.judge_call(words, called)
+    return single.judge_command(args, program_name)

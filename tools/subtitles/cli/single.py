@@ -39,15 +39,15 @@ from ..stream.gaps import first_lines
 # left as it is.
 
 RESULT = re.compile(rb'\{\s*"format": [0-9]+,\s*"(verdict": "|status": )')
-ENOUGH = 4096  # bytes by which a file tells what it is
+PREFIX_BYTES = 4096  # bytes by which a file tells what it is
 KEPT_SECONDS = 600  # within which a result is written after the recording that is kept beside it
 
 
-class InUse(Stop):
+class FilesInUse(Stop):
     """Another call writes the files that this one would write."""
 
 
-def refuse_files_of(folder: str, name: str, inputs: Inputs, parts: PartFiles | None = None
+def refuse_pair_files(folder: str, name: str, inputs: Inputs, parts: PartFiles | None = None
                     ) -> None:
     """`Stop` where a call for a pair would write over an input, or over what no call has written,
     or take that away: nothing is done yet."""
@@ -55,19 +55,19 @@ def refuse_files_of(folder: str, name: str, inputs: Inputs, parts: PartFiles | N
         refuse_file(path, inputs)
 
 
-def refuse_files_of_all(folder: str, inputs: Inputs) -> None:
+def refuse_folder_files(folder: str, inputs: Inputs) -> None:
     """The same of the files over all pairs of a folder."""
     for path in (index_in(folder), lock_of(folder, "")):
         refuse_file(path, inputs)
 
 
-def is_own(path: str) -> bool:
+def is_own_file(path: str) -> bool:
     """Whether these tools have written a file, by its first bytes: a page by all that stands before
     its title, a list by the line of a fault or of a verdict. Those of a recording tell nothing."""
     begin, ending = os.path.splitext(path)
     if ending in (".pes", ".ts"):
-        return is_kept_beside(path, f"{os.path.splitext(begin)[0]}.json")
-    data = first_bytes(path, ENOUGH, is_followed=False)
+        return is_kept_recording(path, f"{os.path.splitext(begin)[0]}.json")
+    data = first_bytes(path, PREFIX_BYTES, is_followed=False)
     if not data or ending == f".{LOCK}":
         return not data
     if ending == ".txt":
@@ -76,10 +76,10 @@ def is_own(path: str) -> bool:
     return bool(RESULT.match(data)) if ending == ".json" else data.startswith(HEAD.page())
 
 
-def is_kept_beside(path: str, result: str) -> bool:
+def is_kept_recording(path: str, result: str) -> bool:
     """Whether a recording is kept beside a result: it was written just before that. What somebody
     has put there was written at another time."""
-    if not os.path.isfile(result) or not is_own(result):
+    if not os.path.isfile(result) or not is_own_file(result):
         return False
     return 0 <= os.stat(result).st_mtime_ns - os.stat(path).st_mtime_ns < KEPT_SECONDS * 10**9
 
@@ -90,51 +90,51 @@ def refuse_file(path: str, inputs: Inputs) -> None:
     inputs.refuse(path, False)
     with contextlib.suppress(FileNotFoundError, NotADirectoryError):
         about = os.lstat(path)
-        if not stat.S_ISLNK(about.st_mode) and (kind_of(about.st_mode) or not is_own(path)):
+        if not stat.S_ISLNK(about.st_mode) and (kind_of(about.st_mode) or not is_own_file(path)):
             raise Stop(f"{path} is there, and is no result of these tools: move it away, or give "
                        "another folder")
 
 
-def clear(folder: str, name: str, parts: PartFiles | None = None) -> None:
+def remove_results(folder: str, name: str, parts: PartFiles | None = None) -> None:
     """Takes away what an earlier call left of a pair."""
     for path in files_in(folder, name, parts):
         if os.path.lexists(path):
             os.unlink(path)
 
 
-def claimed(folder: str | None, name: str) -> contextlib.AbstractContextManager[None]:
+def claim_pair(folder: str | None, name: str) -> contextlib.AbstractContextManager[None]:
     """Makes a folder, and keeps other calls from writing the files of a pair in it."""
-    return locking(folder, name, f"another call is writing the files of {name} in ")
+    return hold_lock(folder, name, f"another call is writing the files of {name} in ")
 
 
-def claimed_for_batch(folder: str | None) -> contextlib.AbstractContextManager[None]:
+def claim_folder(folder: str | None) -> contextlib.AbstractContextManager[None]:
     """Makes a folder, and keeps other batches from judging into it."""
-    return locking(folder, "", "another batch is judging into ")
+    return hold_lock(folder, "", "another batch is judging into ")
 
 
 @contextlib.contextmanager
-def locking(folder: str | None, name: str, refusal: str) -> Iterator[None]:
-    """Makes a folder, if there is to be one, and holds a lock in it; `InUse` with these words where
-    another one does."""
+def hold_lock(folder: str | None, name: str, refusal: str) -> Iterator[None]:
+    """Makes a folder, if there is to be one, and holds a lock in it; `FilesInUse` if
+    another call holds it, with the text `refusal`."""
     if folder is None:
         yield
         return
     path = lock_of(folder, name)
     with naming(folder):
         os.makedirs(folder, exist_ok=True)
-        handle = locked(path)
+        handle = open_locked(path)
     if handle is None:
-        raise InUse(refusal + folder)
+        raise FilesInUse(refusal + folder)
     try:
         yield
     finally:
         with contextlib.suppress(OSError):  # somebody has changed the folder
-            if is_at(handle, path):
+            if is_file_at(handle, path):
                 os.unlink(path)
         os.close(handle)
 
 
-def locked(path: str) -> int | None:
+def open_locked(path: str) -> int | None:
     """An open file that nobody else has locked; `None` where somebody has. A link in its place is
     taken away."""
     while True:
@@ -149,12 +149,12 @@ def locked(path: str) -> int | None:
             return None
         except OSError:
             return handle  # a file system that knows no locks
-        if is_at(handle, path):
+        if is_file_at(handle, path):
             return handle
         os.close(handle)  # the one who had it took it away meanwhile
 
 
-def is_at(handle: int, path: str) -> bool:
+def is_file_at(handle: int, path: str) -> bool:
     """Whether an open file is the one that has this name."""
     try:
         return os.path.samestat(os.fstat(handle), os.lstat(path))
@@ -166,7 +166,7 @@ def is_at(handle: int, path: str) -> bool:
 
 ESCAPED = re.compile("[\ud800-\udfff]")  # bytes of a name that is not UTF-8
 SIGNALS = (signal.SIGINT, signal.SIGTERM, signal.SIGHUP)
-SUMMED = 100  # lines of a list in a summary, and in a file for a CI
+SUMMARY_LINES = 100  # lines of a list in a summary, and in a file for a CI
 
 
 def now(seconds: float | None = None) -> str:
@@ -174,7 +174,7 @@ def now(seconds: float | None = None) -> str:
     return time.strftime("%Y-%m-%dT%H:%M:%SZ", time.gmtime(seconds))
 
 
-class PairCall(NamedTuple):
+class PairOptions(NamedTuple):
     """A call for a pair, beside what is asked of it: the program, and the files that are written.
     `name` is that of the pair, where it is not that of its subtitle file, and `here` the folder in
     which its files stand until somebody gives them their place. `is_claimed`: its files are the
@@ -187,74 +187,75 @@ class PairCall(NamedTuple):
     csv: str | None = None
     junit: str | None = None
     name: str | None = None
-    here: str | None = None
+    staging_folder: str | None = None
     is_claimed: bool = False
     is_quiet: bool = False
     examine: Callable[[Verdict], None] = lambda _: None
 
 
-def judge_call(words: argparse.Namespace, called: str) -> int:
+def judge_command(args: argparse.Namespace, program_name: str) -> int:
     """Judges the pair of a command line; answers its status."""
-    return judged(request_of(words), PairCall(
-        words.program, words.out or None, words.is_kept, words.json, words.csv, words.junit,
-        is_quiet=words.is_quiet), called).status
+    return judge_and_report(request_of(args), PairOptions(
+        args.program, args.out or None, args.is_kept, args.json, args.csv, args.junit,
+        is_quiet=args.is_quiet), program_name).status
 
 
-def judged(asked: Request, call: PairCall, called: str) -> Verdict:
+def judge_and_report(request: Request, call: PairOptions, program_name: str) -> Verdict:
     """Judges a pair; answers its verdict, which is said and written by then."""
-    out, here = call.out, call.here or call.out
+    out, staging_folder = call.out, call.staging_folder or call.out
     is_output_taken = any(path in OWN_OUTPUT for path in (call.json, call.csv, call.junit))
     speech = Speech(Progress(), is_output_taken)
     speech.at_end = ignore_signals  # what stands last is that of the status
     speech.is_quiet = call.is_quiet
-    if asked.profile:
-        speech.say(profile_line(asked.profile))
-    typed = CommandWords(called, call.program)
+    if request.profile:
+        speech.say(profile_line(request.profile))
+    typed = CommandWords(program_name, call.program)
     listener = Listener(speech)
-    stamps = stamps_of(asked)
-    verdict = verdict_of(asked, listener)
+    stamps = stamp_inputs(request)
+    verdict = new_verdict(request, listener)
     verdict.is_kept = call.is_kept
-    name = call.name or pair_name(asked.stl)
-    refuse_outputs(call, asked, here, name)
-    with temporary_folder("subttx-qc-") as folder, claimed(
-            None if call.is_claimed else here, name):
-        if here is not None and not call.is_claimed:
-            clear(here, name)
-        names = Names(name, folder, out, here)
-        keep_stl(asked, folder)
-        names.give(asked.stl_path)
-        files = Files(call, verdict, typed, names, stamps)
-        verdict.files = found(asked)
-        pair = Pair(verdict, typed, names, listener, files.are_any())
+    name = call.name or pair_name(request.stl)
+    refuse_outputs(call, request, staging_folder, name)
+    with temporary_folder("subttx-qc-") as folder, claim_pair(
+            None if call.is_claimed else staging_folder, name):
+        if staging_folder is not None and not call.is_claimed:
+            remove_results(staging_folder, name)
+        names = Names(name, folder, out, staging_folder)
+        keep_stl(request, folder)
+        names.give(request.stl_path)
+        files = OutputFiles(call, verdict, typed, names, stamps)
+        verdict.files = found(request)
+        pair = Pair(verdict, typed, names, listener, files.needs_sums())
         judge_pair(pair, files)
-        end_pair(verdict, speech, files)
+        report_pair(verdict, speech, files)
     return verdict
 
 
-def stamps_of(asked: Request) -> dict[str, Stamp | None]:
+def stamp_inputs(request: Request) -> dict[str, Stamp | None]:
     """Return the stamps of the files of a pair that are read more than once."""
-    return {name: stamp_of(name) for name in (asked.stl, asked.recording, asked.severity) if name}
+    names = request.stl, request.recording, request.severity
+    return {name: stamp_of(name) for name in names if name}
 
 
-def verdict_of(asked: Request, listener: Listener) -> Verdict:
+def new_verdict(request: Request, listener: Listener) -> Verdict:
     """A verdict of which nothing is known yet; it has what the listener hears."""
-    return Verdict(asked, Severity(asked.severity, asked.is_loss_allowed), now(),
+    return Verdict(request, Severity(request.severity, request.is_loss_allowed), now(),
                    notes=listener.notes, commands=listener.commands, chosen=listener.selections)
 
 
-def refuse_outputs(call: PairCall, asked: Request, out: str | None, name: str) -> None:
+def refuse_outputs(call: PairOptions, request: Request, out: str | None, name: str) -> None:
     """`Stop` where a file that is asked for can't be written, or is an input; nothing is done yet.
     """
-    inputs = Inputs(asked.stl, asked.recording, *asked.others)
+    inputs = Inputs(request.stl, request.recording, *request.others)
     for path in (call.json, call.csv, call.junit):
         if path:
             inputs.refuse(path, True)
             refuse_name(path)
     if out is not None and not call.is_claimed:
-        refuse_files_of(out, name, inputs)
+        refuse_pair_files(out, name, inputs)
 
 
-def judge_pair(pair: Pair, files: Files) -> None:
+def judge_pair(pair: Pair, files: OutputFiles) -> None:
     """Judges a pair and writes the files; what is not clear stands in the verdict."""
     verdict, began = pair.verdict, time.monotonic()
     try:
@@ -278,15 +279,15 @@ def judge_pair(pair: Pair, files: Files) -> None:
         files.write(pair.recording)
 
 
-def end_pair(verdict: Verdict, speech: Speech, files: Files) -> None:
+def report_pair(verdict: Verdict, speech: Speech, files: OutputFiles) -> None:
     """Says the verdict; where that fails it is not judged, in all files too."""
     try:
-        say_verdict(verdict, speech, files.page)
+        print_verdict(verdict, speech, files.page)
     except KeyboardInterrupt as reason:
         ignore_signals()
         verdict.failed.append(error_line(reason))
         files.write_again()
-        say_verdict(verdict, speech, files.page)
+        print_verdict(verdict, speech, files.page)
     except Exception as reason:
         verdict.failed.append(error_line(reason))
         files.write_again()
@@ -294,7 +295,7 @@ def end_pair(verdict: Verdict, speech: Speech, files: Files) -> None:
         silence(speech.out)
 
 
-def heed_signals() -> None:
+def handle_signals() -> None:
     """Lets signals end this call, but those that are ignored: nohup lets a hang-up pass."""
     for one in SIGNALS:
         if signal.getsignal(one) != signal.SIG_IGN:
@@ -307,7 +308,7 @@ def ignore_signals() -> None:
         signal.signal(one, signal.SIG_IGN)
 
 
-def say_verdict(verdict: Verdict, speech: Speech, page: str | None = None) -> None:
+def print_verdict(verdict: Verdict, speech: Speech, page: str | None = None) -> None:
     """Says the verdict, after what was lost and what is not clear; `page` is that of its report."""
     causes = [part.causes for part in verdict.parts if part.causes]
     if causes:
@@ -321,8 +322,8 @@ def say_verdict(verdict: Verdict, speech: Speech, page: str | None = None) -> No
         speech.tell("that part was not recorded")
     for line in verdict.notes:
         speech.tell(line)
-    for warned in verdict.warnings:
-        speech.tell(warned.said())
+    for warning in verdict.warnings:
+        speech.tell(warning.warning_text())
     if verdict.line is not None:
         if verdict.request.within and verdict.delays:
             speech.say(verdict.delays.words())
@@ -330,7 +331,7 @@ def say_verdict(verdict: Verdict, speech: Speech, page: str | None = None) -> No
             speech.say(verdict.fitted)
         for line in verdict.hints:
             speech.say(line)
-        speech.end(verdict.sentence + look_words(verdict, page), verdict.line)
+        speech.end(verdict.sentence + reference_text(verdict, page), verdict.line)
     elif is_line(speech.last):  # what the program says is no verdict then
         speech.say(NOT_JUDGED)
     if verdict.is_stopped:
@@ -342,7 +343,7 @@ def say_verdict(verdict: Verdict, speech: Speech, page: str | None = None) -> No
         speech.tell(f"{'type' if at == 0 else 'or'} {line}")
 
 
-def look_words(verdict: Verdict, page: str | None) -> str:
+def reference_text(verdict: Verdict, page: str | None) -> str:
     """Return where to look if something is refused: the report, or else what the manual says of the
     number that is said first."""
     if verdict.word == ACCEPTED or verdict.word == RELATIVE and not verdict.faults:
@@ -363,7 +364,7 @@ class Output(NamedTuple):
     path: str
     pieces: Callable[[], Iterator[bytes]]
     is_result: bool = False
-    is_object: bool = False
+    is_json: bool = False
     is_raw: bool = False
 
     @property
@@ -372,10 +373,10 @@ class Output(NamedTuple):
         return self.is_result or is_replaced(self.path)
 
 
-class Files:
+class OutputFiles:
     """The files that are asked for."""
 
-    def __init__(self, call: PairCall, verdict: Verdict, typed: CommandWords,
+    def __init__(self, call: PairOptions, verdict: Verdict, typed: CommandWords,
                  names: Names, stamps: Mapping[str, Stamp | None] = {}) -> None:
         self.call, self.verdict, self.typed, self.names = call, verdict, typed, names
         self.stamps = stamps  # of the files that are judged, when that began
@@ -386,7 +387,7 @@ class Files:
         """The page of the report as it is typed."""
         return self.names.typed("html") if self.names.out else None
 
-    def are_any(self) -> bool:
+    def needs_sums(self) -> bool:
         """Whether something is written that has the sums of the inputs."""
         return bool(self.call.out or self.call.json or self.call.csv)
 
@@ -394,7 +395,7 @@ class Files:
         """Writes what is asked for. What could not be written stands in the verdict: so what was
         written before is written once more, where that can be. The object in the folder comes
         last, when all else is there, but for what can't be written once more."""
-        for output in sorted(self.wanted(recording), key=lambda one: not one.is_replaced):
+        for output in sorted(self.outputs(recording), key=lambda one: not one.is_replaced):
             self.find_changes()
             if self.try_to_put(output):
                 self.written.append(output)
@@ -424,18 +425,18 @@ class Files:
             self.put(output)
         except Exception as reason:
             self.verdict.failed.append(error_line(reason))
-            if output.is_object and not isinstance(reason, (Stop, OSError)):
+            if output.is_json and not isinstance(reason, (Stop, OSError)):
                 known = unjudged(self.names.name, self.verdict.why_not or "")
                 self.put(output._replace(pieces=lambda: iter([object_text(known)])))
             return False
         return True
 
-    def wanted(self, recording: Recording | None) -> list[Output]:
+    def outputs(self, recording: Recording | None) -> list[Output]:
         """What is asked for."""
         call, verdict, names = self.call, self.verdict, self.names
         wanted = [Output(call.csv, lambda: results.subtitle_lines(verdict))] if call.csv else []
         wanted += [Output(call.junit, self.testcase)] if call.junit else []
-        wanted += self.raw(recording) if names.out else []
+        wanted += self.raw_outputs(recording) if names.out else []
         if not call.json and not names.machine:
             return wanted
         program = about_program(self.typed.program_path)
@@ -445,14 +446,14 @@ class Files:
             return iter([report_page(verdict, self.typed).page()])
 
         def members() -> Iterator[bytes]:
-            return map(as_bytes, results.object_of(verdict, program))
+            return map(encode_text, results.object_of(verdict, program))
 
         wanted += [Output(names.report, page, True)] if names.out else []
-        wanted += [Output(call.json, members, is_object=True)] if call.json else []
+        wanted += [Output(call.json, members, is_json=True)] if call.json else []
         wanted += [Output(names.machine, members, True, True)] if names.machine else []
         return wanted
 
-    def raw(self, recording: Recording | None) -> list[Output]:
+    def raw_outputs(self, recording: Recording | None) -> list[Output]:
         """The list of each part as `check` told it, and what was recorded, where that is kept."""
         lists = [Output(part.names.placed("txt"), part.answer.raw, True, is_raw=True)
                  for part in self.verdict.parts]
@@ -473,7 +474,7 @@ class Files:
         """The first lines of the lists of all parts."""
         lines = (line for part in self.verdict.parts for line in part.answer.lines()
                  if part.answer.count)
-        return list(itertools.islice(lines, SUMMED))
+        return list(itertools.islice(lines, SUMMARY_LINES))
 
     @staticmethod
     def put(output: Output) -> None:
@@ -483,12 +484,12 @@ class Files:
                 file.write(piece)
 
 
-def as_bytes(text: str) -> bytes:
+def encode_text(text: str) -> bytes:
     """The text of an object; of a name that is not UTF-8 the bytes are escaped, which all other
     texts have done."""
     return ESCAPED.sub(lambda found: "\\" + escaped(found[0]), text).encode()
 
 
-def pair_title(asked: Request) -> str:
+def pair_title(request: Request) -> str:
     """A pair as a line of a table names it."""
-    return " ".join([asked.stl, *([asked.recording] if asked.recording else [])])
+    return " ".join([request.stl, *([request.recording] if request.recording else [])])

@@ -69,7 +69,7 @@ def time_of(frame: int) -> str:
     return f"{seconds // 3600:02}:{seconds // 60 % 60:02}:{seconds % 60:02}:{frames:02}"
 
 
-def length_words(frames: int) -> str:
+def duration_text(frames: int) -> str:
     """Return a length as `10 h 15 min`."""
     seconds, rest = divmod(frames, FRAMES_A_SECOND)
     parts = [(seconds // 3600, "h"), (seconds // 60 % 60, "min"), (seconds % 60, "s"),

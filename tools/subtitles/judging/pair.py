@@ -15,7 +15,7 @@ from ..formats.listing import CONTENT, CONTROL, EMPTY, STL_FAULTS, WITH_CAUSE
 from ..formats.stl import Subtitle, SubtitleFile, subtitles_read
 from ..formats.teletext import BY_WORD
 from ..recording import notices
-from ..recording.notices import NeverSent, Notice, refuse_dead, refuse_elsewhere
+from ..recording.notices import NeverSent, Notice, refuse_dead_source, refuse_other_pid
 from ..recording.recording import Recording, refuse_files
 from ..request.commands import CommandWords, Listener, Names, again
 from ..request.request import (
@@ -51,7 +51,7 @@ def explained(part: Part, verdict: Verdict, listener: Listener, is_summed: bool)
         delays=delays_in(part, causes, request, is_summed), was_read=part.is_read(),
         kept=kept_in(part.headers_sent(), part.request.option)
         if CONTROL in numbers and not part.request.may_keep else None,
-        of_header=part.recorded[0].header_words(part.packets) if OF_HEADERS & numbers else "")
+        of_header=part.recorded[0].header_problem(part.packets) if OF_HEADERS & numbers else "")
     return dataclasses.replace(part, hint=hint_of(part.worst, part, verdict),
                                sent_hint=hint_of(part.worst_sent, part, verdict))
 
@@ -290,11 +290,11 @@ class Pair:
         self.refuse_range(recording)
         if request.pes is None:
             option = BY_WORD[request.option]
-            refuse_dead(request, recording.survey, recording.packets, [
+            refuse_dead_source(request, recording.survey, recording.packets, [
                 (one.begin, one.end) for one in subtitles if letters_of_text(one.text, option)])
         clocks = parts_of(programme, recording, self.listener)
         first, last = clocks.alignments[0], clocks.alignments[-1]
-        refuse_elsewhere(request, recording.survey, pts_of(first.begin, first.origin),
+        refuse_other_pid(request, recording.survey, pts_of(first.begin, first.origin),
                          pts_of(last.end, last.origin))
         self.verdict.notes[:0] = clocks.delay
         return Located(recording, clocks, subtitles)
@@ -432,15 +432,15 @@ class Pair:
         warnings, packets, survey = list[Notice](), recording.packets, recording.survey
         warnings += recording.strange()
         if recording.is_stream:
-            warnings += [*notices.of_timing(packets, origin),
-                         *notices.of_jumps(packets, origin, part.begin, part.end),
-                         *notices.of_tables(survey, packets.pid, self.request)]
-        self.verdict.warn([*warnings, *notices.of_character_sets(packets, self.request)])
+            warnings += [*notices.timing_notices(packets, origin),
+                         *notices.jump_notices(packets, origin, part.begin, part.end),
+                         *notices.pmt_notices(survey, packets.pid, self.request)]
+        self.verdict.warn([*warnings, *notices.character_set_notices(packets, self.request)])
 
     def warn_of(self, part: Part, subtitles: list[Subtitle]) -> None:
         """Add warnings about pauses in a part, and about how often it repeats its page."""
         origin = part.recorded[1].origin
         times = [(subtitle.begin, subtitle.end) for subtitle in subtitles]
         self.verdict.warn([
-            *notices.of_pauses(part.pts(), self.request, origin),
-            *notices.of_repeat(part.pts(HEADER), self.request, origin, times)])
+            *notices.pause_notices(part.pts(), self.request, origin),
+            *notices.repeat_notices(part.pts(HEADER), self.request, origin, times)])

@@ -11,7 +11,7 @@ from ..clock.start import (
     Clock, Found, GIVEN, NoFirst, RECORDING, START, TCP, began, refuse_outside, start_frame)
 from ..common.command_line import Stop, counted, error_line, pid_name
 from ..common.times import (
-    FRAMES_A_SECOND, FRAMES_OF_A_DAY, TICKS, length_words, pts_of, ticks_after, ticks_between,
+    FRAMES_A_SECOND, FRAMES_OF_A_DAY, TICKS, duration_text, pts_of, ticks_after, ticks_between,
     ticks_within, time_of, wrapped)
 from ..formats.listing import NamedFault, PICTURES_LEFT
 from ..recording.recording import Recording
@@ -90,7 +90,7 @@ def by_start(programme: PartSearch, recording: Recording, listener: Listener) ->
             raise NoFirst("PES packets of Teletext have no pictures")
         begin = began(request, recording.survey, recording.packets)
     except NoFirst as reason:
-        raise recording.without_first(reason) from None
+        raise recording.no_picture_error(reason) from None
     for line in begin.lines:
         listener.said(line)
     if begin.clock.source == TCP:
@@ -163,14 +163,14 @@ def refuse_another_time(programme: PartSearch, recording: Recording, part: Found
 def another_time_words(request: Request, clock: Clock, delay: int) -> str:
     """Return how far a given clock is from the subtitles, which are `delay` frames late."""
     if clock.source == GIVEN:
-        return f"by --origin {clock.origin} all subtitles come {length_words(abs(delay))} too " \
+        return f"by --origin {clock.origin} all subtitles come {duration_text(abs(delay))} too " \
             f"{'late' if delay > 0 else 'early'}: none is in the recording at its time"
     given = start_frame(request)
     estimated = wrapped(clock.origin + TICKS * delay)
     begins = round(ticks_after(estimated, pts_of(given, clock.origin)) / TICKS)
     name = "the TCP" if clock.source == TCP else "--start"
     which = "earlier" if given < begins else "later"
-    return f"{name} {time_of(given)} is {length_words(abs(given - begins))} {which} than the " \
+    return f"{name} {time_of(given)} is {duration_text(abs(given - begins))} {which} than the " \
         f"subtitles tell: by these the recording begins at {time_of(begins % FRAMES_OF_A_DAY)}. " \
         "TIME is on the subtitle file's own clock, not the time of day"
 

@@ -35,12 +35,12 @@ class Notice(NamedTuple):
     line: str
     time: str | None = None
 
-    def said(self) -> str:
+    def warning_text(self) -> str:
         """The line as it is said."""
         return f"warning: {self.line}"
 
 
-def of_timing(packets: Packets, origin: int) -> Iterator[Notice]:
+def timing_notices(packets: Packets, origin: int) -> Iterator[Notice]:
     """Where PTS and PCR do not go together."""
     for strange in strange_of(packets):
         time = time_in(strange.pts, origin)
@@ -50,18 +50,18 @@ def of_timing(packets: Packets, origin: int) -> Iterator[Notice]:
                      f"{strange.among} that were looked at", time)
 
 
-def of_jumps(packets: Packets, origin: int, first: int, last: int) -> Iterator[Notice]:
+def jump_notices(packets: Packets, origin: int, first: int, last: int) -> Iterator[Notice]:
     """Where the clock goes on elsewhere, and no packet is missing, from a frame to another one."""
     for jump in jumps_of(packets):
         frame = FRAMES_OF_A_DAY if jump.before is None else frame_in(jump.before, origin)
         if first <= frame <= last:
             way = "by" if jump.ticks > 0 else "back by"
-            yield Notice("clock_jump", f"the clock jumps {way} {length_words(abs(jump.ticks))} at "
+            yield Notice("clock_jump", f"the clock jumps {way} {duration_text(abs(jump.ticks))} at "
                          f"{time_of(frame)}: an encoder that was started anew?",
                          time_of(frame))
 
 
-def length_words(ticks: int) -> str:
+def duration_text(ticks: int) -> str:
     """Hours, minutes and seconds, as `2:24:01`; of less than a minute seconds alone."""
     seconds = round(ticks / SECOND)
     if seconds < 60:
@@ -69,7 +69,7 @@ def length_words(ticks: int) -> str:
     return f"{seconds // 3600}:{seconds // 60 % 60:02}:{seconds % 60:02}"
 
 
-def of_tables(survey: Survey, pid: int, request: Request) -> Iterator[Notice]:
+def pmt_notices(survey: Survey, pid: int, request: Request) -> Iterator[Notice]:
     """Where the PMT announces something else than was asked for."""
     programmes = survey.programmes_of(pid)
     if not programmes:
@@ -81,29 +81,29 @@ def of_tables(survey: Survey, pid: int, request: Request) -> Iterator[Notice]:
         yield Notice("page", f"the PMT announces no page of {pid_name(pid)}: receivers do not find "
                      f"page {name}")
     elif not own:
-        yield Notice("page", f"the PMT announces {listed(announced)}, and not page {name}")
+        yield Notice("page", f"the PMT announces {page_list(announced)}, and not page {name}")
     else:
-        yield from of_page(own, request)
+        yield from page_notices(own, request)
 
 
-def of_page(own: list[Announced], request: Request) -> Iterator[Notice]:
+def page_notices(own: list[Announced], request: Request) -> Iterator[Notice]:
     """The same of what is announced of the page."""
     name = request.page_name
     if not any(announced.kind in SUBTITLE_KINDS for announced in own):
         kinds = " and ".join(dict.fromkeys(KINDS.get(announced.kind, "of an unknown kind")
                                            for announced in own))
         yield Notice("type", f"the PMT announces page {name} as {kinds}, and not as subtitles")
-    code = language_of(request.stl_path)
+    code = language_code(request.stl_path)
     wanted = {*names_of(code)}
     languages = dict.fromkeys(announced.language.lower() for announced in own)
     if wanted and not (wanted | ANY) & languages.keys():
         yield Notice("language", f"the PMT announces page {name} in "
                      f"{' and '.join(map(shown, languages))}; the LC of the GSI block is {code}, "
                      f"{' or '.join(names_of(code))}")
-    yield from of_option([*languages], request)
+    yield from option_notices([*languages], request)
 
 
-def of_option(languages: list[str], request: Request) -> Iterator[Notice]:
+def option_notices(languages: list[str], request: Request) -> Iterator[Notice]:
     """Where no language that a PMT has for the page may be of the national option: receivers may
     take the letters of that language."""
     options = [of_track(one) for one in languages]
@@ -118,7 +118,7 @@ def of_option(languages: list[str], request: Request) -> Iterator[Notice]:
                  f"--option {request.option}")
 
 
-def of_character_sets(packets: Packets, request: Request) -> Iterator[Notice]:
+def character_set_notices(packets: Packets, request: Request) -> Iterator[Notice]:
     """Where packets name another character set than that of the national option."""
     for number, designation, region, option in packets.sets:
         if region is None or option is None:
@@ -131,12 +131,12 @@ def of_character_sets(packets: Packets, request: Request) -> Iterator[Notice]:
                      f"names {named}: receivers above level 1 may show other letters")
 
 
-def listed(announced: list[Announced]) -> str:
+def page_list(announced: list[Announced]) -> str:
     """Some pages, as words."""
     return ", ".join(dict.fromkeys(one.line() for one in announced))
 
 
-def language_of(stl: str) -> str:
+def language_code(stl: str) -> str:
     """The LC of a subtitle file."""
     return first_bytes(stl, LC.stop)[LC].decode("latin-1")
 
@@ -144,28 +144,28 @@ def language_of(stl: str) -> str:
 def count_notices(subtitles: SubtitleFile) -> Iterator[Notice]:
     """Where the GSI block counts other blocks or subtitles than there are, as in a file that was
     cut at the end of a block. A count that is no number tells nothing; comments may be counted."""
-    expected = stated(subtitles.data[TNB])
+    expected = read_count(subtitles.data[TNB])
     there = subtitles.count()
     if expected is not None and expected != there:
         yield Notice("blocks", f"the GSI block counts {counted(expected, 'TTI block')} (TNB), and "
-                     f"{there_are(there)}: is the subtitle file whole?")
-    expected, known = stated(subtitles.data[TNS]), subtitles.ended()
+                     f"{count_text(there)}: is the subtitle file whole?")
+    expected, known = read_count(subtitles.data[TNS]), subtitles.ended()
     if expected is not None and expected not in known:
         yield Notice("subtitles", f"the GSI block counts {counted(expected, 'subtitle')} (TNS), "
-                     f"and {there_are(known[0])}: is the subtitle file whole?")
+                     f"and {count_text(known[0])}: is the subtitle file whole?")
 
 
-def stated(digits: bytes) -> int | None:
+def read_count(digits: bytes) -> int | None:
     """A count of a GSI block, `None` where there is none."""
     return int(digits) if digits.isdigit() else None
 
 
-def there_are(count: int) -> str:
+def count_text(count: int) -> str:
     """How many there are."""
     return "there is 1" if count == 1 else f"there are {count:,}"
 
 
-def of_pauses(pts: Sequence[int], request: Request, origin: int) -> Iterator[Notice]:
+def pause_notices(pts: Sequence[int], request: Request, origin: int) -> Iterator[Notice]:
     """Where no PES packet came for some frames, of what else sends one in each frame but few."""
     frames = array.array("i", (frame for frame in frames_at(pts, origin, request.within)
                                if frame != NO_FRAME))
@@ -177,8 +177,8 @@ def of_pauses(pts: Sequence[int], request: Request, origin: int) -> Iterator[Not
                          f"{time_of(first)} on", time_of(first))
 
 
-def of_repeat(headers: Sequence[int], request: Request, origin: int, times: list[tuple[int, int]]) \
-        -> Iterator[Notice]:
+def repeat_notices(headers: Sequence[int], request: Request, origin: int,
+                   times: list[tuple[int, int]]) -> Iterator[Notice]:
     """Where the page is repeated so often that `--every` would not see a repeat that is missing."""
     every = repeat_distance((frame_in(pts, origin, request.within) for pts in headers),
                             edges_of(times))
@@ -216,25 +216,25 @@ class Announcement(NamedTuple):
             self.end is None or ticks_between(begin, self.end) > NEAR)
 
 
-def announced_in(program_map: ProgramMap, page: Page) -> set[int]:
+def announcing_pids(program_map: ProgramMap, page: Page) -> set[int]:
     """Return the PIDs on which a PMT announces a page."""
     return {pid for pid, pages in program_map.pages.items()
             if any(known.page == page for known in pages)}
 
 
-def announcements_of(records: Sequence[ProgramMap], page: Page) -> Iterator[Announcement]:
+def find_announcements(records: Sequence[ProgramMap], page: Page) -> Iterator[Announcement]:
     """Those of a page in the PMT of all programmes, one after another."""
     ends: dict[int, int | None] = {}  # the PCR before the next PMT of a programme, by its number
     several: list[Announcement] = []
     for record in reversed(records):
-        if pids := announced_in(record, page):
+        if pids := announcing_pids(record, page):
             several.append(Announcement(record.number, frozenset(pids), record.after,
                                         ends.get(record.number)))
         ends[record.number] = record.after
     return reversed(several)
 
 
-def unsent_by(announced: Sequence[Announcement], carriers: Collection[int], begin: int,
+def find_unsent(announced: Sequence[Announcement], carriers: Collection[int], begin: int,
               end: int) -> Announcement | None:
     """The first announcement between two PTS of a programme whose page comes elsewhere alone, on
     some PIDs: of the programme that carries it, or of any where no programme announces these."""
@@ -245,7 +245,7 @@ def unsent_by(announced: Sequence[Announcement], carriers: Collection[int], begi
                  and (not own or announcement.number in own)), None)
 
 
-def silent_beside(announced: Sequence[Announcement], carriers: Collection[int]) -> set[int]:
+def silent_pids(announced: Sequence[Announcement], carriers: Collection[int]) -> set[int]:
     """The PIDs on which other programmes alone announce a page than those that send it."""
     own = {announcement.number for announcement in announced if announcement.pids & {*carriers}}
     others = {pid for announcement in announced if announcement.number not in own
@@ -253,7 +253,7 @@ def silent_beside(announced: Sequence[Announcement], carriers: Collection[int]) 
     return (others - {*carriers}) if own else set()
 
 
-def is_due_in(clock: tuple[int, int] | None, times: Sequence[tuple[int, int]],
+def is_page_expected(clock: tuple[int, int] | None, times: Sequence[tuple[int, int]],
               origin: int | None) -> bool:
     """Whether a page is due in the time between two PCR: by an origin all of a subtitle's time is
     in it, and without one it is as long as from the first TCI to the last TCO."""
@@ -266,14 +266,14 @@ def is_due_in(clock: tuple[int, int] | None, times: Sequence[tuple[int, int]],
                for begin, end in times)
 
 
-def unread(survey: Survey, pids: Collection[int]) -> bool:
+def has_unreadable(survey: Survey, pids: Collection[int]) -> bool:
     """Whether one of some PIDs has TS packets of which nothing is given, as where they are
     scrambled: what they carry is not known."""
     packets = [survey.by_pid[pid] for pid in pids if pid in survey.by_pid]
     return any(not one.count and one.packets and why_refused(one) for one in packets)
 
 
-def never_words(survey: Survey, page: Page, pids: Collection[int],
+def never_sent_text(survey: Survey, page: Page, pids: Collection[int],
                 carriers: Collection[int] = ()) -> str:
     """What is wrong: where the page is announced, and which PID has it."""
     names = " and ".join(map(pid_name, sorted(pids)))
@@ -290,16 +290,16 @@ def never_words(survey: Survey, page: Page, pids: Collection[int],
 def refuse_unsent(request: Request, survey: Survey, times: Sequence[tuple[int, int]]) -> None:
     """`NeverSent` where the page is announced, on the PID that is asked for where there is one,
     comes nowhere there, and something of it is due in the recording."""
-    announced = announcements_of(survey.programmes, request.page)
+    announced = find_announcements(survey.programmes, request.page)
     named = {pid for announcement in announced for pid in announcement.pids
              if request.pid in (None, pid)}
-    if named and not unread(survey, named) and any(
-            is_due_in(survey.clock_of(pid), times, origin_by(request, survey, pid))
+    if named and not has_unreadable(survey, named) and any(
+            is_page_expected(survey.clock_of(pid), times, find_origin(request, survey, pid))
             for pid in named):
-        raise NeverSent(never_words(survey, request.page, named))
+        raise NeverSent(never_sent_text(survey, request.page, named))
 
 
-def origin_by(request: Request, survey: Survey, pid: int) -> int | None:
+def find_origin(request: Request, survey: Survey, pid: int) -> int | None:
     """The origin that is given, or that the first picture of a PID's programme tells."""
     if request.start is not None:
         with contextlib.suppress(NoFirst, Unclear):
@@ -307,14 +307,15 @@ def origin_by(request: Request, survey: Survey, pid: int) -> int | None:
     return request.origin
 
 
-def refuse_dead(request: Request, survey: Survey, packets: Packets,
+def refuse_dead_source(request: Request, survey: Survey, packets: Packets,
                 times: Sequence[tuple[int, int]]) -> None:
     """Raise `NeverSent` if a dead source sends no row of the page up to the last TCO, though a
     subtitle is expected in the recording. `times` are those of the subtitles with text. Without a
     clock no row may come in the whole recording. A page of which no header comes may be the wrong
     one; and if some PES packets can't be read, nobody knows."""
-    origin, clock = origin_by(request, survey, packets.pid), time_of_recording(survey, packets)
-    if not packets.has_page or not is_all_read(packets) or not is_due_in(clock, times, origin):
+    origin, clock = find_origin(request, survey, packets.pid), time_of_recording(survey, packets)
+    if not packets.has_page or not is_all_read(packets) or \
+            not is_page_expected(clock, times, origin):
         return
     begin, end = times[0][0], times[-1][1]
 
@@ -349,11 +350,11 @@ def time_of_recording(survey: Survey, packets: Packets) -> tuple[int, int] | Non
     return None if first is None or last is None else (first, last)
 
 
-def refuse_elsewhere(request: Request, survey: Survey, begin: int, end: int) -> None:
+def refuse_other_pid(request: Request, survey: Survey, begin: int, end: int) -> None:
     """`NeverSent` where the PMT announces the page, between two PTS, on a PID where it never comes;
     one that is asked for is judged."""
     carriers = {pid for pid, packets in survey.by_pid.items() if packets.has_page}
-    announced = [*announcements_of(survey.programmes, request.page)]
-    announcement = unsent_by(announced, carriers, begin, end) if request.pid is None else None
-    if announcement and not unread(survey, announcement.pids):
-        raise NeverSent(never_words(survey, request.page, announcement.pids, carriers))
+    announced = [*find_announcements(survey.programmes, request.page)]
+    announcement = find_unsent(announced, carriers, begin, end) if request.pid is None else None
+    if announcement and not has_unreadable(survey, announcement.pids):
+        raise NeverSent(never_sent_text(survey, request.page, announcement.pids, carriers))

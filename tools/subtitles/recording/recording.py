@@ -20,7 +20,7 @@ from ..request.request import PID_CHOICE, Request, Selection, Unclear
 from ..stream.gaps import Place, marks_told, places_of, reach_of, why_refused
 from ..stream.packets import HEADER, PES, PTSPair, Packets
 from ..stream.survey import Survey, survey
-from .notices import Notice, announcements_of, refuse_unsent, silent_beside
+from .notices import Notice, find_announcements, refuse_unsent, silent_pids
 
 
 # A recording that comes through a pipe: copied to a file, which is judged once all has come. To
@@ -57,7 +57,7 @@ OUTPUT = "/dev/stdout"  # as the program opens it
 LENGTH_AT, FIXED, TELETEXT = 8, 9, 0x24
 
 
-def header_bytes(program: str, path: str, pid: int, size: int) -> bytes:
+def read_pes_header(program: str, path: str, pid: int, size: int) -> bytes:
     """The first bytes of what `extract` gives of a PID."""
     words = [program, "extract", *stream_words(pid, size), "--", path, OUTPUT]
     with subprocess.Popen(words, stdin=subprocess.DEVNULL, stdout=subprocess.PIPE,
@@ -68,7 +68,7 @@ def header_bytes(program: str, path: str, pid: int, size: int) -> bytes:
     return begun
 
 
-def pes_header_words(begun: bytes, pid: int) -> str:
+def pes_header_problem(begun: bytes, pid: int) -> str:
     """What is wrong with the PES header of a PID whose first PES packet begins so; nothing where it
     is one of Teletext, or none."""
     if not begun.startswith(START[:3]) or begun[LENGTH_AT:FIXED] in (b"", bytes([TELETEXT])):
@@ -113,7 +113,7 @@ def refuse_stream(survey: Survey, name: str) -> None:
         raise Unclear(f"{name}: no transport stream: packets of 188 bytes that begin with 47")
 
 
-def silent_in(survey: Survey) -> list[Packets]:
+def unreadable_packets(survey: Survey) -> list[Packets]:
     """The PIDs of which nothing is given though there are TS packets of them, in their order."""
     return [packets for _, packets in sorted(survey.by_pid.items())
             if not packets.count and packets.packets]
@@ -144,7 +144,7 @@ class Recording:
         self.file = summed.result() if summed else self.file
         refuse_stream(self.survey, self.name)
         self.packets = self.chosen()
-        self.say_read()
+        self.print_losses()
 
     def show(self) -> None:
         """What is read, on a terminal."""
@@ -162,16 +162,17 @@ class Recording:
             if packets.count:
                 return packets
             why = "; ".join([f"{self.name}: {why_refused(packets)}", *filter(None, [
-                self.header_words(packets)])])
+                self.header_problem(packets)])])
             raise Unclear(self.said(why), *self.other_pids())
         pids = [by_pid[pid] for pid in sorted(by_pid) if by_pid[pid].has_page]
         self.refuse_silent({one.pid for one in pids})
         if len(pids) == 1:
-            self.say_chosen(pids[0], "on no other PID")
+            self.print_choice(pids[0], "on no other PID")
             return pids[0]
         if not pids:
             refuse_unsent(self.request, self.survey, self.times)
-            why = "; ".join([f"{self.name} has no header of page {page}", *self.why_nothing()])
+            why = "; ".join([f"{self.name} has no header of page {page}",
+                             *self.unreadable_reasons()])
             raise Unclear(self.said(why), *self.other_pages(by_pid.values()))
         raise Unclear(self.said(f"page {page} is sent on {len(pids)} PIDs of {self.name}"),
                       *(self.again("--pid", f"0x{one.pid:X}") for one in pids))
@@ -179,8 +180,8 @@ class Recording:
     def refuse_silent(self, carriers: Collection[int]) -> None:
         """`Unclear` where several programmes announce the page, and some of them never send it:
         nobody but the house knows which one is meant."""
-        announced = [*announcements_of(self.survey.programmes, self.request.page)]
-        silent = silent_beside(announced, carriers)
+        announced = [*find_announcements(self.survey.programmes, self.request.page)]
+        silent = silent_pids(announced, carriers)
         if silent and self.request.pes is None:
             raise Unclear(self.said(
                 f"page {self.request.page_name} is announced by several programmes of {self.name}, "
@@ -188,7 +189,7 @@ class Recording:
                 f"{' and '.join(map(pid_name, sorted(silent)))}"),
                 *(self.again("--pid", f"0x{pid:X}") for pid in sorted({*carriers} | silent)))
 
-    def say_chosen(self, packets: Packets, why: str) -> None:
+    def print_choice(self, packets: Packets, why: str) -> None:
         """Says which PID is chosen, and by what."""
         begun = sum(run.length for run in packets.timed() if HEADER in run.does)
         line = f"{pid_name(packets.pid)}: page {self.request.page_name} has a header in {begun} " \
@@ -196,21 +197,21 @@ class Recording:
         self.listener.chosen(Selection(PID_CHOICE, f"0x{packets.pid:X}", line, begun,
                                        packets.count))
 
-    def why_nothing(self) -> list[str]:
+    def unreadable_reasons(self) -> list[str]:
         """Why nothing is given of each PID that should carry Teletext: scrambled, or not as it is.
         """
-        return [words for packets in silent_in(self.survey)
-                for words in (why_refused(packets), self.header_words(packets)) if words]
+        return [words for packets in unreadable_packets(self.survey)
+                for words in (why_refused(packets), self.header_problem(packets)) if words]
 
-    def header_words(self, packets: Packets) -> str:
+    def header_problem(self, packets: Packets) -> str:
         """What is wrong with the PES header of a PID."""
         if packets.pid != PES and not packets.packets:
             return ""
-        begun = self.survey.head if packets.pid == PES else header_bytes(
+        begun = self.survey.head if packets.pid == PES else read_pes_header(
             self.typed.program_path, self.path, packets.pid, self.survey.size or 0)
-        return pes_header_words(begun, packets.pid)
+        return pes_header_problem(begun, packets.pid)
 
-    def say_read(self) -> None:
+    def print_losses(self) -> None:
         """Says what was read, and where something is missing."""
         packets = self.packets
         if packets.damage:
@@ -309,7 +310,7 @@ class Recording:
         """Return whether `--start` can tell its clock."""
         return self.is_stream and has_first_picture(self.survey, self.packets.pid)
 
-    def without_first(self, reason: NoFirst) -> Unclear:
+    def no_picture_error(self, reason: NoFirst) -> Unclear:
         return Unclear(f"{self.name}: there is no first picture for --start: {reason}",
                        self.again("--origin", "T"))
 

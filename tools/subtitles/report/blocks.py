@@ -17,7 +17,7 @@ FIELDS = {11: ("DFC", slice(3, 11)), 12: ("DFC", slice(3, 11)), 13: ("DSC", slic
           22: ("SGN and SN", slice(0, 3))}
 
 
-def field(file: SubtitleFile, fault: FaultLine) -> Markup:
+def field_markup(file: SubtitleFile, fault: FaultLine) -> Markup:
     """Return the field that a fault is about, with its bytes marked; else nothing."""
     if fault.number not in FIELDS or fault.block is None:
         return markup("")
@@ -42,7 +42,7 @@ def marked_times(subtitle: NamedSubtitle, faults: Sequence[FaultLine]) -> tuple[
 
 def fault_lines(file: SubtitleFile, faults: Sequence[FaultLine]) -> Markup:
     """Return the lines of `check` for some faults, each with its field."""
-    return joined((number_link(fault.line) + field(file, fault) for fault in faults), BREAK)
+    return joined((number_link(fault.line) + field_markup(file, fault) for fault in faults), BREAK)
 
 
 def marked_text(text: bytes, faults: Sequence[FaultLine]) -> Markup:

@@ -91,7 +91,7 @@ class CueList:
     def cells(self, cue: Cue, verdict: CueVerdict) -> list[Value]:
         """Return the cells of a cue's row."""
         subtitle, late = cue.subtitle, [signed(cue.late_in), signed(cue.late_out)]
-        return [number_cell(subtitle.index, subtitle.number), self.into(subtitle.begin),
+        return [number_cell(subtitle.index, subtitle.number), self.offset_text(subtitle.begin),
                 time_of(subtitle.begin), time_of(subtitle.end),
                 shown_time(cue.begin, cue.late_in), shown_time(cue.end, cue.late_out),
                 late[0] if late[0] == late[1] else " / ".join(frames or "-" for frames in late),
@@ -113,7 +113,7 @@ class CueList:
         decoded = page_text(sent, self.option) if sent else expected
         if decoded == expected or cue.cause is None or cue.cause.name == IN_PAUSE:
             return expected
-        return joined([*marked_difference(expected, decoded)], BREAK)
+        return joined([*mark_difference(expected, decoded)], BREAK)
 
     def refused_rows(self) -> Iterator[CueRow]:
         """Yield the rows of subtitles that the subtitle file has wrong, or that depend on one."""
@@ -135,9 +135,9 @@ class CueList:
         begin = frame_of(subtitle.begin)
         return CueRow(subtitle.position, look, kinds, [
             number_cell(subtitle.position, subtitle.number),
-            "" if begin is None else self.into(begin), *times, "", "", "", text, verdict])
+            "" if begin is None else self.offset_text(begin), *times, "", "", "", text, verdict])
 
-    def into(self, frame: int) -> str:
+    def offset_text(self, frame: int) -> str:
         """Return how far into the recording a frame is."""
         return into_recording(self.part, self.start, frame)
 
@@ -152,7 +152,7 @@ class CueList:
         """The kinds of fault of a part, the worst first."""
         is_waived = self.judge.is_cause_waived
         names = {cause.name for cause in self.causes.all()} if self.causes else set[str]()
-        ranked = [(OF_CAUSE[name], Kind(name_key(name), name, is_waived)) for name in names]
+        ranked = [(OF_CAUSE[name], Kind(cause_class(name), name, is_waived)) for name in names]
         ranked += [(rank_of(number), Kind(f"n{number}", f"{number} {self.name_of(number)}",
                                           not self.severity.is_error(number)))
                    for number in self.part.answer.counts if not (names and number in WITH_CAUSE)]
@@ -174,7 +174,7 @@ class CueList:
             first = self.causes.programme.subtitles[alike[0].place]
             rows.append(markup('<tr><td>{}{}</td><td><a href="#s{}">{}</a></td><td>{}</td></tr>',
                                words[0].upper(), words[1:], first.index, len(alike),
-                               self.into(first.begin)))
+                               self.offset_text(first.begin)))
         return markup(
             '<table class="groups"><caption>What is wrong with {}</caption><thead><tr><th '
             'scope="col">Cause</th><th scope="col">Subtitles</th><th scope="col">First, into the '
@@ -205,7 +205,7 @@ class CueList:
 
     # The list.
 
-    def listed(self) -> Markup:
+    def list_section(self) -> Markup:
         """Return the list of all subtitles."""
         number = self.part.number
         heads = joined(markup('<th scope="col">{}</th>', name) for name in COLUMNS)
@@ -249,7 +249,7 @@ class CueList:
                 "times."
         return words
 
-    def first_bad(self) -> Iterator[tuple[str, Subtitle, int]]:
+    def first_faults(self) -> Iterator[tuple[str, Subtitle, int]]:
         """Yield each cause with its first subtitle and the first frame at which it is seen; of
         what is late that is the expected one."""
         if self.causes is None:
@@ -281,29 +281,29 @@ def shown_time(frame: int | None, late: int | None) -> Value:
 
 
 def cause_key(cause: Cause) -> str:
-    return name_key(cause.name)
+    return cause_class(cause.name)
 
 
-def name_key(name: str) -> str:
+def cause_class(name: str) -> str:
     """Return the class of the rows with a cause."""
     return f"c{NAMES.index(name)}"
 
 
-def marked_difference(expected: str, decoded: str) -> tuple[Markup, Markup]:
+def mark_difference(expected: str, decoded: str) -> tuple[Markup, Markup]:
     """Return two texts with the characters marked in which they differ: place by place if they
     are equally long, otherwise all between what they have in common at both ends."""
     length = min(len(expected), len(decoded))
     if len(expected) == len(decoded):
         places = [at for at in range(length) if expected[at] != decoded[at]]
-        return marked_at(expected, places), marked_at(decoded, places)
+        return mark_characters(expected, places), mark_characters(decoded, places)
     first = next((at for at in range(length) if expected[at] != decoded[at]), length)
     last = next((at for at in range(length - first)
                  if expected[-1 - at] != decoded[-1 - at]), length - first)
-    return (marked_at(expected, range(first, len(expected) - last)),
-            marked_at(decoded, range(first, len(decoded) - last)))
+    return (mark_characters(expected, range(first, len(expected) - last)),
+            mark_characters(decoded, range(first, len(decoded) - last)))
 
 
-def marked_at(text: str, places: Collection[int]) -> Markup:
+def mark_characters(text: str, places: Collection[int]) -> Markup:
     """Return a text with the characters at some places marked."""
     runs = itertools.groupby(range(len(text)), set(places).__contains__)
     pieces = ((is_marked, "".join(text[at] for at in run)) for is_marked, run in runs)
@@ -328,7 +328,7 @@ def places_of(part: Part) -> dict[int, list[tuple[FaultLine, str]]]:
     return places
 
 
-def style_of(lists: Iterable[CueList]) -> Markup:
+def filter_style(lists: Iterable[CueList]) -> Markup:
     """Return the style of the filter: of each kind the rows of all others are hidden."""
     keys = sorted({kind.key for one in lists for kind in one.kinds})
     return joined(markup('.cues:has([value="{}"]:checked) tbody tr:not(.{}) {{ display: none; }}\n',

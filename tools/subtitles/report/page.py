@@ -24,8 +24,8 @@ from ..request.commands import CommandWords
 from ..stream.gaps import first_lines
 from ..stream.receiver import BLANK_PAGE
 from .blocks import fault_lines
-from .cue_list import CueList, places_of, style_of
-from .pictures import pictured
+from .cue_list import CueList, filter_style, places_of
+from .pictures import picture_pair
 from .timeline import Lanes
 
 
@@ -50,12 +50,12 @@ DELAY = "a delay shared by all subtitles, since the clock was estimated"
 BETWEEN = "the transmission between the parts"
 LOST_WORDS = "TS packets of the recording are missing: that part was not recorded"
 NAMED_WORDS = "Faults that qc found beside check"
-SAYS = markup("The verdict and the faults are the lines that <code>subttx check --all</code> "
+PROOF_NOTE = markup("The verdict and the faults are the lines that <code>subttx check --all</code> "
               "printed. The times, texts and pictures are computed by Python that is not proved; "
               "they show one receiver, tuned in before the first packet.")
 
 
-def shape(word: str) -> tuple[str, Markup]:
+def verdict_picture(word: str) -> tuple[str, Markup]:
     """Return the class and the picture of a verdict."""
     kind, drawn = SHAPES.get(word, SHAPES[REFUSED])
     return kind, markup('<svg aria-hidden="true" viewBox="0 0 62 62">{}</svg>', drawn)
@@ -63,20 +63,20 @@ def shape(word: str) -> tuple[str, Markup]:
 
 def verdict_box(verdict: Verdict) -> Markup:
     """Return the verdict in one sentence, its line, its clock, and what is to be known of it."""
-    kind, drawn = shape(verdict.word)
+    kind, drawn = verdict_picture(verdict.word)
     not_judged = verdict.word == NOT_JUDGED
     line = NOT_JUDGED if not_judged else verdict.lead or ""
     # The sentence of a relative verdict says that no clock was given.
     parts = [clock_words(verdict)] if verdict.word not in (NOT_JUDGED, RELATIVE) else []
-    parts += [folded(LOST_WORDS, [gap.line() for gap in verdict.gaps if gap.is_judged]),
-              folded(NAMED_WORDS, [f"{one.line}: {one.words}" for one in verdict.named])]
+    parts += [folded_list(LOST_WORDS, [gap.line() for gap in verdict.gaps if gap.is_judged]),
+              folded_list(NAMED_WORDS, [f"{one.line}: {one.words}" for one in verdict.named])]
     if not_judged:
         parts += [markup("<p>{}</p>", one) for one in (verdict.why_not or "").splitlines()[1:]]
         parts += [markup('<p>Type <code class="long">{}</code></p>', one)
                   for one in verdict.to_type]
     elif verdict.word != ACCEPTED:
-        parts.append(advice(verdict))
-    notes = [*verdict.notes, *(one.said() for one in verdict.warnings), *dict.fromkeys(
+        parts.append(advice_section(verdict))
+    notes = [*verdict.notes, *(one.warning_text() for one in verdict.warnings), *dict.fromkeys(
         part.otherwise for part in verdict.parts if part.otherwise)]
     parts += [markup('<p class="note">{}</p>', with_options(one)) for one in notes]
     return markup('<div class="verdict {}">{}<div><p class="sentence">{}</p><p class="line" '
@@ -108,7 +108,7 @@ def clock_source(clock: Clock) -> str:
     return f"Clock {source} {clock.origin}."
 
 
-def folded(what: str, lines: Sequence[str]) -> Markup:
+def folded_list(what: str, lines: Sequence[str]) -> Markup:
     """Return some places, folded if they are many; nothing if there are none."""
     if not lines:
         return NO_MARKUP
@@ -119,7 +119,7 @@ def folded(what: str, lines: Sequence[str]) -> Markup:
     return markup('<p class="count">{}</p>{}', what, listed)
 
 
-def advice(verdict: Verdict) -> Markup:
+def advice_section(verdict: Verdict) -> Markup:
     """Return what the manual says of the number that the verdict begins with."""
     lead = verdict.leading.leading if verdict.leading and not verdict.first_named else None
     known = means_and_do(verdict.leading, lead) if verdict.leading and lead else None
@@ -158,7 +158,7 @@ class PartView:
         if pictures := joined(self.pictures()):
             yield markup('<section><h2 id="pictures">First of each kind</h2>{}</section>', pictures)
         if self.list.rows:
-            yield self.list.listed()
+            yield self.list.list_section()
         if self.part.answer.count:
             yield self.faults()
 
@@ -178,7 +178,7 @@ class PartView:
         due, held, request = self.part.due(), self.held, self.part.request
         if held is None:
             return
-        firsts: list[tuple[str, Subtitle | None, int]] = [*self.list.first_bad()]
+        firsts: list[tuple[str, Subtitle | None, int]] = [*self.list.first_faults()]
         firsts += [(f"{fault.number} {fault.name}", due.subtitle(fault.frame), fault.frame)
                    for number, fault in sorted(self.part.answer.firsts.items())
                    if fault.frame is not None and (number in (PARITY, CHANGED) or
@@ -191,10 +191,11 @@ class PartView:
             state = held.state_at(frame) if frame <= held.last else None
             words: Value = markup('<a href="#s{}">{}</a>', one.index, one.name) if one else \
                 "no subtitle is expected"
-            into = self.list.into(frame)
+            offset = self.list.offset_text(frame)
             yield markup('<div class="kind"><h3>{}: {}{}</h3>{}</div>',
-                         name[0].upper() + name[1:], words, into and f", {into} into the recording",
-                         pictured(time_of(frame), rows, header, state))
+                         name[0].upper() + name[1:], words,
+                         offset and f", {offset} into the recording",
+                         picture_pair(time_of(frame), rows, header, state))
 
     def faults(self) -> Markup:
         """Return a row for each number: how many, the first, what it means and what to do."""
@@ -218,7 +219,7 @@ class PartView:
                 'data-name="First">{}</td><td data-name="Into recording">{}</td><td><details>'
                 "<summary>means, do, places</summary>{}<ol>{}</ol></details></td></tr>",
                 number, number, first.name, waived, count, fault_place(self.part, first),
-                "" if frame is None else self.list.into(frame), more, told))
+                "" if frame is None else self.list.offset_text(frame), more, told))
         return markup(
             '<section><h2 id="faults">{}</h2><table class="faults"><caption>Faults by number, as '
             "check reports them</caption><thead><tr>{}</tr></thead><tbody>{}</tbody></table>"
@@ -243,7 +244,7 @@ def named_list(rows: Iterable[tuple[str, Value]]) -> Markup:
         markup("<dt>{}</dt><dd>{}</dd>", name, value) for name, value in rows if value))
 
 
-def scope(verdict: Verdict) -> Markup:
+def scope_section(verdict: Verdict) -> Markup:
     """Return what was judged."""
     path = verdict.request.stl_path
     titles = titles_in(path) if os.path.isfile(path) else []
@@ -287,7 +288,7 @@ def not_checked(verdict: Verdict) -> Iterator[str]:
                 if not gap.is_judged)
 
 
-def waived(verdict: Verdict) -> Iterator[str]:
+def waived_faults(verdict: Verdict) -> Iterator[str]:
     """Yield the faults that a severity file names warnings."""
     counts = {number: part.answer.firsts[number].name for part in verdict.parts
               for number in part.answer.counts}
@@ -310,7 +311,7 @@ def options_of(verdict: Verdict, part: Part) -> str:
     return " ".join([*words, *part.request.between.words()])
 
 
-def foot(verdict: Verdict, typed: CommandWords) -> Markup:
+def footer(verdict: Verdict, typed: CommandWords) -> Markup:
     """Return what was not checked, what was waived, the files and the commands."""
     program = about_program(typed.program_path)
     size = os.path.getsize(typed.program_path)
@@ -327,7 +328,7 @@ def foot(verdict: Verdict, typed: CommandWords) -> Markup:
     return joined([
         markup('<section><h2 id="unchecked">Not checked, waived</h2>{}</section>', named_list([
             ("Not checked", "; ".join(not_checked(verdict))),
-            ("Waived", "; ".join(waived(verdict)) or "nothing")])),
+            ("Waived", "; ".join(waived_faults(verdict)) or "nothing")])),
         markup('<section><h2 id="files">Made from</h2><table class="files"><caption>Files and '
                'their checksums</caption><thead><tr><td></td><th scope="col">Name</th><th '
                'scope="col">Size</th><th scope="col">SHA-256</th></tr></thead><tbody>{}</tbody>'
@@ -335,7 +336,7 @@ def foot(verdict: Verdict, typed: CommandWords) -> Markup:
                    ("Commands", commands), *(("Options", options_of(verdict, part))
                                              for part in verdict.parts),
                    ("Date", verdict.date.replace("T", " ").replace("Z", " UTC")),
-                   ("Version", program.version), ("PROVED", proved)]), SAYS)])
+                   ("Version", program.version), ("PROVED", proved)]), PROOF_NOTE)])
 
 
 PART_COLUMNS = ("From", "To", "Verdict", "Faults", "Causes", "Clock")
@@ -374,7 +375,7 @@ def report_page(verdict: Verdict, typed: CommandWords) -> Markup:
     line = verdict.lead or f"{NOT_JUDGED}: {verdict.why_not}"
     views = [] if verdict.word == NOT_JUDGED else [
         PartView(verdict, part) for part in verdict.parts]
-    body = [verdict_box(verdict), scope(verdict)]
+    body = [verdict_box(verdict), scope_section(verdict)]
     if len(views) == 1:
         body += views[0].sections()
     elif views:
@@ -385,7 +386,7 @@ def report_page(verdict: Verdict, typed: CommandWords) -> Markup:
         body.append(markup('<section class="part" id="{}"><h2>Part {}, from {} to {}: {}</h2>{}'
                            "</section>", name, view.part.number, begin or "", end or "",
                            view.part.lead, joined(view.sections(), "\n").anchored(f"{name}-")))
-    body.append(foot(verdict, typed))
+    body.append(footer(verdict, typed))
     whole = joined(body, "\n")
     links = joined((markup('<a href="#{}">{}</a>', to, words) for to, words in LINKS
                     if f' id="{to}"' in whole.source), " ")
@@ -393,4 +394,4 @@ def report_page(verdict: Verdict, typed: CommandWords) -> Markup:
     return markup(
         "{}<title>{} &#8211; {}</title><style>\n{}{}</style></head><body><main><h1>Report on {}"
         '</h1>\n<nav aria-label="Sections">{}</nav>\n{}\n</main></body></html>\n', HEAD, line,
-        title, style, style_of(view.list for view in views), title, links, whole)
+        title, style, filter_style(view.list for view in views), title, links, whole)

@@ -66,7 +66,7 @@ def drawn_letters(cells: bytes, option: int, is_mosaic: bool = False) -> str:
     return codecs.charmap_decode(cells, "strict", letter_table(option, is_mosaic))[0]
 
 
-def spans_of(row: bytes, number: int, option: int, is_boxed_page: bool) -> list[CellStyle]:
+def styled_spans(row: bytes, number: int, option: int, is_boxed_page: bool) -> list[CellStyle]:
     """The look of the cells of a row, by the spacing attributes before them."""
     ink, paper, flash, boxed, double, mosaic = 7, 0, False, not is_boxed_page, False, False
     spans: list[CellStyle] = []
@@ -101,7 +101,7 @@ def spans_of(row: bytes, number: int, option: int, is_boxed_page: bool) -> list[
     return spans
 
 
-def grouped(spans: Iterable[CellStyle], key: Callable[[CellStyle], Key]) \
+def group_cells(spans: Iterable[CellStyle], key: Callable[[CellStyle], Key]) \
         -> Iterator[tuple[Key, int, str]]:
     """Neighbours with the same key, as the first column and the letters."""
     column = 0
@@ -111,7 +111,7 @@ def grouped(spans: Iterable[CellStyle], key: Callable[[CellStyle], Key]) \
         column += len(letters_)
 
 
-def look_text(look: Look, column: int, letters_: str) -> Markup:
+def text_markup(look: Look, column: int, letters_: str) -> Markup:
     """The letters of neighbours with one look; nothing where they are spaces."""
     column += len(letters_) - len(letters_.lstrip(" "))
     letters_ = letters_.strip(" ")
@@ -126,18 +126,18 @@ def look_text(look: Look, column: int, letters_: str) -> Markup:
 
 
 @functools.lru_cache(maxsize=4096)
-def row_drawing(row: bytes, number: int, option: int, is_boxed_page: bool) -> tuple[Markup, bool]:
+def draw_row(row: bytes, number: int, option: int, is_boxed_page: bool) -> tuple[Markup, bool]:
     """A row as SVG, and whether it hides the row below: where a cell of it has double height."""
-    spans = spans_of(row, number, option, is_boxed_page)
+    spans = styled_spans(row, number, option, is_boxed_page)
     is_tall = any(one.double for one in spans)
     height = HEIGHT * (2 if is_tall else 1)
     parts = [markup('<g transform="translate(0 {})">', (number - 1) * HEIGHT)]
-    for (paper, boxed), column, letters_ in grouped(spans, ground_of):
+    for (paper, boxed), column, letters_ in group_cells(spans, ground_of):
         if boxed:
             parts.append(markup('<rect class="p{}" x="{}" width="{}" height="{}"/>', paper,
                                 column * WIDTH, len(letters_) * WIDTH, height))
-    for look, column, letters_ in grouped(spans, look_of):
-        parts.append(look_text(look, column, letters_))
+    for look, column, letters_ in group_cells(spans, look_of):
+        parts.append(text_markup(look, column, letters_))
     for found in MARKED.finditer(row):
         name, (begin, end) = "hit" if found[0][0] == HIT else "old", found.span()
         parts.append(markup('<rect class="{}" x="{}" y="1" width="{}" height="13"/>', name,
@@ -172,7 +172,7 @@ def is_boxed(header: bytes) -> bool:
     return has_bit(header, NEWSFLASH) or has_bit(header, SUBTITLE)
 
 
-def cut_of(pages: Iterable[Rows]) -> Cut:
+def rows_to_draw(pages: Iterable[Rows]) -> Cut:
     """Return the first and the last row to draw: those in use, and one more on each side."""
     used = [number for rows in pages for number, one in enumerate(rows, 1) if one != BLANK_ROW]
     if not used:
@@ -180,7 +180,7 @@ def cut_of(pages: Iterable[Rows]) -> Cut:
     return max(1, min(used) - 1), min(24, max(used) + 1)
 
 
-def opened(kind: str, cut: Cut) -> Markup:
+def picture_start(kind: str, cut: Cut) -> Markup:
     """The begin of a picture of these rows, with its ground, and room for row numbers."""
     top, height = (cut[0] - 1) * HEIGHT, (cut[1] - cut[0] + 1) * HEIGHT
     return markup('<svg class="{}" viewBox="{} {} {} {}" {} xml:space="preserve"><rect class="v" '
@@ -190,12 +190,12 @@ def opened(kind: str, cut: Cut) -> Markup:
 
 def picture(rows: Rows, header: bytes, cut: Cut, different: Iterable[Place] = ()) -> Markup:
     """Draw some rows of a page as SVG, with a frame around each run of cells that differ."""
-    parts = [opened("page", cut)]
+    parts = [picture_start("page", cut)]
     tall: set[int] = set()
     option, has_boxes = national_option(header), is_boxed(header)
     for number, row in enumerate(rows[cut[0] - 1:cut[1]], cut[0]):
         if (row != BLANK_ROW or not has_boxes) and number - 1 not in tall:
-            drawn, is_tall = row_drawing(row, number, option, has_boxes)
+            drawn, is_tall = draw_row(row, number, option, has_boxes)
             parts.append(drawn)
             tall |= {number} if is_tall else set()
     parts.append(frames_of(different, tall))
@@ -206,8 +206,8 @@ def picture(rows: Rows, header: bytes, cut: Cut, different: Iterable[Place] = ()
 def empty_picture(words: str, cut: Cut) -> Markup:
     """The place of a picture where there is no page, with the reason."""
     middle = (cut[0] + cut[1] - 1) * HEIGHT // 2 + 7
-    return markup('{}<text class="w" x="240" y="{}">{}</text></svg>', opened("page none", cut),
-                  middle, words)
+    return markup('{}<text class="w" x="240" y="{}">{}</text></svg>',
+                  picture_start("page none", cut), middle, words)
 
 
 def differences(due: Rows, held: Rows) -> list[Place]:
@@ -224,10 +224,10 @@ def differences(due: Rows, held: Rows) -> list[Place]:
 NO_TEXT = "no text"
 
 
-def pictured(time: str, expected: Rows, header: bytes, state: State | None) -> Markup:
+def picture_pair(time: str, expected: Rows, header: bytes, state: State | None) -> Markup:
     """Draw the expected page and the decoded one at the end of a frame."""
     decoded = state.rows if state and state.is_heard else None
-    cut = cut_of([expected, decoded] if decoded else [expected])
+    cut = rows_to_draw([expected, decoded] if decoded else [expected])
     left = figure(f"Expected at {time}", NO_TEXT * (expected == BLANK_PAGE),
                   picture(expected, header, cut))
     if state is None or decoded is None or state.header is None:

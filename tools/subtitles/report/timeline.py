@@ -54,7 +54,7 @@ class Lanes:
         places = {kind.key: list[tuple[int, int]]() for kind in self.cues.kinds}
         for cue in self.cues.cues:
             if cue.cause:
-                places[cause_key(cue.cause)].append(around(cue))
+                places[cause_key(cue.cause)].append(frames_around(cue))
         for number, spans in self.cues.judge.spans.items():
             places[f"n{number}"] += [(span.first, span.last + 1) for span in spans]
         for kind in self.cues.kinds:
@@ -96,7 +96,7 @@ class Lanes:
         return markup('<div class="axis"><div>{}</div></div>', joined(words))
 
 
-def around(cue: Cue) -> tuple[int, int]:
+def frames_around(cue: Cue) -> tuple[int, int]:
     """Return the frames of a cue, expected and actual."""
     one = cue.subtitle
     return (min(one.begin, one.begin if cue.begin is None else cue.begin),
