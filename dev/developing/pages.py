@@ -213,7 +213,7 @@ def chapter_parts(table: str = "") -> dict[str, str]:
     own.
     """
     of_check = {option.name for option in options(table) if "check" in option.commands}
-    rows = ["| Option | Is |", "|---|---|"]
+    rows = ["| Option | What it does |", "|---|---|"]
     for option in request.OPTIONS:
         if option.name not in of_check and not option.name.startswith("--no-"):
             form = option.form.replace("|", "\\|")

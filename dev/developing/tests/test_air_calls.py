@@ -4,7 +4,6 @@ from __future__ import annotations
 import datetime
 import json
 import os
-import signal
 import subprocess
 import sys
 import time
@@ -182,26 +181,25 @@ class Calls(Feeds):
     def test_outlasts_kills_of_the_judge(self) -> None:
         """While the feed comes: there is one result."""
         frames = self.feed()
-        source, sink = os.pipe()
-        recorder = self.start(source, "record", self.path("segments"), "--length", "2", "--free",
-                              "0")
+        recorder = self.start(subprocess.PIPE, "record", self.path("segments"), "--length", "2",
+                              "--free", "0")
+        assert recorder.stdin
         until(lambda: os.path.exists(self.path("segments/.recorder.lock")))
         begin = time.time() + 2
         self.put_on_air(begin + LEAD - 1)
         judge = self.start_judge()
         for number, frame in enumerate(frames):
             time.sleep(max(begin + number / 25 - time.time(), 0))
-            os.write(sink, frame)
+            os.write(recorder.stdin.fileno(), frame)
             if number in (60, 200, 420):
                 judge.kill()
                 judge.wait()
                 judge = self.start_judge()
         until(lambda: self.verdicts())
-        os.close(sink)
+        recorder.stdin.close()
         self.check("the recorder ends with the feed", recorder.wait(SECONDS), 0)
-        judge.send_signal(signal.SIGTERM)
+        judge.terminate()
         self.check("a signal ends the judge", judge.wait(SECONDS), 2)
-        os.close(source)
         self.check("results", [*self.verdicts().values()], ["relative"])
         self.check("programmes that wait", json.loads(self.read("out/state.json"))["waiting"], 0)
 

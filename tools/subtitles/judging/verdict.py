@@ -179,7 +179,7 @@ class Verdict:
 
     @property
     def is_lost(self) -> bool:
-        """Whether the verdict speaks of frames of which TS packets are lost."""
+        """Return whether TS packets are lost of frames that the verdict is about."""
         return any(gap.is_judged for gap in self.gaps)
 
     def warn(self, notices: Iterable[Notice]) -> None:
