@@ -1,4 +1,5 @@
--- How far a reader may read; main lemmas: requests_none, skipped_borrowed.
+-- A reader requests no more bytes from its source than it needs; main lemmas: requests_none,
+-- skipped_borrowed.
 use Rattle.std.proofs.Common.{◌≡◌, ℕ, ◌≤◌, Bool, true, List, ◌++◌, length, take}
 use Rattle.std.proofs.Common.{Option, Some, None, refl, sym, ap, ◌∙◌}
 use Rattle.std.proofs.lemmas.List.{take-take}
@@ -8,20 +9,17 @@ use Rattle.sub_io.specs.Asking.{Requests, IsRequestedAfter, requests_nothing}
 use Rattle.sub_io.specs.Device.{SkipsOver}
 use Rattle.sub_io.specs.Reading.{AreNext}
 
--- Without a call the question stays the same.
 pub requests_none : {D : Type 0} (IsPull : D → ℕ → Option ℕ → D → Type 0) (borrowed : D → List ℕ)
     (remaining : D → Option (List ℕ)) (is_enough : List ℕ → Bool) (source : D)
     → Requests IsPull borrowed remaining is_enough source true is_enough source
 requests_none IsPull borrowed remaining is_enough source =
     requests_nothing is_enough is_enough source (λ bytes is. is)
 
--- The same question after these bytes.
 pub requested_after : (taken : List ℕ) (old new : List ℕ → Bool)
     → ((bytes : List ℕ) → new bytes ≡ old (taken ++ bytes))
     → IsRequestedAfter taken old new
 requested_after taken old new same bytes is = same bytes ∙ is
 
--- Skipping lent bytes consumes them.
 pub skipped_borrowed : (x y : Option (List ℕ)) (borrowed : List ℕ) (count : ℕ)
     → AreNext borrowed x
     → SkipsOver x count y

@@ -1,5 +1,5 @@
--- The buffered bytes come before those of the inner device; main lemmas: buffered-split,
--- buffered-parts, buffered-moved. Bytes that are lent, NAME_begin, and skipped, NAME_passed.
+-- The contents of a buffered device are its buffered bytes and then those of the inner device; main
+-- lemmas: buffered-split, buffered-parts, buffered-moved.
 use Rattle.std.proofs.Common.{◌≡◌, ℕ, ◌+◌, ◌-◌, ◌≤◌, List, [], ◌++◌, length, take, drop}
 use Rattle.std.proofs.Common.{slice_range, ◌<◌, append_assoc, length-take-le, take-append-drop}
 use Rattle.std.proofs.Common.{Option, Some, None, Result, sym, ap, ◌∙◌, arith, drop-drop}
@@ -16,7 +16,6 @@ use Rattle.sub_io.specs.Calls.{ReadsAhead}
 use Rattle.sub_io.specs.Device.{SkipsOver, Pulls}
 use Rattle.sub_io.specs.Reading.{AreNext}
 
--- A range splits after its first n bytes.
 slice_range-split : (xs : List ℕ) (a e n : ℕ)
     → a + n ≤ e
     → slice_range xs a e ≡ slice_range xs a (a + n) ++ slice_range xs (a + n) e
@@ -28,7 +27,6 @@ slice_range-split xs a e n within =
     ∙ ap (λ l. take n (drop a xs) ++ take (e - (a + n)) l) (drop-drop n a xs)
     ∙ ap (λ k. take k (drop a xs) ++ slice_range xs (a + n) e) (sym first)
 
--- Copying the first n buffered bytes to the front of `to`.
 pub buffered-split : (xs ys copied rest : List ℕ) (a e n : ℕ)
     → ys ≡ xs
     → a + n ≤ e
@@ -41,7 +39,6 @@ buffered-split xs ys copied rest a e n kept within long same =
     (sym same ∙ sym (take-append_seam copied rest) ∙ ap (λ k. take k (copied ++ rest)) long)
     ∙ ap (λ l. take n (copied ++ rest) ++ slice_range l (a + n) e) (sym kept)
 
--- With an empty buffer, a pull is one of the inner source.
 pub Pulls-past : {E : Type 0} (x y : Option (List ℕ)) (old new to : List ℕ) (r : Result ℕ E)
     → old ≡ []
     → new ≡ []
@@ -50,7 +47,6 @@ pub Pulls-past : {E : Type 0} (x y : Option (List ℕ)) (old new to : List ℕ) 
 Pulls-past x y old new to r none still p =
     rw (none, still, prepend_known-nil x, prepend_known-nil y) p
 
--- The bytes that the inner sink did not take were moved to the front of the buffer.
 buffered-rest : (room : List ℕ) (n len : ℕ)
     → n ≤ len
     → len ≤ length room
@@ -66,7 +62,6 @@ buffered-rest room n len some within =
     (sym (take-paste room 0 (drop n room) left (omega arith) fits)
     ∙ ap (λ k. take k (paste room 0 (drop n room) left)) same)
 
--- The buffered bytes before the push are the n that were taken and those that remain.
 pub buffered-parts : (old room moved : List ℕ) (n len : ℕ)
     → n ≤ len
     → len ≤ length room
@@ -77,8 +72,8 @@ buffered-parts old room moved n len some within was now =
     was ∙ buffered-rest room n len some within
     ∙ ap (λ l. take n room ++ take (len - n) l) (sym now)
 
--- If the inner sink took the first n buffered bytes and the rest remains, the bytes taken in total
--- are the same.
+-- If the inner sink has taken the first n buffered bytes and the others stay in the buffer, the
+-- contents of the buffered sink do not change.
 pub buffered-moved : (x y : Option (List ℕ)) (old room moved : List ℕ) (n len : ℕ)
     → n ≤ len
     → len ≤ length room
@@ -90,16 +85,12 @@ buffered-moved x y old room moved n len some within was now p =
     append_known-moved x y (take n room) (take (len - n) moved) old p
     (buffered-parts old room moved n len some within was now)
 
--- ---- bytes that are lent and skipped
-
--- How many bytes are buffered.
 pub buffered_length : (xs : List ℕ) (a e : ℕ)
     → a ≤ e
     → e ≤ length xs
     → length (slice_range xs a e) ≡ e - a
 buffered_length xs a e le within = omega (arith, length-take (e - a) (drop a xs), length-drop a xs)
 
--- An empty range is empty for any bytes. For `refill`.
 pub none_buffered : (xs ys : List ℕ) (a e : ℕ)
     → a ≤ e
     → e ≤ length xs
@@ -109,7 +100,6 @@ none_buffered xs ys a e le within none =
     let none_left : e - a ≡ 0 = omega (arith, ap length none, buffered_length xs a e le within) in
     ap (λ k. take k (drop a ys)) none_left
 
--- The bytes from a to e without the first n.
 pub buffered_past : (xs : List ℕ) (a e n : ℕ)
     → a + n ≤ e
     → slice_range xs (a + n) e ≡ drop n (slice_range xs a e)
@@ -119,11 +109,9 @@ buffered_past xs a e n within =
     ∙ sym (drop-take n (e - (a + n)) (drop a xs))
     ∙ ap (λ k. drop n (take k (drop a xs))) (sym whole)
 
--- A device over memory lends all its bytes.
 pub all_are_next : (xs : List ℕ) → AreNext xs (Some xs)
 all_are_next xs bytes e = ap (take (length xs)) (sym (same_Some xs bytes e)) ∙ take-length xs
 
--- The buffered bytes come before those of the inner device.
 pub buffered_are_next : (buffered : List ℕ) (x : Option (List ℕ)) → AreNext buffered
     (prepend_known buffered x)
 buffered_are_next buffered None bytes e = absurd cc
@@ -131,7 +119,6 @@ buffered_are_next buffered (Some xs) bytes e =
     ap (take (length buffered)) (sym (same_Some (buffered ++ xs) bytes e)) ∙ take-append_seam
     buffered xs
 
--- Skipping bytes of a device over memory.
 pub front_passed : (xs rest : List ℕ) (n : ℕ)
     → n ≤ length xs
     → rest ≡ drop n xs
@@ -142,7 +129,6 @@ front_passed xs rest n le e = record {
   consumed = sym (take-append-drop n xs) ∙ ap (λ l. take n xs ++ l) (sym e);
 }
 
--- Skipping buffered bytes.
 pub buffered_skipped : (x : Option (List ℕ)) (buffered left : List ℕ) (n : ℕ)
     → n ≤ length buffered
     → left ≡ drop n buffered
@@ -157,7 +143,6 @@ buffered_skipped (Some xs) buffered left n le e = record {
       ∙ ap (λ l. take n buffered ++ (l ++ xs)) (sym e);
 }
 
--- The inner source is not called to skip buffered bytes.
 pub buffered_read : {D : Type 0} (IsPull : D → ℕ → Option ℕ → D → Type 0)
     (old new : ReadAhead D) (n : ℕ)
     → 0 < n

@@ -1,11 +1,11 @@
--- Adding a call to those of `fill` and `put_all`.
+-- A call of the device followed by the calls of the rest of `fill` or `put_all` gives the calls of
+-- the whole function.
 use Rattle.std.proofs.Common.{◌≡◌, ℕ, ◌-◌, ◌<◌, Bool, List, ◌∷◌, length}
 use Rattle.std.proofs.Common.{Option, Some, ◌+◌, arith, drop}
 use Rattle.std.proofs.Common.{drop-drop, length-drop}
 use Rattle.sub_io.specs.Calls.{FillsByPulls, PutsByPushes}
 
 module _ {D : Type 0} (IsPull : D → ℕ → Option ℕ → D → Type 0) where
-  -- A pull that returned bytes, then the rest of the filling.
   pub fills-more : (old mid new : D) (borrowed room n left : ℕ) (ok : Bool)
       → IsPull old borrowed (Some n) mid
       → borrowed ≡ room
@@ -18,7 +18,6 @@ module _ {D : Type 0} (IsPull : D → ℕ → Option ℕ → D → Type 0) where
       record { given = n ∷ then.given; pulls = (mid, some, rw whole at pull, then.pulls) }
 
 module _ {D : Type 0} (IsPush : D → List ℕ → Option ℕ → D → Type 0) where
-  -- A push that took bytes, then the rest of the writing.
   pub puts-more : (old mid new : D) (borrowed bytes : List ℕ) (n at : ℕ) (ok : Bool)
       → IsPush old borrowed (Some n) mid
       → borrowed ≡ drop at bytes

@@ -1,4 +1,4 @@
--- Bytes that a device gave or took part by part; main lemmas: Consumes-more, Appends-more.
+-- Bytes that a device transfers in several calls add up; main lemmas: Consumes-more, Appends-more.
 use Rattle.std.proofs.Common.{◌≡◌, ℕ, ◌+◌, ◌-◌, ◌≤◌, List, ◌++◌, length, take, drop, Option, Some}
 use Rattle.std.proofs.Common.{None, Result, Ok, Err, refl, sym, ap, ◌∙◌, subst, le_refl, arith}
 use Rattle.std.proofs.Common.{length-append, drop_at, length-take-le}
@@ -15,7 +15,6 @@ use Rattle.sub_io.specs.Device.{AppendsPrefix, Fills, SkipsOver, Told, Writes}
 use Rattle.sub_io.specs.Reading.{AreNext, IfKnown}
 use Rattle.sub_io.specs.declared.source.Failed.{Failed}
 
--- The front of a slice after a part of it was written.
 take-put_mid : (a k n : ℕ) (xs ys : List ℕ)
     → a ≤ length xs
     → n ≤ length ys
@@ -30,7 +29,6 @@ take-put_mid a k n xs ys within fits =
     ∙ ap (λ l. take a xs ++ take n l) back
     ∙ ap (λ l. take a xs ++ l) (take-append-le n ys after fits)
 
--- The next part that was read into the buffer.
 pub Consumes-more : (x y z : Option (List ℕ)) (a k n : ℕ) (xs ys : List ℕ)
     → a ≤ length xs
     → n ≤ length ys
@@ -40,7 +38,6 @@ pub Consumes-more : (x y z : Option (List ℕ)) (a k n : ℕ) (xs ys : List ℕ)
 Consumes-more x y z a k n xs ys within fits p q =
     subst (Consumes x z) (sym (take-put_mid a k n xs ys within fits)) (Consumes-trans x y z _ _ p q)
 
--- Skipping the first of the bytes that a device lends.
 pub Consumes-skipped : (old new : Option (List ℕ)) (prefix : List ℕ) (n : ℕ)
     → AreNext prefix old
     → n ≤ length prefix
@@ -57,7 +54,6 @@ Consumes-skipped (Some xs) (Some ys) prefix n begins le p =
     ∙ take-append_seam p.bytes ys in
     p.consumed ∙ ap (λ l. l ++ ys) (sym same)
 
--- The next part of the bytes that are written.
 pub Appends-more : (x y z : Option (List ℕ)) (a m n : ℕ) (xs : List ℕ)
     → m ≡ length xs - a
     → Appends x y (take a xs)
@@ -68,7 +64,8 @@ Appends-more x y z a m n xs e p q =
     subst (Appends x z) (ap (λ l. take a xs ++ take n l) whole ∙ sym (take-add a n xs))
     (Appends-trans x y z _ _ p q)
 
--- A filled buffer determines what is left of a source with known bytes.
+-- If the bytes of a source are known, filling a buffer from the source determines which bytes the
+-- source has left.
 pub Told-from_fills : (old new : Option (List ℕ)) (n : ℕ) (buffer : List ℕ)
     → Fills old n new buffer
     → IfKnown old (λ bytes. Told bytes n new buffer)
@@ -82,14 +79,13 @@ Told-from_fills (Some xs) (Some ys) n buffer f bytes e =
       ended = f.end;
     }
 
--- The same for a result: the clause `told` of `fill`.
 pub Told-from_result : (old new : Option (List ℕ)) (buffer : List ℕ) (r : Result ℕ Failed)
     → IfOk r (λ n. Fills old n new buffer)
     → IfKnown old (λ bytes. IfOk r (λ n. Told bytes n new buffer))
 Told-from_result old new buffer (Ok n) f = Told-from_fills old new n buffer f
 Told-from_result old new buffer (Err e) f = λ bytes is. tt
 
--- If the first write fails, a prefix of the first part is a prefix of both.
+-- If the first of two writes fails, the sink has taken a prefix of the bytes of both.
 pub AppendsPrefix-first : (old new : Option (List ℕ)) (xs ys : List ℕ)
     → AppendsPrefix old new xs
     → AppendsPrefix old new (xs ++ ys)
@@ -98,7 +94,8 @@ AppendsPrefix-first old new xs ys p =
     let same = sym (take-append-le p.0 xs ys room) in
     (p.0, omega (arith, length-append xs ys), subst (Appends old new) same p.2)
 
--- If the second write fails, the first part and a prefix of the second are a prefix of both.
+-- If the second of two writes fails, the sink has taken the bytes of the first write and a prefix
+-- of the second, so a prefix of both.
 pub AppendsPrefix-second : (old mid new : Option (List ℕ)) (xs ys : List ℕ)
     → Appends old mid xs
     → AppendsPrefix mid new ys
@@ -109,14 +106,12 @@ AppendsPrefix-second old mid new xs ys p q =
     let same = sym (take-append-add xs ys q.0) in
     (length xs + q.0, omega (arith, length-append xs ys), subst (Appends old new) same whole)
 
--- A list is a prefix of itself.
 pub AppendsPrefix-whole : (old new : Option (List ℕ)) (xs : List ℕ)
     → Appends old new xs
     → AppendsPrefix old new xs
 AppendsPrefix-whole old new xs p =
     (length xs, le_refl (length xs), subst (Appends old new) (sym (take-length xs)) p)
 
--- A write after a successful one: the effect of both.
 pub Writes-after : {X E : Type 0} (old mid new : Option (List ℕ)) (xs ys : List ℕ)
     → (result : Result X E)
     → Appends old mid xs
@@ -125,6 +120,5 @@ pub Writes-after : {X E : Type 0} (old mid new : Option (List ℕ)) (xs ys : Lis
 Writes-after old mid new xs ys (Ok value) p q = Appends-trans old mid new xs ys p q
 Writes-after old mid new xs ys (Err fault) p q = AppendsPrefix-second old mid new xs ys p q
 
--- For a function of two or more writes: `using(sub_io::proofs::DeviceLemmas::prefixes)`.
 pub ruleset prefixes =
     (AppendsPrefix-first, AppendsPrefix-second, AppendsPrefix-whole, Writes-after)

@@ -1,4 +1,4 @@
--- Flushing does not change what was reported. Main lemma: keeps-reported.
+-- Flushing an audience does not change which items it has received. Main lemma: keeps-reported.
 use Rattle.std.proofs.Common.{◌≡◌, ◌∙◌, ℕ, Bool, true, false, List, [], ◌∷◌, ap, inl, inr, sym}
 use Rattle.std.proofs.Common.{not, refl, subst, Result, Ok, Err}
 use Rattle.std.specs.Prelude.{OnOk, is_err, is_ok}
@@ -12,7 +12,8 @@ module _
     (buffered : D → ℕ)
     (IsFlushed : D → Bool → D → Type 0)
     (stays : StaysReported IsReported has_stopped has_pending_reports buffered IsFlushed) where
-  -- Reports stay reported if the last of them is flushed.
+  -- If the audience is flushed after the last report, all items stay reported (by induction over
+  -- the items).
   stays_one_by_one : (a b c : D) (x : A) (items : List A) (ok : Bool)
       → has_pending_reports b ≡ true
       → IsFlushed b ok c
@@ -26,7 +27,8 @@ module _
   stays_one_by_one a b c x (y ∷ items) ok has_pending on (mid, first, rest) =
       (mid, first, stays_one_by_one mid b c y items ok has_pending on rest)
 
-  -- Reports since a state without pending ones stay reported.
+  -- If no report was pending before the first item, all items stay reported when the audience is
+  -- flushed.
   stays_after : (a b c : D) (items : List A) (ok : Bool)
       → has_pending_reports a ≡ false
       → has_pending_reports b ≡ true
@@ -38,7 +40,6 @@ module _
   stays_after a b c (x ∷ items) ok still has_pending on reported =
       stays_one_by_one a b c x items ok has_pending on reported
 
-  -- For a function that flushes an audience.
   pub keeps-reported : (old new : D) (ok : Bool)
       → FlushesIfPending has_pending_reports IsFlushed old ok new
       → KeepsReported IsReported has_pending_reports old new
@@ -54,7 +55,6 @@ module _
         };
   }
 
-  -- What holds before any report and after each one holds after several.
   reported-holds : (a b : D) (items : List A)
       → BuffersOnlyWhilePending has_pending_reports buffered a
       → ReportsInOrder IsReported a b items
@@ -70,7 +70,6 @@ module _
       → BuffersOnlyWhilePending has_pending_reports buffered b
   holds-reported a b holds some = reported-holds a b some.items holds some.reported.one_by_one
 
--- That something was reported stays true.
 pub ReportsSome-kept : {A D : Type 0} (IsReported : D → A → D → Type 0) (has_pending_reports : D →
     Bool)
     (start old new : D)
@@ -82,8 +81,6 @@ ReportsSome-kept IsReported has_pending_reports start old new some still keeps =
   items = some.items;
   reported = keeps.kept start some.items still some.reported;
 }
-
--- ---- success of flushing
 
 pub not_ok : {X E : Type 0} (r : Result X E) (b : Bool) → is_err r ≡ b → not (is_ok r) ≡ b
 not_ok (Ok x) b is = is

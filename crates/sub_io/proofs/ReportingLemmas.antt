@@ -1,5 +1,5 @@
--- Items reported one after another; main lemma: ReportsUntilStopped-after. The audience that keeps
--- the first: first_is.
+-- Reports to an audience add up, until the audience stops; main lemma: ReportsUntilStopped-after.
+-- An audience that keeps only the first item: first_is.
 use Rattle.std.proofs.Common.{◌≡◌, ◌+◌, ◌≤◌, List, [], ◌∷◌, ◌++◌, length, take, Option, None}
 use Rattle.std.proofs.Common.{Result, Ok, Err, refl, sym, subst, le_refl, arith}
 use Rattle.std.proofs.Common.{length-append}
@@ -9,7 +9,6 @@ use Rattle.sub_io.specs.Reporting.{KeepsFirst, Reports, ReportsInOrder, ReportsP
 use Rattle.sub_io.specs.Reporting.{ReportsUntilStopped}
 use Rattle.sub_io.specs.Reporting.{ReportsSome, first_alone}
 
--- Reporting one list after another reports both.
 one_by_one-trans : {A D : Type 0} (IsReported : D → A → D → Type 0) (a b c : D) (xs ys : List A)
     → ReportsInOrder IsReported a b xs
     → ReportsInOrder IsReported b c ys
@@ -19,7 +18,6 @@ one_by_one-trans IsReported a b c (x ∷ xs) ys (mid, first, rest) q =
     (mid, first, one_by_one-trans IsReported mid b c xs ys rest q)
 
 module _ {A D : Type 0} {IsReported : D → A → D → Type 0} where
-  -- Reporting one list after another reports both.
   pub Reports-trans : (a b c : D) (xs ys : List A)
       → Reports IsReported a b xs
       → Reports IsReported b c ys
@@ -27,15 +25,14 @@ module _ {A D : Type 0} {IsReported : D → A → D → Type 0} where
   Reports-trans a b c xs ys p q =
       record { one_by_one = one_by_one-trans IsReported a b c xs ys p.one_by_one q.one_by_one }
 
-  -- No item.
   pub Reports-none : (a : D) → Reports IsReported a a []
   Reports-none a = record { one_by_one = refl }
 
-  -- One item.
   pub Reports-one : (a b : D) (x : A) → IsReported a x b → Reports IsReported a b (x ∷ [])
   Reports-one a b x reported = record { one_by_one = (b, reported, refl) }
 
-  -- If the audience stops in the first list, a prefix of both was reported.
+  -- If the audience stops within the first of two lists, it has received a prefix of both lists
+  -- together.
   pub ReportsPrefix-first : (old new : D) (xs ys : List A)
       → ReportsPrefix IsReported old new xs
       → ReportsPrefix IsReported old new (xs ++ ys)
@@ -44,7 +41,8 @@ module _ {A D : Type 0} {IsReported : D → A → D → Type 0} where
       let same = sym (take-append-le p.0 xs ys room) in
       (p.0, omega (arith, length-append xs ys), subst (Reports IsReported old new) same p.2)
 
-  -- If it stops in the second list, the first and a prefix of the second were reported.
+  -- If the audience stops within the second of two lists, it has received the first list and a
+  -- prefix of the second.
   pub ReportsPrefix-second : (old mid new : D) (xs ys : List A)
       → Reports IsReported old mid xs
       → ReportsPrefix IsReported mid new ys
@@ -58,14 +56,12 @@ module _ {A D : Type 0} {IsReported : D → A → D → Type 0} where
         subst (Reports IsReported old new) same whole,
       )
 
-  -- If it stops at the last item, the list is a prefix of itself.
   pub ReportsPrefix-whole : (old new : D) (xs : List A)
       → Reports IsReported old new xs
       → ReportsPrefix IsReported old new xs
   ReportsPrefix-whole old new xs p =
       (length xs, le_refl (length xs), subst (Reports IsReported old new) (sym (take-length xs)) p)
 
-  -- A list after one that was reported completely: the effect of both.
   pub ReportsUntilStopped-after : {X E : Type 0} (old mid new : D) (xs ys : List A)
       → (result : Result X E)
       → Reports IsReported old mid xs
@@ -74,8 +70,6 @@ module _ {A D : Type 0} {IsReported : D → A → D → Type 0} where
   ReportsUntilStopped-after old mid new xs ys (Ok value) p q = Reports-trans old mid new xs ys p q
   ReportsUntilStopped-after old mid new xs ys (Err fault) p q =
       ReportsPrefix-second old mid new xs ys p q
-
--- ---- any number of items
 
 module _ {A D : Type 0} {IsReported : D → A → D → Type 0} where
   pub ReportsSome-none : (a : D) → ReportsSome IsReported a a
@@ -90,7 +84,6 @@ module _ {A D : Type 0} {IsReported : D → A → D → Type 0} where
             q.reported;
       }
 
--- An audience that keeps the first item received at most that one.
 pub first_is : {A : Type 0} (first : Option A) (xs : List A)
     → Reports KeepsFirst None first xs
     → first_alone first ≡ xs
@@ -98,7 +91,6 @@ first_is first [] reported = let same = reported.one_by_one in cc
 first_is first (x ∷ []) reported = let one = reported.one_by_one in cc
 first_is first (x ∷ y ∷ ys) reported = let two = reported.one_by_one in cc
 
--- For a function that reports more than once: `using(sub_io::proofs::ReportingLemmas::tellings)`.
 pub ruleset tellings = (
   Reports-trans,
   Reports-none,

@@ -1,15 +1,15 @@
--- The bytes that a source lends: it gives them next, without calling the device below it. So a pull
--- of them neither blocks nor fails.
+-- The bytes that a source lends are those that it returns next, without calling the device below
+-- it. So pulling lent bytes neither blocks nor fails.
 use Rattle.std.specs.Prelude.{◌≡◌, ◌≢◌, ℕ, List, [], ◌++◌, length, take, Result, MatchResult}
 
 abbrev pub lends_nothing : {D : Type 0} → D → List ℕ
 lends_nothing device = []
 
--- If bytes are lent, a pull returns the first of them and does not fail.
+-- If the source lends bytes, a pull returns the first of the lent bytes and does not fail.
 abbrev pub GivesBorrowed : {E : Type 0} → List ℕ → List ℕ → List ℕ → Result ℕ E → Type 0
 GivesBorrowed old new buffer result =
     old ≢ [] → MatchResult result (λ n. old ≡ take n buffer ++ new) (λ _. ⊥)
 
--- The bytes lent begin with these.
+-- The lent bytes begin with `bytes`.
 abbrev pub BeginBorrowed : List ℕ → List ℕ → Type 0
 BeginBorrowed bytes borrowed = take (length bytes) borrowed ≡ bytes

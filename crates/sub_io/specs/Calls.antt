@@ -1,31 +1,32 @@
--- The calls of a device that a function makes, with their arguments and results. A device specifies
--- its calls by `is_pull` and `is_push`, or leaves them open by `any_call`.
+-- Specifies which calls of a device a function makes, with their arguments and results. A device
+-- restricts its calls by `is_pull` and `is_push`, or leaves them open by `any_call`.
 use Rattle.std.specs.Prelude.{◌≡◌, ◌≢◌, ℕ, ◌-◌, ◌<◌, ◌≤◌, ◌⊎◌, Bool, true, false, min}
 use Rattle.std.specs.Prelude.{List, [], ◌∷◌, ◌++◌, length, take, drop}
 use Rattle.std.specs.Prelude.{Option, Some, None, option_map, Result, Ok, Err}
 use Rattle.sub_io.specs.Buffered.{BufferState, ReadAhead}
 use Rattle.sub_io.specs.Countdown.{CountingDown, fails_next, countdown_after}
 
--- How many bytes a call transferred. `None` if it failed.
+-- The number of bytes that a call of a device transferred. `None` if the call failed.
 abbrev pub answered : {E : Type 0} → Result ℕ E → Option ℕ
 answered (Ok n) = Some n
 answered (Err _) = None
 
--- No restriction.
+-- A device with `any_call` specifies nothing about the effect of a call.
 abbrev pub any_call : {D L : Type 0} → D → L → Option ℕ → D → Type 0
 any_call old borrowed answer new = Unit {0}
 
 -- ---- the calls of `fill`
 
--- The last call, with `room` bytes of the buffer left. There is none if the buffer is full;
--- otherwise it returned 0 bytes. If `fill` fails, the last call failed.
+-- The last call of `fill`, with `room` bytes of the buffer left. If the buffer is full, `fill`
+-- makes no further call; otherwise the last call returned 0 bytes. If `fill` fails, the last call
+-- failed.
 abbrev pub EndsFilling :
     {D : Type 0} → (D → ℕ → Option ℕ → D → Type 0) → D → ℕ → Bool → D → Type 0
 EndsFilling IsPull old room true new =
     ((room ≡ 0) × (new ≡ old)) ⊎ ((0 < room) × IsPull old room (Some 0) new)
 EndsFilling IsPull old room false new = (0 < room) × IsPull old room None new
 
--- Each earlier call returned n > 0 bytes, and was given the rest of the buffer.
+-- Each call of `fill` but the last offers all that is left of the buffer, and reads n > 0 bytes.
 abbrev pub PullsInOrder :
     {D : Type 0} → (D → ℕ → Option ℕ → D → Type 0) → D → ℕ → List ℕ → Bool → D → Type 0
 PullsInOrder IsPull old room [] ok new = EndsFilling IsPull old room ok new
@@ -35,7 +36,7 @@ PullsInOrder {D} IsPull old room (n ∷ ns) ok new =
     × IsPull old room (Some n) mid
     × PullsInOrder IsPull mid (room - n) ns ok new
 
--- The calls that fill a buffer of `room` bytes.
+-- The calls of a source by which `fill` fills a buffer of `room` bytes.
 pub record FillsByPulls
     {D : Type 0} (IsPull : D → ℕ → Option ℕ → D → Type 0)
     (old : D) (room : ℕ) (ok : Bool) (new : D)
@@ -45,14 +46,14 @@ pub record FillsByPulls
 
 -- ---- the calls of `put_all`
 
--- The last call, with `bytes` left. There is none if all are written. If `put_all` fails, the last
--- call failed.
+-- The last call of `put_all`, with `bytes` left to write. If no bytes are left, `put_all` makes no
+-- further call. If `put_all` fails, the last call failed.
 abbrev pub EndsPutting :
     {D : Type 0} → (D → List ℕ → Option ℕ → D → Type 0) → D → List ℕ → Bool → D → Type 0
 EndsPutting IsPush old bytes true new = (bytes ≡ []) × (new ≡ old)
 EndsPutting IsPush old bytes false new = (0 < length bytes) × IsPush old bytes None new
 
--- Each earlier call took n bytes, and was offered all that were left.
+-- Each call of `put_all` but the last offers all bytes that are left, and the sink takes n of them.
 abbrev pub PushesInOrder :
     {D : Type 0}
     → (D → List ℕ → Option ℕ → D → Type 0) → D → List ℕ → List ℕ → Bool → D → Type 0
@@ -63,7 +64,7 @@ PushesInOrder {D} IsPush old bytes (n ∷ ns) ok new =
     × IsPush old bytes (Some n) mid
     × PushesInOrder IsPush mid (drop n bytes) ns ok new
 
--- The calls that push all of `bytes`.
+-- The calls of a sink by which `put_all` writes all of `bytes`.
 pub record PutsByPushes
     {D : Type 0} (IsPush : D → List ℕ → Option ℕ → D → Type 0)
     (old : D) (bytes : List ℕ) (ok : Bool) (new : D)
@@ -73,7 +74,8 @@ pub record PutsByPushes
 
 -- ---- devices that wrap another
 
--- A device with one failing call: that one is not forwarded, every other is forwarded unchanged.
+-- A call of a device with one failing call: the failing call is not forwarded to the inner device,
+-- and every other call is forwarded unchanged.
 pub record Forwards
     {D L : Type 0} (IsCall : D → L → Option ℕ → D → Type 0)
     (old : CountingDown D) (borrowed : L) (answer : Option ℕ) (new : CountingDown D)
@@ -82,17 +84,19 @@ pub record Forwards
   pub skipped : fails_next old.left ≡ false → IsCall old.device borrowed answer new.device
   pub left : new.left ≡ countdown_after old.left
 
--- A source with a buffer, at a pull of `borrowed` bytes.
+-- A pull of `borrowed` bytes from a buffered source.
 pub record ReadsAhead
     {D : Type 0} (IsPull : D → ℕ → Option ℕ → D → Type 0)
     (old : ReadAhead D) (borrowed : ℕ) (answer : Option ℕ) (new : ReadAhead D)
     : Type 0 where
-  -- If bytes are buffered, the inner source is not called.
+  -- If bytes are buffered, the pull does not call the inner source.
   pub buffered : old.buffered ≢ [] → new.device ≡ old.device
-  -- Otherwise it is called once: a pull of at least the buffer's size is forwarded,
+  -- If no bytes are buffered, a pull of at least the buffer's size is forwarded to the inner
+  -- source.
   pub straight : old.buffered ≡ [] → old.room ≤ borrowed → IsPull old.device borrowed answer
       new.device
-  -- a shorter one requests a whole buffer.
+  -- If no bytes are buffered, a pull shorter than the buffer makes the inner source fill the whole
+  -- buffer.
   pub ahead :
       old.buffered ≡ []
       → borrowed < old.room
@@ -100,18 +104,18 @@ pub record ReadsAhead
       × IsPull old.device old.room got new.device
       × (answer ≡ option_map (λ n. min n borrowed) got)
 
--- `left` is the bytes without a prefix.
+-- `left` is what remains of `bytes` without some prefix.
 abbrev pub AreLeftOf : List ℕ → List ℕ → Type 0
 AreLeftOf bytes left = (taken : List ℕ) × (bytes ≡ taken ++ left)
 
--- The bytes that a push took; none if it failed.
+-- The bytes that a push took, which are none if the push failed.
 abbrev pub taken_by : List ℕ → Option ℕ → List ℕ
 taken_by bytes None = []
 taken_by bytes (Some n) = take n bytes
 
--- A push into a sink with a full buffer. The buffer is pushed into the inner sink first. If that
--- fails, the bytes not taken stay buffered. A push of at least the buffer's size is then forwarded,
--- a shorter one is buffered.
+-- A push into a buffered sink whose buffer is full. First the buffer is pushed into the inner sink.
+-- If that fails, the bytes that the inner sink did not take stay in the buffer. Then a push of at
+-- least the buffer's size is forwarded, and a shorter push is buffered.
 pub record FlushesFull
     {D : Type 0} (IsPush : D → List ℕ → Option ℕ → D → Type 0)
     (old : BufferState D) (bytes : List ℕ) (answer : Option ℕ) (new : BufferState D)
@@ -130,19 +134,19 @@ pub record FlushesFull
       → length bytes < old.room
       → (new.device ≡ mid) × (new.buffered ≡ taken_by bytes answer)
 
--- A push into a sink with a buffer: which calls of the inner sink it makes, and what is buffered
--- afterwards.
+-- A push into a buffered sink: which calls of the inner sink the push makes, and which bytes are
+-- buffered afterwards.
 pub record PushesBuffered
     {D : Type 0} (IsPush : D → List ℕ → Option ℕ → D → Type 0)
     (old : BufferState D) (bytes : List ℕ) (answer : Option ℕ) (new : BufferState D)
     : Type 0 where
-  -- After a failure the inner sink is not called, and the buffer does not change.
+  -- After a failure, a push does not call the inner sink and does not change the buffer.
   pub refused :
       old.failed ≡ true → (answer ≡ None) × (new.device ≡ old.device) ×
       (new.buffered ≡ old.buffered)
-  -- With space in the buffer it is not called either: the bytes taken are appended to the buffer.
-  -- But if the buffer is empty, a push of at least its size is forwarded, and the buffer stays
-  -- empty.
+  -- If the buffer has space, a push does not call the inner sink either, and the bytes taken are
+  -- appended to the buffer. But if the buffer is empty, a push of at least its size is forwarded to
+  -- the inner sink, and the buffer stays empty.
   pub buffered :
       old.failed ≡ false
       → length old.buffered < old.room

@@ -1,4 +1,4 @@
--- Storing and closing sinks.
+-- Specifies how sinks are stored and closed.
 use Rattle.std.specs.Prelude.{◌≡◌, Bool, true, false, Some, None, Result, Ok, Err}
 use Rattle.std.specs.IoError.{error_kind}
 use Rattle.std.specs.declared.io.Error.{Error}
@@ -7,32 +7,32 @@ use Rattle.std.specs.declared.io.ErrorKind.TheVariants.{InvalidInput, Unsupporte
 use Rattle.sub_io.specs.Buffered.{BufferState}
 use Rattle.sub_io.specs.Counted.{FileValue}
 
--- The errors of something that can never be stored, such as a pipe, a terminal or a device: EINVAL,
--- ENOTSUP and ENOSYS.
+-- The errors that the system returns for a file that can never be stored, such as a pipe, a
+-- terminal or a device: EINVAL, ENOTSUP and ENOSYS.
 abbrev pub is_never_stored : ErrorKind → Bool
 is_never_stored InvalidInput = true
 is_never_stored Unsupported = true
 is_never_stored _ = false
 
--- The system's result of storing a file says that nothing is lost.
+-- The system's result of storing a file guarantees that no written byte is lost.
 abbrev pub loses_nothing : {X : Type 0} → Result X Error → Bool
 loses_nothing (Ok done) = true
 loses_nothing (Err error) = is_never_stored (error_kind error)
 
--- No restriction.
+-- A device with `any_store` specifies nothing about storing.
 abbrev pub any_store : {D : Type 0} → D → Bool → Type 0
 any_store device answer = Unit {0}
 
--- Memory loses nothing.
+-- Storing a device in memory always succeeds, since memory loses nothing.
 abbrev pub needs_no_store : {D : Type 0} → D → Bool
 needs_no_store device = true
 
--- No restriction.
+-- A device with `any_end` specifies nothing about the state in which it is dropped.
 abbrev pub any_end : {D : Type 0} → D → Type 0
 any_end device = Unit {0}
 
--- A device over a writer is closed: the writer, if still present, is dropped unchanged, and no
--- failure is counted.
+-- Closing a device over a writer drops the writer unchanged, unless the device is closed already.
+-- No failure is counted.
 pub record LetsGo
     {D : Type 0} (IsLetGo : D → Type 0) (old new : FileValue D) : Type 0 where
   pub writer : (device : D) → old.device ≡ Some device → IsLetGo device
@@ -41,7 +41,7 @@ pub record LetsGo
   pub stored : new.is_stored ≡ old.is_stored
   pub count : new.failure_count ≡ old.failure_count
 
--- A buffer is closed by closing the inner device. Buffered bytes are not written.
+-- Closing a buffered sink closes the inner sink. Buffered bytes are not written.
 pub record ClosesInside
     {D : Type 0} (IsClose : D → D → Type 0) (old new : BufferState D) : Type 0 where
   pub device : IsClose old.device new.device

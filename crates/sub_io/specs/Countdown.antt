@@ -1,25 +1,26 @@
--- A device with one failing call: the inner device and a countdown.
+-- The model of a device with one failing call: the inner device and a countdown.
 use Rattle.std.specs.Prelude.{ℕ, ◌+◌, min, Bool, true, false, Option, Some, None, zero, suc}
 
--- `left` is how many calls are forwarded before the one that fails: `Some 0` if the next call
--- fails, `None` after it has.
+-- A device with one failing call. `left` is the number of calls that are forwarded before the
+-- failing call: `Some 0` if the next call fails, `None` after the failure.
 pub record CountingDown (D : Type 0) : Type 0 where
   pub device : D
   pub left : Option ℕ
 
--- The next call fails.
+-- The next call of the device is the failing call.
 abbrev pub fails_next : Option ℕ → Bool
 fails_next None = false
 fails_next (Some zero) = true
 fails_next (Some (suc k)) = false
 
--- The countdown after one more call.
+-- The countdown after one more call of the device.
 abbrev pub countdown_after : Option ℕ → Option ℕ
 countdown_after None = None
 countdown_after (Some zero) = None
 countdown_after (Some (suc k)) = Some k
 
--- The failures of the inner device, plus one after the chosen call, saturating at 64 bits.
+-- The failure count: the failures of the inner device, plus 1 after the failing call, saturating at
+-- 64 bits.
 abbrev pub failures_with : Option ℕ → ℕ → ℕ
 failures_with None n = min (n + 1) 0xFFFF_FFFF_FFFF_FFFF
 failures_with (Some k) n = n

@@ -1,10 +1,10 @@
--- Flushing does not change what was reported to an audience.
+-- Flushing an audience does not change which items were reported to it.
 use Rattle.std.specs.Prelude.{◌≡◌, ◌⊎◌, ℕ, List, Bool, true, false, not}
 use Rattle.sub_io.specs.Reporting.{Reports}
 
--- The law of an audience that can flush. The last item reported remains so if it is pending and
--- then flushed. The audience has stopped exactly if the flush failed. After an item it buffers
--- bytes only while `has_pending_reports`.
+-- The law of an audience that can flush. If the report of the last item is pending and then
+-- flushed, the item stays reported. The audience has stopped exactly if the flush failed. After an
+-- item the audience buffers bytes only if `has_pending_reports`.
 pub record StaysReported
     {A D : Type 0} (IsReported : D → A → D → Type 0) (has_stopped has_pending_reports : D → Bool)
     (buffered : D → ℕ)
@@ -23,14 +23,15 @@ pub record StaysReported
       → has_pending_reports new ≡ false
       → buffered new ≡ 0
 
--- It was left unchanged, or pending reports were flushed; `ok` says whether that succeeded.
+-- The audience was left unchanged, or its pending reports were flushed; `ok` says whether flushing
+-- succeeded.
 abbrev pub FlushesIfPending :
     {D : Type 0} → (D → Bool) → (D → Bool → D → Type 0) → D → Bool → D → Type 0
 FlushesIfPending has_pending_reports IsFlushed old ok new =
     ((ok ≡ true) × (new ≡ old)) ⊎ ((has_pending_reports old ≡ true) × IsFlushed old ok new)
 
--- All items reported up to one state also count as reported up to another, if nothing was pending
--- before the first of them.
+-- All items that count as reported in the state `old` also count as reported in the state `new`, if
+-- no report was pending before the first item.
 pub record KeepsReported
     {A D : Type 0} (IsReported : D → A → D → Type 0) (has_pending_reports : D → Bool) (old new : D)
     : Type 0 where
@@ -40,7 +41,7 @@ pub record KeepsReported
       → Reports IsReported start old items
       → Reports IsReported start new items
 
--- It buffers no bytes unless reports are pending.
+-- The audience buffers no bytes unless reports are pending.
 abbrev pub BuffersOnlyWhilePending : {D : Type 0} → (D → Bool) → (D → ℕ) → D → Type 0
 BuffersOnlyWhilePending has_pending_reports buffered a = has_pending_reports a ≡ false → buffered a
     ≡ 0

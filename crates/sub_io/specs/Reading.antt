@@ -3,19 +3,19 @@ use Rattle.std.specs.Prelude.{◌≡◌, ℕ, ◌<◌, List, length, take, Optio
 use Rattle.std.specs.Prelude.{slice_index}
 
 infixl 10 ◌>>=◌
--- Two steps of a reading in a row. The first fault ends it.
+-- Composes two reading steps. If the first step returns a fault, the second is not run.
 abbrev pub ◌>>=◌ : {A B E : Type 0} → Result A E → (A → Result B E) → Result B E
 (Ok x) >>= f = f x
 (Err e) >>= f = Err e
 
--- P holds for the bytes of a device, if they are known.
+-- P is true of the bytes of a device, if the bytes are known.
 abbrev pub IfKnown : Option (List ℕ) → (List ℕ → Type 0) → Type 0
 IfKnown known P = (bytes : List ℕ) → known ≡ Some bytes → P bytes
 
--- Each number of the list is a byte.
+-- Each number of the list is a byte, less than 256.
 abbrev pub AreBytes : List ℕ → Type 0
 AreBytes bytes = (i : ℕ) → slice_index bytes i < 256
 
--- These bytes come next, if the device's bytes are known.
+-- If the bytes of the device are known, they begin with `next`.
 abbrev pub AreNext : List ℕ → Option (List ℕ) → Type 0
 AreNext next told = IfKnown told (λ bytes. take (length next) bytes ≡ next)

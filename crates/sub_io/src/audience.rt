@@ -8,33 +8,35 @@ ghost use Rattle.sub_io.specs.Reporting.{KeepsFirst, Reports};
 use crate::{Live, LiveAudience};
 use std::marker::Model;
 
-/// The error of an audience that wants no more items.
+/// The error that an audience returns if it wants no more items.
 #[derive(Clone, Copy, Debug, PartialEq, Eq)]
 pub struct Stopped;
 
 /// A consumer of items that are reported one at a time, such as the faults of a file.
 ///
-/// It may keep, count or print them. It returns `Stopped` if it wants no more or has failed; only
-/// the implementation knows which.
+/// An audience may keep, count or print the items. It returns `Stopped` if it wants no more items
+/// or has failed; only the implementation knows which.
 pub trait Audience<T> {
-    // How reporting an item changes it: the state before, the item, the state after.
+    // How reporting an item changes the audience: the state before, the item, the state after.
     ghost is_reported: { Self → T → Self → Type 0 };
 
-    // It has returned `Stopped`.
+    // Whether the audience has returned `Stopped`.
     ghost has_stopped: { Self → Bool };
 
-    /// Reports one item. It must not be called again after it has returned `Stopped`.
+    /// Reports one item to the audience. Must not be called again after the audience has returned
+    /// `Stopped`.
     ///
     /// # Errors
     ///
-    /// Returns `Stopped` if it wants no further items. It has received this one.
+    /// Returns `Stopped` if the audience wants no further items. The audience has received `item`
+    /// all the same.
     fn report(&mut self, item: T) -> Result<(), Stopped>
         requires { has_stopped self.old ≡ false }
         ensures reported { Reports is_reported self.old self.new (item ∷ []) }
         ensures stopped { has_stopped self.new ≡ is_err result };
 }
 
-/// An audience that keeps the first item, and stops there.
+/// An audience that keeps the first item and then stops.
 ///
 /// Its model is the item that it keeps.
 #[derive(Drop)]
@@ -70,7 +72,7 @@ impl<T: Drop> Audience<T> for FirstReported<T> {
 
     ghost has_stopped = { λ f. is_some f };
 
-    /// Keeps the item.
+    /// Keeps the item that is reported.
     ///
     /// # Errors
     ///
@@ -92,16 +94,16 @@ impl<T> Live for FirstReported<T> {
 
     ghost is_flushed = { λ old ok new. (new ≡ old) × (is_some new ≡ not ok) };
 
-    /// Returns `false`, since it buffers nothing.
+    /// Returns `false`, since this audience buffers nothing.
     fn has_pending(&self) -> bool {
         false
     }
 
-    /// Does nothing, since it buffers nothing.
+    /// Does nothing, since this audience buffers nothing.
     ///
     /// # Errors
     ///
-    /// Returns `Stopped` once it has received an item.
+    /// Returns `Stopped` once the audience has received an item.
     fn flush_pending(&mut self) -> Result<(), Stopped> {
         if self.first.is_some() {
             return Err(Stopped);

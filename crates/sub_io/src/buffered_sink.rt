@@ -25,7 +25,7 @@ use std::marker::Model;
 pub struct BufferedSink<'a, K> {
     inner: K,
     room: &'a mut [u8],
-    // How many bytes are buffered, from the start of `room`.
+    // How many bytes are buffered, from the start of `room` on.
     len: usize,
     failed: bool,
     refused: u64,
@@ -46,7 +46,7 @@ impl<'a, K> Model for BufferedSink<'a, K> {
 }
 
 impl<'a, K: Sink> BufferedSink<'a, K> {
-    /// Creates a sink with an empty buffer, which holds as many bytes as `room` is long.
+    /// Creates a sink with an empty buffer, which holds `room.len()` bytes.
     pub fn new(inner: K, room: &'a mut [u8]) -> Self
         requires { 0 < length room.old }
         ensures { result ≡ record {
@@ -66,7 +66,7 @@ impl<'a, K: Sink> BufferedSink<'a, K> {
         }
     }
 
-    /// Returns the inner sink. Buffered bytes are lost.
+    /// Returns the inner sink. Drops buffered bytes.
     pub fn into_inner(self) -> K
         ensures { result ≡ self.entry.device }
     {
@@ -74,7 +74,7 @@ impl<'a, K: Sink> BufferedSink<'a, K> {
         inner
     }
 
-    // Pushes into the inner sink directly, without the buffer.
+    // Pushes bytes into the inner sink directly, bypassing the buffer.
     fn push_through(&mut self, from: &[u8]) -> Result<usize, Failed>
         requires nonempty { 0 < length from.now }
         requires count { CanFail (K.failure_count self.old.device) }
@@ -96,7 +96,7 @@ impl<'a, K: Sink> BufferedSink<'a, K> {
         answer
     }
 
-    // Appends as many bytes as fit to the buffer, and returns how many.
+    // Appends as many bytes as fit into the buffer, and returns their number.
     fn buffer_bytes(&mut self, from: &[u8]) -> usize
         ensures number { result ≡ min (length from.now) (self.old.room - length self.old.buffered) }
         ensures buffered { self.new.buffered ≡ self.old.buffered ++ take result from.now }
@@ -113,8 +113,8 @@ impl<'a, K: Sink> BufferedSink<'a, K> {
     }
 }
 
-// Pushes the first `len` bytes of the buffer. `room` is `&mut` only because the sink cannot be
-// borrowed next to a shared slice of it; it is not changed.
+// Pushes the first `len` bytes of the buffer into the sink. `room` is `&mut` only because the sink
+// cannot be borrowed next to a shared slice of the buffer; `room` is not changed.
 fn push_front<K: Sink>(sink: &mut K, room: &mut [u8], len: usize) -> Result<(), usize>
     requires within { len ≤ length room.old }
     requires count { CanFail (K.failure_count sink.old) }
@@ -148,10 +148,10 @@ impl<K: Sink> Sink for BufferedSink<'_, K> {
         requires count { CanFail (failures_and_refused
             (K.failure_count self.old.device) self.old.refused) }
 
-        // After a failure of the inner sink only the refused calls are counted.
+        // After a failure of the inner sink, a call changes only the count of refused calls.
         ensures refused { self.old.failed ≡ true → IsErr result
             × (self.new ≡ record self.old { refused = self.old.refused + 1 }) }
-        // Before that, failures are those of the inner sink.
+        // Before the first failure of the inner sink, only failures of the inner sink are counted.
         ensures requested { self.old.failed ≡ false → (self.new.refused ≡ self.old.refused)
             × CountsFailure
             (K.failure_count self.old.device) result (K.failure_count self.new.device) }
@@ -215,20 +215,20 @@ impl<K: Sink> Flush for BufferedSink<'_, K> {
         requires { CanFail (failures_and_refused
             (K.failure_count self.old.device) self.old.refused) }
 
-        // After a failure of the inner sink only the refused calls are counted.
+        // After a failure of the inner sink, a call changes only the count of refused calls.
         ensures refused { self.old.failed ≡ true → IsErr result
             × (self.new ≡ record self.old { refused = self.old.refused + 1 }) }
-        // Before that, failures are those of the inner sink.
+        // Before the first failure of the inner sink, only failures of the inner sink are counted.
         ensures requested { self.old.failed ≡ false → (self.new.refused ≡ self.old.refused)
             × CountsFailure
             (K.failure_count self.old.device) result (K.failure_count self.new.device) }
         ensures failed { IsErr result ↔ (self.new.failed ≡ true) }
         ensures calls { self.old.failed ≡ false → PutsByPushes K.is_push
             self.old.device self.old.buffered (is_ok result) self.new.device }
-        // On success the inner sink has taken all buffered bytes.
+        // If flushing succeeds, the inner sink has taken all buffered bytes.
         ensures whole { OnOk result ((self.new.buffered ≡ [])
             × Appends (K.contents self.old.device) (K.contents self.new.device) self.old.buffered) }
-        // On failure the bytes that it did not take stay in the buffer.
+        // If flushing fails, the bytes that the inner sink did not take stay in the buffer.
         ensures left { IfErr result (λ _. AreLeftOf self.old.buffered self.new.buffered) }
         ensures room { self.new.room ≡ self.old.room }
 
@@ -252,7 +252,7 @@ impl<K: Sink> Flush for BufferedSink<'_, K> {
                 Ok(())
             }
             Err(taken) => {
-                // Remove the bytes that were taken from the buffer.
+                // Keep only the bytes that the inner sink did not take.
                 self.room.copy_within(taken..len, 0);
                 self.len = len - taken;
                 self.failed = true;
@@ -269,7 +269,7 @@ impl<K: Close> Close for BufferedSink<'_, K> {
 
     ghost is_close = { ClosesInside K.is_close };
 
-    /// Flushes the buffer, and has the inner sink stored.
+    /// Flushes the buffer, and makes the inner sink store all bytes.
     ///
     /// # Errors
     ///
@@ -295,7 +295,7 @@ impl<K: Close> Close for BufferedSink<'_, K> {
         answer
     }
 
-    /// Closes the inner sink. Buffered bytes are lost.
+    /// Closes the inner sink. Drops buffered bytes.
     fn close(&mut self)
         ensures call { ClosesInside K.is_close self.old self.new }
         ensures closed { K.is_closed self.new.device ≡ true }

@@ -42,7 +42,7 @@ impl<'a, S> Model for BufferedSource<'a, S> {
 }
 
 impl<'a, S: Source> BufferedSource<'a, S> {
-    /// Creates a source with an empty buffer, which holds as many bytes as `room` is long.
+    /// Creates a source with an empty buffer, which holds `room.len()` bytes.
     pub fn new(inner: S, room: &'a mut [u8]) -> Self
         requires { 0 < length room.old }
         ensures { result ≡ record { device = inner; buffered = []; room = length room.old } }
@@ -55,7 +55,7 @@ impl<'a, S: Source> BufferedSource<'a, S> {
         }
     }
 
-    /// Returns the inner source. Buffered bytes are lost.
+    /// Returns the inner source. Drops buffered bytes.
     pub fn into_inner(self) -> S
         ensures { result ≡ self.entry.device }
     {
@@ -88,7 +88,7 @@ impl<'a, S: Source> BufferedSource<'a, S> {
         Ok(())
     }
 
-    // Moves as many buffered bytes into `to` as fit, and returns how many.
+    // Moves as many buffered bytes as fit into `to`, and returns their number.
     fn move_buffered(&mut self, to: &mut [u8]) -> usize
         ensures number { result ≡ min (length self.old.buffered) (length to.old) }
         ensures len { length to.new ≡ length to.old }
@@ -105,7 +105,7 @@ impl<'a, S: Source> BufferedSource<'a, S> {
 }
 
 // Copies `to.len()` bytes of the buffer, from `start` on. `room` is `&mut` only because a shared
-// slice behind `self` is not known to keep its contents; it is not changed.
+// slice behind `self` is not known to keep its contents; `room` is not changed.
 fn copy_prefix(room: &mut [u8], start: usize, to: &mut [u8])
     requires { start + length to.old ≤ length room.old }
     ensures same { room.new ≡ room.old }
@@ -125,28 +125,28 @@ impl<S: Source> Source for BufferedSource<'_, S> {
 
     ghost borrowed = { λ s. s.buffered };
 
-    /// Returns buffered bytes. If there are none, calls the inner source once, and reads directly
-    /// into `to` if that is at least as long as the buffer.
+    /// Returns buffered bytes. If the buffer is empty, calls the inner source once, and reads
+    /// directly into `to` if `to` is at least as long as the buffer.
     ///
     /// # Errors
     ///
-    /// Returns `Failed` if the inner source fails. It is called only if the buffer is empty.
+    /// Returns `Failed` if the buffer is empty and the inner source fails.
     #[inline(always)]
     fn pull(&mut self, to: &mut [u8]) -> Result<usize, Failed>
         requires { CanFail (S.failure_count self.old.device) }
 
-        // Buffered bytes are returned without a call of the inner source.
+        // If bytes are buffered, a pull returns them without a call of the inner source.
         ensures buffered { self.old.buffered ≢ [] → (self.new.device ≡ self.old.device)
             × (result ≡ Ok (min (length self.old.buffered) (length to.old)))
             × IfOk result (λ n. self.old.buffered ≡ take n to.new ++ self.new.buffered) }
-        // With an empty buffer, the bytes that the inner source gives are returned or buffered.
+        // If the buffer is empty, the bytes that the inner source returns are returned or buffered.
         // After a failure the buffer is empty.
         ensures requested { self.old.buffered ≡ [] → IfOk result (λ n. Consumes
             (S.remaining self.old.device) (S.remaining self.new.device)
             (take n to.new ++ self.new.buffered)) }
         ensures err { OnErr result ((self.old.buffered ≡ []) × (self.new.buffered ≡ [])) }
-        // A pull of at least the buffer's size bypasses the buffer. Bytes stay in the buffer only
-        // if `to` was filled.
+        // A pull of at least the buffer's size bypasses the buffer. After a pull, bytes are left in
+        // the buffer only if `to` was filled.
         ensures straight { self.old.buffered ≡ [] → self.old.room ≤ length to.old →
             self.new.buffered ≡ [] }
         ensures full { IfOk result (λ n. n < length to.old → self.new.buffered ≡ []) }

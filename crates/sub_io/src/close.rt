@@ -17,10 +17,10 @@ use std::io::ErrorKind;
 /// Something that the system can be asked to store, such as a file. Each file opened by std
 /// implements it.
 pub trait Store {
-    // It was asked in this state, and returned this result.
+    // How the device was asked to store its bytes: the state, and the result.
     ghost is_store: { Self → Bool → Type 0 };
 
-    /// Waits until everything written is stored, and returns whether nothing of it was lost.
+    /// Waits until all written bytes are stored, and returns whether none of them was lost.
     ///
     /// Pipes, terminals and devices store nothing, so they lose nothing.
     fn store(&self) -> bool
@@ -35,7 +35,7 @@ impl<T: OpenFile> Store for T {
     }
 }
 
-// Returns whether nothing was lost, from the system's result of storing a file.
+// Returns whether the system's result of storing a file guarantees that no byte was lost.
 fn is_kept(answer: io::Result<()>) -> bool
     ensures { result ≡ loses_nothing answer }
 {
@@ -53,7 +53,7 @@ fn is_kept(answer: io::Result<()>) -> bool
 ///
 /// Generic code can do nothing else with the value, so releasing it writes nothing.
 pub trait LetGo: Drop + Sized {
-    // It was dropped in this state.
+    // The states in which the value may be dropped.
     ghost is_let_go: { Self → Type 0 };
 
     /// Drops the value.
@@ -73,14 +73,14 @@ pub trait Close: Flush {
     // as memory.
     ghost is_stored: { Self → Bool };
 
-    // It is closed. Always true of sinks that need no closing, such as memory.
+    // The sink is closed. Always true of sinks that need no closing, such as memory.
     ghost is_closed: { Self → Bool };
 
-    // How closing changes it: the state before, in which the writer below was dropped, and the
-    // state after.
+    // How closing changes the sink: the state before, in which the writer below was dropped, and
+    // the state after.
     ghost is_close: { Self → Self → Type 0 };
 
-    /// Flushes all buffered bytes, and waits until the system has stored everything.
+    /// Flushes all buffered bytes, and waits until the system has stored all bytes taken.
     ///
     /// # Errors
     ///

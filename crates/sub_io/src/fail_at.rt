@@ -11,14 +11,15 @@ ghost use Rattle.sub_io.specs.Device.{CanFail, CountsFailure, Pulls, Pushes};
 use crate::{Close, Failed, Flush, Sink, Source};
 use std::marker::Model;
 
-/// A device that forwards all calls but one to the inner device. That one fails and does nothing.
+/// A device that forwards all calls but one to the inner device. The failing call does nothing and
+/// returns `Failed`.
 ///
-/// It implements the traits of the inner device (`Source`, `Sink`, `Flush`, `Close`). Flushing and
-/// storing count as calls too. Its model has the inner device and the countdown.
+/// `FailAt` implements the traits of the inner device (`Source`, `Sink`, `Flush`, `Close`).
+/// Flushing and storing count as calls too. Its model has the inner device and the countdown.
 #[derive(Drop)]
 pub struct FailAt<D> {
     inner: D,
-    // How many calls precede the failing one. `None` after it.
+    // How many calls precede the failing call. `None` after the failing call.
     left: Option<u64>,
 }
 
@@ -39,7 +40,7 @@ impl<D> FailAt<D> {
         }
     }
 
-    // Counts a call, and returns whether it is the failing one.
+    // Counts a call, and returns whether it is the failing call.
     fn trips(&mut self) -> bool
         ensures device { self.new.device ≡ self.old.device }
         ensures trips { result ≡ fails_next self.old.left }
@@ -58,7 +59,7 @@ impl<D> FailAt<D> {
         }
     }
 
-    // Adds the call that failed by the countdown to the failures of the inner device.
+    // Adds the failing call, if it has happened, to the failures of the inner device.
     fn with_own(&self, inner: u64) -> u64
         ensures { result ≡ failures_with self.now.left inner }
     {
@@ -81,11 +82,11 @@ impl<S: Source> Source for FailAt<S> {
     ///
     /// # Errors
     ///
-    /// Returns `Failed` at the chosen call, which does nothing, and if the inner device fails.
+    /// Returns `Failed` at the failing call, which does nothing, and if the inner device fails.
     fn pull(&mut self, to: &mut [u8]) -> Result<usize, Failed>
         requires { CanFail (failures_with self.old.left (S.failure_count self.old.device)) }
 
-        // The chosen call does nothing, every other is forwarded, and all are counted.
+        // The failing call does nothing, every other call is forwarded, and all calls are counted.
         ensures fails { fails_next self.old.left ≡ true →
             IsErr result × (self.new.device ≡ self.old.device) × (to.new ≡ to.old) }
         ensures skipped { fails_next self.old.left ≡ false → CountsFailure
@@ -107,12 +108,12 @@ impl<S: Source> Source for FailAt<S> {
         self.inner.pull(to)
     }
 
-    /// Returns the failures of the inner device, plus one after the chosen call.
+    /// Returns the failures of the inner device, plus one after the failing call.
     fn failures(&self) -> u64 {
         self.with_own(self.inner.failures())
     }
 
-    /// Returns `false`, since it lends no bytes.
+    /// Returns `false`, since this device lends no bytes.
     fn skip_bytes(&mut self, _count: usize) -> bool {
         false
     }
@@ -129,12 +130,12 @@ impl<K: Sink> Sink for FailAt<K> {
     ///
     /// # Errors
     ///
-    /// Returns `Failed` at the chosen call, which does nothing, and if the inner device fails.
+    /// Returns `Failed` at the failing call, which does nothing, and if the inner device fails.
     fn push(&mut self, from: &[u8]) -> Result<usize, Failed>
         requires nonempty { 0 < length from.now }
         requires count { CanFail (failures_with self.old.left (K.failure_count self.old.device)) }
 
-        // The chosen call does nothing, every other is forwarded, and all are counted.
+        // The failing call does nothing, every other call is forwarded, and all calls are counted.
         ensures fails { fails_next self.old.left ≡ true →
             IsErr result × (self.new.device ≡ self.old.device) }
         ensures skipped { fails_next self.old.left ≡ false → CountsFailure
@@ -157,7 +158,7 @@ impl<K: Sink> Sink for FailAt<K> {
         self.inner.push(from)
     }
 
-    /// Returns the failures of the inner device, plus one after the chosen call.
+    /// Returns the failures of the inner device, plus one after the failing call.
     fn failures(&self) -> u64 {
         self.with_own(self.inner.failures())
     }
@@ -170,11 +171,11 @@ impl<K: Flush> Flush for FailAt<K> {
     ///
     /// # Errors
     ///
-    /// Returns `Failed` at the chosen call, which does nothing, and if the inner device fails.
+    /// Returns `Failed` at the failing call, which does nothing, and if the inner device fails.
     fn flush(&mut self) -> Result<(), Failed>
         requires { CanFail (failures_with self.old.left (K.failure_count self.old.device)) }
 
-        // The chosen call does nothing, every other is forwarded, and all are counted.
+        // The failing call does nothing, every other call is forwarded, and all calls are counted.
         ensures fails { fails_next self.old.left ≡ true →
             IsErr result × (self.new.device ≡ self.old.device) }
         ensures skipped { fails_next self.old.left ≡ false → CountsFailure
@@ -207,11 +208,11 @@ impl<K: Close> Close for FailAt<K> {
     ///
     /// # Errors
     ///
-    /// Returns `Failed` at the chosen call, which does nothing, and if the inner device fails.
+    /// Returns `Failed` at the failing call, which does nothing, and if the inner device fails.
     fn store(&mut self) -> Result<(), Failed>
         requires { CanFail (failures_with self.old.left (K.failure_count self.old.device)) }
 
-        // The chosen call does nothing, every other is forwarded, and all are counted.
+        // The failing call does nothing, every other call is forwarded, and all calls are counted.
         ensures fails { fails_next self.old.left ≡ true →
             IsErr result × (self.new.device ≡ self.old.device) }
         ensures skipped { fails_next self.old.left ≡ false → CountsFailure

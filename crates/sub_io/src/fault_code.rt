@@ -22,12 +22,12 @@ impl Model for FaultCode {
 
     ghost view = { λ c. record { number = c.number; name = c.name.now } };
 
-    // Bounds the length of a line that reports a fault.
+    // The limit of 16 characters bounds the length of a line that reports a fault.
     ghost invariant = { λ c. length c.name.now ≤ 16 };
 }
 
 impl FaultCode {
-    /// Creates a code with this number and this name of at most 16 characters.
+    /// Creates a code with this number and a name of at most 16 characters.
     pub fn new(number: u8, name: &'static str) -> FaultCode
         requires { length name.now ≤ 16 }
         ensures { result ≡ fault_code number name.now }
@@ -35,14 +35,14 @@ impl FaultCode {
         FaultCode { number, name }
     }
 
-    /// Returns the number.
+    /// Returns the number of the fault.
     pub fn number(&self) -> u8
         ensures { result ≡ self.now.number }
     {
         self.number
     }
 
-    /// Returns the name, at most 16 characters.
+    /// Returns the name of the fault, at most 16 characters.
     pub fn name(&self) -> &'static str
         ensures value { result.now ≡ self.now.name }
         ensures len { length result.now ≤ 16 }

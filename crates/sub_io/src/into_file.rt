@@ -40,7 +40,7 @@ impl<W> Model for IntoFile<W> {
 }
 
 impl<W: Write> IntoFile<W> {
-    /// Creates a sink that writes to `inner`, without failures.
+    /// Creates a sink that writes to `inner`, with a failure count of 0.
     pub fn new(inner: W) -> Self
         ensures { result ≡ record {
           device = Some inner;
@@ -63,7 +63,7 @@ impl<W: Write> Sink for IntoFile<W> {
 
     ghost failure_count = { λ s. s.failure_count };
 
-    /// Calls `write` once. The bytes are not stored yet.
+    /// Calls the writer's `write` once. The bytes taken are not stored yet.
     ///
     /// # Errors
     ///
@@ -99,14 +99,14 @@ impl<W: Write> Sink for IntoFile<W> {
         }
     }
 
-    /// Returns how many calls failed, wrote no byte, lost something or came after `close`.
+    /// Returns how many calls failed, wrote no byte, lost bytes or came after `close`.
     fn failures(&self) -> u64 {
         self.failures
     }
 }
 
 impl<W: Write> Flush for IntoFile<W> {
-    // Every push writes at once.
+    // Nothing is buffered, since every push writes at once.
     ghost buffered = { buffers_nothing };
 
     /// Flushes the writer.
@@ -144,7 +144,7 @@ impl<W: Write + LetGo + Store> Close for IntoFile<W> {
 
     ghost is_close = { LetsGo W.is_let_go };
 
-    /// Flushes the writer, and has it stored.
+    /// Flushes the writer, and makes the system store all bytes written.
     ///
     /// # Errors
     ///
@@ -152,7 +152,7 @@ impl<W: Write + LetGo + Store> Close for IntoFile<W> {
     fn store(&mut self) -> Result<(), Failed>
         requires { CanFail self.old.failure_count }
         ensures closed { self.old.device ≡ None → IsErr result × (self.new.device ≡ None) }
-        // In its new state the writer answered that nothing is lost.
+        // If storing succeeds, the writer has answered in its final state that no byte is lost.
         ensures call { OnOk result (IfSome self.new.device (λ writer. W.is_store writer true)) }
         ensures bytes { Keeps (Some self.old.taken) (Some self.new.taken) }
         ensures buffered { OnOk result (buffers_nothing self.new ≡ 0) }

@@ -1,5 +1,5 @@
-//! Flushing for users who follow a listing while it is written: whether reports are pending, and a
-//! call that flushes them.
+//! Flushing for users who follow a listing while it is written: a device reports whether reports
+//! are pending, and can flush them.
 
 ghost use Rattle.std.specs.Prelude.{◌≡◌, ℕ, Bool, OnOk, false, is_ok};
 ghost use Rattle.sub_io.specs.Flushing.{StaysReported};
@@ -8,13 +8,14 @@ use crate::{Audience, Stopped};
 
 /// A device that may buffer reports or bytes, and can flush them.
 pub trait Live {
-    // Reports may be pending.
+    // Whether reports may be pending.
     ghost has_pending_reports: { Self → Bool };
 
-    // How many bytes are buffered, by it and by the devices below it.
+    // How many bytes are buffered by the device and the devices below it.
     ghost buffered: { Self → ℕ };
 
-    // How flushing changes it: the state before, whether it succeeded, the state after.
+    // How flushing changes the device: the state before, whether flushing succeeded, the state
+    // after.
     ghost is_flushed: { Self → Bool → Self → Type 0 };
 
     /// Returns whether reports may be pending.
@@ -25,7 +26,7 @@ pub trait Live {
     ///
     /// # Errors
     ///
-    /// Returns `Stopped` if it failed, in this call or earlier.
+    /// Returns `Stopped` if flushing fails or the device has failed earlier.
     fn flush_pending(&mut self) -> Result<(), Stopped>
         ensures call { is_flushed self.old (is_ok result) self.new }
         ensures none { OnOk result (buffered self.new ≡ 0) }

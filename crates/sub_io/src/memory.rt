@@ -14,7 +14,7 @@ ghost use Rattle.sub_io.specs.Memory.{Written};
 use crate::{Close, Failed, Flush, Sink, Source};
 use std::marker::Model;
 
-/// A source that reads a slice. It never fails.
+/// A source that reads a slice. Its calls never fail.
 ///
 /// Its model is the list of the bytes that are left.
 #[derive(Drop)]
@@ -44,7 +44,7 @@ impl Source for MemSource<'_> {
 
     ghost borrowed = { λ s. s };
 
-    /// Reads as many bytes as fit in `to`, or all that are left. It never fails.
+    /// Reads as many bytes as fit in `to`, or all that are left. Never fails.
     fn pull(&mut self, to: &mut [u8]) -> Result<usize, Failed>
         ensures all { result ≡ Ok (min (length self.old) (length to.old)) }
         ensures bound { ReadsAtMost result to.new }
@@ -59,7 +59,7 @@ impl Source for MemSource<'_> {
         Ok(n)
     }
 
-    /// Returns 0, since no call fails.
+    /// Returns 0, since no call of this source fails.
     fn failures(&self) -> u64 {
         0
     }
@@ -73,7 +73,7 @@ impl Source for MemSource<'_> {
         self.rest
     }
 
-    /// Skips `count` bytes, if so many are left.
+    /// Skips `count` bytes, if the slice has that many left.
     #[tactic(auto, using(crate::proofs::BufferLemmas::front_passed))]
     fn skip_bytes(&mut self, count: usize) -> bool
         ensures buffered { (result ≡ true) ↔ (count ≤ length self.old) }
@@ -126,7 +126,7 @@ impl<'a> MemSink<'a> {
         }
     }
 
-    /// Returns the bytes written, in order.
+    /// Returns the bytes that the sink has taken, in order.
     pub fn written(&self) -> &[u8]
         ensures { result.now ≡ self.now.bytes }
     {
@@ -139,7 +139,7 @@ impl Sink for MemSink<'_> {
 
     ghost failure_count = { λ k. k.failure_count };
 
-    /// Takes as many bytes as fit.
+    /// Takes as many bytes as fit in the slice.
     ///
     /// # Errors
     ///
@@ -175,7 +175,7 @@ impl Sink for MemSink<'_> {
 impl Flush for MemSink<'_> {
     ghost buffered = { buffers_nothing };
 
-    /// Does nothing, since no byte is buffered. It never fails.
+    /// Does nothing, since a sink over memory buffers no byte. Never fails.
     fn flush(&mut self) -> Result<(), Failed>
         ensures ok { result ≡ Ok tt }
         ensures same { self.new ≡ self.old }
@@ -194,7 +194,7 @@ impl Close for MemSink<'_> {
 
     ghost is_close = { λ old new. new ≡ old };
 
-    /// Does nothing, since memory needs no storing. It never fails.
+    /// Does nothing, since memory needs no storing. Never fails.
     fn store(&mut self) -> Result<(), Failed>
         ensures ok { result ≡ Ok tt }
         ensures same { self.new ≡ self.old }

@@ -1,4 +1,4 @@
-//! Devices that take bytes.
+//! The traits of sinks, which are devices that take bytes, and functions that write to a sink.
 
 ghost use Rattle.std.specs.Prelude.{◌≡◌, ℕ, ◌<◌, ◌≤◌, List, length, Option, IfErr, IfOk};
 ghost use Rattle.std.specs.Prelude.{OnOk, take, is_ok};
@@ -8,25 +8,25 @@ ghost use Rattle.sub_io.specs.Device.{CanFail, CountsFailure, Pushes, Writes};
 
 use crate::Failed;
 
-/// A device that takes bytes.
+/// A device that takes bytes, such as a file or a slice of memory.
 pub trait Sink {
-    // All bytes taken so far, if they are known.
+    // All bytes that the sink has taken so far, if they are known.
     ghost contents: { Self → Option (List ℕ) };
 
-    // How many calls have failed.
+    // How many calls of the sink have failed.
     ghost failure_count: { Self → ℕ };
 
-    // How a push changes the device, if it specifies that: the state before, the bytes offered, how
-    // many were taken (`None` if it failed), the state after.
+    // How a push changes the sink, if the sink specifies that: the state before, the bytes offered,
+    // how many were taken (`None` if the push failed), the state after.
     ghost is_push: { Self → List ℕ → Option ℕ → Self → Type 0 } = { any_call };
 
-    /// Takes bytes from the front of `from`, which must not be empty. Returns how many: at least 1,
-    /// at most its length.
+    /// Takes bytes from the front of `from`, which must not be empty. Returns the number of bytes
+    /// taken, from 1 to `from.len()`.
     ///
     /// # Errors
     ///
-    /// Returns `Failed` if the device fails. It has taken nothing, and its failure count rises by
-    /// one.
+    /// Returns `Failed` if the device fails. The sink has taken nothing, and its failure count
+    /// rises by one.
     fn push(&mut self, from: &[u8]) -> Result<usize, Failed>
         requires nonempty { 0 < length from.now }
         requires count { CanFail (failure_count self.old) }
@@ -36,7 +36,7 @@ pub trait Sink {
         ensures bytes { Pushes (contents self.old) (contents self.new) from.now result }
         ensures count { CountsFailure (failure_count self.old) result (failure_count self.new) };
 
-    /// Returns how many calls have failed.
+    /// Returns how many calls of the sink have failed.
     fn failures(&self) -> u64
         ensures { result ≡ failure_count self.now };
 }
@@ -48,7 +48,7 @@ pub trait Flush: Sink {
     // How many of the bytes taken are still buffered.
     ghost buffered: { Self → ℕ };
 
-    /// Writes all buffered bytes. The bytes taken do not change.
+    /// Writes all buffered bytes. The list of bytes taken does not change.
     ///
     /// # Errors
     ///
@@ -62,11 +62,12 @@ pub trait Flush: Sink {
             (Self.failure_count self.new) };
 }
 
-/// Pushes all of `from`, in as many calls as needed; each call offers all bytes that are left.
+/// Pushes all of `from` into the sink, in as many calls as needed; each call offers all bytes that
+/// are left.
 ///
 /// # Errors
 ///
-/// Returns `Failed` at the first push that fails. A prefix of `from` was taken.
+/// Returns `Failed` at the first push that fails. The sink has taken a prefix of `from`.
 pub fn put_all<K: Sink>(sink: &mut K, from: &[u8]) -> Result<(), Failed>
     requires { CanFail (K.failure_count sink.old) }
     ensures calls { PutsByPushes K.is_push sink.old from.now (is_ok result) sink.new }
@@ -79,7 +80,8 @@ pub fn put_all<K: Sink>(sink: &mut K, from: &[u8]) -> Result<(), Failed>
     }
 }
 
-// Pushes all of `from`. The error is the number of bytes taken before the push that failed.
+// Pushes all of `from` into the sink. If a push fails, the error is the number of bytes taken
+// before it.
 pub(crate) fn push_all<K: Sink>(sink: &mut K, from: &[u8]) -> Result<(), usize>
     requires { CanFail (K.failure_count sink.old) }
     ensures calls { PutsByPushes K.is_push sink.old from.now (is_ok result) sink.new }

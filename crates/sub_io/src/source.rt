@@ -1,4 +1,5 @@
-//! Devices that provide bytes.
+//! The trait of sources, which are devices that provide bytes, and functions that read from a
+//! source.
 
 ghost use Rattle.std.specs.Prelude.{◌≡◌, ◌≢◌, ℕ, ◌+◌, ◌<◌, ◌≤◌, List, [], length, take, Option, Ok};
 ghost use Rattle.std.specs.Prelude.{IfOk, OnErr, Some, false, is_ok, true};
@@ -9,32 +10,33 @@ ghost use Rattle.sub_io.specs.Device.{CanFail, CountsFailure, Fills, SkipsOver, 
 ghost use Rattle.sub_io.specs.Borrowed.{BeginBorrowed, GivesBorrowed, lends_nothing};
 ghost use Rattle.sub_io.specs.Reading.{AreBytes, AreNext, IfKnown};
 
-/// The error of a device's call. It has read or written nothing.
+/// The error of a call of a source or sink. The failed call has transferred no bytes.
 #[derive(Clone, Copy, Debug, PartialEq, Eq)]
 pub struct Failed;
 
-/// A device that provides bytes.
+/// A device that provides bytes, such as a file or a slice of memory.
 pub trait Source {
-    // The bytes that are left, if they are known.
+    // The bytes that the source has left, if they are known.
     ghost remaining: { Self → Option (List ℕ) };
 
-    // How many calls have failed.
+    // How many calls of the source have failed.
     ghost failure_count: { Self → ℕ };
 
-    // How a pull changes the device, if it specifies that: the state before, the size of the
-    // buffer, how many bytes were read (`None` if it failed), the state after.
+    // How a pull changes the source, if the source specifies that: the state before, the size of
+    // the buffer, how many bytes were read (`None` if the pull failed), the state after.
     ghost is_pull: { Self → ℕ → Option ℕ → Self → Type 0 } = { any_call };
 
-    // The bytes that it can return without calling the device below it, which may block and may
-    // fail.
+    // The bytes that the source can return without calling the device below it, which may block and
+    // may fail.
     ghost borrowed: { Self → List ℕ } = { lends_nothing };
 
-    /// Reads bytes to the front of `to`, and returns how many. 0 for a nonempty `to` means the end.
+    /// Reads bytes to the front of `to`, and returns their number. 0 for a nonempty `to` means the
+    /// end of the source.
     ///
     /// # Errors
     ///
-    /// Returns `Failed` if the device fails. It has given no bytes, and its failure count rises by
-    /// one.
+    /// Returns `Failed` if the device fails. The source has returned no bytes, and its failure
+    /// count rises by one.
     fn pull(&mut self, to: &mut [u8]) -> Result<usize, Failed>
         requires { CanFail (failure_count self.old) }
         ensures bound { ReadsAtMost result to.new }
@@ -47,8 +49,8 @@ pub trait Source {
     fn failures(&self) -> u64
         ensures { result ≡ failure_count self.now };
 
-    /// Returns buffered bytes in place: those that it gives next, without calling the device below
-    /// it. Empty if it buffers none or cannot lend them.
+    /// Returns buffered bytes in place: those that the source returns next, without calling the
+    /// device below it. Empty if the source buffers no bytes or cannot lend them.
     fn buffered(&self) -> &[u8]
         ensures bytes { AreNext result.now (remaining self.now) }
         ensures borrowed { BeginBorrowed result.now (borrowed self.now) }
@@ -56,12 +58,12 @@ pub trait Source {
         &[]
     }
 
-    /// Reads ahead until it can lend bytes, if it derives them from a device below it. Other
-    /// devices do nothing. It consumes none of the bytes that `pull` gives.
+    /// Reads ahead until the source can lend bytes, if it derives its bytes from a device below it.
+    /// Other sources do nothing. Consumes none of the bytes that `pull` returns.
     ///
     /// # Errors
     ///
-    /// Returns `Failed` if the device below it fails.
+    /// Returns `Failed` if the device below the source fails.
     fn read_on(&mut self) -> Result<(), Failed>
         requires { CanFail (failure_count self.old) }
         ensures bytes { Keeps (remaining self.old) (remaining self.new) }
@@ -71,8 +73,8 @@ pub trait Source {
         Ok(())
     }
 
-    /// Skips `count` of the bytes that it lends, like a pull of them, and returns `true`. If it
-    /// lends fewer, it does nothing and returns `false`.
+    /// Skips `count` of the bytes that the source lends, like a pull of them, and returns `true`.
+    /// If the source lends fewer bytes, does nothing and returns `false`.
     fn skip_bytes(&mut self, count: usize) -> bool
         requires some { 0 < count }
         requires count { CanFail (failure_count self.old) }
@@ -85,8 +87,8 @@ pub trait Source {
 
 /// Pulls until `to` is full or the source ends, and returns how many bytes were read.
 ///
-/// Reads fewer than `to.len()` only at the end of the source. Each pull offers the rest of `to`.
-/// None follows a pull that read nothing or failed, or once `to` is full.
+/// Reads fewer than `to.len()` bytes only at the end of the source. Each pull offers the rest of
+/// `to`. No pull follows a pull that read nothing or failed, and none follows once `to` is full.
 ///
 /// # Errors
 ///
@@ -100,7 +102,8 @@ pub fn fill<S: Source>(source: &mut S, to: &mut [u8]) -> Result<usize, Failed>
         Consumes (S.remaining source.old) (S.remaining source.new) (take n to.new)) }
     ensures end { IfOk result (λ n. n < length to.new → IsAtEnd (S.remaining source.new)) }
 
-    // These three facts in one record, and what follows if the source's bytes are known.
+    // The clause `fills` states `bound`, `bytes` and the end of the source in one record; `told`
+    // states what follows if the source's bytes are known.
     ensures fills { IfOk result (λ n.
         Fills (S.remaining source.old) n (S.remaining source.new) to.new) }
     ensures told { IfKnown (S.remaining source.old) (λ bytes.
@@ -114,7 +117,7 @@ pub fn fill<S: Source>(source: &mut S, to: &mut [u8]) -> Result<usize, Failed>
     fill_up(source, to)
 }
 
-// `fill` without the clauses that follow from the others.
+// Does what `fill` does, without the clauses of its contract that follow from the others.
 #[inline(always)]
 fn fill_up<S: Source>(source: &mut S, to: &mut [u8]) -> Result<usize, Failed>
     requires { CanFail (S.failure_count source.old) }

@@ -32,7 +32,7 @@ impl<R> Model for FromRead<R> {
 }
 
 impl<R: Read> FromRead<R> {
-    /// Creates a source that reads from `inner`, without failures.
+    /// Creates a source that reads from `inner`, with a failure count of 0.
     pub fn new(inner: R) -> Self
         ensures { result ≡ record { device = inner; failure_count = 0 } }
     {
@@ -45,7 +45,7 @@ impl<R: Read> Source for FromRead<R> {
 
     ghost failure_count = { λ s. s.failure_count };
 
-    /// Calls `read` once.
+    /// Calls the reader's `read` once.
     ///
     /// # Errors
     ///
@@ -65,7 +65,7 @@ impl<R: Read> Source for FromRead<R> {
         self.failures
     }
 
-    /// Returns `false`, since it lends no bytes.
+    /// Returns `false`, since this source lends no bytes.
     fn skip_bytes(&mut self, _count: usize) -> bool {
         false
     }
@@ -94,7 +94,7 @@ impl<W> Model for IntoWrite<W> {
 }
 
 impl<W: Write> IntoWrite<W> {
-    /// Creates a sink that writes to `inner`, without failures.
+    /// Creates a sink that writes to `inner`, with a failure count of 0.
     pub fn new(inner: W) -> Self
         ensures { result ≡ record { device = inner; taken = []; failure_count = 0 } }
     {
@@ -111,7 +111,7 @@ impl<W: Write> Sink for IntoWrite<W> {
 
     ghost failure_count = { λ s. s.failure_count };
 
-    /// Calls `write` once.
+    /// Calls the writer's `write` once.
     ///
     /// # Errors
     ///
@@ -147,8 +147,8 @@ impl<W: Write> Sink for IntoWrite<W> {
 }
 
 impl<W: Write> Flush for IntoWrite<W> {
-    // Every push writes at once. Buffers of the writer itself are not visible here: a file of the
-    // operating system has none, a buffered writer of std would have one.
+    // Nothing is buffered, since every push writes at once. A buffer inside the writer is not
+    // visible here: a file of the operating system has none, but a buffered writer of std has one.
     ghost buffered = { buffers_nothing };
 
     /// Flushes the writer.

@@ -5,11 +5,11 @@ ghost use Rattle.std.specs.Borrow.{ftrue};
 
 use std::marker::Model;
 
-/// The bytes that a writer reported as written. Only contracts see them: the type has no size, and
-/// its functions do nothing. So each caller must record what its writer reported.
+/// The bytes that a writer reported as written. Only contracts use the value: the type has no size,
+/// and its functions do nothing. So each caller must record what its writer reported.
 #[derive(Drop)]
 pub struct Taken {
-    /// The bytes, in order.
+    /// The bytes written so far, in order.
     pub ghost bytes: { List ℕ },
 }
 
@@ -20,19 +20,19 @@ impl Model for Taken {
 /// The bytes that a writer took in one call.
 #[derive(Clone, Copy)]
 pub struct Piece<'a> {
-    /// The bytes.
+    /// The bytes that the writer took, in order.
     pub bytes: &'a [u8],
 }
 
 impl Taken {
-    /// Returns the empty record.
+    /// Returns a record without bytes.
     pub fn nothing() -> Taken
         ensures { result.bytes ≡ [] }
     {
         Taken {}
     }
 
-    /// Appends the bytes of one call.
+    /// Appends the bytes of one call to the record.
     pub fn and(&self, more: &Piece<'_>) -> Taken
         ensures { result.bytes ≡ self.now.bytes ++ more.now.bytes.now }
     {

@@ -1,4 +1,5 @@
--- After each iteration of `push_all` the sink has the first `at` bytes, and no push has failed.
+-- After each iteration of `push_all` the sink has taken the first `at` bytes, and no push has
+-- failed.
 use Rattle.std.proofs.Common.{length, ◌-◌, ◌≡◌, ◌≤◌, Bool, drop, take}
 use Rattle.std.specs.Io.KnownBytes.{Appends}
 use Rattle.sub_io.specs.Calls.{PutsByPushes}

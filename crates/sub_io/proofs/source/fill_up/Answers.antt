@@ -1,4 +1,5 @@
--- Each iteration of `fill_up` adds its part after those before it, by Consumes-more.
+-- Each iteration of `fill_up` reads bytes and places them after those of the pulls before it, by
+-- Consumes-more.
 use Rattle.std.proofs.Common.{rules}
 use Rattle.sub_io.proofs.DeviceLemmas.{Consumes-more}
 use Rattle.sub_io.proofs.CallLemmas.{fills-more}

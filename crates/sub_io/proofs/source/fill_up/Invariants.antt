@@ -1,4 +1,5 @@
--- After each iteration of `fill_up` the buffer begins with the bytes read, and no pull has failed.
+-- After each iteration of `fill_up` the buffer begins with the bytes read so far, and no pull has
+-- failed.
 use Rattle.std.proofs.Common.{length, ◌-◌, ◌≡◌, ◌≤◌, Bool, take}
 use Rattle.std.specs.Io.KnownBytes.{Consumes}
 use Rattle.sub_io.specs.Calls.{FillsByPulls}

@@ -1,5 +1,5 @@
--- After a failed flush the bytes that were not taken stay in the buffer, by buffered-parts and
--- buffered-moved.
+-- If flushing a buffered sink fails, the bytes that the inner sink did not take stay in the buffer,
+-- by buffered-parts and buffered-moved.
 use Rattle.std.proofs.Common.{rules}
 use Rattle.sub_io.proofs.BufferLemmas.{buffered-parts, buffered-moved}
 use Rattle.sub_io.proofs.buffered_sink.BufferedSinkFlush.flush.Goals as goal

@@ -1,4 +1,5 @@
--- With an empty buffer, a long pull is one of the inner source, by Pulls-past.
+-- With an empty buffer, a pull of at least the buffer's size is a pull of the inner source, by
+-- Pulls-past.
 use Rattle.std.proofs.Common.{rules}
 use Rattle.sub_io.proofs.BufferLemmas.{Pulls-past}
 use Rattle.sub_io.proofs.buffered_source.BufferedSourceSource.pull.Goals as goal
