@@ -18,31 +18,28 @@ use Rattle.stl_file.proofs.SubtitleBlocksLemmas.{linked_cons, linked_text, block
 
 -- ---- one block
 
--- A block is its head, a part of the text, and unused space up to the end.
+-- A TTI block is its first 16 bytes, a part of the subtitle's text, and unused space up to the end.
 pub block_parts : (s : SubtitleValue) (e : ℕ) (piece : List ℕ)
     → block_of s e piece
     ≡ (block_head s e ++ piece) ++ drop (length piece) (replicate 112 unused_space)
 unfolding block_of
 block_parts s e piece = search (rules, drop-replicate, append_assoc)
 
--- Lemmas for `push_block`.
 pub ruleset pushed = (append_assoc, block_parts)
 
--- A block that is written has its EBN and its text.
 block_fields : (s : SubtitleValue) (e : ℕ) (piece : List ℕ)
     → has_no_unused piece ≡ true
     → (ebn (block_of s e piece) ≡ e) × (text_of (block_of s e piece) ≡ piece)
 unfolding block_of
 block_fields s e piece h = (refl, before_clean piece (112 - length piece) h)
 
--- It belongs to the subtitle.
 block_belongs : (s : SubtitleValue) (e : ℕ) (piece : List ℕ)
     → length piece ≤ 112
     → BelongsTo s.sgn s.sn (block_of s e piece)
 unfolding block_of
 block_belongs s e piece le = grind (arith, length-append, length-replicate)
 
--- A block that is written begins the subtitle.
+-- A TTI block written for a valid subtitle can be the first block of that subtitle.
 block_begins : (s : SubtitleValue) (e : ℕ) (piece : List ℕ)
     → IsSubtitle s
     → Begins s (block_of s e piece)
@@ -51,13 +48,13 @@ block_begins s e piece h = grind (arith, nat_tests, time_in_range)
 
 -- ---- the blocks of a subtitle as they are written
 
--- A long text has one part more than the rest after its first part.
+-- The number of full text fields of a long text is one more than that of the text without its first
+-- 112 bytes.
 pieces_more : (text : List ℕ)
     → 112 < length text
     → full_pieces text ≡ suc (full_pieces (drop 112 text))
 pieces_more text lt = omega (arith, length-drop 112 text)
 
--- The bytes of a full block, and of the blocks after it.
 pub joined_more : (s : SubtitleValue) (ebn : ℕ) (text : List ℕ)
     → 112 < length text
     → concat (blocks_from s (full_pieces text) ebn text)
@@ -66,26 +63,22 @@ pub joined_more : (s : SubtitleValue) (ebn : ℕ) (text : List ℕ)
 unfolding blocks_from
 joined_more s ebn text lt = rw (pieces_more text lt) refl
 
--- The bytes of the last block.
 pub joined_end : (s : SubtitleValue) (ebn : ℕ) (text : List ℕ)
     → length text ≤ 112
     → concat (blocks_from s (full_pieces text) ebn text) ≡ block_of s 255 text
 unfolding blocks_from
 joined_end s ebn text le = grind (arith, nat_tests, append-nil)
 
--- The number of blocks.
 pub blocks_count : (s : SubtitleValue) (full ebn : ℕ) (text : List ℕ)
     → length (blocks_from s full ebn text) ≡ suc full
 unfolding blocks_from
 blocks_count s zero ebn text = refl
 blocks_count s (suc full) ebn text = ap suc (blocks_count s full (ebn + 1) (drop 112 text))
 
--- Lemmas for `spell`.
 pub ruleset spelled = (append_assoc, length-drop, joined_more, joined_end, blocks_count)
 
--- ---- they are blocks of the subtitle
+-- ---- the written blocks belong to the subtitle
 
--- The blocks that are written are linked.
 blocks_linked : (s : SubtitleValue) (full e : ℕ) (text : List ℕ)
     → length text ≤ 112 * suc full
     → e + full ≤ 240
@@ -103,7 +96,7 @@ blocks_linked s (suc full) e text le few h =
     (blocks_linked s full (e + 1) (drop 112 text) (omega (arith, length-drop 112 text))
     (omega arith) (clean_drop 112 text h))
 
--- Their joined text is the text.
+-- The text fields of the written blocks, joined, are the subtitle's text.
 blocks_text : (s : SubtitleValue) (full e : ℕ) (text : List ℕ)
     → has_no_unused text ≡ true
     → flat_map text_of (blocks_from s full e text) ≡ text
@@ -114,7 +107,6 @@ blocks_text s (suc full) e text h = rw (
   blocks_text s full (e + 1) (drop 112 text) (clean_drop 112 text h),
 ) (take-append-drop 112 text)
 
--- The first one begins the subtitle.
 blocks_begin : (s : SubtitleValue) (full e : ℕ) (text : List ℕ)
     → IsSubtitle s
     → (first : List ℕ) × ((others : List (List ℕ)) × (blocks_from s full e text ≡ first ∷ others)
@@ -126,14 +118,15 @@ blocks_begin s (suc full) e text h = (
   (blocks_from s full (e + 1) (drop 112 text), refl, block_begins s e (take 112 text) h),
 )
 
--- The blocks written for a subtitle are blocks of it.
+-- The blocks written for a valid subtitle satisfy the definition of its blocks.
 blocks_made : (s : SubtitleValue) → IsSubtitle s → AreBlocksOf s (blocks_of s)
 blocks_made s h =
     let full = full_pieces s.text in
     let b = blocks_begin s full 0 s.text h in
     grind (arith, nat_tests, blocks_begin, blocks_count, blocks_linked, blocks_text)
 
--- A subtitle of a file can be written again, in no more blocks.
+-- A subtitle read from a file can be written again, in no more blocks than the file has for the
+-- subtitle.
 pub blocks_again : (s : SubtitleValue) (g : List (List ℕ))
     → AreBlocksOf s g
     → AreBlocksOf s (blocks_of s) × (length (blocks_of s) ≤ length g)

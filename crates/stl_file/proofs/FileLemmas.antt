@@ -1,5 +1,5 @@
--- `IsFile`: a file is determined by reading it, and its first bytes suffice; main lemmas:
--- file_read, one_file, outcome_of-first.
+-- `IsFile`: bytes are a subtitle file if and only if they can be read without a fault, and the
+-- first 12,800,897 bytes decide; main lemmas: file_read, one_file, outcome_of-first.
 use Rattle.std.proofs.Common.{◌≡◌, ◌*◌, ℕ, false, List, [], ◌++◌, length, refl, sym, ap, ◌∙◌, arith}
 use Rattle.std.proofs.Common.{length-append, take, drop, None, Result, Ok, Err, subst, ◌+◌}
 use Rattle.std.proofs.Common.{inl, inr, length-take-le, ltb}
@@ -24,14 +24,12 @@ use Rattle.stl_file.proofs.RestLemmas.{read_complete, read_sound}
 use Rattle.stl_file.proofs.GsiLemmas.{gsi_complete}
 use Rattle.stl_file.proofs.OpeningLemmas.{gsi_of-sound, file_gsi}
 
--- A file that was read was opened.
 judged_ok : (scope : Scope) (b : List ℕ) (o : Result (List ℕ) StlFault) (ts : List SubtitleValue)
     → subtitles_of (stopped (findings_opened scope b o)) ≡ Ok ts
     → (g : List ℕ) × (o ≡ Ok g)
     × (subtitles_of (stopped (findings_from scope 0 None b)) ≡ Ok ts)
 judged_ok scope b o ts e = grind (arith, nat_tests)
 
--- The bytes after an accepted GSI block.
 pub body_sound : (scope : Scope) (s : List ℕ) (ts : List SubtitleValue)
     → IsGsiFor scope.takes_open (take 1024 s)
     → subtitles_of (stopped (findings_from scope 0 None (drop 1024 s))) ≡ Ok ts
@@ -53,7 +51,7 @@ body_sound scope s ts g e =
       };
     }
 
--- Bytes that are read without a fault are a file.
+-- If bytes are read without a fault, the bytes are a subtitle file.
 pub file_sound : (scope : Scope) (s : List ℕ) (ts : List SubtitleValue)
     → subtitles_of (stopped (findings_for scope s)) ≡ Ok ts
     → IsFileFor scope s (take 1024 s) ts
@@ -63,7 +61,6 @@ file_sound scope s ts e =
     let o = gsi_of-sound scope.takes_open s j.0 j.1 in
     body_sound scope s ts o.1 j.2
 
--- A file is read without a fault.
 pub file_complete : (scope : Scope) (s g : List ℕ) (ts : List SubtitleValue)
     → IsFileFor scope s g ts
     → (take 1024 s ≡ g) × (subtitles_of (stopped (findings_for scope s)) ≡ Ok ts)
@@ -81,7 +78,6 @@ file_complete scope s g ts h =
           (read_complete scope h.blocks most_blocks ts h.rest),
     )
 
--- A file is determined by reading it.
 pub file_read : (scope : Scope) (s g : List ℕ) (ts : List SubtitleValue)
     → IsFileFor scope s g ts
     ↔ ((g ≡ take 1024 s) × (subtitles_of (stopped (findings_for scope s)) ≡ Ok ts))
@@ -90,7 +86,7 @@ file_read scope s g ts = (
   λ h. subst (λ (x : List ℕ). IsFileFor scope s x ts) (sym h.0) (file_sound scope s ts h.1),
 )
 
--- A file has one GSI block and one list of subtitles.
+-- The bytes of a file have only one reading: one GSI block and one list of subtitles.
 pub one_file : (s g h : List ℕ) (ts us : List SubtitleValue)
     → IsFile s g ts
     → IsFile s h us
@@ -98,7 +94,6 @@ pub one_file : (s g h : List ℕ) (ts us : List SubtitleValue)
 one_file s g h ts us a b =
     grind (arith, nat_tests, file_complete whole s g ts a, file_complete whole s h us b)
 
--- The results of a file, after opening it. For `stl_rows`.
 pub findings_for-begun : (scope : Scope) (s : List ℕ) (reader : ResumingValue)
     → begun_at scope s ≡ (let r : Result ResumingValue StlFault = Ok reader in r)
     → findings_for scope s ≡ findings_from scope 0 None (drop 1024 s)
@@ -113,13 +108,14 @@ findings_for-refused scope s fault e = grind (arith, nat_tests)
 
 -- ---- the first bytes
 
--- One byte more than the longest file determines the results of an opened file.
+-- The first 12,799,873 bytes after the GSI block determine the results: one byte more than 99,999
+-- blocks.
 opened-first : (scope : Scope) (r : Result (List ℕ) StlFault) (b : List ℕ)
     → findings_opened scope (take (128 * 99999 + 1) b) r ≡ findings_opened scope b r
 opened-first scope (Err e) b = refl
 opened-first scope (Ok g) b = findings_at-first scope 99999 None b
 
--- One byte more than the longest file determines the results of any bytes.
+-- The first 12,800,897 bytes determine the results of a file: one byte more than the longest file.
 findings_of-first : (s : List ℕ) → findings_of (take 12800897 s) ≡ findings_of s
 unfolding findings_for gsi_of
 findings_of-first s = elim (cases_lt 12800897 (length s)) [

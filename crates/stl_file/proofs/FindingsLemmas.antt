@@ -16,26 +16,22 @@ use Rattle.stl_file.specs.declared.scope.Scope.{Scope}
 
 -- ---- the function by cases
 
--- The results without bytes.
 abbrev pub findings_nil : ℕ → Option Begun → Findings
 findings_nil room None = no_more
 findings_nil room (Some begun) = breaks fault.Unfinished (most_blocks - room)
 
 module _ (scope : Scope) where
-  -- No byte is left.
   pub findings_end : (room : ℕ) (begun : Option Begun)
       → findings_at scope room begun [] ≡ findings_nil room begun
   unfolding findings_at
   findings_end room begun = grind arith
 
-  -- One block too many.
   pub findings_full : (begun : Option Begun) (b : List ℕ)
       → 0 < length b
       → findings_at scope 0 begun b ≡ breaks fault.TooManyBlocks (most_blocks + 1)
   unfolding findings_at
   findings_full begun b h = grind arith
 
-  -- A truncated block.
   pub findings_short : (room : ℕ) (begun : Option Begun) (b : List ℕ)
       → 0 < length b
       → length b < 128
@@ -43,7 +39,6 @@ module _ (scope : Scope) where
   unfolding findings_at
   findings_short room begun b h lt = grind (arith, nat_tests)
 
-  -- A complete block.
   pub findings_step : (room : ℕ) (begun : Option Begun) (b : List ℕ)
       → 128 ≤ length b
       → findings_at scope (suc room) begun b
@@ -54,7 +49,6 @@ module _ (scope : Scope) where
   findings_step room None (x ∷ b) le = rw (le-ltb _ _ le) refl
   findings_step room (Some o) (x ∷ b) le = rw (le-ltb _ _ le) refl
 
-  -- A block in front of other bytes.
   pub findings_block : (room next : ℕ) (begun : Option Begun) (b rest : List ℕ)
       → room ≡ suc next
       → length b ≡ 128
@@ -66,7 +60,8 @@ module _ (scope : Scope) where
 
 -- ---- the bytes that determine the results
 
--- One byte more than `room` blocks determines the results.
+-- The results depend only on the bytes of `room` blocks and one byte more, since reading stops at
+-- the byte after the last permitted block.
 pub findings_at-first : (scope : Scope) (room : ℕ) (begun : Option Begun) (b : List ℕ)
     → findings_at scope room begun (take (128 * room + 1) b) ≡ findings_at scope room begun b
 findings_at-first scope zero begun b = grind (arith, nat_tests, findings_full)
@@ -86,14 +81,12 @@ findings_at-first scope (suc room) begun b = elim (cases_lt (length b) 128) [
 
 -- ---- the blocks in the results
 
--- Results from the next block on are results from this block on.
 finds-before : (block : ℕ) (o : Findings) → FindsFrom (block + 1) o → FindsFrom block o
 finds-before block no_more h = tt
 finds-before block (breaks f at) h = grind arith
 finds-before block (finds s at o) h = (grind arith, finds-before block o h.1)
 finds-before block (refuses f at o) h = (grind arith, finds-before block o h.1)
 
--- The results after a block, if all following ones are from the next block on.
 finds-after : (room block : ℕ) (next : Option Begun → Findings) (b : List ℕ)
     (r : Result BlockStep StlFault)
     → block ≤ most_blocks - room
@@ -101,7 +94,7 @@ finds-after : (room block : ℕ) (next : Option Begun → Findings) (b : List �
     → FindsFrom block (findings_after room next b r)
 finds-after room block next b r le n = grind (arith, finds-before)
 
--- The results after `block` blocks have only later blocks.
+-- After `block` blocks were read, all results have a greater block number.
 pub finds_from : (scope : Scope) (room block : ℕ) (begun : Option Begun) (b : List ℕ)
     → block + room ≡ most_blocks
     → FindsFrom (block + 1) (findings_at scope room begun b)

@@ -16,7 +16,6 @@ use Rattle.stl_file.specs.Gsi.{IsDisplay, required_of_gsi, dfc, dsc, five_digits
 use Rattle.stl_file.specs.Gsi.{no_display, open_subtitles, stl_25, stl_30}
 use Rattle.stl_file.proofs.StepLemmas.{requested-right}
 
--- It passed these checks.
 format_sound : (g : List ℕ)
     → not (bytes_eq (dfc g) stl_25) && not (bytes_eq (dfc g) stl_30) ≡ false
     → bytes_eq (dfc g) stl_30 ≡ false
@@ -29,7 +28,7 @@ display_sound : (takes_open : Bool) (d : ℕ)
     → IsDisplay takes_open d
 display_sound takes_open d e = grind (arith, nat_tests)
 
--- A GSI block without a fault is accepted unchanged.
+-- If reading a GSI block finds no fault, the block is accepted and returned unchanged.
 pub gsi_sound : (takes_open : Bool) (g h : List ℕ)
     → length g ≡ 1024
     → gsi_at takes_open g ≡ Ok h
@@ -47,7 +46,7 @@ gsi_sound takes_open g h size e =
       },
     )
 
--- An accepted block is read as itself.
+-- An accepted GSI block is read without a fault.
 pub gsi_complete : (takes_open : Bool) (g : List ℕ)
     → IsGsiFor takes_open g
     → gsi_at takes_open g ≡ Ok g
@@ -56,7 +55,6 @@ gsi_complete takes_open g h = grind (arith, nat_tests, bytes_eq-Decides)
 
 -- ---- the counts
 
--- Ten bytes are written at 238. For `set_counts`.
 pub counts_put : (xs ys : List ℕ)
     → length ys ≡ 10
     → 248 ≤ length xs
@@ -66,7 +64,6 @@ counts_put xs ys size le =
     ∙ rw (take-put_mid 238 10 xs ys 248 (omega arith) (omega arith))
     (rw (drop-put_mid 238 10 xs ys 248 (omega arith) (omega arith) size, append_assoc) refl)
 
--- Setting the counts twice.
 pub counts_twice : (tnb tns : ℕ) (g : List ℕ)
     → length g ≡ 1024
     → with_counts tnb tns (with_counts tnb tns g) ≡ with_counts tnb tns g
@@ -79,7 +76,6 @@ counts_twice tnb tns g size =
     (omega (arith, length-append (take 238 g) digits)) in
     rw (take_at (take 238 g) (digits ++ drop 248 g) 238 prefix, back) refl
 
--- A field before place n is in the first n bytes.
 prefix_field : (at len n : ℕ) (g rest : List ℕ)
     → at + len ≤ n
     → n ≤ length g
@@ -89,7 +85,7 @@ prefix_field at len n g rest le size =
     (rw (take-append-le (at + len) (take n g) rest (omega (arith, length-take n g)))
     (rw (take-take (at + len) n g le) refl))
 
--- A GSI block is also accepted with other counts.
+-- An accepted GSI block is also accepted with other values of TNB and TNS.
 pub counted_is_gsi : (tnb tns : ℕ) (g : List ℕ) → IsGsi g → IsGsi (with_counts tnb tns g)
 counted_is_gsi tnb tns g h =
     let back = length-drop 248 g in let prefix = length-take 238 g in

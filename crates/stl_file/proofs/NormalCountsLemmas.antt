@@ -1,5 +1,5 @@
--- `normal_counts` and `given`: a pass of `normal` over the blocks after the GSI block; main lemmas:
--- left_is, took, counted_cons, written_cons.
+-- The counts of a normal form, by `normal_counts` and `given`, in each pass of `normal` over the
+-- blocks; main lemmas: left_is, took, counted_cons, written_cons.
 use Rattle.std.proofs.Common.{◌≡◌, ℕ, true, false, Bool, cond, List, length, arith, length-append}
 use Rattle.std.proofs.Common.{Option, Some, Result, Ok, Err, ◌+◌, ◌≤◌, is_ok}
 use Rattle.std.proofs.lemmas.Bool.Decides.{nat_tests}
@@ -20,13 +20,11 @@ use Rattle.stl_file.specs.NormalCounts.{given, judged_on, normal_counts}
 use Rattle.stl_file.proofs.SubtitleBlocksLemmas.{kept_few}
 use Rattle.stl_file.proofs.BlocksOfLemmas.{blocks_again, blocks_count}
 
--- ---- one subtitle. For `read_on`
+-- ---- one subtitle
 
--- An unchanged failure count shows that this call did not fail.
 pub no_failure : (b : Bool) → 0 ≡ 0 + cond b 1 0 → b ≡ false
 no_failure b e = grind (arith, nat_tests)
 
--- The remaining results before a call, by its result and those after it.
 pub left_is : (old new : ReaderValue) (rest next : List ℕ) (r : Result Bool StlFault)
     (s : SubtitleValue)
     → GivesNextSubtitle old rest new (Some next) (yielded_subtitle r s)
@@ -34,7 +32,7 @@ pub left_is : (old new : ReaderValue) (rest next : List ℕ) (r : Result Bool St
     ≡ judged_on r s new.block (subtitles_of (outcome_left new next))
 left_is old new rest next r s a = grind (arith, nat_tests, same_Some)
 
--- The normal form of a subtitle has no more blocks than were read for it.
+-- The normal form of a subtitle has no more blocks than the file has for the subtitle.
 pub took : (from to : ℕ) (old new : Option (List ℕ)) (s : SubtitleValue)
     → TakesSubtitle from to old new s
     → from + length (blocks_of s) ≤ to
@@ -43,32 +41,27 @@ took from to old new s t =
 
 -- ---- the first pass
 
--- Adds the counts of the remaining subtitles.
+-- Adds the counts of the remaining subtitles to the counts so far.
 abbrev pub counted_on : Counts → Result Counts NormalFault → Result Counts NormalFault
 counted_on c (Ok d) = Ok (record { tnb = c.tnb + d.tnb; tns = c.tns + d.tns })
 counted_on c (Err f) = Err f
 
--- Counts before any subtitle.
 pub counted_none : (j : Judged)
     → counted_on (record { tnb = 0; tns = 0 }) (normal_counts j) ≡ normal_counts j
 counted_none j = grind arith
 
--- The counts with one more subtitle.
 pub counted_cons : (c : Counts) (s : SubtitleValue) (j : Judged)
     → counted_on c (normal_counts (cons_all s j))
     ≡ counted_on (record { tnb = c.tnb + length (blocks_of s); tns = c.tns + 1 }) (normal_counts j)
 counted_cons c s j = grind (arith, length-append)
 
--- Lemmas for `judge`.
 pub ruleset judging = (counted_none, counted_cons, blocks_count)
 
 -- ---- the second pass
 
--- Without a fault, none follows a subtitle.
 pub ok_cons : (s : SubtitleValue) (j : Judged) → is_ok (cons_all s j) ≡ true → is_ok j ≡ true
 ok_cons s j e = grind arith
 
--- The bytes written for the remaining subtitles after this one.
 pub written_cons : {E : Type 0} (old mid new : Option (List ℕ)) (s : SubtitleValue) (j : Judged)
     (result : Result (Unit {0}) E)
     → is_ok (cons_all s j) ≡ true

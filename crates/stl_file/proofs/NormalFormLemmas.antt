@@ -33,7 +33,7 @@ use Rattle.stl_file.proofs.BlocksOfLemmas.{blocks_again}
 
 -- ---- blocks of subtitles
 
--- Linked blocks have 128 bytes each, and are neither comments nor user data.
+-- The blocks of one subtitle have 128 bytes each, and none of the blocks is a comment or user data.
 linked_kept : (sgn_is sn_is : ℕ) (g : List (List ℕ))
     → AreLinked sgn_is sn_is g
     → AllByRecursion IsBlock g × (filter is_kept g ≡ g)
@@ -42,7 +42,6 @@ linked_kept sgn_is sn_is (b ∷ []) c = grind (arith, nat_tests)
 linked_kept sgn_is sn_is (b ∷ x ∷ g) c =
     let rest = linked_kept sgn_is sn_is (x ∷ g) c.2 in grind (arith, nat_tests)
 
--- Lists of blocks can be joined.
 each_append : (xs ys : List (List ℕ))
     → AllByRecursion IsBlock xs
     → AllByRecursion IsBlock ys
@@ -50,7 +49,7 @@ each_append : (xs ys : List (List ℕ))
 each_append [] ys h k = k
 each_append (x ∷ xs) ys h k = (h.0, each_append xs ys h.1 k)
 
--- The subtitles of a file can be written in blocks, no more than the file has.
+-- The subtitles of a file can be written in their normal form, in no more blocks than the file has.
 respelled : (ss : List SubtitleValue) (gs : List (List (List ℕ)))
     → AllZip AreBlocksOf ss gs
     → AreSubtitleBlocks whole (length (groups_of gs)) (all_blocks ss) ss
@@ -76,7 +75,7 @@ respelled (s ∷ ss) (g ∷ gs) h =
           (one.0, rw (all_inside rest.groups) at rest.are_of);
     }
 
--- The blocks written for the subtitles of a file are those of a file.
+-- The normal form of a file's subtitles has the blocks of a valid file.
 own_rest : (bs : List (List ℕ)) (ts : List SubtitleValue)
     → AreSubtitleBlocks whole most_blocks bs ts
     → AreSubtitleBlocks whole most_blocks (all_blocks ts) ts
@@ -99,7 +98,7 @@ pub normal_is_file : (s g : List ℕ) (ts : List SubtitleValue)
     → IsFile (normal_form g ts) (counted_gsi g ts) ts
 normal_is_file s g ts h = search (rules, counted_is_gsi, own_rest)
 
--- The normal form of a normal form is the same.
+-- The normal form of a normal form is the normal form itself.
 pub normal_twice : (s g h : List ℕ) (ts us : List SubtitleValue)
     → IsFile s g ts
     → IsFile (normal_form g ts) h us
@@ -108,13 +107,12 @@ normal_twice s g h ts us a b =
     let o = one_file (normal_form g ts) h (counted_gsi g ts) us ts b (normal_is_file s g ts a) in
     grind (arith, nat_tests, counts_twice)
 
--- ---- the returns of `normal`
+-- ---- the results of `normal`
 
--- An unchanged sink keeps its bytes.
 keeps_same : (o : Option (List ℕ)) → Keeps o o
 keeps_same o = grind (arith, nat_tests)
 
--- The result of `normal` for a file whose GSI block is rejected.
+-- If the GSI block is rejected, `normal` writes nothing and reports block 0.
 pub refused_open : (s : List ℕ) (f : StlFault) (old : Option (List ℕ))
     → opened_at s ≡ Err f
     → NormalAnswers s old old (Err (Refused f 0))
@@ -122,7 +120,6 @@ unfolding findings_for
 refused_open s f old e =
     (rw (opened_bad (gsi_of false s) f e) refl, keeps_same old)
 
--- After an accepted GSI block, the results of a file are those of its body.
 file_body : (s : List ℕ) (r : ReaderValue)
     → opened_at s ≡ good r
     → subtitles_of (outcome_of s) ≡ subtitles_of (outcome_from 0 (drop 1024 s))
@@ -130,7 +127,7 @@ unfolding findings_for
 file_body s r e =
     rw (opened_good (gsi_of false s) r e).0 refl
 
--- The result of `normal` for a file whose blocks are rejected.
+-- If a TTI block is rejected, `normal` writes nothing and reports the file's first fault.
 pub refused_body : (s : List ℕ) (r : ReaderValue) (f : NormalFault) (old : Option (List ℕ))
     → opened_at s ≡ good r
     → (f ≡ Write → ⊥)
@@ -138,7 +135,7 @@ pub refused_body : (s : List ℕ) (r : ReaderValue) (f : NormalFault) (old : Opt
     → NormalAnswers s old old (Err f)
 refused_body s r f old e never c = grind (arith, nat_tests, file_body, keeps_same)
 
--- An accepted file: its subtitles, their counts and the bytes of its normal form.
+-- The facts about an accepted file: its subtitles, their counts, and the bytes of the normal form.
 record Accepted (s : List ℕ) (r : ReaderValue) (c : Counts) : Type 0 where
   ts : List SubtitleValue
   is_file : IsFile s (take 1024 s) ts
@@ -147,14 +144,13 @@ record Accepted (s : List ℕ) (r : ReaderValue) (c : Counts) : Type 0 where
       ++ concat (all_blocks (given (subtitles_of (outcome_from 0 (drop 1024 s)))))
       ≡ normal_form (take 1024 s) ts
 
--- The subtitles that were counted.
 counted_ok : (j : Judged) (c : Counts)
     → normal_counts j ≡ Ok c
     → (ts : List SubtitleValue) × (j ≡ Ok ts) × (c.tnb ≡ length (all_blocks ts))
     × (c.tns ≡ length ts)
 counted_ok j c e = grind (arith, nat_tests)
 
--- A file that was opened and counted is accepted.
+-- If the file was opened and the first pass counted its subtitles, the file is accepted.
 accepted : (s : List ℕ) (r : ReaderValue) (c : Counts)
     → opened_at s ≡ good r
     → normal_counts (subtitles_of (outcome_from 0 (drop 1024 s))) ≡ Ok c
@@ -172,13 +168,11 @@ accepted s r c opened judged =
 module _ (s : List ℕ) (r : ReaderValue) (c : Counts) (g : List ℕ) (opened : opened_at s ≡ good r)
     (judged : normal_counts (subtitles_of (outcome_from 0 (drop 1024 s))) ≡ Ok c)
     (set : g ≡ with_counts c.tnb c.tns r.gsi) (old new : Option (List ℕ)) where
-  -- Everything was written.
   pub all_written : Appends old new
       (g ++ concat (all_blocks (given (subtitles_of (outcome_from 0 (drop 1024 s))))))
       → WritesNormal s old new c.tns
   all_written w = grind (arith, nat_tests, accepted s r c opened judged)
 
-  -- The sink failed.
   pub prefix_written : AppendsPrefix old new
       (g ++ concat (all_blocks (given (subtitles_of (outcome_from 0 (drop 1024 s))))))
       → WritesPrefix s old new

@@ -1,5 +1,5 @@
--- `gsi_of`, and that no file begins with rejected bytes; main lemmas: gsi_of-sound, opened_sound,
--- open_complete, bad_opening.
+-- `gsi_of`: reading the GSI block is sound, and no file begins with rejected bytes; main lemmas:
+-- gsi_of-sound, opened_sound, open_complete, bad_opening.
 use Rattle.std.proofs.Common.{◌≡◌, ℕ, Bool, List, ◌++◌, length, refl, sym, ap, ◌∙◌, arith}
 use Rattle.std.proofs.Common.{length-append, take, drop, Option, Some, Result, Ok, Err, ◌<◌, ◌≤◌}
 use Rattle.std.proofs.Common.{length-take, false}
@@ -19,7 +19,6 @@ use Rattle.stl_file.specs.Subtitle.{SubtitleValue}
 use Rattle.stl_file.specs.File.{IsFileFor}
 use Rattle.stl_file.proofs.GsiLemmas.{gsi_sound, gsi_complete}
 
--- Facts that hold for any result. For `read_gsi`.
 pub if_ok : {A E P : Type 0} (r : Result A E) → P → IfOk r (λ a. P)
 if_ok (Ok a) p = p
 if_ok (Err e) p = tt
@@ -30,11 +29,10 @@ pub if_err : {A E : Type 0} (r : Result A E) (P : E → Type 0)
 if_err (Ok a) P h = tt
 if_err (Err e) P h = h e refl
 
--- A reader without a fault.
 abbrev pub good : ReaderValue → Result ReaderValue StlFault
 good r = Ok r
 
--- An accepted GSI block is that of the file's first bytes.
+-- If a GSI block is accepted, it is the first 1024 bytes of the file.
 pub gsi_of-sound : (takes_open : Bool) (s g : List ℕ)
     → gsi_of takes_open s ≡ Ok g
     → (1024 ≤ length s) × IsGsiFor takes_open (take 1024 s) × (g ≡ take 1024 s)
@@ -45,21 +43,19 @@ gsi_of-sound takes_open s g e =
     (rw (le-ltb _ _ le) at e) in
     (le, own.1, own.0)
 
--- An opened reader has the accepted GSI block. Also for `sub_listing`.
 pub opened_good : (g : Result (List ℕ) StlFault) (r : ReaderValue)
     → opened g ≡ good r
     → (g ≡ Ok r.gsi) × (r ≡ record { gsi = r.gsi; block = 0; progress = Reading })
 opened_good (Err f) r e = absurd cc
 opened_good (Ok g) r e = grind arith
 
--- Otherwise the fault is that of the GSI block. For `sub_listing`.
 pub opened_bad : (g : Result (List ℕ) StlFault) (f : StlFault)
     → opened g ≡ (let r : Result ReaderValue StlFault = Err f in r)
     → g ≡ Err f
 opened_bad (Err f') f e = grind arith
 opened_bad (Ok g) f e = absurd cc
 
--- A file that was opened begins with an accepted GSI block.
+-- If a file was opened, the file begins with an accepted GSI block.
 pub opened_sound : (s : List ℕ) (r : ReaderValue)
     → opened_at s ≡ good r
     → (1024 ≤ length s) × IsGsi (take 1024 s)
@@ -72,7 +68,7 @@ opened_sound s r e =
     started : List ℕ → ReaderValue
     started g = record { gsi = g; block = 0; progress = Reading }
 
--- A file begins with its GSI block.
+-- The GSI block of a file is the first 1024 bytes of the file.
 pub file_gsi : (scope : Scope) (s g : List ℕ) (ts : List SubtitleValue)
     → IsFileFor scope s g ts
     → take 1024 s ≡ g
@@ -80,7 +76,7 @@ file_gsi scope s g ts h = ap (take 1024) h.bytes ∙ take_at g (concat h.blocks)
 
 module _ {old new : Option (List ℕ)} {n : ℕ} {block : List ℕ} (f : Fills old n new block)
     (size : length block ≡ 1024) where
-  -- A GSI block with a fault begins no file.
+  -- If the GSI block has a fault, no subtitle file begins with these bytes.
   pub bad_opening : (scope : Scope) (x : StlFault)
       → 1024 ≤ n
       → gsi_at scope.takes_open block ≡ Err x
@@ -97,12 +93,10 @@ module _ {old new : Option (List ℕ)} {n : ℕ} {block : List ℕ} (f : Fills o
 
 module _ {bytes : List ℕ} {n : ℕ} {new : Option (List ℕ)} {block : List ℕ}
     (t : Told bytes n new block) (bound : n ≤ length block) (size : length block ≡ 1024) where
-  -- Fewer bytes than a GSI block.
   pub open_short : (takes_open : Bool) → n < 1024 → gsi_of takes_open bytes ≡ Err fault.Truncated
   unfolding gsi_of
   open_short takes_open lt = grind (arith, nat_tests, length-append, length-take)
 
-  -- The result of reading a complete GSI block.
   pub open_complete : (takes_open : Bool) (r : Result (List ℕ) StlFault)
       → 1024 ≤ n
       → gsi_at takes_open block ≡ r
@@ -114,6 +108,5 @@ module _ {bytes : List ℕ} {n : ℕ} {new : Option (List ℕ)} {block : List �
       rw (le-ltb _ _ long, t.parts, take_all n block (omega arith))
       (rw (take_at block t.rest 1024 size, e) refl)
 
-  -- The bytes left after it.
   pub open_rest : 1024 ≤ n → new ≡ Some (drop 1024 bytes)
   open_rest le = grind (arith, nat_tests, take_all, drop_at block t.rest 1024 size)

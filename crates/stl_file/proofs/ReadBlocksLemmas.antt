@@ -1,5 +1,5 @@
--- The loop over blocks: the results of these and any further bytes; main lemmas: reads_on,
--- leads_given, leads_refused, fails_reading.
+-- The loop over blocks: the bytes read so far and any further bytes determine the results; main
+-- lemmas: reads_on, leads_given, leads_refused, fails_reading.
 use Rattle.std.proofs.Common.{rules, ◌≡◌, ◌*◌, ℕ, false, true, List, [], ◌++◌, length, refl}
 use Rattle.std.proofs.Common.{sym, ap, ◌∙◌}
 use Rattle.std.proofs.Common.{append_assoc, arith, length-append, take, drop, Option, None, Result}
@@ -28,8 +28,8 @@ use Rattle.stl_file.proofs.FindingsLemmas.{finds_from}
 
 -- ---- the bytes read so far
 
--- The bytes read in this call, after `from` blocks: they are complete blocks, up to `block`, and
--- the results of these and any further bytes are known.
+-- The bytes read in the current call, after `from` blocks, are complete blocks up to number
+-- `block`, and the results of these bytes followed by any further bytes are known.
 pub record HasRead
     (scope : Scope) (from : ℕ) (refused : Option Begun) (old now : Option (List ℕ)) (block : ℕ)
     (begun : Option Begun)
@@ -41,7 +41,8 @@ pub record HasRead
       → findings_from scope from refused (bytes ++ more)
       ≡ findings_at scope (most_blocks - block) begun more
 
--- Fewer than 128 bytes were read after them, and the source failed.
+-- If the source fails within a block, no result of the file has a smaller block number, whatever
+-- bytes follow.
 pub fails_reading : (scope : Scope) (from block : ℕ) (refused : Option Begun)
     (old mid new : Option (List ℕ)) (begun : Option Begun) (bytes : List ℕ)
     → HasRead scope from refused old mid block begun
@@ -64,11 +65,9 @@ module _ {scope : Scope} {from : ℕ} {refused : Option Begun} {old mid new : Op
     {n block : ℕ} {begun : Option Begun} {buffer : List ℕ}
     (h : HasRead scope from refused old mid block begun) (f : Fills mid n new buffer)
     (size : length buffer ≡ 128) (next : Option Begun) (s : SubtitleValue) where
-  -- The number of bytes read in this iteration.
   length_prefix : length (take n buffer) ≡ n
   length_prefix = omega (arith, length-take n buffer)
 
-  -- The result, from the results of the bytes of this iteration and those left.
   leads : (to : ℕ) (r : Result Found StlFault)
       → to ≡ block + (n + 127) / 128
       → (is_ok r ≡ true → 128 * block + n ≡ 128 * to)
@@ -85,7 +84,7 @@ module _ {scope : Scope} {from : ℕ} {refused : Option Begun} {old mid new : Op
       let l = length-append h.bytes (take n buffer) in
       grind (arith, nat_tests, length_prefix, append_assoc)
 
-  -- No bytes: the end of the file, or its end within a subtitle.
+  -- If no byte is left, the result is the end of the file, or `Unfinished` within a subtitle.
   pub leads_end : (r : Result Found StlFault)
       → n ≡ 0
       → block ≤ most_blocks
@@ -95,7 +94,6 @@ module _ {scope : Scope} {from : ℕ} {refused : Option Begun} {old mid new : Op
       → LeadsOn scope from block refused next old new s r
   leads_end r z le cut never gives = grind (arith, nat_tests, nil_from_length, length_prefix, leads)
 
-  -- A byte was read, but no block may follow.
   pub leads_too_many : (n ≡ 0 → ⊥)
       → block ≡ most_blocks
       → LeadsOn scope from (block + 1) refused next old new s (Err fault.TooManyBlocks)
@@ -103,7 +101,6 @@ module _ {scope : Scope} {from : ℕ} {refused : Option Begun} {old mid new : Op
       let positive : 0 < n = grind (arith, nat_tests) in
       search (rules, length_prefix, leads, findings_full, length-append)
 
-  -- A truncated block.
   pub leads_truncated : (n ≡ 0 → ⊥)
       → block < most_blocks
       → n < 128
@@ -113,7 +110,6 @@ module _ {scope : Scope} {from : ℕ} {refused : Option Begun} {old mid new : Op
       grind (arith, nat_tests, length_prefix, leads, append-nil, findings_short)
 
   module _ (few : block < most_blocks) (long : 128 ≤ n) where
-    -- The results of a complete block.
     one_block : (more : List ℕ)
         → findings_at scope (most_blocks - block) begun (take n buffer ++ more)
         ≡ findings_after (most_blocks - (block + 1))
@@ -123,11 +119,9 @@ module _ {scope : Scope} {from : ℕ} {refused : Option Begun} {old mid new : Op
         (findings_block scope (most_blocks - block) (most_blocks - (block + 1)) begun buffer more
         (omega arith) size)
 
-    -- Its number.
     number : most_blocks - (most_blocks - (block + 1)) ≡ block + 1
     number = omega arith
 
-    -- A block with a fault.
     pub leads_refused : (x : StlFault)
         → is_of_block x ≡ true
         → next ≡ skipped_at buffer
@@ -140,7 +134,6 @@ module _ {scope : Scope} {from : ℕ} {refused : Option Begun} {old mid new : Op
         (λ _. omega arith) (λ _. omega arith) (grind arith)
         (λ more _. one_block more ∙ rw (step, number, is) (grind arith)) (grind arith))
 
-    -- The last block of a subtitle.
     pub leads_given : next ≡ None
         → step_at scope begun buffer ≡ Ok (Yield s)
         → LeadsOn scope from (block + 1) refused next old new s (Ok found.Subtitle)
@@ -157,7 +150,6 @@ module _ {scope : Scope} {from : ℕ} {refused : Option Begun} {old mid new : Op
         ∙ ap (drop (length prefix)) e ∙ drop_at prefix last (length prefix) refl in
         rw (← take_all n buffer (omega arith), same) at (step_gives scope begun buffer s step))
 
-    -- More blocks follow.
     pub reads_on : step_at scope begun buffer ≡ Ok (More next)
         → HasRead scope from refused old new (block + 1) next
     reads_on step =

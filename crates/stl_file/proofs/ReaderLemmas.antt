@@ -23,7 +23,7 @@ use Rattle.stl_file.proofs.FindingsLemmas.{findings_end}
 use Rattle.stl_file.proofs.RestLemmas.{read_complete, read_sound, groups_of}
 use Rattle.stl_file.proofs.ScopeLemmas.{all_inside}
 
--- The bytes that were left are those consumed, followed by those left now. For `stl_rows`.
+-- The bytes left before a call are the bytes consumed, followed by the bytes left after the call.
 pub left-then : (old new : Option (List ℕ)) (rest : List ℕ) {scope : Scope} {from to : ℕ}
     {refused next : Option Begun} {t : SubtitleValue} {result : Result Found StlFault}
     → LeadsOn scope from to refused next old new t result
@@ -38,12 +38,13 @@ left-then (Some all) (Some more) rest l is =
 
 -- ---- results of a reader that stops at the first fault
 
--- A fault ends its results, even if reading could continue.
+-- A reader that stops at the first fault reports nothing after a fault, even if reading could
+-- continue.
 by_fault : (to : ℕ) (next : Option Begun) (more : List ℕ) (s : SubtitleValue) (f : StlFault)
     → stopped (findings_by whole to next more s (found_of (Err f))) ≡ fails f to
 by_fault to next more s f = grind arith
 
--- Only a truncated file might be cured by more bytes.
+-- If more bytes could remove a fault, the fault is `Truncated` or `Unfinished`.
 is_cut-by : (f : StlFault) → finds_end (found_of (Err f)) ≡ true → is_cut f ≡ true
 is_cut-by f e = grind arith
 
@@ -63,17 +64,15 @@ refuses from to old new s next x l = record {
       grind arith;
 }
 
--- One subtitle has one group of blocks.
+-- The blocks of a single subtitle form one group.
 one_group : (s : SubtitleValue) (gs : List (List (List ℕ)))
     → AllZip AreBlocksOf (s ∷ []) gs
     → AreBlocksOf s (groups_of gs)
 one_group s gs h = grind (arith, nat_tests, append-nil)
 
--- Without a subtitle there are no blocks.
 no_group : (gs : List (List (List ℕ))) → AllZip AreBlocksOf [] gs → groups_of gs ≡ []
 no_group gs h = grind (arith, nat_tests)
 
--- The last of these blocks is not skipped.
 ends_kept : (prefix b : List ℕ) (bs : List (List ℕ))
     → AllByRecursion IsBlock (b ∷ bs)
     → LastIsKept (prefix ++ concat (b ∷ bs))
@@ -82,7 +81,7 @@ ends_kept prefix b [] h k = k prefix b (ap (λ (x : List ℕ). prefix ++ x) (app
 ends_kept prefix b (c ∷ bs) h k = ends_kept (prefix ++ b) c bs h.1
     (λ start last e size. k start last (sym (append_assoc prefix b (concat (c ∷ bs))) ∙ e) size)
 
--- The blocks of a subtitle end with one that is not skipped.
+-- The blocks of a subtitle end with a block that is not skipped.
 ends_group : (s : SubtitleValue) (bs : List (List ℕ))
     → AreBlocksOf s (filter is_kept bs)
     → AllByRecursion IsBlock bs
@@ -91,7 +90,7 @@ ends_group : (s : SubtitleValue) (bs : List (List ℕ))
 ends_group s [] a h k = absurd cc
 ends_group s (b ∷ bs) a h k = ends_kept [] b bs h k
 
--- A subtitle consists of the blocks that were consumed.
+-- If a call returns a subtitle, the bytes consumed are the blocks of the subtitle.
 pub takes_subtitle : (from to : ℕ) (old new : Option (List ℕ)) (s : SubtitleValue)
     (kept : Option (List ℕ))
     → kept ≡ None
@@ -111,7 +110,7 @@ takes_subtitle from to old new s kept over l =
       consumed = rw r.bytes at l.consumed;
     }
 
--- Only skipped blocks contain no subtitle.
+-- If a call returns `None`, the bytes consumed are only skipped blocks.
 pub takes_skipped : (from to : ℕ) (old new : Option (List ℕ)) (s : SubtitleValue)
     (next : Option Begun)
     → LeadsOn whole from to None next old new s (Ok found.End)
@@ -134,5 +133,4 @@ takes_skipped from to old new s next l =
       ended = l.ended refl;
     }
 
--- The meaning of a result for the bytes consumed. For `next_into`.
 pub ruleset led = (takes_subtitle, takes_skipped, refuses)

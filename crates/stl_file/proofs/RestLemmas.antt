@@ -1,5 +1,5 @@
--- `AreSubtitleBlocks`: bytes are read without a fault exactly if they are blocks of subtitles; main
--- lemmas: read_complete, read_sound.
+-- `AreSubtitleBlocks`: bytes are read without a fault if and only if they are the blocks of
+-- subtitles; main lemmas: read_complete, read_sound.
 use Rattle.std.proofs.Common.{◌≡◌, ℕ, false, true, cond, List, [], ◌∷◌, ◌++◌, length, refl, sym}
 use Rattle.std.proofs.Common.{ap, ◌∙◌, append_assoc, arith, take, drop, Option, Some, None, Result}
 use Rattle.std.proofs.Common.{Ok, Err, subst, zero, suc, ◌+◌, ◌-◌, ◌<◌, ◌≤◌, length-append, inl}
@@ -26,17 +26,15 @@ use Rattle.stl_file.proofs.StepLemmas.{Represents, step_kept, step_skipped, step
 use Rattle.stl_file.proofs.FindingsLemmas.{findings_full, findings_step, findings_end}
 use Rattle.stl_file.proofs.FindingsLemmas.{findings_block, findings_short}
 
--- The blocks of the subtitles, joined.
 abbrev pub groups_of : List (List (List ℕ)) → List (List ℕ)
 groups_of gs = flat_map (λ (g : List (List ℕ)). g) gs
 
--- The subtitles in the bytes, with or without a current subtitle.
+-- The subtitles in the bytes b, given the current subtitle, if any.
 abbrev pub read_at : Scope → ℕ → Option Begun → List ℕ → Judged
 read_at scope room begun b = subtitles_of (stopped (findings_at scope room begun b))
 
 -- ---- completeness: the blocks of a file are read as its subtitles
 
--- The result of a step with enough room for what follows.
 after_enough : (few room : ℕ) (f g : Option Begun → Findings) (b : List ℕ)
     (r : Result BlockStep StlFault) (ss : List SubtitleValue)
     → ((next : Option Begun) (ts : List SubtitleValue)
@@ -46,7 +44,7 @@ after_enough : (few room : ℕ) (f g : Option Begun → Findings) (b : List ℕ)
     → subtitles_of (stopped (findings_after room g b r)) ≡ Ok ss
 after_enough few room f g b r ss same e = grind arith
 
--- The result of blocks does not change if skipped ones are between them.
+-- Comments and user data between blocks do not change the subtitles that are read.
 kept_enough : (scope : Scope) (bs : List (List ℕ)) (begun : Option Begun) (few room : ℕ)
     (ss : List SubtitleValue)
     → AllByRecursion IsBlock bs
@@ -75,13 +73,15 @@ kept_enough scope (b ∷ bs) begun few room ss h f le e =
           ) at e)
     ])
 
--- The results after the blocks of a subtitle, with the subtitle in front unless it is skipped.
+-- The result after the blocks of a subtitle: the subtitle, unless it is skipped, followed by the
+-- later subtitles.
 abbrev after_begun : Begun → List (List ℕ) → Judged → Judged
 after_begun o tail j =
     cond o.is_skipped j
     (cons_all (record o.subtitle { text = o.subtitle.text ++ flat_map text_of tail }) j)
 
--- The blocks of a subtitle, from one that was read on, yield it and then what follows.
+-- If the remaining blocks of a subtitle are linked, reading them returns the subtitle and then the
+-- later subtitles.
 blocks_give : (scope : Scope) (tail : List (List ℕ)) (room : ℕ) (begun : Option Begun)
     (b rest : List ℕ) (o : Begun)
     → kept_at scope begun b ≡ Ok (closed (ebn b) o)
@@ -103,7 +103,7 @@ blocks_give scope (c ∷ tail) room begun b rest o step linked few le =
     (omega arith) (omega arith) in
     grind (arith, nat_tests, append_assoc)
 
--- The blocks of a subtitle outside the scope yield only what follows.
+-- Reading the blocks of a subtitle outside the scope returns only the later subtitles.
 outside_gives : (scope : Scope) (b : List ℕ) (others : List (List ℕ)) (room : ℕ) (rest : List ℕ)
     → AreOutside scope (b ∷ others)
     → length (b ∷ others) ≤ room
@@ -118,7 +118,8 @@ outside_gives scope b others room rest i le =
     linked
     (let few = i.few in omega arith) (omega arith)
 
--- The blocks of a subtitle inside the scope yield it and then what follows.
+-- Reading the blocks of a subtitle inside the scope returns the subtitle and then the later
+-- subtitles.
 inside_gives : (scope : Scope) (s : SubtitleValue) (g : List (List ℕ)) (room : ℕ) (rest : List ℕ)
     → is_outside scope g ≡ false
     → AreBlocksOf s g
@@ -134,7 +135,6 @@ inside_gives scope s g room rest inside i le =
     let text = i.text_is in
     grind (arith, append_assoc)
 
--- The blocks of subtitles, the first of them outside the scope.
 skips_group : (scope : Scope) (b : List ℕ) (others : List (List ℕ)) (gs : List (List (List ℕ)))
     (ss : List SubtitleValue) (room : ℕ)
     → AreOutside scope (b ∷ others)
@@ -150,7 +150,6 @@ skips_group scope b others gs ss room i le on =
     (omega (arith, length-append (b ∷ others) (groups_of gs), le))
     ∙ on)
 
--- The same with the first of them inside.
 gives_group : (scope : Scope) (g : List (List ℕ)) (gs : List (List (List ℕ)))
     (kept : List (List (List ℕ))) (ss : List SubtitleValue) (room : ℕ)
     → is_outside scope g ≡ false
@@ -166,7 +165,6 @@ gives_group scope g gs kept (s ∷ ss) room inside are le on =
     (omega (arith, length-append g (groups_of gs), le))
     ∙ ap (cons_all s) (on ss are.1))
 
--- The blocks of subtitles are read as those inside the scope.
 groups_give : (scope : Scope) (gs : List (List (List ℕ))) (ss : List SubtitleValue) (room : ℕ)
     → AllByRecursion (AreOutside scope) (filter (is_outside scope) gs)
     → AllZip AreBlocksOf ss (filter (is_inside scope) gs)
@@ -191,7 +189,7 @@ groups_give scope ((b ∷ others) ∷ gs) ss room out are le =
           groups_give scope gs ts (room - length (b ∷ others)) (rw inside at out) h few)
     ]
 
--- The blocks of a file, from where a subtitle may begin, are read as its subtitles without a fault.
+-- If blocks contain certain subtitles, reading the blocks returns these subtitles without a fault.
 pub read_complete : (scope : Scope) (bs : List (List ℕ)) (room : ℕ) (ss : List SubtitleValue)
     → AreSubtitleBlocks scope room bs ss
     → read_at scope room None (concat bs) ≡ Ok ss
@@ -203,7 +201,7 @@ read_complete scope bs room ss r =
 
 -- ---- soundness: bytes that are read as subtitles are their blocks
 
--- The blocks that were read, with some of a subtitle before them.
+-- The blocks that were read, after some blocks of the current subtitle, contain the subtitles ss.
 pub record Reads
     (scope : Scope) (room : ℕ) (before : List (List ℕ)) (b : List ℕ) (ss : List SubtitleValue)
     : Type 0 where
@@ -216,7 +214,6 @@ pub record Reads
   pub outside : AllByRecursion (AreOutside scope) (filter (is_outside scope) groups)
   pub are_groups : AllZip AreBlocksOf ss (filter (is_inside scope) groups)
 
--- One more block in front.
 in_front : (scope : Scope) (room : ℕ) (before k : List (List ℕ)) (b : List ℕ)
     (ss ts : List SubtitleValue) (groups : List (List (List ℕ)))
     → 128 ≤ length b
@@ -237,19 +234,16 @@ in_front scope room before k b ss ts groups le r kept out are = record {
   are_groups = are;
 }
 
--- A list with a first subtitle. Also for `stl_rows`.
 pub cons_ok : (s : SubtitleValue) (j : Judged) (ss : List SubtitleValue)
     → cons_all s j ≡ Ok ss
     → (rest : List SubtitleValue) × (j ≡ Ok rest) × (ss ≡ s ∷ rest)
 cons_ok s j ss e = grind (arith, nat_tests)
 
--- The groups of the rest of a file.
 abbrev HasGroups : Scope → List SubtitleValue → List (List (List ℕ)) → Type 0
 HasGroups scope ss gs =
     AllByRecursion (AreOutside scope) (filter (is_outside scope) gs)
     × AllZip AreBlocksOf ss (filter (is_inside scope) gs)
 
--- A group outside the scope.
 groups_outside : (scope : Scope) (ss : List SubtitleValue) (g : List (List ℕ))
     (gs : List (List (List ℕ)))
     → AreOutside scope g
@@ -261,7 +255,6 @@ groups_outside scope ss (b ∷ others) gs i h =
     let outside : begins_outside scope b ≡ true = rw same i.outside in
     (rw outside (i, h.0), rw outside h.1)
 
--- A group inside the scope.
 groups_inside : (scope : Scope) (s : SubtitleValue) (ss : List SubtitleValue) (g : List (List ℕ))
     (gs : List (List (List ℕ)))
     → is_outside scope g ≡ false
@@ -271,7 +264,6 @@ groups_inside : (scope : Scope) (s : SubtitleValue) (ss : List SubtitleValue) (g
 groups_inside scope s ss [] gs inside i h = (h.0, (i, h.1))
 groups_inside scope s ss (b ∷ others) gs inside i h = (rw inside h.0, rw inside (i, h.1))
 
--- One block that was read, and what follows.
 step_reads : (scope : Scope) (room : ℕ) (begun : Option Begun) (before : List (List ℕ))
     (b : List ℕ) (ss : List SubtitleValue) (r : Result BlockStep StlFault)
     → 128 ≤ length b
@@ -311,7 +303,7 @@ step_reads scope room begun before b ss (Ok (Yield s)) le rep e go all =
     (subst (λ (x : List SubtitleValue). AllZip AreBlocksOf x
     (filter (is_inside scope) (own ∷ r.groups))) (sym c.2) has.1)
 
--- Bytes that are read as subtitles without a fault are their blocks.
+-- If bytes are read as subtitles without a fault, the bytes are the blocks of these subtitles.
 pub read_sound : (scope : Scope) (room : ℕ) (begun : Option Begun) (before : List (List ℕ))
     (b : List ℕ) (ss : List SubtitleValue)
     → Represents scope begun before

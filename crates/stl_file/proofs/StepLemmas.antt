@@ -1,5 +1,5 @@
--- `step_at`: blocks that are read without a fault are those of subtitles; main lemmas: step_sound,
--- first_kept, further_kept, step_kept, step_skipped.
+-- `step_at`: blocks that are read without a fault are the blocks of subtitles; main lemmas:
+-- step_sound, first_kept, further_kept, step_kept, step_skipped.
 use Rattle.std.proofs.Common.{◌≡◌, ℕ, Bool, false, true, cond, List, [], ◌∷◌, ◌++◌, length, refl}
 use Rattle.std.proofs.Common.{arith, length-append, Option, Some, None, Result, Ok, ◌+◌, ◌<◌, ◌≤◌}
 use Rattle.std.proofs.Common.{◌⊎◌}
@@ -20,14 +20,14 @@ use Rattle.stl_file.specs.Reading.{required_of_first, begun_skipped}
 
 -- ---- a first block
 
--- If there is a value, all checks passed. Also for `GsiLemmas`.
+-- If a list of checks yields a value, all checks passed.
 pub requested-right : {X : Type 0} (qs : Questions) (answer : Result X StlFault) (x : X)
     → requested qs answer ≡ Ok x
     → (answer ≡ Ok x) × AllByRecursion (λ (q : StlFault × Bool). q.1 ≡ false) qs
 requested-right [] answer x e = (e, tt)
 requested-right (q ∷ qs) answer x e = grind (arith, nat_tests, requested-right qs answer x)
 
--- A first block that is read begins the subtitle.
+-- If a first block is read without a fault, the subtitle has the fields and the text of that block.
 pub first_sound : (b : List ℕ) (s : SubtitleValue)
     → first_at b ≡ Ok s
     → Begins s b × (s.text ≡ text_of b)
@@ -35,19 +35,18 @@ unfolding first_at
 first_sound b s e =
     let right = requested-right (required_of_first b) _ s e in grind (arith, nat_tests)
 
--- A block that begins a subtitle is read as its first.
+-- A block that begins a subtitle by the definition is read as the subtitle's first block.
 first_complete : (b : List ℕ) (s : SubtitleValue)
     → Begins s b
     → first_at b ≡ Ok (record s { text = text_of b })
 unfolding first_at
 first_complete b s h = grind (arith, nat_tests)
 
--- A subtitle whose first block was read.
 abbrev pub first_begun : SubtitleValue → List ℕ → Begun
 first_begun s b =
     record { subtitle = record s { text = text_of b }; blocks = 1; is_skipped = false }
 
--- A block that begins a subtitle is accepted as its first.
+-- A reader accepts a block that begins a subtitle inside the scope.
 pub first_kept : (scope : Scope) (s : SubtitleValue) (b : List ℕ)
     → begins_outside scope b ≡ false
     → Begins s b
@@ -55,21 +54,20 @@ pub first_kept : (scope : Scope) (s : SubtitleValue) (b : List ℕ)
 unfolding kept_at
 first_kept scope s b inside h = rw (inside, first_complete b s h) refl
 
--- A block outside the scope begins a skipped subtitle.
+-- A first block outside the scope begins a skipped subtitle.
 pub outside_kept : (scope : Scope) (b : List ℕ)
     → begins_outside scope b ≡ true
     → kept_at scope None b ≡ Ok (closed (ebn b) (begun_skipped b))
 unfolding kept_at
 outside_kept scope b outside = rw outside (grind (arith, nat_tests))
 
--- A subtitle with a further block.
 abbrev pub longer : Begun → List ℕ → Begun
 longer o b = record o {
   subtitle = record o.subtitle { text = o.subtitle.text ++ text_of b };
   blocks = o.blocks + 1;
 }
 
--- A further block of a subtitle is accepted.
+-- A reader accepts a later block with the subtitle's SGN and SN, up to nine blocks.
 pub further_kept : (scope : Scope) (o : Begun) (b : List ℕ)
     → BelongsTo o.subtitle.sgn o.subtitle.sn b
     → o.blocks < 9
@@ -79,11 +77,11 @@ further_kept scope o b belongs few = grind (arith, nat_tests)
 
 -- ---- incomplete subtitles
 
--- A block of this SGN and SN that is not the last.
 abbrev pub Within : ℕ → ℕ → List ℕ → Type 0
 Within sgn_is sn_is b = BelongsTo sgn_is sn_is b × (ebn b < 240)
 
--- The blocks of a subtitle before its last one. A skipped subtitle is outside the scope.
+-- The list g has the blocks of the current subtitle, without its last block. A skipped subtitle is
+-- outside the scope.
 pub record IsOpen (scope : Scope) (o : Begun) (g : List (List ℕ)) : Type 0 where
   pub first : List ℕ
   pub others : List (List ℕ)
@@ -96,19 +94,19 @@ pub record IsOpen (scope : Scope) (o : Begun) (g : List (List ℕ)) : Type 0 whe
   pub size : length g ≡ o.blocks
   pub few : o.blocks ≤ 9
 
--- The blocks so far of the current subtitle.
+-- The blocks so far agree with the current subtitle. If there is no current subtitle, no blocks
+-- were read.
 abbrev pub Represents : Scope → Option Begun → List (List ℕ) → Type 0
 Represents scope None kept = kept ≡ []
 Represents scope (Some o) kept = IsOpen scope o kept
 
--- The effect of a step on the blocks: without a current subtitle there are none, or those of a
--- subtitle outside the scope.
+-- The effect of a step agrees with the blocks read. After `More None` there are no blocks, or they
+-- are those of a subtitle outside the scope.
 abbrev pub Reaches : Scope → List (List ℕ) → BlockStep → Type 0
 Reaches scope kept (More None) = (kept ≡ []) ⊎ AreOutside scope kept
 Reaches scope kept (More (Some o)) = IsOpen scope o kept
 Reaches scope kept (Yield s) = AreBlocksOf s kept × (is_outside scope kept ≡ false)
 
--- One more block that is not the last.
 all_push : (sgn_is sn_is : ℕ) (g : List (List ℕ)) (b : List ℕ)
     → AllByRecursion (Within sgn_is sn_is) g
     → Within sgn_is sn_is b
@@ -116,7 +114,6 @@ all_push : (sgn_is sn_is : ℕ) (g : List (List ℕ)) (b : List ℕ)
 all_push sgn_is sn_is [] b h w = (w, tt)
 all_push sgn_is sn_is (x ∷ g) b h w = (h.0, all_push sgn_is sn_is g b h.1 w)
 
--- The last block completes a chain.
 chain_push : (sgn_is sn_is : ℕ) (g : List (List ℕ)) (b : List ℕ)
     → AllByRecursion (Within sgn_is sn_is) g
     → BelongsTo sgn_is sn_is b
@@ -127,7 +124,6 @@ chain_push sgn_is sn_is (x ∷ []) b h w e = (h.0.0, h.0.1, (w, e))
 chain_push sgn_is sn_is (x ∷ y ∷ g) b h w e =
     (h.0.0, h.0.1, chain_push sgn_is sn_is (y ∷ g) b h.1 w e)
 
--- The first block of a subtitle that was read.
 kept_first : (scope : Scope) (b : List ℕ) (r : BlockStep)
     → length b ≡ 128
     → cf b ≡ 0
@@ -137,7 +133,6 @@ kept_first : (scope : Scope) (b : List ℕ) (r : BlockStep)
 unfolding kept_at
 kept_first scope b r size none e k = grind (arith, nat_tests, first_sound, append-nil)
 
--- A further one.
 kept_further : (scope : Scope) (o : Begun) (kept : List (List ℕ)) (b : List ℕ) (r : BlockStep)
     → length b ≡ 128
     → cf b ≡ 0
@@ -157,7 +152,8 @@ kept_further scope o kept b r size none e h k =
       append-nil,
     )
 
--- A block that is not skipped belongs to the subtitle.
+-- If a block that is not skipped is read without a fault, the block belongs to the current
+-- subtitle.
 kept_sound : (scope : Scope) (begun : Option Begun) (kept : List (List ℕ)) (b : List ℕ)
     (r : BlockStep)
     → length b ≡ 128
@@ -169,13 +165,12 @@ kept_sound : (scope : Scope) (begun : Option Begun) (kept : List (List ℕ)) (b 
 kept_sound scope None kept b r size none e h k = rw h (kept_first scope b r size none e k)
 kept_sound scope (Some o) kept b r size none e h k = kept_further scope o kept b r size none e h k
 
--- The current subtitle does not change.
 stays_begun : (scope : Scope) (begun : Option Begun) (kept : List (List ℕ))
     → Represents scope begun kept
     → Reaches scope kept (More begun)
 stays_begun scope begun kept h = grind (arith, nat_tests)
 
--- A block that is read without a fault belongs to the others, or is skipped.
+-- If a block is read without a fault, the block belongs to the current subtitle or is skipped.
 pub step_sound : (scope : Scope) (begun : Option Begun) (kept : List (List ℕ)) (b : List ℕ)
     (r : BlockStep)
     → length b ≡ 128
@@ -193,7 +188,7 @@ pub step_gives : (scope : Scope) (begun : Option Begun) (b : List ℕ) (s : Subt
 unfolding step_at
 step_gives scope begun b s e = grind (arith, nat_tests)
 
--- A block of a subtitle is not skipped.
+-- A reader takes a block with a valid EBN and CF 0 as a block of a subtitle.
 pub step_kept : (scope : Scope) (begun : Option Begun) (b : List ℕ)
     → (ebn b < 240) ⊎ (ebn b ≡ 255)
     → cf b ≡ 0
@@ -201,7 +196,7 @@ pub step_kept : (scope : Scope) (begun : Option Begun) (b : List ℕ)
 unfolding step_at
 step_kept scope begun b e c = grind (arith, nat_tests)
 
--- Comments and user data are skipped.
+-- Comments and user data do not change the current subtitle.
 pub step_skipped : (scope : Scope) (begun : Option Begun) (b : List ℕ)
     → is_skipped_block b ≡ true
     → step_at scope begun b ≡ Ok (More begun)

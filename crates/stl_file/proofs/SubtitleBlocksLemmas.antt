@@ -15,26 +15,22 @@ use Rattle.stl_file.proofs.SubtitleLemmas.{text_short, has_no_unused-texts}
 
 -- ---- lists of blocks
 
--- Blocks have 128 bytes each.
 pub length-concat : (bs : List (List ℕ))
     → AllByRecursion IsBlock bs
     → length (concat bs) ≡ 128 * length bs
 length-concat [] h = refl
 length-concat (x ∷ bs) h = grind (arith, nat_tests, length-append, length-concat bs h.1)
 
--- Skipping blocks leaves no more than there were.
 pub kept_few : (bs : List (List ℕ)) → length (filter is_kept bs) ≤ length bs
 kept_few bs = omega (arith, length-filter is_kept bs, count_by-le-length is_kept bs)
 
 -- ---- linked blocks
 
--- The first of linked blocks.
 pub first_linked : (sgn_is sn_is : ℕ) (b : List ℕ) (bs : List (List ℕ))
     → AreLinked sgn_is sn_is (b ∷ bs)
     → BelongsTo sgn_is sn_is b
 first_linked sgn_is sn_is b bs h = grind (arith, nat_tests)
 
--- One more block in front of linked ones.
 pub linked_cons : (sgn_is sn_is : ℕ) (b : List ℕ) (bs : List (List ℕ))
     → BelongsTo sgn_is sn_is b
     → ebn b < 240
@@ -42,7 +38,7 @@ pub linked_cons : (sgn_is sn_is : ℕ) (b : List ℕ) (bs : List (List ℕ))
     → AreLinked sgn_is sn_is (b ∷ bs)
 linked_cons sgn_is sn_is b bs h lt c = grind (arith, nat_tests)
 
--- Linked blocks have at most 112 bytes of text each.
+-- The blocks of one subtitle have at most 112 bytes of text each.
 pub linked_text : (sgn_is sn_is : ℕ) (g : List (List ℕ))
     → AreLinked sgn_is sn_is g
     → length (flat_map text_of g) ≤ 112 * length g
@@ -51,6 +47,6 @@ linked_text sgn_is sn_is (b ∷ []) c = grind (arith, nat_tests, text_short, app
 linked_text sgn_is sn_is (b ∷ x ∷ g) c =
     grind (arith, nat_tests, text_short, length-append, linked_text sgn_is sn_is (x ∷ g) c.2)
 
--- The subtitle of a file's blocks is valid.
+-- If blocks in a file are those of a subtitle, the subtitle's values are valid.
 pub blocks_subtitle : (s : SubtitleValue) (g : List (List ℕ)) → AreBlocksOf s g → IsSubtitle s
 blocks_subtitle s g h = grind (arith, nat_tests, linked_text, in_day, has_no_unused-texts)

@@ -25,22 +25,20 @@ use Rattle.stl_file.proofs.FindingsLemmas.{findings_block, findings_end, finding
 use Rattle.stl_file.proofs.StepLemmas.{step_kept, step_skipped}
 use Rattle.stl_file.proofs.TimeCodeLemmas.{in_day}
 
--- No subtitle is outside the day.
 pub day_law : LawOfWholeDay
 unfolding begins_outside
 day_law scope b = grind (arith, nat_tests, in_day (tci b))
 
--- ---- the two readings
+-- ---- the two readings: the file, and the file without the removed blocks
 
--- The current subtitles of both readings: none; the same; or a skipped subtitle in the file, of
--- which the other has no block.
+-- The current subtitles of the two readings agree: both are none; both are equal; or the file has a
+-- skipped subtitle, whose blocks were removed from the other file.
 abbrev HaveBegun : Option Bool → Option Begun → Option Begun → Type 0
 HaveBegun None full cut = (full ≡ None) × (cut ≡ None)
 HaveBegun (Some true) full cut = (o : Begun) × (full ≡ Some o) × (cut ≡ Some o)
 HaveBegun (Some false) full cut =
     (o : Begun) × (full ≡ Some o) × (o.is_skipped ≡ true) × (cut ≡ None)
 
--- The results after the same step in both.
 same_after : (room room' : ℕ) (next next' : Option Begun → Findings) (b : List ℕ)
     (step : Result BlockStep StlFault) (within : Option Bool)
     → ((n : Option Begun) → step ≡ Ok (More n) → HaveBegun within n n)
@@ -59,7 +57,8 @@ same_after room room' next next' b (Ok (Yield s)) within more give skipped on re
 
 -- ---- one block
 
--- A block after which reading continues belongs to a subtitle, or is skipped.
+-- If reading continues after a block that is not skipped, the block has CF 0 and the EBN of a
+-- subtitle's block.
 kept_block : (scope : Scope) (begun : Option Begun) (b : List ℕ) (room : ℕ)
     (next : Option Begun → Findings)
     → is_skipped_block b ≡ false
@@ -68,20 +67,19 @@ kept_block : (scope : Scope) (begun : Option Begun) (b : List ℕ) (room : ℕ)
 unfolding step_at
 kept_block scope begun b room next kept read = grind (arith, nat_tests)
 
--- A subtitle that is not outside is read in the same way for the whole day.
 kept_first_same : (scope : Scope) (b : List ℕ)
     → begins_outside scope b ≡ false
     → kept_at scope None b ≡ kept_at (all_day scope) None b
 unfolding kept_at
 kept_first_same scope b inside = rw (inside, day_law scope b) refl
 
--- So is a further block.
 kept_further_same : (scope : Scope) (o : Begun) (b : List ℕ)
     → kept_at scope (Some o) b ≡ kept_at (all_day scope) (Some o) b
 unfolding kept_at
 kept_further_same scope o b = refl
 
--- Only EBN FF ends a subtitle.
+-- If reading a subtitle's first block yields no subtitle yet, the next block belongs to that
+-- subtitle.
 ends_first : (scope : Scope) (b : List ℕ) (n : Option Begun)
     → begins_outside scope b ≡ false
     → kept_at scope None b ≡ Ok (More n)
@@ -108,7 +106,6 @@ skipped_both : (scope : Scope) (b : List ℕ) (within : Option Bool)
     → HaveBegun (within_after scope within b) (skipped_at b) (skipped_at b)
 skipped_both scope b within stay = grind (arith, nat_tests)
 
--- The first block of a subtitle outside the scope.
 outside_step : (scope : Scope) (b : List ℕ)
     → begins_outside scope b ≡ true
     → kept_at scope None b ≡ Ok (More (skipped_at b))
@@ -120,7 +117,6 @@ outside_begun : (scope : Scope) (b : List ℕ)
     → HaveBegun (within_after scope None b) (skipped_at b) None
 outside_begun scope b outside = grind (arith, nat_tests)
 
--- A further block of it.
 ends_skipped : (scope : Scope) (o : Begun) (b : List ℕ) (n : Option Begun)
     → o.is_skipped ≡ true
     → kept_at scope (Some o) b ≡ Ok (More n)
@@ -143,7 +139,7 @@ fault_of_further scope o b f e = grind (arith, nat_tests)
 
 -- ---- the remaining blocks
 
--- A block that stays, and one that is removed.
+-- A block that is not removed is still the first block after the removal.
 stays_is : (scope : Scope) (within : Option Bool) (b : List ℕ) (bs : List (List ℕ))
     → is_skipped_block b ≡ false
     → stays scope within b ≡ true
@@ -164,16 +160,13 @@ module _ (scope : Scope) (b : List ℕ) (bs : List (List ℕ)) (within : Option 
     → unnumbered (findings_at scope room full (concat bs))
     ≡ unnumbered (findings_at (all_day scope) more cut
     (concat (taken_out scope (within_after scope within b) bs)))) where
-  -- The results after the block in the file.
   abbrev next : Option Begun → Findings
   next n = findings_at scope room n (concat bs)
 
-  -- The results after it in the file without the removed blocks.
   abbrev next' : Option Begun → Findings
   next' n = findings_at (all_day scope) (room' - 1) n
       (concat (taken_out scope (within_after scope within b) bs))
 
-  -- The same step in both.
   stays_cut : (begun : Option Begun)
       → stays scope within b ≡ true
       → step_at (all_day scope) begun b ≡ step_at scope begun b
@@ -196,7 +189,6 @@ module _ (scope : Scope) (b : List ℕ) (bs : List (List ℕ)) (within : Option 
       (within_after scope within b) more give (skipped_both scope b within stay)
       (λ full cut h. on full cut (room' - 1) h (omega arith)) read)
 
-  -- A step in the file only.
   gone_cut : (step : Result BlockStep StlFault)
       → stays scope within b ≡ false
       → ((n : Option Begun) → step ≡ Ok (More n)
@@ -214,7 +206,6 @@ module _ (scope : Scope) (b : List ℕ) (bs : List (List ℕ)) (within : Option 
       rw (gone_is scope within b bs kept gone)
       (on n None room' (more n refl) (omega arith) read)
 
--- A step has only one result.
 same_step : {step : Result BlockStep StlFault} {n m : Option Begun}
     → step ≡ Ok (More n)
     → step ≡ Ok (More m)
@@ -233,7 +224,6 @@ no_fault : {step : Result BlockStep StlFault} {n : Option Begun} {f : StlFault}
     → ⊥
 no_fault a b = cc
 
--- A block that is not skipped, by the current subtitles of both.
 kept_cut : (scope : Scope) (b : List ℕ) (bs : List (List ℕ)) (within : Option Bool)
     (full cut : Option Begun) (room room' : ℕ)
     → length b ≡ 128
@@ -294,7 +284,6 @@ kept_cut scope b bs (Some false) full cut room room' size kept le begun on read 
     (λ s e. gives_none scope o b s begun.2 (sym step ∙ e))
     (λ f e. fault_of_further scope o b f (sym step ∙ e)) now)
 
--- The end of both.
 ends_cut : (scope : Scope) (within : Option Bool) (full cut : Option Begun) (room room' : ℕ)
     → HaveBegun within full cut
     → is_read_to_the_end (findings_at scope room full []) ≡ true
@@ -308,7 +297,6 @@ ends_cut scope (Some true) full cut room room' begun read =
 ends_cut scope (Some false) full cut room room' begun read =
     absurd (let e = rw (begun.1, findings_end scope room (Some begun.0)) at read in cc)
 
--- All blocks.
 same_cut : (scope : Scope) (bs : List (List ℕ)) (within : Option Bool) (full cut : Option Begun)
     (room room' : ℕ)
     → AllByRecursion IsBlock bs
@@ -350,7 +338,6 @@ same_cut scope (b ∷ bs) within full cut (suc room) room' each begun le read =
 -- ---- the whole file
 
 module _ (g : List ℕ) (size : length g ≡ 1024) where
-  -- The results of a file after its GSI block.
   after_gsi : (scope : Scope) (rest : List ℕ)
       → findings_for scope (g ++ rest) ≡ findings_opened scope rest (gsi_at scope.takes_open g)
   unfolding findings_for gsi_of
@@ -359,7 +346,6 @@ module _ (g : List ℕ) (size : length g ≡ 1024) where
       le-ltb _ _ (omega (arith, size, length-append g rest)) in
       rw (long, drop_at g rest 1024 size, take_at g rest 1024 size) refl
 
--- The results after an accepted GSI block.
 opened_law : (scope : Scope) (bs : List (List ℕ)) (gsi : Result (List ℕ) StlFault)
     → AllByRecursion IsBlock bs
     → is_read_to_the_end (findings_opened scope (concat bs) gsi) ≡ true
@@ -369,7 +355,8 @@ opened_law scope bs (Err f) each read = absurd cc
 opened_law scope bs (Ok g) each read =
     same_cut scope bs None None None most_blocks most_blocks each (refl, refl) (omega arith) read
 
--- A part of a file has the same results as the file without the rest.
+-- Reading a part of a file gives the same results as reading the file from which the other
+-- subtitles are removed.
 pub scope_law : LawOfScope
 scope_law scope g bs size each read =
     rw (

@@ -1,14 +1,13 @@
--- Time codes: the frames of the day for four bytes; main lemmas: in_day, time_in_range.
+-- Time codes: four valid bytes are a frame of the day, and the bytes of a frame are valid; main
+-- lemmas: in_day, time_in_range.
 use Rattle.std.proofs.Common.{◌≡◌, ℕ, true, List, arith, ◌<◌, ◌/◌, ◌%◌}
 use Rattle.std.proofs.lemmas.Bool.Decides.{nat_tests}
 use Rattle.stl_file.specs.TimeCode.{day, frame_in, is_time, is_time_code}
 
--- The frame of a time code is one of the day.
 pub in_day : (b : List ℕ) → is_time b ≡ true → frame_in b < day
 unfolding is_time frame_in
 in_day b e = grind (arith, nat_tests)
 
--- The bytes written for a frame are a time code.
 pub time_in_range : (f : ℕ)
     → f < day
     → is_time_code (f / 90000) ((f / 1500) % 60) ((f / 25) % 60) (f % 25) ≡ true

@@ -1,5 +1,5 @@
--- The number and the name of a fault in reports; and which faults are in the file's bytes, in the
--- device or in the reader's state.
+-- Fault codes of a subtitle file, and the origin of each fault: the file's bytes, the source or
+-- sink, or the reader's state.
 use Rattle.std.specs.Prelude.{Bool, true, false, codes}
 use Rattle.sub_io.specs.FaultCode.{FaultCodeValue, fault_code}
 use Rattle.stl_file.specs.declared.fault.StlFault.{StlFault}
@@ -7,7 +7,7 @@ use Rattle.stl_file.specs.declared.fault.StlFault.TheVariants as fault
 use Rattle.stl_file.specs.declared.fault.NormalFault.{NormalFault}
 use Rattle.stl_file.specs.declared.fault.NormalFault.TheVariants.{Refused, Write}
 
--- The number and the name of a fault (own).
+-- The number and the name of a fault of reading a subtitle file (own).
 abbrev pub stl_code : StlFault → FaultCodeValue
 stl_code fault.Truncated = fault_code 10 (codes "Truncated")
 stl_code fault.Format = fault_code 11 (codes "Format")
@@ -28,7 +28,7 @@ stl_code fault.TooManyBlocks = fault_code 25 (codes "TooManyBlocks")
 stl_code fault.Read = fault_code 26 (codes "Read")
 stl_code fault.Ended = fault_code 27 (codes "Ended")
 
--- The number and the name of the error of writing a normal form.
+-- The number and the name of an error of writing a normal form (own).
 abbrev pub normal_code : NormalFault → FaultCodeValue
 normal_code (Refused fault block) = stl_code fault
 normal_code Write = fault_code 29 (codes "Write")
@@ -39,17 +39,18 @@ is_format fault.Read = false
 is_format fault.Ended = false
 is_format _ = true
 
--- The source failed.
+-- The fault means that the source failed.
 abbrev pub is_file_read : StlFault → Bool
 is_file_read fault.Read = true
 is_file_read _ = false
 
--- The sink failed.
+-- The error means that the sink failed.
 abbrev pub is_normal_write : NormalFault → Bool
 is_normal_write Write = true
 is_normal_write _ = false
 
--- The fault is in a block's own bytes, or in its position among the blocks of its subtitle.
+-- The fault is in the bytes of a TTI block, or in the block's position among the blocks of its
+-- subtitle.
 abbrev pub is_of_block : StlFault → Bool
 is_of_block fault.Extension = true
 is_of_block fault.Cumulative = true
@@ -62,8 +63,8 @@ is_of_block fault.Sequence = true
 is_of_block fault.TooLong = true
 is_of_block _ = false
 
--- The fault is in the fields of a subtitle's first block, so that it is still known where its
--- blocks end.
+-- The fault is in the fields of a subtitle's first block, so the end of the subtitle is still
+-- known: its block with EBN FF.
 abbrev pub is_of_first : StlFault → Bool
 is_of_first fault.Cumulative = true
 is_of_first fault.Justify = true
@@ -72,7 +73,7 @@ is_of_first fault.Time = true
 is_of_first fault.EmptyTime = true
 is_of_first _ = false
 
--- The file ends too early: more bytes might make it valid.
+-- The fault means that the file ends too early: more bytes might make it valid.
 abbrev pub is_cut : StlFault → Bool
 is_cut fault.Truncated = true
 is_cut fault.Unfinished = true

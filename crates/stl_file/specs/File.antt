@@ -10,13 +10,14 @@ use Rattle.stl_file.specs.Gsi.{IsGsiFor}
 use Rattle.stl_file.specs.Scope.{whole}
 use Rattle.stl_file.specs.declared.scope.Scope.{Scope}
 
--- The bytes s are a file with the GSI block g, and its subtitles in the scope are ts.
+-- The bytes s are a subtitle file with the GSI block g, and the subtitles of the file that are in
+-- the scope are ts.
 pub record IsFileFor (scope : Scope) (s g : List ℕ) (ts : List SubtitleValue) : Type 0 where
   pub gsi : IsGsiFor scope.takes_open g
   pub blocks : List (List ℕ)
   pub bytes : s ≡ g ++ concat blocks
   pub rest : AreSubtitleBlocks scope most_blocks blocks ts
 
--- The bytes are a file for Teletext, and its subtitles are ts.
+-- The bytes s are a subtitle file for Teletext with the GSI block g and the subtitles ts.
 abbrev pub IsFile : List ℕ → List ℕ → List SubtitleValue → Type 0
 IsFile s g ts = IsFileFor whole s g ts

@@ -30,19 +30,19 @@ use Rattle.stl_file.specs.Questions.{Questions, requested}
 abbrev pub gsi_size : ℕ
 gsi_size = 1024
 
--- `len` bytes from an offset.
+-- The `len` bytes of a block from the offset `at`.
 abbrev pub field : ℕ → ℕ → List ℕ → List ℕ
 field at len g = take len (drop at g)
 
--- DFC, the disk format code
+-- The GSI field DFC, the disk format code.
 abbrev pub dfc : List ℕ → List ℕ
 dfc g = field 3 8 g
 
--- DSC, the display standard code
+-- The GSI field DSC, the display standard code.
 abbrev pub dsc : List ℕ → ℕ
 dsc g = slice_index g 11
 
--- CCT, the character code table
+-- The GSI field CCT, the character code table.
 abbrev pub cct : List ℕ → List ℕ
 cct g = field 12 2 g
 
@@ -66,7 +66,7 @@ level_2 = 0x32
 abbrev pub open_subtitles : ℕ
 open_subtitles = 0x30
 
--- The DSC " ": unspecified.
+-- The DSC " ": the display is unspecified.
 abbrev pub no_display : ℕ
 no_display = 0x20
 
@@ -74,25 +74,26 @@ no_display = 0x20
 abbrev pub latin : List ℕ
 latin = 0x30 ∷ 0x30 ∷ []
 
--- An accepted display: Teletext of level 1 or 2; if open subtitles are accepted, also these and an
--- unspecified display.
+-- An accepted DSC: Teletext of level 1 or 2. If `takes_open` is set, open subtitles and an
+-- unspecified display are accepted too.
 abbrev pub IsDisplay : Bool → ℕ → Type 0
 IsDisplay takes_open display =
     (display ≡ level_1) ⊎ (display ≡ level_2)
     ⊎ ((takes_open ≡ true) × ((display ≡ open_subtitles) ⊎ (display ≡ no_display)))
 
--- An accepted GSI block: 25 frames per second, an accepted display, the Latin table.
+-- An accepted GSI block: DFC for 25 frames per second, an accepted DSC, and CCT for the Latin
+-- table.
 pub record IsGsiFor (takes_open : Bool) (g : List ℕ) : Type 0 where
   pub size : length g ≡ gsi_size
   pub format : dfc g ≡ stl_25
   pub display : IsDisplay takes_open (dsc g)
   pub alphabet : cct g ≡ latin
 
--- The GSI block of a file for Teletext.
+-- An accepted GSI block of a file for Teletext.
 abbrev pub IsGsi : List ℕ → Type 0
 IsGsi g = IsGsiFor false g
 
--- The checks of a GSI block.
+-- The checks of a GSI block: format, frame rate, display and character code table.
 abbrev pub required_of_gsi : Bool → List ℕ → Questions
 required_of_gsi takes_open g =
     (fault.Format, not (bytes_eq (dfc g) stl_25) && not (bytes_eq (dfc g) stl_30))
@@ -105,7 +106,7 @@ required_of_gsi takes_open g =
     ∷ (fault.Alphabet, not (bytes_eq (cct g) latin))
     ∷ []
 
--- The block itself, or its first fault.
+-- The GSI block g itself, or its first fault.
 unfoldable pub gsi_at : Bool → List ℕ → Result (List ℕ) StlFault
 gsi_at takes_open g = requested (required_of_gsi takes_open g) (Ok g)
 
@@ -113,12 +114,12 @@ gsi_at takes_open g = requested (required_of_gsi takes_open g) (Ok g)
 abbrev pub digit : ℕ → ℕ
 digit n = 0x30 + n
 
--- Five decimal digits with leading zeros.
+-- The five decimal digits of a number in ASCII, with leading zeros.
 abbrev pub five_digits : ℕ → List ℕ
 five_digits n =
     digit (n / 10000) ∷ digit ((n / 1000) % 10) ∷ digit ((n / 100) % 10)
     ∷ digit ((n / 10) % 10) ∷ digit (n % 10) ∷ []
 
--- Sets TNB and TNS, and keeps all other bytes.
+-- The GSI block g with other values of TNB and TNS. All other bytes stay the same.
 abbrev pub with_counts : ℕ → ℕ → List ℕ → List ℕ
 with_counts tnb tns g = take 238 g ++ (five_digits tnb ++ (five_digits tns ++ drop 248 g))

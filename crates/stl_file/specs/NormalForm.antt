@@ -17,60 +17,62 @@ use Rattle.stl_file.specs.File.{IsFile}
 
 -- ---- a subtitle's blocks
 
--- SGN, SN with its low byte first, EBN, CS, TCI, TCO, VP, JC and CF.
+-- The first 16 bytes of a block of the subtitle s: SGN, SN with its low byte first, EBN, CS, TCI,
+-- TCO, VP, JC and CF.
 abbrev pub block_head : SubtitleValue → ℕ → List ℕ
 block_head s ebn =
     s.sgn ∷ (s.sn % 256) ∷ (s.sn / 256) ∷ ebn ∷ not_cumulative
     ∷ (time_bytes s.tci ++ (time_bytes s.tco ++ (s.vp ∷ s.jc ∷ no_comment ∷ [])))
 
--- A text field: a part of the text, padded with unused space to 112 bytes.
+-- A text field: a part of a subtitle's text, padded with unused space to 112 bytes.
 abbrev pub text_field : List ℕ → List ℕ
 text_field piece = piece ++ replicate (112 - length piece) unused_space
 
--- A block of a subtitle with this EBN and this part of its text.
+-- The TTI block of the subtitle s with this EBN and this part of the subtitle's text.
 unfoldable pub block_of : SubtitleValue → ℕ → List ℕ → List ℕ
 block_of s ebn piece = block_head s ebn ++ text_field piece
 
--- `full` blocks with full text fields, with EBN counting up, and a last one.
+-- The blocks of a subtitle: `full` blocks with full text fields, whose EBN counts up, then the last
+-- block.
 unfoldable pub blocks_from : SubtitleValue → ℕ → ℕ → List ℕ → List (List ℕ)
 blocks_from s zero ebn text = block_of s last_block text ∷ []
 blocks_from s (suc full) ebn text =
     block_of s ebn (take 112 text) ∷ blocks_from s full (ebn + 1) (drop 112 text)
 
--- How many parts of 112 bytes precede the last part of a text.
+-- The number of full text fields, of 112 bytes each, before the last text field.
 abbrev pub full_pieces : List ℕ → ℕ
 full_pieces text = (length text - 1) / 112
 
--- The fewest blocks that hold a subtitle, at least one.
+-- The fewest blocks that hold the subtitle s, at least one.
 abbrev pub blocks_of : SubtitleValue → List (List ℕ)
 blocks_of s = blocks_from s (full_pieces s.text) 0x00 s.text
 
 -- ---- the whole file
 
--- The blocks of all subtitles.
+-- The blocks of all subtitles in the list.
 abbrev pub all_blocks : List SubtitleValue → List (List ℕ)
 all_blocks ts = flat_map blocks_of ts
 
--- The GSI block with TNB and TNS set for the subtitles.
+-- The GSI block with TNB and TNS set to the numbers of blocks and of subtitles in the list.
 abbrev pub counted_gsi : List ℕ → List SubtitleValue → List ℕ
 counted_gsi g ts = with_counts (length (all_blocks ts)) (length ts) g
 
--- The normal form.
+-- The normal form of a file with the GSI block g and the subtitles ts.
 abbrev pub normal_form : List ℕ → List SubtitleValue → List ℕ
 normal_form g ts = counted_gsi g ts ++ concat (all_blocks ts)
 
 -- ---- the subtitles as one list
 
--- All subtitles of a file, or its first fault with its block.
+-- The result of reading a file: all its subtitles, or its first fault with the number of the block.
 abbrev pub Judged : Type 0
 Judged = Result (List SubtitleValue) NormalFault
 
--- Puts a subtitle in front.
+-- Puts the subtitle s in front of the subtitles in a result.
 abbrev pub cons_all : SubtitleValue → Judged → Judged
 cons_all s (Ok ss) = Ok (s ∷ ss)
 cons_all s (Err f) = Err f
 
--- All subtitles, or the first fault with its block.
+-- The subtitles in a reader's results, or the first fault with the number of its block.
 abbrev pub subtitles_of : Outcome → Judged
 subtitles_of ends = Ok []
 subtitles_of (fails f block) = Err (Refused f block)
@@ -78,21 +80,21 @@ subtitles_of (gives s block o) = cons_all s (subtitles_of o)
 
 -- ---- the effect of `normal`
 
--- The normal form of the file s was written, with n subtitles.
+-- The sink received the normal form of the file s, which has n subtitles.
 pub record WritesNormal (s : List ℕ) (old new : Option (List ℕ)) (n : ℕ) : Type 0 where
   pub subtitles : List SubtitleValue
   pub is_file : IsFile s (take gsi_size s) subtitles
   pub count : n ≡ length subtitles
   pub wrote : Appends old new (normal_form (take gsi_size s) subtitles)
 
--- A prefix of the normal form of the file s was written.
+-- The sink received a prefix of the normal form of the file s.
 pub record WritesPrefix (s : List ℕ) (old new : Option (List ℕ)) : Type 0 where
   pub subtitles : List SubtitleValue
   pub is_file : IsFile s (take gsi_size s) subtitles
   pub wrote : AppendsPrefix old new (normal_form (take gsi_size s) subtitles)
 
--- The normal form was written; or nothing, if the file is rejected with its first fault and block;
--- or a prefix, if the sink failed.
+-- The effect of `normal` by its result: the sink received the normal form; or nothing, if the file
+-- is rejected with its first fault and block; or a prefix of the normal form, if the sink failed.
 abbrev pub NormalAnswers :
     List ℕ → Option (List ℕ) → Option (List ℕ) → Result ℕ NormalFault → Type 0
 NormalAnswers s old new (Ok n) = WritesNormal s old new n

@@ -1,4 +1,4 @@
--- A reader of a subtitle file, and what each call consumes.
+-- The state of a reader of a subtitle file, and the bytes that each call consumes.
 use Rattle.std.specs.Prelude.{◌≡◌, ⊤, ℕ, ◌+◌, ◌-◌, ◌/◌, ◌≤◌, Bool, true, false, nat_lt}
 use Rattle.std.specs.Prelude.{if◌then◌else◌, List, [], ◌∷◌, ◌++◌, length, take, drop, filter}
 use Rattle.std.specs.Prelude.{Option, Some, None, Result, Ok, Err}
@@ -19,19 +19,19 @@ use Rattle.stl_file.specs.Reading.{Begun, Findings, breaks, findings_from, finds
 use Rattle.stl_file.specs.Reading.{Outcome, ends, fails, gives, stopped}
 use Rattle.stl_file.specs.File.{IsFileFor}
 
--- A reader: the GSI block, the last TTI block that was read or begun (0 before the first), and the
--- progress.
+-- The state of a reader: the GSI block, the number of the last TTI block that was read or begun (0
+-- before the first), and the progress.
 pub record ReaderValue : Type 0 where
   pub gsi : List ℕ
   pub block : ℕ
   pub progress : Progress
 
--- A reader counts up to 99,999 blocks; only a fault can have one more.
+-- A reader counts at most 99,999 blocks. Only after a fault may its block number be 100,000.
 abbrev pub HasPlace : Progress → ℕ → Type 0
 HasPlace Broken block = block ≤ most_blocks + 1
 HasPlace _ block = block ≤ most_blocks
 
--- The result of `next_into` with its subtitle, in the form of a result of `next`.
+-- Converts a result of `next_into`, with its subtitle, to a result of `next`.
 abbrev pub yielded_subtitle :
     Result Bool StlFault → SubtitleValue → Result (Option SubtitleValue) StlFault
 yielded_subtitle (Ok true) s = Ok (Some s)
@@ -40,27 +40,29 @@ yielded_subtitle (Err f) s = Err f
 
 -- ---- remaining results
 
--- The results for these bytes after `block` TTI blocks, if the next one begins a subtitle.
+-- The results for the bytes b after `block` TTI blocks, if the next block begins a subtitle.
 abbrev pub outcome_from : ℕ → List ℕ → Outcome
 outcome_from block b = stopped (findings_from whole block None b)
 
--- The remaining results of a reader, given the bytes left.
+-- The results of all later calls, given the reader's progress, its block number and the bytes left.
 abbrev pub outcome_in : Progress → ℕ → List ℕ → Outcome
 outcome_in Reading block b = outcome_from block b
 outcome_in AtEnd block b = ends
 outcome_in Broken block b = fails fault.Ended block
 
--- The remaining results of a reader.
+-- The results of all later calls of the reader r, given the bytes left.
 abbrev pub outcome_left : ReaderValue → List ℕ → Outcome
 outcome_left r b = outcome_in r.progress r.block b
 
--- The remaining results before a call, given its result and the state after it.
+-- The results of a call and of all later calls, given the call's result and the state after the
+-- call.
 abbrev pub outcome_with : ReaderValue → List ℕ → Result (Option SubtitleValue) StlFault → Outcome
 outcome_with r rest (Err f) = fails f r.block
 outcome_with r rest (Ok None) = ends
 outcome_with r rest (Ok (Some s)) = gives s r.block (outcome_left r rest)
 
--- The result is the first of the remaining results, with its block, and the others remain.
+-- The call returns the first of the remaining results, with its block, and leaves the other
+-- results.
 pub record GivesNextSubtitle
     (old : ReaderValue) (bytes : List ℕ) (new : ReaderValue) (now : Option (List ℕ))
     (result : Result (Option SubtitleValue) StlFault)
@@ -71,33 +73,33 @@ pub record GivesNextSubtitle
 
 -- ---- the same within one call
 
--- The block to report for a fault. For a block too many, or a byte that could not be read, it is
--- the one after the last block.
+-- The block to report for a fault after `block` blocks. `TooManyBlocks` and `Read` are reported for
+-- the block after the last block that was read.
 abbrev pub block_after : ℕ → StlFault → ℕ
 block_after block fault.TooManyBlocks = block + 1
 block_after block fault.Read = block + 1
 block_after block _ = block
 
--- The block to report for a result, after the last block that was read or begun.
+-- The block to report for a result, given the last block that was read or begun.
 abbrev pub block_by : ℕ → Result (Option SubtitleValue) StlFault → ℕ
 block_by block (Err f) = block_after block f
 block_by block (Ok found) = block
 
--- The last block of these bytes is not a skipped one.
+-- If the bytes end with a complete block, then the last block is neither user data nor a comment.
 abbrev pub LastIsKept : List ℕ → Type 0
 LastIsKept bytes =
     (prefix last : List ℕ) → bytes ≡ prefix ++ last → IsBlock last → is_kept last ≡ true
 
 -- ---- bytes consumed by a call
 
--- There is a last block, and it is not skipped: neither user data nor a comment.
+-- The list of blocks has a last block, and the last block is neither user data nor a comment.
 abbrev pub EndsKept : List (List ℕ) → Type 0
 EndsKept [] = ⊥
 EndsKept (b ∷ []) = is_kept b ≡ true
 EndsKept (b ∷ c ∷ bs) = EndsKept (c ∷ bs)
 
--- The bytes consumed are the blocks of one subtitle, with the skipped blocks before and inside
--- them; the number of blocks read goes from `from` to `to`.
+-- The bytes consumed are the blocks of the subtitle s, with the skipped blocks before and inside
+-- them. The number of blocks read rises from `from` to `to`.
 pub record TakesSubtitle (from to : ℕ) (old new : Option (List ℕ)) (s : SubtitleValue) : Type 0
   where
     pub blocks : List (List ℕ)
@@ -116,9 +118,9 @@ pub record TakesSkipped (from to : ℕ) (old new : Option (List ℕ)) : Type 0 w
   pub consumed : Consumes old new (concat blocks)
   pub ended : IsAtEnd new
 
--- After `from` TTI blocks, where a subtitle may begin, no file continues with the bytes consumed;
--- for faults of a truncated file, none continues with them and ends there. The block is the last
--- one with a byte among them.
+-- The bytes consumed after `from` TTI blocks, where a subtitle may begin, are not in any subtitle
+-- file: no file continues with them. For faults of a truncated file, no file continues with these
+-- bytes and ends there. `to` is the block of the last byte consumed.
 pub record Refuses (from to : ℕ) (old new : Option (List ℕ)) (f : StlFault) : Type 0 where
   pub bytes : List ℕ
   pub consumed : Consumes old new bytes
@@ -132,12 +134,12 @@ pub record Refuses (from to : ℕ) (old new : Option (List ℕ)) (f : StlFault) 
       → concat bs ≡ bytes ++ more
       → ⊥
 
--- The block of the byte after n bytes of a file: 0 is the GSI block.
+-- The number of the block that contains byte n of a file, counted from 0. Block 0 is the GSI block.
 abbrev pub block_of_byte : ℕ → ℕ
 block_of_byte n = if nat_lt n gsi_size then 0 else (n - gsi_size) / 128 + 1
 
--- All results have this block number or a greater one. But if the file ends within a subtitle, the
--- last complete block is reported, which may be one less.
+-- All results have at least this block number. The exception is `Unfinished`, a file that ends
+-- within a subtitle: its block is the last complete block, which may be one less.
 abbrev pub FindsFrom : ℕ → Findings → Type 0
 FindsFrom block no_more = ⊤
 FindsFrom block (breaks fault.Unfinished at) = block ≤ at + 1
@@ -145,8 +147,8 @@ FindsFrom block (breaks f at) = block ≤ at
 FindsFrom block (finds s at more) = (block ≤ at) × FindsFrom block more
 FindsFrom block (refuses f at more) = (block ≤ at) × FindsFrom block more
 
--- The source failed: the block is that of the first byte after those consumed. Whatever follows
--- them, no result has a smaller block number.
+-- The source failed: `to` is the block of the first byte that could not be read. Whatever follows
+-- the bytes consumed, no result has a smaller block number.
 pub record FailsReading
     (scope : Scope) (from to : ℕ) (refused : Option Begun) (old new : Option (List ℕ))
     : Type 0 where
@@ -155,10 +157,10 @@ pub record FailsReading
   pub block : to ≡ from + length bytes / 128 + 1
   pub none : (more : List ℕ) → FindsFrom to (findings_from scope from refused (bytes ++ more))
 
--- What a call consumes, by its result: the blocks of a subtitle with the skipped blocks before and
--- inside them, or only skipped blocks if no subtitle is left. After a fault of the format no file
--- continues with these bytes; a source that failed did so at the block `to`. Before the call,
--- `from` blocks were read, and the next one begins a subtitle.
+-- The bytes that a call consumes, by the call's result. For a subtitle: its blocks, with the
+-- skipped blocks before and inside them. For `None`: only skipped blocks. For a fault of the
+-- format: bytes with which no file continues. If the source failed, the failure was at block `to`.
+-- Before the call, `from` blocks were read, and the next block begins a subtitle.
 abbrev pub TakesByAnswer :
     ℕ → ℕ → Option (List ℕ) → Option (List ℕ) → Result (Option SubtitleValue) StlFault → Type 0
 TakesByAnswer from to old new (Ok (Some s)) = TakesSubtitle from to old new s
@@ -167,7 +169,7 @@ TakesByAnswer from to old new (Err f) =
     (is_format f ≡ true → Refuses from to old new f)
     × (is_file_read f ≡ true → FailsReading whole from to None old new)
 
--- The progress of a reader after a result.
+-- The progress of a reader after a call, by the call's result.
 abbrev pub progress_after_answer : Progress → Result (Option SubtitleValue) StlFault → Progress
 progress_after_answer p (Err f) = Broken
 progress_after_answer p (Ok None) = AtEnd
@@ -175,23 +177,23 @@ progress_after_answer p (Ok (Some s)) = p
 
 -- ---- opening a file
 
--- A reader after the GSI block.
+-- The reader after the GSI block was read, or the fault of the GSI block.
 abbrev pub opened : Result (List ℕ) StlFault → Result ReaderValue StlFault
 opened (Err f) = Err f
 opened (Ok g) = Ok (record { gsi = g; block = 0; progress = Reading })
 
--- The GSI block of a file's bytes, or its first fault.
+-- The GSI block of a file's bytes, or the block's first fault.
 unfoldable pub gsi_of : Bool → List ℕ → Result (List ℕ) StlFault
 gsi_of takes_open s =
     if nat_lt (length s) gsi_size then Err fault.Truncated
     else gsi_at takes_open (take gsi_size s)
 
--- The result of `open` for these bytes.
+-- The result of `open` for a file with the bytes s.
 abbrev pub opened_at : List ℕ → Result ReaderValue StlFault
 opened_at s = opened (gsi_of false s)
 
--- No file begins with the bytes consumed; for faults of a truncated file, no file is exactly these
--- bytes.
+-- No file within the scope begins with the bytes consumed. For faults of a truncated file, no file
+-- consists of exactly these bytes.
 pub record RefusesOpeningFor (scope : Scope) (old new : Option (List ℕ)) (f : StlFault) : Type 0
   where
     pub bytes : List ℕ
@@ -204,26 +206,28 @@ pub record RefusesOpeningFor (scope : Scope) (old new : Option (List ℕ)) (f : 
         → IsFileFor scope (bytes ++ more) g ts
         → ⊥
 
--- No file for Teletext does.
+-- No file for Teletext begins with the bytes consumed. For faults of a truncated file, no file for
+-- Teletext consists of exactly these bytes.
 abbrev pub RefusesOpening : Option (List ℕ) → Option (List ℕ) → StlFault → Type 0
 RefusesOpening old new f = RefusesOpeningFor whole old new f
 
 -- ---- a whole file
 
--- The results for the bytes of a whole file; a fault of the GSI block is reported for block 0.
+-- The results of reading a whole file, given the result for its GSI block. A fault of the GSI block
+-- is reported for block 0.
 abbrev pub findings_opened : Scope → List ℕ → Result (List ℕ) StlFault → Findings
 findings_opened scope b (Err f) = breaks f 0
 findings_opened scope b (Ok g) = findings_from scope 0 None b
 
--- The results of reading a whole file within the scope.
+-- The results of reading the whole file s within the scope.
 unfoldable pub findings_for : Scope → List ℕ → Findings
 findings_for scope s =
     findings_opened scope (drop gsi_size s) (gsi_of scope.takes_open s)
 
--- The results of reading a whole file for Teletext.
+-- The results of reading the whole file s for Teletext.
 abbrev pub findings_of : List ℕ → Findings
 findings_of s = findings_for whole s
 
--- The results of reading a whole file, up to the first fault.
+-- The results of reading the whole file s, up to the first fault.
 abbrev pub outcome_of : List ℕ → Outcome
 outcome_of s = stopped (findings_of s)

@@ -1,5 +1,5 @@
--- Reading TTI blocks in order, skipping subtitles outside the scope and continuing after a rejected
--- one; and the same up to the first fault.
+-- Reading TTI blocks in order: a reader skips subtitles outside the scope, and either continues
+-- after a rejected subtitle or stops at the first fault.
 --
 -- The suffix `_at` means: the value read at the front of these bytes, or the first fault in the
 -- order of the lines below.
@@ -22,15 +22,16 @@ use Rattle.stl_file.specs.declared.subtitle_blocks.BlocksRead.{BlocksRead}
 
 -- ---- one block
 
--- A subtitle whose last block has not been read: its fields and the text so far, its blocks so far,
--- 1 to 9, and whether it is skipped because it is outside the scope or was rejected.
+-- A subtitle whose last block has not been read: its fields and the text so far, the number of its
+-- blocks so far, 1 to 9, and whether the subtitle is skipped because it is outside the scope or was
+-- rejected.
 pub record Begun : Type 0 where
   pub subtitle : SubtitleValue
   pub blocks : ℕ
   pub is_skipped : Bool
 
--- The effect of a block: more blocks follow, within a subtitle or between two, or it was the last
--- block of this subtitle.
+-- The effect of a block. `More`: the subtitle continues, or no subtitle has begun. `Yield`: the
+-- block was the last block of this subtitle.
 pub data BlockStep : Type 0 where
   More : Option Begun → BlockStep
   Yield : SubtitleValue → BlockStep
@@ -46,7 +47,7 @@ required_of_first b =
     ∷ (fault.EmptyTime, not (nat_lt (frame_in (tci b)) (frame_in (tco b))))
     ∷ []
 
--- The subtitle that starts with this block, with the block's text.
+-- The subtitle that starts with the block b, with the text of that block.
 unfoldable pub first_at : List ℕ → Result SubtitleValue StlFault
 first_at b =
     requested (required_of_first b) (Ok (record {
@@ -59,21 +60,22 @@ first_at b =
       text = text_of b;
     }))
 
--- The checks of a further block.
+-- The checks of the second and each later block of a subtitle.
 abbrev pub required_of_further : Begun → List ℕ → Questions
 required_of_further begun b =
     (fault.Sequence, not ((sgn b == begun.subtitle.sgn) && (sn b == begun.subtitle.sn)))
     ∷ (fault.TooLong, begun.blocks == most_of_subtitle)
     ∷ []
 
--- EBN FF ends a subtitle; otherwise it continues. A skipped subtitle is not returned.
+-- The effect of a block with EBN n: FF ends a subtitle, any other EBN continues it. A skipped
+-- subtitle is not returned.
 abbrev pub closed : ℕ → Begun → BlockStep
 closed n begun =
     if n == last_block then (if begun.is_skipped then More None else Yield begun.subtitle)
     else More (Some begun)
 
--- A skipped subtitle that starts with this block: its other blocks must have the same SGN and SN,
--- and must not be too many.
+-- A skipped subtitle that starts with the block b. The later blocks must have the same SGN and SN,
+-- and the subtitle at most 9 blocks.
 abbrev pub begun_skipped : List ℕ → Begun
 begun_skipped b = record {
   subtitle = record empty_subtitle { sgn = sgn b; sn = sn b };
@@ -81,12 +83,12 @@ begun_skipped b = record {
   is_skipped = true;
 }
 
--- It continues if this block is not its last.
+-- The skipped subtitle that continues after its first block b; `None` if b is also its last block.
 abbrev pub skipped_at : List ℕ → Option Begun
 skipped_at b = if ebn b == last_block then None else Some (begun_skipped b)
 
--- A block of a subtitle: its first, or a further one of the current subtitle. The first block of a
--- subtitle outside the scope is not checked.
+-- The effect of a block of a subtitle: its first block, or a later block of the current subtitle.
+-- The first block of a subtitle outside the scope is not checked.
 unfoldable pub kept_at : Scope → Option Begun → List ℕ → Result BlockStep StlFault
 kept_at scope None b =
     if begins_outside scope b then Ok (More (skipped_at b))
@@ -99,16 +101,16 @@ kept_at scope (Some begun) b =
       blocks = begun.blocks + 1;
     })))
 
--- The current subtitle, if it is read in place, with the state of reading its blocks.
+-- The current subtitle, given its contents so far and the state of reading its blocks.
 abbrev pub begun_by : SubtitleValue → BlocksRead → Begun
 begun_by s read = record { subtitle = s; blocks = read.count; is_skipped = read.is_skipped }
 
--- There is none before its first block.
+-- The current subtitle; `None` before the first block of a subtitle.
 abbrev pub begun_in : SubtitleValue → BlocksRead → Option Begun
 begun_in s read = if read.count == 0 then None else Some (begun_by s read)
 
--- The effect of a block, given the subtitle and the state that it leaves, and whether the subtitle
--- is complete.
+-- The effect of a block, given the contents and the state that the block leaves, and whether the
+-- subtitle is complete.
 abbrev pub step_in : SubtitleValue → BlocksRead → Result Bool StlFault → Result BlockStep StlFault
 step_in s read (Err f) = Err f
 step_in s read (Ok true) = Ok (Yield s)
@@ -121,7 +123,7 @@ required_of_block b =
     ∷ (fault.CommentFlag, nat_lt is_comment (cf b))
     ∷ []
 
--- Any block. User data and comments do not change the current subtitle.
+-- The effect of any block. User data and comments do not change the current subtitle.
 unfoldable pub step_at : Scope → Option Begun → List ℕ → Result BlockStep StlFault
 step_at scope begun b =
     if ebn b == user_data then Ok (More begun)
@@ -135,16 +137,16 @@ step_at scope begun b =
 -- FF, without comments and user data. So the subtitle is rejected, and reading can continue after
 -- its blocks, in which all other faults are still reported (own).
 
--- The results for the rest of a file, in order: subtitles, each with the number of its last block,
--- and rejected ones, each with its fault and the number of its first block; then the end, or the
--- fault that ends reading, with its block.
+-- The results for the rest of a file, in order: each subtitle with the number of its last block,
+-- each rejected subtitle with its fault and the number of its first block; then the end of the
+-- file, or the fault that ends reading, with its block number.
 pub data Findings : Type 0 where
   no_more : Findings
   breaks : StlFault → ℕ → Findings
   finds : SubtitleValue → ℕ → Findings → Findings
   refuses : StlFault → ℕ → Findings → Findings
 
--- The results after a block, after which `room` blocks may still follow.
+-- The results after the block b, if `room` more blocks may follow.
 abbrev pub findings_after :
     ℕ → (Option Begun → Findings) → List ℕ → Result BlockStep StlFault → Findings
 findings_after room next b (Err f) =
@@ -155,7 +157,7 @@ findings_after room next b (Ok (Yield s)) = finds s (most_blocks - room) (next N
 
 -- The results for bytes after the GSI block, if `room` blocks may still follow and `begun` is the
 -- current subtitle. If the file ends within a subtitle, the last complete block is reported; for
--- every other fault the block that was begun. A byte after 99,999 blocks is a block too many.
+-- every other fault, the block that was begun. A byte after 99,999 blocks is a block too many.
 unfoldable pub findings_at : Scope → ℕ → Option Begun → List ℕ → Findings
 findings_at scope room None [] = no_more
 findings_at scope room (Some begun) [] = breaks fault.Unfinished (most_blocks - room)
@@ -165,21 +167,21 @@ findings_at scope (suc room) begun (x ∷ b) =
     else findings_after room (λ next. findings_at scope room next (drop block_size (x ∷ b)))
     (take block_size (x ∷ b)) (step_at scope begun (take block_size (x ∷ b)))
 
--- The results for these bytes after `block` TTI blocks, within a rejected subtitle or before the
--- next one.
+-- The results for the bytes b after `block` TTI blocks, either before the next subtitle or within a
+-- rejected subtitle.
 abbrev pub findings_from : Scope → ℕ → Option Begun → List ℕ → Findings
 findings_from scope block refused b = findings_at scope (most_blocks - block) refused b
 
 -- ---- up to the first fault
 
--- The results of a reader that stops at the first fault: subtitles, each with the number of its
--- last block, then the end, or that fault with its block.
+-- The results of a reader that stops at the first fault: each subtitle with the number of its last
+-- block, then the end of the file, or the first fault with its block number.
 pub data Outcome : Type 0 where
   ends : Outcome
   fails : StlFault → ℕ → Outcome
   gives : SubtitleValue → ℕ → Outcome → Outcome
 
--- The results up to the first fault.
+-- The results of a reader, cut after the first fault.
 abbrev pub stopped : Findings → Outcome
 stopped no_more = ends
 stopped (breaks f block) = fails f block
@@ -188,7 +190,8 @@ stopped (refuses f block more) = fails f block
 
 -- ---- bound of the current subtitle
 
--- Each of its blocks, at most nine, has added at most 112 bytes of text.
+-- The text of the current subtitle has at most 112 bytes per block, and the subtitle at most nine
+-- blocks.
 abbrev pub BegunFits : Option Begun → Type 0
 BegunFits None = Unit {0}
 BegunFits (Some begun) =

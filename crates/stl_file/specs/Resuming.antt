@@ -1,5 +1,5 @@
--- A reader of a subtitle file that continues after a rejected subtitle, and what each call
--- consumes.
+-- The state of a reader of a subtitle file that continues after a rejected subtitle, and the bytes
+-- that each call consumes.
 use Rattle.std.specs.Prelude.{◌≡◌, ⊤, ℕ, ◌+◌, ◌*◌, ◌/◌, ◌<◌, Bool, true, false, List, [], ◌++◌}
 use Rattle.std.specs.Prelude.{length, if◌then◌else◌, Option, None, Result, Ok, Err, is_ok}
 use Rattle.std.specs.Io.KnownBytes.{Consumes, IsAtEnd}
@@ -14,26 +14,26 @@ use Rattle.stl_file.specs.Reading.{Begun, Findings, breaks, findings_from, finds
 use Rattle.stl_file.specs.Reader.{LastIsKept, gsi_of}
 use Rattle.stl_file.specs.declared.scope.Scope.{Scope}
 
--- A reader: the scope, the last TTI block that was read or begun (0 before the first), the
--- progress, and the rejected subtitle, if more of its blocks may follow.
+-- The state of a reader: the scope, the number of the last TTI block that was read or begun (0
+-- before the first), the progress, and the rejected subtitle, if more of its blocks may follow.
 pub record ResumingValue : Type 0 where
   pub scope : Scope
   pub block : ℕ
   pub progress : Progress
   pub refused : Option Begun
 
--- A reader after an accepted GSI block.
+-- The reader after its GSI block was accepted, or the fault of the GSI block.
 abbrev pub begun_after : Scope → Result (List ℕ) StlFault → Result ResumingValue StlFault
 begun_after scope (Err f) = Err f
 begun_after scope (Ok g) =
     Ok (record { scope = scope; block = 0; progress = Reading; refused = None })
 
--- The result of `open` for these bytes.
+-- The result of `open` for a file with the bytes s.
 abbrev pub begun_at : Scope → List ℕ → Result ResumingValue StlFault
 begun_at scope s = begun_after scope (gsi_of scope.takes_open s)
 
--- The remaining results before a call, given its result with this block, and `rest`, the bytes
--- left.
+-- The results of a call and of all later calls, given the call's result, its block number and
+-- `rest`, the bytes left.
 abbrev pub findings_by :
     Scope → ℕ → Option Begun → List ℕ → SubtitleValue → Result Found StlFault → Findings
 findings_by scope block refused rest s (Err f) = breaks f block
@@ -43,15 +43,15 @@ findings_by scope block refused rest s (Ok found.Subtitle) =
 findings_by scope block refused rest s (Ok (found.Refused f)) =
     refuses f block (findings_from scope block refused rest)
 
--- The result depends on the end of the file; more bytes might change it.
+-- The result of the call depends on the end of the file: more bytes might change it.
 abbrev pub finds_end : Result Found StlFault → Bool
 finds_end (Err f) = is_cut f
 finds_end (Ok found.End) = true
 finds_end (Ok _) = false
 
--- The bytes consumed after `from` blocks lead to the result with the block `to`, whatever follows
--- them; if the result depends on the end, nothing follows. All blocks except one that ends reading
--- are complete, and a subtitle ends with a block that is not skipped.
+-- The bytes consumed after block `from` lead to the call's result at block `to`, whatever bytes
+-- follow. If the result depends on the end of the file, no bytes follow. All blocks are complete,
+-- except a block that ends reading; and a subtitle ends with a block that is not skipped.
 pub record LeadsOn (scope : Scope) (from to : ℕ) (refused next : Option Begun)
     (old new : Option (List ℕ)) (s : SubtitleValue) (result : Result Found StlFault) : Type 0 where
   pub bytes : List ℕ
@@ -67,18 +67,19 @@ pub record LeadsOn (scope : Scope) (from to : ℕ) (refused next : Option Begun)
   pub ended : finds_end result ≡ true → IsAtEnd new
   pub kept : result ≡ Ok found.Subtitle → LastIsKept bytes
 
--- The progress of a reader after a result.
+-- The progress of a reader after a call, by the call's result.
 abbrev pub progress_found : Result Found StlFault → Progress
 progress_found (Err f) = Broken
 progress_found (Ok found.End) = AtEnd
 progress_found (Ok _) = Reading
 
--- A subtitle is rejected only for a fault of its first block.
+-- If a subtitle is rejected, the fault is a fault of its first block.
 abbrev pub IsOfFirst : Found → Type 0
 IsOfFirst (found.Refused f) = is_of_first f ≡ true
 IsOfFirst _ = ⊤
 
--- The result of a reader after reading blocks up to the last one of a subtitle, the end or a fault.
+-- The result of a call, after the reader has read blocks up to the last block of a subtitle, the
+-- end of the file or a fault. A fault of a subtitle's first block only rejects the subtitle.
 abbrev pub found_of : Result Bool StlFault → Result Found StlFault
 found_of (Ok true) = Ok found.Subtitle
 found_of (Ok false) = Ok found.End

@@ -4,21 +4,22 @@ use Rattle.stl_file.specs.declared.scope.Scope.{Scope}
 use Rattle.stl_file.specs.TimeCode.{day, frame_in, is_time}
 use Rattle.stl_file.specs.Tti.{tci}
 
--- All subtitles of a file for Teletext.
+-- The scope of all subtitles of a file for Teletext.
 abbrev pub whole : Scope
 whole = record { takes_open = false; from = 0; to = day }
 
--- The TCI of this block is a time code outside the range of frames.
+-- The TCI of the block b is a valid time code outside the scope's range of frames.
 unfoldable pub begins_outside : Scope → List ℕ → Bool
 begins_outside scope b =
     is_time (tci b)
     && not (nat_le scope.from (frame_in (tci b)) && nat_lt (frame_in (tci b)) scope.to)
 
--- A group of blocks is outside if its first block is.
+-- The blocks of a subtitle are outside the scope: the TCI of the first block is.
 abbrev pub is_outside : Scope → List (List ℕ) → Bool
 is_outside scope [] = false
 is_outside scope (b ∷ bs) = begins_outside scope b
 
--- The other groups are read.
+-- The blocks of a subtitle are inside the scope: the TCI of the first block is not outside the
+-- range, or is no time code.
 abbrev pub is_inside : Scope → List (List ℕ) → Bool
 is_inside scope group = not (is_outside scope group)

@@ -1,12 +1,17 @@
--- The subtitles of a file.
+-- The subtitles of an EBU STL file.
 use Rattle.std.specs.Prelude.{◌≡◌, ℕ, ◌<◌, ◌≤◌, Bool, true, false, ◌==◌, if◌then◌else◌}
 use Rattle.std.specs.Prelude.{List, [], ◌∷◌, length}
 use Rattle.stl_file.specs.TimeCode.{day}
 use Rattle.stl_file.specs.Tti.{unused_space}
 
--- The fields of a subtitle (EBU Tech 3264, TTI block): subtitle group, subtitle number, time code
--- in and out as frames of the day, vertical position, justification code, and the text of all its
--- blocks in the file's code.
+-- A subtitle (EBU Tech 3264, TTI block):
+--
+--   sgn       subtitle group number, one byte
+--   sn        subtitle number, two bytes
+--   tci, tco  time code in and out, as frames of the day
+--   vp        vertical position: the row of the first line
+--   jc        justification code
+--   text      the text of all blocks of the subtitle, in the code of the file's CCT
 pub record SubtitleValue : Type 0 where
   pub sgn : ℕ
   pub sn : ℕ
@@ -16,21 +21,23 @@ pub record SubtitleValue : Type 0 where
   pub jc : ℕ
   pub text : List ℕ
 
--- A subtitle without text, in row 1 of the day's first frame (own).
+-- A subtitle without text: row 1, frame 0 of the day (own).
 abbrev pub empty_subtitle : SubtitleValue
 empty_subtitle = record { sgn = 0; sn = 0; tci = 0; tco = 1; vp = 1; jc = 0; text = [] }
 
--- The maximum number of bytes of text that nine blocks hold.
+-- The maximum number of bytes of a subtitle's text: nine blocks of 112 bytes each.
 abbrev pub most_text : ℕ
 most_text = 1008
 
--- A text has no unused space, since it ends before the first one.
+-- The text contains no unused space (8F). A text field is padded with 8F, and its text ends before
+-- the first 8F, so a subtitle's text never contains that byte.
 abbrev pub has_no_unused : List ℕ → Bool
 has_no_unused [] = true
 has_no_unused (x ∷ xs) = if x == unused_space then false else has_no_unused xs
 
--- The possible values of a subtitle: it is shown for some time within the day (TCI before TCO),
--- from a row 1 to 23 on, with a justification code 0 to 3 and a text that fits in nine blocks.
+-- A valid subtitle: TCI is before TCO and both are in the day, the row is 1 to 23, the
+-- justification code 0 to 3, and the text has no unused space and at most 1008 bytes. SGN, SN and
+-- the codes in the text are not restricted.
 pub record IsSubtitle (s : SubtitleValue) : Type 0 where
   pub times : s.tci < s.tco
   pub in_day : s.tco < day

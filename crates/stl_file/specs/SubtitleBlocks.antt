@@ -10,31 +10,33 @@ use Rattle.stl_file.specs.Subtitle.{SubtitleValue}
 use Rattle.stl_file.specs.Scope.{begins_outside, is_inside, is_outside}
 use Rattle.stl_file.specs.declared.scope.Scope.{Scope}
 
--- A block has 128 bytes.
+-- A TTI block has 128 bytes.
 abbrev pub IsBlock : List ℕ → Type 0
 IsBlock b = length b ≡ block_size
 
--- These four bytes are the time code of a frame.
+-- The four bytes b are the time code of this frame.
 pub record IsTime (b : List ℕ) (frame : ℕ) : Type 0 where
   pub in_range : is_time b ≡ true
   pub is : frame ≡ frame_in b
 
--- A block with this subtitle group and subtitle number, and no comment.
+-- The block has 128 bytes, is no comment, and has this SGN (subtitle group number) and SN (subtitle
+-- number).
 pub record BelongsTo (sgn_is sn_is : ℕ) (b : List ℕ) : Type 0 where
   pub size : length b ≡ block_size
   pub is_subtitle : cf b ≡ no_comment
   pub same_sgn : sgn b ≡ sgn_is
   pub same_sn : sn b ≡ sn_is
 
--- EBN is 00 to EF in all blocks but the last, and FF in the last; all have the same SGN and SN. The
--- order of extension block numbers is not checked (own).
+-- The blocks are those of one subtitle: all have the same SGN and SN; EBN is FF in the last block,
+-- and 00 to EF in the others. The order of extension block numbers is not checked (own).
 abbrev pub AreLinked : ℕ → ℕ → List (List ℕ) → Type 0
 AreLinked sgn_is sn_is [] = ⊥
 AreLinked sgn_is sn_is (b ∷ []) = BelongsTo sgn_is sn_is b × (ebn b ≡ last_block)
 AreLinked sgn_is sn_is (b ∷ c ∷ bs) =
     BelongsTo sgn_is sn_is b × (ebn b < first_reserved) × AreLinked sgn_is sn_is (c ∷ bs)
 
--- The first block of a subtitle has its fields: all except the text of its other blocks.
+-- The block b is a first block of the subtitle s: it has the fields of s. The text is compared
+-- elsewhere, since s also has the text of later blocks.
 pub record Begins (s : SubtitleValue) (b : List ℕ) : Type 0 where
   pub cumulative : cs b ≡ not_cumulative
   pub sgn_is : sgn b ≡ s.sgn
@@ -47,8 +49,8 @@ pub record Begins (s : SubtitleValue) (b : List ℕ) : Type 0 where
   pub vp_range : (1 ≤ s.vp) × (s.vp ≤ 23)
   pub jc_range : s.jc ≤ 3
 
--- These 1 to 9 blocks are the blocks of the subtitle s: the first has its fields, and its text is
--- the joined text of all.
+-- The list has 1 to 9 blocks, and they are the blocks of the subtitle s: the first block has the
+-- fields of s, and the text of s is the joined text of all blocks.
 pub record AreBlocksOf (s : SubtitleValue) (bs : List (List ℕ)) : Type 0 where
   pub first : List ℕ
   pub others : List (List ℕ)
@@ -58,8 +60,8 @@ pub record AreBlocksOf (s : SubtitleValue) (bs : List (List ℕ)) : Type 0 where
   pub linked : AreLinked s.sgn s.sn bs
   pub text_is : s.text ≡ flat_map text_of bs
 
--- These 1 to 9 blocks are those of one subtitle outside the scope. Only the TCI of the first block
--- is checked.
+-- The list has 1 to 9 blocks, and they are the blocks of one subtitle outside the scope. Of the
+-- fields only the TCI of the first block is checked.
 pub record AreOutside (scope : Scope) (bs : List (List ℕ)) : Type 0 where
   pub first : List ℕ
   pub others : List (List ℕ)
@@ -68,9 +70,9 @@ pub record AreOutside (scope : Scope) (bs : List (List ℕ)) : Type 0 where
   pub linked : AreLinked (sgn first) (sn first) bs
   pub outside : begins_outside scope first ≡ true
 
--- The blocks of a file, at most `most`, from a place on where a subtitle may begin. Without the
--- skipped blocks they are groups, one for each subtitle. The groups outside the scope are
--- well-formed, and the others are those of these subtitles.
+-- The blocks bs, at most `most`, contain the subtitles ts. Without comments and user data, bs
+-- consists of one group of blocks per subtitle. A group outside the scope only has to be linked;
+-- the groups inside the scope are the blocks of the subtitles ts, in order.
 pub record AreSubtitleBlocks (scope : Scope) (most : ℕ) (bs : List (List ℕ))
     (ts : List SubtitleValue) : Type 0 where
   pub each : AllByRecursion IsBlock bs

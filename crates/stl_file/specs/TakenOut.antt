@@ -1,4 +1,4 @@
--- A file without the blocks of the subtitles outside the scope.
+-- A subtitle file without the blocks of the subtitles outside the scope.
 use Rattle.std.specs.Prelude.{◌≡◌, ℕ, Bool, false, true, not, ◌==◌, if◌then◌else◌, List, [], ◌∷◌}
 use Rattle.std.specs.Prelude.{◌++◌, length, Option, Some, None}
 use Rattle.std.specs.List.{AllByRecursion, concat}
@@ -11,18 +11,20 @@ use Rattle.stl_file.specs.SubtitleBlocks.{IsBlock}
 use Rattle.stl_file.specs.TimeCode.{day}
 use Rattle.stl_file.specs.Tti.{ebn, is_skipped_block, last_block}
 
--- A block that is neither comment nor user data is kept. The first block of a subtitle is kept if
--- it is not outside, each other one if the first was, which `within` says.
+-- The block b, which is neither comment nor user data, is kept. A first block of a subtitle is kept
+-- if it is not outside the scope, a later block if the first block was kept. `within` is `None`
+-- before a first block, and otherwise whether the first block was kept.
 abbrev pub stays : Scope → Option Bool → List ℕ → Bool
 stays scope None b = not (begins_outside scope b)
 stays scope (Some stayed) b = stayed
 
--- The state for the next block: a new subtitle begins after EBN FF.
+-- The argument `within` for the next block: a new subtitle begins after EBN FF.
 abbrev pub within_after : Scope → Option Bool → List ℕ → Option Bool
 within_after scope within b =
     if ebn b == last_block then None else Some (stays scope within b)
 
--- The blocks that are kept. Comments and user data stay.
+-- The blocks of a file without those of subtitles outside the scope. Comments and user data are
+-- kept.
 abbrev pub taken_out : Scope → Option Bool → List (List ℕ) → List (List ℕ)
 taken_out scope within [] = []
 taken_out scope within (b ∷ bs) =
@@ -30,18 +32,19 @@ taken_out scope within (b ∷ bs) =
     else if stays scope within b then b ∷ taken_out scope (within_after scope within b) bs
     else taken_out scope (within_after scope within b) bs
 
--- All subtitles of the day, for the same displays.
+-- The scope of all subtitles of the day, for the same displays.
 abbrev pub all_day : Scope → Scope
 all_day scope = record scope { from = 0; to = day }
 
--- Reading reaches the end of the file: the file is complete, and its blocks are linked.
+-- The reader reaches the end of the file: the file is complete, and the blocks of each subtitle are
+-- linked.
 abbrev pub is_read_to_the_end : Findings → Bool
 is_read_to_the_end no_more = true
 is_read_to_the_end (breaks f block) = false
 is_read_to_the_end (finds s block more) = is_read_to_the_end more
 is_read_to_the_end (refuses f block more) = is_read_to_the_end more
 
--- Ignores block numbers.
+-- Sets all block numbers in the results to 0, to compare results apart from block numbers.
 abbrev pub unnumbered : Findings → Findings
 unnumbered no_more = no_more
 unnumbered (breaks f block) = breaks f 0
@@ -60,6 +63,6 @@ LawOfScope =
     → unnumbered (findings_for scope (gsi ++ concat blocks))
     ≡ unnumbered (findings_for (all_day scope) (gsi ++ concat (taken_out scope None blocks)))
 
--- No subtitle is outside the day.
+-- No subtitle is outside the scope of the whole day.
 abbrev pub LawOfWholeDay : Type 0
 LawOfWholeDay = (scope : Scope) (b : List ℕ) → begins_outside (all_day scope) b ≡ false

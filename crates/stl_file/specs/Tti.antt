@@ -57,61 +57,62 @@ is_comment = 0x01
 abbrev pub unused_space : ℕ
 unused_space = 0x8F
 
--- SGN, the subtitle group number
+-- The TTI field SGN, the subtitle group number.
 abbrev pub sgn : List ℕ → ℕ
 sgn b = slice_index b 0
 
--- SN, the subtitle number, low byte first
+-- The TTI field SN, the subtitle number, low byte first.
 abbrev pub sn : List ℕ → ℕ
 sn b = slice_index b 1 + 256 * slice_index b 2
 
--- EBN, the extension block number
+-- The TTI field EBN, the extension block number.
 abbrev pub ebn : List ℕ → ℕ
 ebn b = slice_index b 3
 
--- CS, the cumulative status
+-- The TTI field CS, the cumulative status.
 abbrev pub cs : List ℕ → ℕ
 cs b = slice_index b 4
 
--- TCI, the time code in
+-- The TTI field TCI, the time code in.
 abbrev pub tci : List ℕ → List ℕ
 tci b = field 5 4 b
 
--- TCO, the time code out
+-- The TTI field TCO, the time code out.
 abbrev pub tco : List ℕ → List ℕ
 tco b = field 9 4 b
 
--- VP, the vertical position
+-- The TTI field VP, the vertical position.
 abbrev pub vp : List ℕ → ℕ
 vp b = slice_index b 13
 
--- JC, the justification code
+-- The TTI field JC, the justification code.
 abbrev pub jc : List ℕ → ℕ
 jc b = slice_index b 14
 
--- CF, the comment flag
+-- The TTI field CF, the comment flag.
 abbrev pub cf : List ℕ → ℕ
 cf b = slice_index b 15
 
--- TF, the text field
+-- The TTI field TF, the text field.
 abbrev pub tf : List ℕ → List ℕ
 tf b = drop 16 b
 
--- The bytes before the first unused space.
+-- The bytes of a text field before the first unused space (8F).
 abbrev pub before_unused : List ℕ → List ℕ
 before_unused [] = []
 before_unused (x ∷ xs) = if x == unused_space then [] else x ∷ before_unused xs
 
--- The text of a block.
+-- The text of a TTI block: its text field before the first unused space.
 abbrev pub text_of : List ℕ → List ℕ
 text_of b = before_unused (tf b)
 
--- User data, whatever its CF, and comments are skipped: they are not part of a subtitle.
+-- The block is skipped: it is user data (whatever its CF) or a comment, and so not part of a
+-- subtitle.
 abbrev pub is_skipped_block : List ℕ → Bool
 is_skipped_block b =
     (ebn b == user_data)
     || ((nat_lt (ebn b) first_reserved || (ebn b == last_block)) && (cf b == is_comment))
 
--- A block that is not skipped.
+-- The block is not skipped: it is neither user data nor a comment.
 abbrev pub is_kept : List ℕ → Bool
 is_kept b = not (is_skipped_block b)

@@ -1,6 +1,6 @@
-//! The counts in the normal form of a file.
+//! The counts in the normal form of a subtitle file.
 
-/// The counts of a GSI block.
+/// The counts of blocks and subtitles in a GSI block.
 #[derive(Clone, Copy)]
 pub(crate) struct Counts {
     // TNB, the number of TTI blocks.

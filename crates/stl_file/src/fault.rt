@@ -6,52 +6,52 @@ ghost use Rattle.stl_file.specs.declared.fault.StlFault.TheVariants.{Read};
 
 use sub_io::{Failed, FaultCode};
 
-/// A fault of reading a subtitle file, in the order of the numbers 10 to 27.
+/// A fault of reading a subtitle file. The codes are 10 to 27, in the order of the variants.
 #[derive(Clone, Copy, Debug, PartialEq, Eq)]
 pub enum StlFault {
-    /// 10: the file ends within the GSI block or within a TTI block.
+    /// Code 10: the file ends within the GSI block or within a TTI block.
     Truncated,
-    /// 11: DFC is neither `STL25.01` nor `STL30.01`.
+    /// Code 11: DFC is neither `STL25.01` nor `STL30.01`.
     Format,
-    /// 12: DFC is `STL30.01`; 30 frames per second are not supported (own).
+    /// Code 12: DFC is `STL30.01`; 30 frames per second are not supported (own).
     Rate,
-    /// 13: DSC is not `1` or `2`, Teletext of level 1 or 2. If open subtitles are accepted, `0` and
-    /// a space are allowed too.
+    /// Code 13: DSC is not `1` or `2`, Teletext of level 1 or 2. If open subtitles are accepted,
+    /// `0` and a space are allowed too.
     Display,
-    /// 14: CCT is not `00`, the Latin table.
+    /// Code 14: CCT is not `00`, the Latin table.
     Alphabet,
-    /// 15: EBN is F0 to FD, which is reserved.
+    /// Code 15: EBN of a TTI block is F0 to FD, which is reserved.
     Extension,
-    /// 16: CS of a subtitle's first block is not 0; cumulative sets are not supported (own).
+    /// Code 16: CS of a subtitle's first block is not 0; cumulative sets are not supported (own).
     Cumulative,
-    /// 17: CF is neither 0, subtitle, nor 1, comment.
+    /// Code 17: CF of a TTI block is neither 0, subtitle, nor 1, comment.
     CommentFlag,
-    /// 18: JC of a subtitle's first block is greater than 3.
+    /// Code 18: JC of a subtitle's first block is greater than 3.
     Justify,
-    /// 19: VP of a subtitle's first block is not 1 to 23.
+    /// Code 19: VP of a subtitle's first block is not 1 to 23.
     Row,
-    /// 20: TCI or TCO of a subtitle's first block is no time code at 25 frames per second.
+    /// Code 20: TCI or TCO of a subtitle's first block is no time code at 25 frames per second.
     Time,
-    /// 21: TCI of a subtitle's first block is not before its TCO.
+    /// Code 21: TCI of a subtitle's first block is not before its TCO.
     EmptyTime,
-    /// 22: SGN or SN of a further block differs from that of the subtitle's first block.
+    /// Code 22: SGN or SN of a later block differs from that of the subtitle's first block.
     Sequence,
-    /// 23: a subtitle has a tenth block (own).
+    /// Code 23: a subtitle has more than nine blocks (own).
     TooLong,
-    /// 24: the file ends within a subtitle, before a block with EBN FF.
+    /// Code 24: the file ends within a subtitle, before a block with EBN FF.
     Unfinished,
-    /// 25: there are bytes after 99,999 TTI blocks.
+    /// Code 25: the file continues after 99,999 TTI blocks.
     TooManyBlocks,
-    /// 26: the source failed.
+    /// Code 26: the source failed.
     Read,
-    /// 27: a fault occurred before.
+    /// Code 27: the reader was called again after a fault.
     Ended,
 }
 
 impl StlFault {
     ghost use Rattle.stl_file.specs.Fault.{is_of_first, stl_code};
 
-    /// Returns the number and the name of the fault in reports (own).
+    /// Returns the number and the name of the fault for reports (own).
     pub fn code(self) -> FaultCode
         ensures { result ≡ stl_code self }
     {
@@ -77,8 +77,8 @@ impl StlFault {
         }
     }
 
-    // Returns whether the fault is in the fields of a subtitle's first block, so that it is still
-    // known where its blocks end.
+    // Returns whether the fault is in the fields of a subtitle's first block, so the end of the
+    // subtitle is still known.
     pub(crate) fn is_of_first(&self) -> bool
         ensures { result ≡ is_of_first self.now }
     {
@@ -101,24 +101,24 @@ impl From<Failed> for StlFault {
     }
 }
 
-/// The error of writing a normal form.
+/// An error of writing a normal form.
 #[derive(Clone, Copy, Debug, PartialEq, Eq)]
 pub enum NormalFault {
-    /// 10 to 25: the file was rejected, and nothing was written.
+    /// Codes 10 to 25: the subtitle file was rejected, and nothing was written.
     Refused {
-        /// The fault.
+        /// The first fault of the subtitle file.
         fault: StlFault,
-        /// The TTI block, counted from 1; 0 is the GSI block.
+        /// The number of the TTI block with the fault, counted from 1; 0 for the GSI block.
         block: u32,
     },
-    /// 29: the sink failed; a prefix was written.
+    /// Code 29: the sink failed, and a prefix of the normal form was written.
     Write,
 }
 
 impl NormalFault {
     ghost use Rattle.stl_file.specs.Fault.{normal_code};
 
-    /// Returns the number and the name of the fault in reports (own).
+    /// Returns the number and the name of the error for reports (own).
     pub fn code(self) -> FaultCode
         ensures { result ≡ normal_code self }
     {

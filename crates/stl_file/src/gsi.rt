@@ -11,8 +11,8 @@ ghost use Rattle.stl_file.specs.GsiFields.{tet, tn, tnb, tnd, tng, tns, tpt, uda
 use crate::fault::StlFault;
 use std::marker::Model;
 
-/// A GSI block with arbitrary bytes: general information on the file. Its model is the list of its
-/// 1024 bytes.
+/// A GSI block, the first 1024 bytes of a subtitle file: general information on the file. The bytes
+/// are not checked. The model is the list of the 1024 bytes.
 ///
 /// The methods return a field's bytes unchanged.
 #[derive(Clone, Copy)]
@@ -32,13 +32,13 @@ impl Model for Gsi {
     ghost inverse = { λ b. record { bytes = b } };
 }
 
-/// DFC for 25 frames per second.
+/// The DFC for 25 frames per second.
 const STL_25: [u8; 8] = *b"STL25.01";
 
-/// DFC for 30 frames per second.
+/// The DFC for 30 frames per second.
 const STL_30: [u8; 8] = *b"STL30.01";
 
-/// CCT for the Latin table.
+/// The CCT for the Latin table.
 const LATIN: [u8; 2] = *b"00";
 
 /// Returns a number as five decimal digits in ASCII, as in TNB and TNS (EBU Tech 3264).
@@ -56,14 +56,14 @@ pub fn five_digits_of(n: u32) -> [u8; 5]
 }
 
 impl Gsi {
-    /// Creates a block of any 1024 bytes.
+    /// Creates a GSI block from any 1024 bytes.
     pub fn read(bytes: &[u8; 1024]) -> Gsi
         ensures { result ≡ bytes.now }
     {
         Gsi { bytes: *bytes }
     }
 
-    /// Returns the block's bytes.
+    /// Returns the bytes of the GSI block.
     pub fn bytes(&self) -> &[u8; 1024]
         ensures value { result.now ≡ self.now }
         ensures size { length self.now ≡ 1024 }
@@ -96,7 +96,7 @@ impl Gsi {
         self.bytes[238..248].copy_from_slice(&counts);
     }
 
-    // Returns the block if a file with it is accepted, or its first fault.
+    // Returns the GSI block if a file with this block is accepted, or the block's first fault.
     #[tactic(auto, unfolding(crate::specs::Gsi::gsi_at))]
     pub(crate) fn checked(self, takes_open: bool) -> Result<Gsi, StlFault>
         ensures exact { gsi_at takes_open self ≡ result }
@@ -130,217 +130,218 @@ impl Gsi {
         prefix
     }
 
-    /// Returns CPN, the code page number.
+    /// Returns the GSI field CPN, the code page number.
     pub fn cpn(&self) -> &[u8]
         ensures { result.now ≡ cpn self.now }
     {
         self.field_at(0, 3)
     }
 
-    /// Returns DFC, the disk format code: `STL25.01` in a file that is accepted.
+    /// Returns the GSI field DFC, the disk format code: `STL25.01` in a file that is accepted.
     pub fn dfc(&self) -> &[u8]
         ensures { result.now ≡ dfc self.now }
     {
         self.field_at(3, 8)
     }
 
-    /// Returns DSC, the display standard code: `1` or `2` in a file for Teletext.
+    /// Returns the GSI field DSC, the display standard code: `1` or `2` in a file for Teletext.
     pub fn dsc(&self) -> u8
         ensures { result ≡ dsc self.now }
     {
         self.bytes[11]
     }
 
-    /// Returns CCT, the character code table: `00` in a file that is accepted.
+    /// Returns the GSI field CCT, the character code table: `00` in a file that is accepted.
     pub fn cct(&self) -> &[u8]
         ensures { result.now ≡ cct self.now }
     {
         self.field_at(12, 2)
     }
 
-    /// Returns LC, the language code.
+    /// Returns the GSI field LC, the language code.
     pub fn lc(&self) -> &[u8]
         ensures { result.now ≡ lc self.now }
     {
         self.field_at(14, 2)
     }
 
-    /// Returns OPT, the original programme title.
+    /// Returns the GSI field OPT, the original programme title.
     pub fn opt(&self) -> &[u8]
         ensures { result.now ≡ opt self.now }
     {
         self.field_at(16, 32)
     }
 
-    /// Returns OET, the original episode title.
+    /// Returns the GSI field OET, the original episode title.
     pub fn oet(&self) -> &[u8]
         ensures { result.now ≡ oet self.now }
     {
         self.field_at(48, 32)
     }
 
-    /// Returns TPT, the translated programme title.
+    /// Returns the GSI field TPT, the translated programme title.
     pub fn tpt(&self) -> &[u8]
         ensures { result.now ≡ tpt self.now }
     {
         self.field_at(80, 32)
     }
 
-    /// Returns TET, the translated episode title.
+    /// Returns the GSI field TET, the translated episode title.
     pub fn tet(&self) -> &[u8]
         ensures { result.now ≡ tet self.now }
     {
         self.field_at(112, 32)
     }
 
-    /// Returns TN, the translator's name.
+    /// Returns the GSI field TN, the translator's name.
     pub fn tn(&self) -> &[u8]
         ensures { result.now ≡ tn self.now }
     {
         self.field_at(144, 32)
     }
 
-    /// Returns TCD, the translator's contact details.
+    /// Returns the GSI field TCD, the translator's contact details.
     pub fn tcd(&self) -> &[u8]
         ensures { result.now ≡ tcd self.now }
     {
         self.field_at(176, 32)
     }
 
-    /// Returns SLR, the subtitle list reference code.
+    /// Returns the GSI field SLR, the subtitle list reference code.
     pub fn slr(&self) -> &[u8]
         ensures { result.now ≡ slr self.now }
     {
         self.field_at(208, 16)
     }
 
-    /// Returns CD, the creation date, as YYMMDD.
+    /// Returns the GSI field CD, the creation date, as YYMMDD.
     pub fn cd(&self) -> &[u8]
         ensures { result.now ≡ cd self.now }
     {
         self.field_at(224, 6)
     }
 
-    /// Returns RD, the revision date, as YYMMDD.
+    /// Returns the GSI field RD, the revision date, as YYMMDD.
     pub fn rd(&self) -> &[u8]
         ensures { result.now ≡ rd self.now }
     {
         self.field_at(230, 6)
     }
 
-    /// Returns RN, the revision number.
+    /// Returns the GSI field RN, the revision number.
     pub fn rn(&self) -> &[u8]
         ensures { result.now ≡ rn self.now }
     {
         self.field_at(236, 2)
     }
 
-    /// Returns TNB, the number of TTI blocks. It is not compared with the file.
+    /// Returns the GSI field TNB, the number of TTI blocks. The value is not compared with the
+    /// file.
     pub fn tnb(&self) -> &[u8]
         ensures { result.now ≡ tnb self.now }
     {
         self.field_at(238, 5)
     }
 
-    /// Returns TNS, the number of subtitles. It is not compared with the file.
+    /// Returns the GSI field TNS, the number of subtitles. The value is not compared with the file.
     pub fn tns(&self) -> &[u8]
         ensures { result.now ≡ tns self.now }
     {
         self.field_at(243, 5)
     }
 
-    /// Returns TNG, the number of subtitle groups.
+    /// Returns the GSI field TNG, the number of subtitle groups.
     pub fn tng(&self) -> &[u8]
         ensures { result.now ≡ tng self.now }
     {
         self.field_at(248, 3)
     }
 
-    /// Returns MNC, the maximum number of characters in a row.
+    /// Returns the GSI field MNC, the maximum number of characters in a row.
     pub fn mnc(&self) -> &[u8]
         ensures { result.now ≡ mnc self.now }
     {
         self.field_at(251, 2)
     }
 
-    /// Returns MNR, the maximum number of rows.
+    /// Returns the GSI field MNR, the maximum number of rows.
     pub fn mnr(&self) -> &[u8]
         ensures { result.now ≡ mnr self.now }
     {
         self.field_at(253, 2)
     }
 
-    /// Returns TCS, the time code status.
+    /// Returns the GSI field TCS, the time code status.
     pub fn tcs(&self) -> u8
         ensures { result ≡ tcs self.now }
     {
         self.bytes[255]
     }
 
-    /// Returns TCP, the time code of the programme's start.
+    /// Returns the GSI field TCP, the time code of the programme's start.
     pub fn tcp(&self) -> &[u8]
         ensures { result.now ≡ tcp self.now }
     {
         self.field_at(256, 8)
     }
 
-    /// Returns TCF, the time code of the first in-cue.
+    /// Returns the GSI field TCF, the time code of the first in-cue.
     pub fn tcf(&self) -> &[u8]
         ensures { result.now ≡ tcf self.now }
     {
         self.field_at(264, 8)
     }
 
-    /// Returns TND, the number of disks.
+    /// Returns the GSI field TND, the number of disks.
     pub fn tnd(&self) -> u8
         ensures { result ≡ tnd self.now }
     {
         self.bytes[272]
     }
 
-    /// Returns DSN, the disk sequence number.
+    /// Returns the GSI field DSN, the disk sequence number.
     pub fn dsn(&self) -> u8
         ensures { result ≡ dsn self.now }
     {
         self.bytes[273]
     }
 
-    /// Returns CO, the country of origin.
+    /// Returns the GSI field CO, the country of origin.
     pub fn co(&self) -> &[u8]
         ensures { result.now ≡ co self.now }
     {
         self.field_at(274, 3)
     }
 
-    /// Returns PUB, the publisher.
+    /// Returns the GSI field PUB, the publisher.
     pub fn publisher(&self) -> &[u8]
         ensures { result.now ≡ publisher self.now }
     {
         self.field_at(277, 32)
     }
 
-    /// Returns EN, the editor's name.
+    /// Returns the GSI field EN, the editor's name.
     pub fn en(&self) -> &[u8]
         ensures { result.now ≡ en self.now }
     {
         self.field_at(309, 32)
     }
 
-    /// Returns ECD, the editor's contact details.
+    /// Returns the GSI field ECD, the editor's contact details.
     pub fn ecd(&self) -> &[u8]
         ensures { result.now ≡ ecd self.now }
     {
         self.field_at(341, 32)
     }
 
-    /// Returns the spare bytes.
+    /// Returns the spare bytes of the GSI block, 373 to 447.
     pub fn spare(&self) -> &[u8]
         ensures { result.now ≡ spare self.now }
     {
         self.field_at(373, 75)
     }
 
-    /// Returns UDA, the user-defined area.
+    /// Returns the GSI field UDA, the user-defined area.
     pub fn uda(&self) -> &[u8]
         ensures { result.now ≡ uda self.now }
     {

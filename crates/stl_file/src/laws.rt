@@ -1,4 +1,4 @@
-//! Laws of files and their normal forms.
+//! Laws of subtitle files and their normal forms.
 
 ghost use Rattle.std.specs.Prelude.{◌≡◌, ◌↔◌, ℕ, List, Ok, take};
 ghost use Rattle.stl_file.specs.File.{IsFile, IsFileFor};
@@ -9,11 +9,10 @@ ghost use Rattle.stl_file.specs.Subtitle.{SubtitleValue};
 ghost use Rattle.stl_file.specs.TakenOut.{LawOfWholeDay, LawOfScope};
 ghost use Rattle.stl_file.specs.declared.scope.Scope.{Scope};
 
-/// Bytes are a file from which these subtitles are read exactly if reading returns these subtitles
-/// and no fault.
+/// Bytes are a file with certain subtitles if and only if reading these bytes returns exactly these
+/// subtitles and no fault.
 ///
-/// So what a reader returns is determined by the definition of a file, independent of the way of
-/// reading.
+/// So the definition of a file determines what a reader returns, independent of the way of reading.
 pub fn law_of_files()
     ensures { (scope : Scope)
         → (s g : List ℕ)
@@ -39,8 +38,8 @@ pub fn law_of_one_reading()
         → (g ≡ h) × (ts ≡ us) }
 {}
 
-/// The normal form of a file is a file with the same subtitles, and its GSI block differs only in
-/// TNB and TNS.
+/// The normal form of a file is a file with the same subtitles. Its GSI block differs from that of
+/// the file only in TNB and TNS.
 pub fn law_of_normal_form()
     ensures { (s g : List ℕ)
         → (ts : List SubtitleValue)
@@ -48,7 +47,7 @@ pub fn law_of_normal_form()
         → IsFile (normal_form g ts) (counted_gsi g ts) ts }
 {}
 
-/// The normal form of a normal form is the same.
+/// The normal form of a normal form is the normal form itself.
 pub fn law_of_normal_form_again()
     ensures { (s g h : List ℕ)
         → (ts us : List SubtitleValue)

@@ -76,7 +76,8 @@ fn judge(gsi: Gsi, body: &[u8]) -> Result<Counts, NormalFault>
     }
 }
 
-// Reads the next subtitle. It has at least as many blocks as its normal form.
+// Reads the next subtitle. A subtitle read has at least as many blocks as its normal form, so the
+// counts cannot overflow.
 fn read_on(
     reader: &mut StlReader,
     source: &mut MemSource,
@@ -94,7 +95,7 @@ fn read_on(
     reader.next_into(source, subtitle)
 }
 
-// Returns the number of blocks of a subtitle's normal form.
+// Returns the number of blocks in the normal form of a subtitle.
 #[tactic(auto, using(crate::proofs::BlocksOfLemmas::blocks_count))]
 fn count_of(subtitle: &Subtitle) -> u32
     ensures { result ≡ length (blocks_of subtitle.now) }
@@ -102,7 +103,7 @@ fn count_of(subtitle: &Subtitle) -> u32
     (subtitle.text().len().saturating_sub(1) / 112) as u32 + 1
 }
 
-// Writes the GSI block and the blocks of the subtitles.
+// Writes the GSI block and the blocks of all subtitles.
 #[tactic(auto, using(sub_io::proofs::DeviceLemmas::prefixes))]
 fn put_normal<K: Sink>(gsi: Gsi, body: &[u8], sink: &mut K) -> Result<(), Failed>
     requires accepted { is_ok (subtitles_of (outcome_from 0 body.now)) ≡ true }
@@ -115,7 +116,7 @@ fn put_normal<K: Sink>(gsi: Gsi, body: &[u8], sink: &mut K) -> Result<(), Failed
     put_subtitles(gsi, body, sink)
 }
 
-// Reads all blocks after the GSI block again, and writes the subtitles.
+// Reads all blocks after the GSI block again, and writes the subtitles in their normal form.
 #[tactic(auto, using(crate::proofs::BlocksOfLemmas::blocks_count))]
 fn put_subtitles<K: Sink>(gsi: Gsi, body: &[u8], sink: &mut K) -> Result<(), Failed>
     requires accepted { is_ok (subtitles_of (outcome_from 0 body.now)) ≡ true }
@@ -133,7 +134,8 @@ fn put_subtitles<K: Sink>(gsi: Gsi, body: &[u8], sink: &mut K) -> Result<(), Fai
                 write_subtitle(&subtitle, sink)?;
             }
             Ok(false) => return Ok(()),
-            // The first pass has rejected no block.
+            // The first pass over the file has rejected no block, so the second pass finds no
+            // fault.
             Err(_) => unreachable!(),
         }
     }

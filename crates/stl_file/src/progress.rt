@@ -1,12 +1,13 @@
-//! The progress of a reader.
+//! The progress of a reader of subtitle files.
 
 /// The progress of a reader of subtitle files.
 #[derive(Clone, Copy, Debug, PartialEq, Eq)]
 pub enum Progress {
-    /// The next block begins a subtitle or is skipped, or there is none.
+    /// The reader is between two subtitles: the next block begins a subtitle or is skipped, or the
+    /// file ends.
     Reading,
-    /// The file has ended: each call returns `None`.
+    /// The file has ended: each later call of the reader returns `None`.
     AtEnd,
-    /// There was a fault: each call returns `Ended`.
+    /// The reader has met a fault: each later call returns `Ended`.
     Broken,
 }

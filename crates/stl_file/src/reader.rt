@@ -29,9 +29,10 @@ use crate::tti::Tti;
 use std::marker::Model;
 use sub_io::{Source, fill};
 
-/// A reader of a subtitle file. It does not own the source: each call takes the source of the file.
+/// A reader of a subtitle file. The reader does not own the source: each call takes the source of
+/// the file.
 ///
-/// Its model has the GSI block, the number of the last TTI block that was read or begun, and the
+/// The model has the GSI block, the number of the last TTI block that was read or begun, and the
 /// progress.
 #[derive(Drop)]
 pub struct StlReader {
@@ -61,20 +62,21 @@ impl StlReader {
     /// `Format`, `Rate`, `Display`, `Alphabet`. All are reported for block 0.
     pub fn open<S: Source>(source: &mut S) -> Result<StlReader, StlFault>
         requires { CanFail (S.failure_count source.old) }
-        // If the source's bytes are known and it does not fail, they determine the result.
+        // If the source's bytes are known and the source does not fail, the bytes determine the
+        // result.
         ensures exact { IfKnown (S.remaining source.old) (λ bytes.
             failed is_file_read result ≡ false → opened_at bytes ≡ result) }
-        // Only the GSI block is consumed.
+        // The call consumes only the GSI block.
         ensures taken { IfOk result (λ reader. IsGsi reader.gsi
             × Consumes (S.remaining source.old) (S.remaining source.new) reader.gsi) }
         ensures left { IfKnown (S.remaining source.old) (λ bytes.
             IfOk result (λ reader. S.remaining source.new ≡ Some (drop 1024 bytes))) }
         ensures start { IfOk result (λ reader.
             (reader.block ≡ 0) × (reader.progress ≡ Reading)) }
-        // No file begins with the rejected bytes.
+        // No subtitle file begins with the rejected bytes.
         ensures refused { IfErr result (λ fault. is_format fault ≡ true →
             RefusesOpening (S.remaining source.old) (S.remaining source.new) fault) }
-        // A failing source failed within the GSI block.
+        // If the source failed, then within the GSI block.
         ensures failed { failed is_file_read result ≡ true →
             (bytes : List ℕ) × (length bytes < 1024)
             × Consumes (S.remaining source.old) (S.remaining source.new) bytes }
@@ -88,7 +90,7 @@ impl StlReader {
         }
     }
 
-    // Creates a reader after this GSI block.
+    // Creates a reader that continues after the GSI block.
     pub(crate) fn following(gsi: Gsi) -> StlReader
         ensures { result ≡ record { gsi = gsi; block = 0; progress = Reading } }
     {
@@ -107,10 +109,10 @@ impl StlReader {
     }
 
     /// Returns the number of the last TTI block that was read or begun, counted from 1; 0 before
-    /// the first.
+    /// the first block.
     ///
-    /// After `Unfinished` it is the last complete block, after `Read` the block of the byte that
-    /// could not be read.
+    /// After `Unfinished` the number is that of the last complete block, after `Read` that of the
+    /// block with the byte that could not be read.
     pub fn block(&self) -> u32
         ensures value { result ≡ self.now.block }
         ensures place { HasPlace self.now.progress self.now.block }
@@ -132,26 +134,27 @@ impl StlReader {
     /// source fails. After any error each call returns `Ended` and consumes nothing.
     pub fn next<S: Source>(&mut self, source: &mut S) -> Result<Option<Subtitle>, StlFault>
         requires { CanFail (S.failure_count source.old) }
-        // If the source's bytes are known and it does not fail, they determine the result, its
-        // block and the bytes left.
+        // If the source's bytes are known and the source does not fail, the bytes determine the
+        // result, its block number and the bytes left.
         ensures exact { IfKnown (S.remaining source.old) (λ bytes.
             failed is_file_read result ≡ false →
             GivesNextSubtitle self.old bytes self.new (S.remaining source.new) result) }
 
-        // A subtitle consists of the blocks consumed, with the skipped blocks before and inside
-        // them.
+        // The bytes consumed are the blocks of the returned subtitle, with the skipped blocks
+        // before and inside them.
         ensures subtitle { self.old.progress ≡ Reading → IfOk result (λ found. IfSome found
             (TakesSubtitle self.old.block self.new.block
             (S.remaining source.old) (S.remaining source.new))) }
-        // `None` means that only skipped blocks were left.
+        // If the result is `None`, the rest of the file had only skipped blocks: comments and user
+        // data.
         ensures none { self.old.progress ≡ Reading → IfOk result (λ found. IfNone found
             (TakesSkipped self.old.block self.new.block
             (S.remaining source.old) (S.remaining source.new))) }
-        // No file has the rejected bytes.
+        // No subtitle file has the rejected bytes at this position.
         ensures refused { self.old.progress ≡ Reading → IfErr result (λ fault.
             is_format fault ≡ true → Refuses self.old.block self.new.block
             (S.remaining source.old) (S.remaining source.new) fault) }
-        // A failing source failed at this block.
+        // If the source failed, then at the block with the number `self.new.block`.
         ensures failed { self.old.progress ≡ Reading → failed is_file_read result ≡ true →
             FailsReading whole self.old.block self.new.block None
             (S.remaining source.old) (S.remaining source.new) }
@@ -159,7 +162,8 @@ impl StlReader {
         ensures progress { self.new.progress ≡ progress_after_answer self.old.progress result }
         ensures place { HasPlace self.new.progress self.new.block }
         ensures gsi { self.new.gsi ≡ self.old.gsi }
-        // After the end and after a fault nothing is consumed, and the reader does not change.
+        // After the end of the file and after a fault, a call consumes nothing, and the reader does
+        // not change.
         ensures at_end { self.old.progress ≡ AtEnd →
             (result ≡ Ok None) × (self.new ≡ self.old) × (source.new ≡ source.old) }
         ensures ended { (self.old.progress ≡ Broken) ↔ (result ≡ Err Ended) }
@@ -176,11 +180,11 @@ impl StlReader {
         }
     }
 
-    /// Reads the next subtitle into `subtitle`: returns `true` if `next` would return a subtitle,
-    /// and `false` if it would return `None`.
+    /// Reads the next subtitle into `subtitle`. Returns `true` if `next` would return a subtitle,
+    /// and `false` if `next` would return `None`.
     ///
-    /// `subtitle` is the one that `next` would return. If there is none, its contents are
-    /// unspecified.
+    /// The new contents of `subtitle` are the subtitle that `next` would return. If `next` would
+    /// return none, the contents are unspecified.
     ///
     /// # Errors
     ///
@@ -192,15 +196,16 @@ impl StlReader {
         subtitle: &mut Subtitle,
     ) -> Result<bool, StlFault>
         requires { CanFail (S.failure_count source.old) }
-        // If the source's bytes are known and it does not fail, they determine the result, its
-        // block and the bytes left.
+        // If the source's bytes are known and the source does not fail, the bytes determine the
+        // result, its block number and the bytes left.
         ensures exact { IfKnown (S.remaining source.old) (λ bytes.
             failed is_file_read result ≡ false →
             GivesNextSubtitle self.old bytes self.new (S.remaining source.new)
             (yielded_subtitle result subtitle.new)) }
 
-        // A subtitle consists of the blocks consumed; `false` means that only skipped blocks were
-        // left. No file has the rejected bytes; a failing source failed at this block.
+        // If the result is `true`, the bytes consumed are the blocks of the subtitle; if `false`,
+        // only skipped blocks. No file has the rejected bytes at this position. If the source
+        // failed, then at the block `self.new.block`.
         ensures taken { self.old.progress ≡ Reading → TakesByAnswer self.old.block self.new.block
             (S.remaining source.old) (S.remaining source.new)
             (yielded_subtitle result subtitle.new) }
@@ -209,7 +214,8 @@ impl StlReader {
             (yielded_subtitle result subtitle.new) }
         ensures place { HasPlace self.new.progress self.new.block }
         ensures gsi { self.new.gsi ≡ self.old.gsi }
-        // After the end and after a fault nothing is consumed, and the reader does not change.
+        // After the end of the file and after a fault, a call consumes nothing, and the reader does
+        // not change.
         ensures at_end { self.old.progress ≡ AtEnd →
             (result ≡ Ok false) × (self.new ≡ self.old) × (source.new ≡ source.old) }
         ensures ended { (self.old.progress ≡ Broken) ↔ (result ≡ Err Ended) }
@@ -223,7 +229,7 @@ impl StlReader {
             Progress::AtEnd => return Ok(false),
             Progress::Broken => return Err(StlFault::Ended),
         };
-        // This reader treats a rejected subtitle like any other fault: it stops.
+        // `StlReader` stops at a rejected subtitle, as at any other fault.
         let mut refused = None;
         match read_blocks(Scope::whole(), &mut block, source, subtitle, &mut refused) {
             Ok(true) => {
@@ -244,7 +250,7 @@ impl StlReader {
     }
 }
 
-// Reads the GSI block of a file, and nothing after it.
+// Reads the GSI block of a file, and nothing after the block.
 pub(crate) fn read_gsi<S: Source>(source: &mut S, scope: Scope) -> Result<Gsi, StlFault>
     requires { CanFail (S.failure_count source.old) }
     ensures exact { IfKnown (S.remaining source.old) (λ bytes.
@@ -268,9 +274,10 @@ pub(crate) fn read_gsi<S: Source>(source: &mut S, scope: Scope) -> Result<Gsi, S
     Gsi::read(&bytes).checked(scope.takes_open)
 }
 
-// Reads blocks after `block`, up to the last one of a subtitle that is not skipped, the end or a
-// fault. On entry, `refused` is the first block of a rejected subtitle that continues here. After a
-// fault in a subtitle's first block it is that block, unless the block is also its last.
+// Reads blocks after `block`, up to the last block of a subtitle that is not skipped, the end of
+// the file or a fault. On entry, `refused` is the first block of a rejected subtitle that continues
+// here. After a fault in a subtitle's first block, `refused` is that block, unless the block is
+// also the subtitle's last.
 pub(crate) fn read_blocks<S: Source>(
     scope: Scope,
     block: &mut u32,
@@ -325,8 +332,8 @@ pub(crate) fn read_blocks<S: Source>(
     }
 }
 
-// Continues a subtitle after its rejected first block, if there is one. Returns how many of its
-// blocks were read.
+// Continues a subtitle whose first block was rejected, if there is one. Returns the number of its
+// blocks that were read.
 fn resume(subtitle: &mut Subtitle, refused: &Option<Tti>) -> BlocksRead
     ensures { begun_in subtitle.new result ≡ option_map begun_skipped refused.now }
 {
@@ -343,7 +350,7 @@ fn resume(subtitle: &mut Subtitle, refused: &Option<Tti>) -> BlocksRead
     }
 }
 
-// Returns the block to report for a fault after `block` blocks.
+// Returns the number of the block to report for a fault after `block` blocks.
 pub(crate) fn block_of(block: u32, fault: &StlFault) -> u32
     requires { block ≤ most_blocks }
     ensures { block_after block fault.now ≡ result }

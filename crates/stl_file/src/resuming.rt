@@ -25,26 +25,26 @@ use sub_io::Source;
 /// The next item of a subtitle file if reading continues after rejected subtitles.
 #[derive(Clone, Copy, Debug, PartialEq, Eq)]
 pub enum Found {
-    /// A subtitle. All its blocks were read.
+    /// A subtitle, all of whose blocks were read.
     Subtitle,
-    /// The first block of a rejected subtitle: `Cumulative`, `Justify`, `Row`, `Time` or
-    /// `EmptyTime`.
+    /// A rejected subtitle, of which the first block was read. The fault is `Cumulative`,
+    /// `Justify`, `Row`, `Time` or `EmptyTime`.
     Refused(StlFault),
     /// The end of the file.
     End,
 }
 
-/// A reader of the subtitles in a scope that continues after a subtitle whose first block is
-/// rejected: it is known where the next one begins. It does not own the source.
+/// A reader of the subtitles in a scope. If the first block of a subtitle is rejected, the reader
+/// continues after the subtitle's last block. The reader does not own the source.
 ///
-/// Its model has the scope, the number of the last TTI block that was read or begun, the progress,
+/// The model has the scope, the number of the last TTI block that was read or begun, the progress,
 /// and the rejected subtitle, if more of its blocks may follow.
 #[derive(Drop)]
 pub struct ResumingReader {
     scope: Scope,
     block: u32,
     progress: Progress,
-    // The first block of a rejected subtitle that continues.
+    // The first block of a rejected subtitle with more blocks to skip.
     refused: Option<Tti>,
 }
 
@@ -67,27 +67,29 @@ impl Model for ResumingReader {
 }
 
 impl ResumingReader {
-    /// Reads the GSI block of a file, and nothing after it, to read the subtitles in `scope`.
+    /// Reads the GSI block of a file, and nothing after the block. The reader then returns the
+    /// subtitles in `scope`.
     ///
     /// # Errors
     ///
-    /// Returns the errors of `StlReader::open`; `Display` depends on the scope.
+    /// Returns the errors of `StlReader::open`; the condition for `Display` depends on the scope.
     pub fn open<S: Source>(source: &mut S, scope: Scope) -> Result<ResumingReader, StlFault>
         requires { CanFail (S.failure_count source.old) }
-        // If the source's bytes are known and it does not fail, they determine the result.
+        // If the source's bytes are known and the source does not fail, the bytes determine the
+        // result.
         ensures exact { IfKnown (S.remaining source.old) (λ bytes.
             failed is_file_read result ≡ false → begun_at scope bytes ≡ result) }
-        // Only the GSI block is consumed.
+        // The call consumes only the GSI block.
         ensures taken { IfOk result (λ reader. (gsi : List ℕ) × IsGsiFor scope.takes_open gsi
             × Consumes (S.remaining source.old) (S.remaining source.new) gsi) }
         ensures left { IfKnown (S.remaining source.old) (λ bytes.
             IfOk result (λ reader. S.remaining source.new ≡ Some (drop 1024 bytes))) }
         ensures start { IfOk result (λ reader. reader
             ≡ record { scope = scope; block = 0; progress = Reading; refused = None }) }
-        // No file begins with the rejected bytes.
+        // No subtitle file begins with the rejected bytes.
         ensures refused { IfErr result (λ fault. is_format fault ≡ true →
             RefusesOpeningFor scope (S.remaining source.old) (S.remaining source.new) fault) }
-        // A failing source failed within the GSI block.
+        // If the source failed, then within the GSI block.
         ensures failed { failed is_file_read result ≡ true →
             (bytes : List ℕ) × (length bytes < 1024)
             × Consumes (S.remaining source.old) (S.remaining source.new) bytes }
@@ -107,10 +109,10 @@ impl ResumingReader {
     }
 
     /// Returns the number of the last TTI block that was read or begun, counted from 1; 0 before
-    /// the first.
+    /// the first block.
     ///
-    /// After `Unfinished` it is the last complete block, after `Read` the block of the byte that
-    /// could not be read.
+    /// After `Unfinished` the number is that of the last complete block, after `Read` that of the
+    /// block with the byte that could not be read.
     pub fn block(&self) -> u32
         ensures value { result ≡ self.now.block }
         ensures place { HasPlace self.now.progress self.now.block }
@@ -118,16 +120,16 @@ impl ResumingReader {
         self.block
     }
 
-    /// Finds the next item, and reads a subtitle into `subtitle`. It may be called until it returns
-    /// `End` or an error.
+    /// Finds the next item of the file, and reads a subtitle into `subtitle`. After `End` or an
+    /// error, do not call `next_into` again.
     ///
-    /// A subtitle is the one that `StlReader::next` would return. If there is none, the contents of
-    /// `subtitle` are unspecified. Comments, user data and subtitles outside the scope are skipped,
-    /// and so are the other blocks of a rejected subtitle.
+    /// A returned subtitle is equal to the subtitle that `StlReader::next` would return. If there
+    /// is none, the contents of `subtitle` are unspecified. The reader skips comments, user data,
+    /// subtitles outside the scope, and the later blocks of a rejected subtitle.
     ///
     /// # Errors
     ///
-    /// Returns the first fault by block that ends reading: those of `StlReader::next` except the
+    /// Returns the first fault by block that ends reading: a fault of `StlReader::next` except the
     /// five of `Found::Refused`.
     pub fn next_into<S: Source>(
         &mut self,
@@ -136,11 +138,11 @@ impl ResumingReader {
     ) -> Result<Found, StlFault>
         requires count { CanFail (S.failure_count source.old) }
         requires reading { self.old.progress ≡ Reading }
-        // The bytes consumed determine the result, its block and the bytes left.
+        // The bytes consumed determine the result, its block number and the bytes left.
         ensures leads { failed is_file_read result ≡ false →
             LeadsOn self.old.scope self.old.block self.new.block self.old.refused self.new.refused
             (S.remaining source.old) (S.remaining source.new) subtitle.new result }
-        // A failing source failed at this block.
+        // If the source failed, then at the block with the number `self.new.block`.
         ensures failed { failed is_file_read result ≡ true →
             FailsReading self.old.scope self.old.block self.new.block self.old.refused
             (S.remaining source.old) (S.remaining source.new) }

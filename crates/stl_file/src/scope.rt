@@ -1,4 +1,4 @@
-//! The scope: which files and subtitles are read.
+//! The scope of reading: the accepted files and the subtitles to read.
 
 ghost use Rattle.std.specs.Prelude.{◌≡◌};
 ghost use Rattle.stl_file.specs.Scope.{begins_outside, whole};
@@ -6,20 +6,20 @@ ghost use Rattle.stl_file.specs.Scope.{begins_outside, whole};
 use crate::time_code::TimeCode;
 use crate::tti::Tti;
 
-/// The accepted files, by their display, and the subtitles to read (own).
+/// The accepted files, by their display standard code, and the range of subtitles to read (own).
 ///
-/// A subtitle whose TCI is a time code outside the range is skipped like a comment, and the other
-/// fields of its first block are not checked. Its blocks are counted, and must still be those of
-/// one subtitle.
+/// If the TCI of a subtitle is a time code outside the range, the subtitle is skipped like a
+/// comment, and the other fields of its first block are not checked. The blocks of a skipped
+/// subtitle are counted, and must be linked like those of any subtitle.
 #[derive(Clone, Copy, Debug, PartialEq, Eq)]
 pub struct Scope {
-    /// Also accepts open subtitles and files of an unspecified display: DSC `0` or a space, besides
-    /// `1` and `2` for Teletext.
+    /// Whether open subtitles and files of an unspecified display are accepted: DSC `0` or a space,
+    /// besides `1` and `2` for Teletext.
     pub takes_open: bool,
     /// The first frame of the day at which a subtitle may start.
     pub from: u32,
-    /// The end of the range: the first frame after `from` at which no subtitle may start; 2,160,000
-    /// for the end of the day.
+    /// The first frame of the day after the range: subtitles start before this frame. 2,160,000
+    /// means the end of the day.
     pub to: u32,
 }
 
@@ -35,7 +35,7 @@ impl Scope {
         }
     }
 
-    // Returns whether a subtitle with this first block is outside the range.
+    // Returns whether a subtitle with the first block `first` is outside the range.
     #[tactic(auto, unfolding(crate::specs::Scope::begins_outside))]
     pub(crate) fn is_outside(self, first: &Tti) -> bool
         ensures { result ≡ begins_outside self first.now }

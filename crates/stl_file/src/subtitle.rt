@@ -1,4 +1,4 @@
-//! Subtitles, with their text in the file's code (EBU Tech 3264).
+//! Subtitles of an EBU STL file, with their text in the file's code (EBU Tech 3264).
 
 ghost use Rattle.std.specs.Prelude.{◌≡◌, ◌+◌, ◌≤◌, ◌++◌, length, take, true, ◌==◌, ◌&&◌};
 ghost use Rattle.std.specs.Prelude.{Err, IfErr, IfOk, Ok, OnOk, is_ok};
@@ -17,10 +17,10 @@ use crate::tti::Tti;
 use arrayvec::ArrayVec;
 use std::marker::Model;
 
-/// A subtitle with the fields of its blocks.
+/// A subtitle with the fields of its TTI blocks.
 ///
-/// Its time code in is before its time code out, its row is 1 to 23, its justification code 0 to 3,
-/// and its text has at most 1008 bytes and no unused space (8F).
+/// The time code in is before the time code out, the row is 1 to 23, the justification code 0 to 3,
+/// and the text has at most 1008 bytes and no unused space (8F).
 #[derive(Drop)]
 pub struct Subtitle {
     sgn: u8,
@@ -125,8 +125,7 @@ impl Subtitle {
         self.tci
     }
 
-    /// Returns TCO, the time code of the first frame after it at which the subtitle is no longer
-    /// shown.
+    /// Returns TCO, the time code of the first frame at which the subtitle is no longer shown.
     pub fn tco(&self) -> TimeCode
         ensures value { result ≡ self.now.tco }
         ensures is { IsSubtitle self.now }
@@ -134,7 +133,7 @@ impl Subtitle {
         self.tco
     }
 
-    /// Returns VP, the vertical position: the row of the first line, 1 to 23.
+    /// Returns VP, the vertical position: the row of the subtitle's first line, 1 to 23.
     pub fn vp(&self) -> u8
         ensures value { result ≡ self.now.vp }
         ensures is { IsSubtitle self.now }
@@ -150,7 +149,7 @@ impl Subtitle {
         self.jc
     }
 
-    /// Returns the text of all blocks in the file's code, at most 1008 bytes.
+    /// Returns the text of all blocks of the subtitle in the file's code, at most 1008 bytes.
     pub fn text(&self) -> &[u8]
         ensures value { result.now ≡ self.now.text }
         ensures is { IsSubtitle self.now }
@@ -158,8 +157,8 @@ impl Subtitle {
         self.text.as_slice()
     }
 
-    /// Creates a subtitle without text, in row 1 of the day's first frame, to read others into
-    /// (own).
+    /// Creates a subtitle without text, in row 1 at frame 0 of the day, into which a reader can
+    /// read subtitles (own).
     pub fn empty() -> Subtitle
         ensures { result ≡ empty_subtitle }
     {
@@ -174,7 +173,7 @@ impl Subtitle {
         }
     }
 
-    // Becomes the subtitle that starts with this block, with the block's text.
+    // Replaces the contents by the subtitle that starts with `block`, with the text of that block.
     #[tactic(auto, unfolding(crate::specs::Reading::first_at))]
     pub(crate) fn begin(&mut self, block: &Tti) -> Result<(), StlFault>
         ensures ok { OnOk result (first_at block.now ≡ Ok self.new) }
@@ -209,7 +208,7 @@ impl Subtitle {
         Ok(())
     }
 
-    // Becomes the skipped subtitle that starts with this block.
+    // Replaces the contents by the skipped subtitle that starts with `block`.
     pub(crate) fn skip_subtitle(&mut self, block: &Tti)
         ensures { self.new ≡ record empty_subtitle { sgn = sgn block.now; sn = sn block.now } }
     {
@@ -218,7 +217,7 @@ impl Subtitle {
         self.sn = block.sn();
     }
 
-    // Appends the text of a further block.
+    // Appends the text of `block`, a later block of the subtitle.
     pub(crate) fn extend(&mut self, block: &Tti)
         requires { length self.old.text + 112 ≤ 1008 }
         ensures text { self.new ≡ record self.old { text = self.old.text ++ text_of block.now } }
@@ -227,7 +226,7 @@ impl Subtitle {
         push_text(&mut self.text, block.tf());
     }
 
-    // Returns whether a block has the subtitle's SGN and SN.
+    // Returns whether `block` has the subtitle's SGN and SN.
     pub(crate) fn is_of(&self, block: &Tti) -> bool
         ensures { result ≡ ((sgn block.now == self.now.sgn) && (sn block.now == self.now.sn)) }
     {
@@ -244,7 +243,7 @@ fn time_of(bytes: [u8; 4]) -> Result<TimeCode, StlFault>
     TimeCode::of_bytes(bytes).ok_or(StlFault::Time)
 }
 
-// Returns whether a text has no unused space.
+// Returns whether a text contains no unused space (8F).
 fn is_text(text: &[u8]) -> bool
     ensures { result ≡ has_no_unused text.now }
 {
@@ -256,7 +255,7 @@ fn is_text(text: &[u8]) -> bool
     true
 }
 
-// Appends the bytes of a text field before the first unused space.
+// Appends the bytes of a text field before the first unused space to a text.
 #[tactic(auto, using(crate::proofs::SubtitleLemmas::cleaned))]
 fn push_text(text: &mut ArrayVec<u8, 1008>, field: &[u8])
     requires { length text.old.items + length field.now ≤ 1008 }
@@ -268,7 +267,7 @@ fn push_text(text: &mut ArrayVec<u8, 1008>, field: &[u8])
     push_all(text, used);
 }
 
-// Returns how many bytes of a text field precede the first unused space.
+// Returns the number of bytes of a text field before the first unused space.
 #[tactic(auto, using(crate::proofs::SubtitleLemmas::used))]
 fn used_of(field: &[u8]) -> usize
     ensures within { result ≤ length field.now }
@@ -282,7 +281,6 @@ fn used_of(field: &[u8]) -> usize
     field.len()
 }
 
-// Appends bytes to a text.
 fn push_all(text: &mut ArrayVec<u8, 1008>, bytes: &[u8])
     requires { length text.old.items + length bytes.now ≤ 1008 }
     ensures { text.new.items ≡ text.old.items ++ bytes.now }

@@ -1,4 +1,4 @@
-//! The blocks of one subtitle: the effect of each block of a file.
+//! The effect of each TTI block on the current subtitle.
 
 ghost use Rattle.std.specs.Prelude.{◌≡◌, IfErr, OnOk, None, Some, true};
 ghost use Rattle.stl_file.specs.Fault.{is_of_block};
@@ -12,22 +12,23 @@ use crate::tti::Tti;
 /// The state of reading the blocks of a subtitle.
 #[derive(Clone, Copy)]
 pub(crate) struct BlocksRead {
-    // The number of blocks. If it is 0, the contents of the subtitle are meaningless.
+    // The number of blocks of the subtitle read so far. If the number is 0, the contents of the
+    // subtitle are meaningless.
     pub(crate) count: u8,
-    // The subtitle is skipped, since it is outside the scope or was rejected.
+    // Whether the subtitle is skipped, because it is outside the scope or was rejected.
     pub(crate) is_skipped: bool,
 }
 
-/// Takes the next block of a file. Returns `true` if it is the last one of a subtitle that is not
-/// skipped.
+/// Takes the next TTI block of a file. Returns `true` if the block is the last one of a subtitle
+/// that is not skipped.
 ///
 /// The subtitle is modified in place, to avoid moving a kilobyte.
 ///
 /// # Errors
 ///
-/// Returns `Extension`, `CommentFlag`. Unless the block is skipped: within a subtitle `Sequence`,
-/// `TooLong`; otherwise, if it is not outside the scope, `Cumulative`, `Justify`, `Row`, `Time`,
-/// `EmptyTime`.
+/// Returns `Extension` or `CommentFlag` for any block except user data. For a block that is not
+/// skipped: within a subtitle `Sequence` or `TooLong`; otherwise, if the subtitle is not outside
+/// the scope, `Cumulative`, `Justify`, `Row`, `Time` or `EmptyTime`.
 #[tactic(auto, unfolding(crate::specs::Reading::step_at))]
 pub(crate) fn take_block(
     scope: Scope,
@@ -58,7 +59,7 @@ pub(crate) fn take_block(
     take_kept(scope, subtitle, read, block)
 }
 
-// Takes a block that is not skipped.
+// Takes a block that is neither user data nor a comment.
 fn take_kept(
     scope: Scope,
     subtitle: &mut Subtitle,
@@ -103,7 +104,7 @@ fn take_first(
     Ok(is_last)
 }
 
-// Takes a further block of a subtitle.
+// Takes a later block of a subtitle.
 #[tactic(auto, unfolding(crate::specs::Reading::kept_at))]
 fn take_further(
     scope: Scope,

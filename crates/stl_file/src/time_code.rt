@@ -6,7 +6,7 @@ ghost use Rattle.stl_file.specs.TimeCode.{time_bytes};
 
 use std::marker::Model;
 
-/// A time code of a day at 25 frames per second. Its model is the frame of the day.
+/// A time code of a day at 25 frames per second. The model is the frame of the day.
 #[derive(Clone, Copy, Debug, PartialEq, Eq, PartialOrd, Ord)]
 pub struct TimeCode {
     frame: u32,
@@ -42,7 +42,8 @@ impl TimeCode {
         }
     }
 
-    // Returns the time code of the four bytes of TCI or TCO, if they are valid.
+    // Returns the time code of the four bytes of TCI or TCO, or `None` if the bytes are no valid
+    // time code.
     #[tactic(auto, unfolding(crate::specs::TimeCode::is_time, crate::specs::TimeCode::frame_in))]
     pub(crate) fn of_bytes(bytes: [u8; 4]) -> Option<TimeCode>
         ensures { (if is_time bytes then Some (frame_in bytes) else None) ≡ result }
@@ -51,7 +52,7 @@ impl TimeCode {
         TimeCode::new(hours, minutes, seconds, frames)
     }
 
-    /// Returns the frame of the day, 0 to 2,159,999.
+    /// Returns the frame of the day of the time code, 0 to 2,159,999.
     pub fn frame(self) -> u32
         ensures value { result ≡ self }
         ensures range { result < day }
@@ -59,7 +60,7 @@ impl TimeCode {
         self.frame
     }
 
-    /// Creates a time code from the frame of the day.
+    /// Creates a time code from a frame of the day.
     pub fn of_frame(frame: u32) -> TimeCode
         requires { frame < day }
         ensures { result ≡ frame }
@@ -67,7 +68,8 @@ impl TimeCode {
         TimeCode { frame }
     }
 
-    /// Returns hours, minutes, seconds and frames, in binary as in a TTI block.
+    /// Returns the four bytes of the time code: hours, minutes, seconds and frames, in binary as in
+    /// a TTI block.
     pub fn to_bytes(self) -> [u8; 4]
         ensures { result ≡ time_bytes self }
     {

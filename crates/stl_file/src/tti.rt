@@ -7,7 +7,7 @@ ghost use Rattle.stl_file.specs.Tti.{cf, cs, ebn, jc, sgn, sn, tci, tco, tf, vp}
 use byteorder::{ByteOrder, LittleEndian};
 use std::marker::Model;
 
-/// A TTI block with arbitrary bytes. Its model is the list of its 128 bytes.
+/// A TTI block with arbitrary bytes. The model is the list of the block's 128 bytes.
 #[derive(Clone, Copy)]
 pub struct Tti {
     bytes: [u8; 128],
@@ -26,28 +26,28 @@ impl Model for Tti {
 }
 
 impl Tti {
-    /// Creates a block of any 128 bytes.
+    /// Creates a TTI block from any 128 bytes.
     pub fn read(bytes: &[u8; 128]) -> Tti
         ensures { result ≡ bytes.now }
     {
         Tti { bytes: *bytes }
     }
 
-    /// Returns the block's bytes.
+    /// Returns the 128 bytes of the TTI block.
     pub fn write(&self) -> [u8; 128]
         ensures { result ≡ self.now }
     {
         self.bytes
     }
 
-    /// Returns SGN, the subtitle group number.
+    /// Returns the TTI field SGN, the subtitle group number.
     pub fn sgn(&self) -> u8
         ensures { result ≡ sgn self.now }
     {
         self.bytes[0]
     }
 
-    /// Returns SN, the subtitle number, low byte first (own).
+    /// Returns the TTI field SN, the subtitle number, low byte first (own).
     pub fn sn(&self) -> u16
         ensures { result ≡ sn self.now }
     {
@@ -55,29 +55,30 @@ impl Tti {
         LittleEndian::read_u16(number)
     }
 
-    /// Returns EBN, the extension block number: FF for the last block of a subtitle, FE for user
-    /// data.
+    /// Returns the TTI field EBN, the extension block number: FF for the last block of a subtitle,
+    /// FE for user data.
     pub fn ebn(&self) -> u8
         ensures { result ≡ ebn self.now }
     {
         self.bytes[3]
     }
 
-    /// Returns CS, the cumulative status: 0 for a subtitle that is not part of a cumulative set.
+    /// Returns the TTI field CS, the cumulative status: 0 for a subtitle that is not part of a
+    /// cumulative set.
     pub fn cs(&self) -> u8
         ensures { result ≡ cs self.now }
     {
         self.bytes[4]
     }
 
-    /// Returns TCI, the time code in: hours, minutes, seconds and frames.
+    /// Returns the TTI field TCI, the time code in: hours, minutes, seconds and frames.
     pub fn tci(&self) -> [u8; 4]
         ensures { result ≡ tci self.now }
     {
         self.time_at(5)
     }
 
-    /// Returns TCO, the time code out: hours, minutes, seconds and frames.
+    /// Returns the TTI field TCO, the time code out: hours, minutes, seconds and frames.
     pub fn tco(&self) -> [u8; 4]
         ensures { result ≡ tco self.now }
     {
@@ -93,28 +94,28 @@ impl Tti {
         time
     }
 
-    /// Returns VP, the vertical position: the row of the first line.
+    /// Returns the TTI field VP, the vertical position: the row of the first line.
     pub fn vp(&self) -> u8
         ensures { result ≡ vp self.now }
     {
         self.bytes[13]
     }
 
-    /// Returns JC, the justification code: 0 unchanged, 1 left, 2 centred, 3 right.
+    /// Returns the TTI field JC, the justification code: 0 unchanged, 1 left, 2 centred, 3 right.
     pub fn jc(&self) -> u8
         ensures { result ≡ jc self.now }
     {
         self.bytes[14]
     }
 
-    /// Returns CF, the comment flag: 0 subtitle, 1 comment.
+    /// Returns the TTI field CF, the comment flag: 0 subtitle, 1 comment.
     pub fn cf(&self) -> u8
         ensures { result ≡ cf self.now }
     {
         self.bytes[15]
     }
 
-    /// Returns TF, the text field: 112 bytes.
+    /// Returns the TTI field TF, the text field: 112 bytes.
     pub fn tf(&self) -> &[u8]
         ensures value { result.now ≡ tf self.now }
         ensures size { length result.now ≡ 112 }

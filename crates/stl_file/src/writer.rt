@@ -10,7 +10,7 @@ use arrayvec::ArrayVec;
 use byteorder::{ByteOrder, LittleEndian};
 use sub_io::{Failed, Sink, put_all};
 
-/// A text field of unused space.
+/// A text field that has only unused space.
 const UNUSED: [u8; 112] = [0x8f; 112];
 
 /// Writes a subtitle in the fewest blocks that hold its text, at least one, and returns their
@@ -34,7 +34,7 @@ pub fn write_subtitle<K: Sink>(subtitle: &Subtitle, sink: &mut K) -> Result<u8, 
     Ok(count)
 }
 
-// Returns the blocks of a subtitle, and their number.
+// Returns the bytes of a subtitle's blocks, and the number of the blocks.
 #[tactic(auto, using(crate::proofs::BlocksOfLemmas::spelled))]
 fn spell(subtitle: &Subtitle) -> (ArrayVec<u8, 1152>, u8)
     ensures bytes { result.0.items ≡ concat (blocks_of subtitle.now) }
@@ -53,7 +53,7 @@ fn spell(subtitle: &Subtitle) -> (ArrayVec<u8, 1152>, u8)
     (out, ebn + 1)
 }
 
-// Appends one block of a subtitle.
+// Appends one TTI block of a subtitle, with the given EBN and part of the text.
 #[tactic(auto, using(crate::proofs::BlocksOfLemmas::pushed))]
 fn push_block(out: &mut ArrayVec<u8, 1152>, subtitle: &Subtitle, ebn: u8, piece: &[u8])
     requires room { length out.old.items + 128 ≤ 1152 }
@@ -68,7 +68,7 @@ fn push_block(out: &mut ArrayVec<u8, 1152>, subtitle: &Subtitle, ebn: u8, piece:
     push_all(out, pad);
 }
 
-// Returns the fields of a block before its text field.
+// Returns the first 16 bytes of a TTI block: all fields before the text field.
 fn head_of(subtitle: &Subtitle, ebn: u8) -> [u8; 16]
     ensures { result ≡ block_head subtitle.now ebn }
 {
@@ -95,7 +95,7 @@ fn head_of(subtitle: &Subtitle, ebn: u8) -> [u8; 16]
     ]
 }
 
-// Returns SN, low byte first.
+// Returns the two bytes of SN, low byte first.
 fn sn_bytes(sn: u16) -> [u8; 2]
     ensures { result ≡ (sn % 256) ∷ (sn / 256) ∷ [] }
 {
@@ -104,7 +104,6 @@ fn sn_bytes(sn: u16) -> [u8; 2]
     bytes
 }
 
-// Appends bytes.
 fn push_all(out: &mut ArrayVec<u8, 1152>, bytes: &[u8])
     requires { length out.old.items + length bytes.now ≤ 1152 }
     ensures items { out.new.items ≡ out.old.items ++ bytes.now }

@@ -1,5 +1,5 @@
--- Invariant of the first pass: the counts so far and those of the remaining subtitles are the
--- counts of all.
+-- Loop invariant of the first pass: the counts so far plus the counts of the remaining subtitles
+-- are the counts of all subtitles.
 use Rattle.std.proofs.Common.{◌≡◌, ◌≤◌, ◌-◌}
 use Rattle.stl_file.specs.NormalCounts.{normal_counts}
 use Rattle.stl_file.specs.NormalForm.{subtitles_of}

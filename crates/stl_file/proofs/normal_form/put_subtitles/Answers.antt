@@ -1,4 +1,5 @@
--- Writing the rest then writes one more subtitle.
+-- If the remaining subtitles are written after one more subtitle, the blocks of all of them are
+-- written.
 use Rattle.std.proofs.Common.{arith}
 use Rattle.std.proofs.lemmas.Bool.Decides.{nat_tests}
 use Rattle.std.proofs.lemmas.Grind.{common_steps}

@@ -1,4 +1,5 @@
--- Invariant of the second pass: writing the remaining subtitles completes writing all of them.
+-- Loop invariant of the second pass: writing the remaining subtitles completes the blocks of all
+-- subtitles.
 use Rattle.std.proofs.Common.{◌≡◌, ◌≤◌, ◌-◌, List, ℕ, Option, Result, true, is_ok}
 use Rattle.std.specs.List.{concat}
 use Rattle.sub_io.specs.Device.{Writes}

@@ -1,4 +1,4 @@
--- The source never fails, so the remaining bytes determine the result.
+-- `read_on`: a source in memory never fails, so the remaining bytes determine the result.
 use Rattle.std.proofs.Common.{arith}
 use Rattle.std.proofs.lemmas.Bool.Decides.{nat_tests}
 use Rattle.stl_file.proofs.NormalCountsLemmas.{left_is, no_failure, took}

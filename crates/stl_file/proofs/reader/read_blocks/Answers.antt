@@ -1,4 +1,4 @@
--- Each return of the loop over blocks, and one more block.
+-- Each return of the loop over TTI blocks, and the step to the next block.
 use Rattle.std.proofs.Common.{rules, refl, arith}
 use Rattle.std.proofs.lemmas.Bool.Decides.{nat_tests}
 use Rattle.std.proofs.lemmas.Bool.{ne_eqb}

@@ -1,4 +1,5 @@
--- Invariant of the loop: the blocks read so far, and room for those that may follow.
+-- Loop invariant of `read_blocks`: the blocks read so far determine the results, and more blocks
+-- may follow.
 use Rattle.std.proofs.Common.{◌≡◌, ◌≤◌, ◌-◌}
 use Rattle.std.specs.Prelude.{option_map}
 use Rattle.stl_file.specs.Reading.{BegunFits, begun_in, begun_skipped}

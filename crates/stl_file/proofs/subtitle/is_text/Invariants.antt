@@ -1,4 +1,5 @@
--- Invariant of the loop: the result for the rest of the text is the result for all of it.
+-- Loop invariant of `is_text`: the rest of the text has no unused space if and only if the whole
+-- text has none.
 use Rattle.std.proofs.Common.{◌≡◌, drop}
 use Rattle.stl_file.specs.Subtitle.{has_no_unused}
 use Rattle.stl_file.proofs.subtitle.is_text.Given as goal

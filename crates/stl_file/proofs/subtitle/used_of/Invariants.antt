@@ -1,4 +1,4 @@
--- Invariant of the loop: no unused space was found so far.
+-- Loop invariant of `used_of`: the bytes of the text field so far contain no unused space.
 use Rattle.std.proofs.Common.{◌≡◌, ◌++◌, take, drop}
 use Rattle.stl_file.specs.Tti.{before_unused}
 use Rattle.stl_file.proofs.subtitle.used_of.Given as goal

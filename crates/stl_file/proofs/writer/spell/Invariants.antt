@@ -1,4 +1,5 @@
--- Invariant of the loop: the blocks so far and those of the rest of the text are all blocks.
+-- Loop invariant of `spell`: the blocks so far, followed by the blocks for the rest of the text,
+-- are all blocks of the subtitle.
 use Rattle.std.proofs.Common.{◌≡◌, ◌≤◌, ◌+◌, ◌*◌, ◌++◌, length}
 use Rattle.std.specs.List.{concat}
 use Rattle.stl_file.specs.NormalForm.{blocks_from, blocks_of, full_pieces}
