@@ -1,4 +1,4 @@
--- One more packet when repeats may keep the page: the last header, `last_header-push` and
+-- One more packet if repeats may keep the page: the last header, `last_header-push` and
 -- `last_header-append`; whether a row came since that header, `has_row-push`; the first packet of a
 -- row since the text began, `first_of_row-push`. Each code other than a space came in a row:
 -- `row_of_code`.
@@ -23,25 +23,18 @@ use Rattle.sub_rules.specs.Kept.{has_row, header_of_page, last_header}
 use Rattle.sub_rules.specs.PacketTests.{first_of_row}
 use Rattle.sub_rules.specs.declared.packet_rule.Watched.{Watched}
 
--- ---- the last header of the page
-
--- The last header of two joined lists.
 pub last_header-append :
     (page : PageIdValue) (xs ys : List (List ℕ))
     → last_header page (xs ++ ys) ≡ option_or (last_header page ys) (last_header page xs)
 last_header-append page [] ys = grind (arith, nat_tests)
 last_header-append page (x ∷ xs) ys = grind (arith, nat_tests, (last_header-append page xs ys))
 
--- The last header after one more packet.
 pub last_header-push :
     (page : PageIdValue) (xs : List (List ℕ)) (x : List ℕ)
     → last_header page (xs ++ x ∷ [])
     ≡ option_or (header_of_page (kind page x)) (last_header page xs)
 last_header-push page xs x = last_header-append page xs (x ∷ [])
 
--- ---- rows
-
--- Whether a packet since the last header passes a test, after one more packet.
 any-push :
     (k : PacketKind) (row : ℕ) (opened : Bool) (xs : List (List ℕ)) (p : List ℕ)
     (f : List ℕ → Bool)
@@ -50,7 +43,6 @@ any-push :
     ≡ cond (is_this_page k) false (list_any f xs || (opened && is_row row k))
 any-push k row opened xs p f e = grind (arith, nat_tests, list_any-append)
 
--- Whether a row came since the last header, after one more packet.
 pub has_row-push :
     (page : PageIdValue) (heard : List (List ℕ)) (p : List ℕ) (row : ℕ)
     → has_row page (heard ++ p ∷ []) row
@@ -58,7 +50,6 @@ pub has_row-push :
     (has_row page heard row || (is_open_after (kind page) heard && is_row row (kind page p)))
 has_row-push page heard p row = grind (arith, nat_tests, span-push, any-push)
 
--- The first packet since the text began that passes a test, after one more packet.
 find-push :
     (keeps : Bool) (k : PacketKind) (row : ℕ) (opened : Bool) (xs : List (List ℕ)) (p : List ℕ)
     (f : List ℕ → Bool)
@@ -70,7 +61,6 @@ find-push :
     (cond (opened && is_row row k) (option_or (find f xs) (Some p)) (find f xs))
 find-push keeps k row opened xs p f e = grind (arith, nat_tests, find-append)
 
--- The first packet of a row since the text began, after one more packet.
 pub first_of_row-push :
     (keeps : Bool) (page : PageIdValue) (heard : List (List ℕ)) (p : List ℕ) (row : ℕ)
     → first_of_row page (text_span keeps (kind page) (heard ++ p ∷ [])) row
@@ -80,9 +70,6 @@ pub first_of_row-push :
     (first_of_row page (text_span keeps (kind page) heard) row))
 first_of_row-push keeps page heard p row = grind (arith, nat_tests, text_span-push, find-push)
 
--- ---- where the text begins
-
--- The text begins with no packet that is not a header of the page.
 pub begins_not : (keeps : Bool) (k : PacketKind)
     → is_this_page k ≡ false
     → begins_text keeps k ≡ false
@@ -91,13 +78,12 @@ begins_not keeps k e = grind (arith, nat_tests)
 pub or_assoc : (a b c : Bool) → ((a || b) || c) ≡ (a || (b || c))
 or_assoc a b c = grind (arith, nat_tests)
 
--- Whether the text begins with one of the packets, after one more.
 pub beginning-more : (w : Watched) (xs : List (List ℕ)) (x : List ℕ)
     → holds_beginning w.keeps (kind w.page) (xs ++ x ∷ [])
     ≡ (holds_beginning w.keeps (kind w.page) xs || begins_text w.keeps (kind w.page x))
 beginning-more w xs x = list_any-push (kind w.page) (λ y. begins_text w.keeps (kind w.page y)) xs x
 
--- Packets before the beginning of the text do not matter.
+-- Packets before the beginning of the text do not change the text.
 from_begins : (keeps : Bool) (page : PageIdValue) (xs ys : List (List ℕ))
     → holds_beginning keeps (kind page) ys ≡ true
     → from_beginning keeps (kind page) (xs ++ ys) ≡ from_beginning keeps (kind page) ys
@@ -113,9 +99,6 @@ pub text_span-begins : (keeps : Bool) (page : PageIdValue) (xs ys : List (List �
 text_span-begins keeps page xs ys e =
     ap (while_open (kind page) false) (from_begins keeps page xs ys e)
 
--- ---- if repeats may not keep the page
-
--- A packet that was found passes the test.
 any_found : (test : List ℕ → Bool) (ps : List (List ℕ)) (code : List ℕ → ℕ)
     → (unwrap_or (option_map code (find test ps)) space == space) ≡ false
     → list_any test ps ≡ true
@@ -123,7 +106,8 @@ any_found test [] code e = grind (arith, nat_tests)
 any_found test (p ∷ ps) code e =
     let rest = any_found test ps code in grind (arith, nat_tests)
 
--- Each code other than a space came in a row since the last header.
+-- Each code other than a space came in a row since the last header, if repeats may not keep the
+-- page.
 pub row_of_code :
     (keeps : Bool) (page : PageIdValue) (heard : List (List ℕ)) (row column : ℕ)
     → keeps ≡ false

@@ -27,7 +27,6 @@ c11_of o = option_map (λ (h : Header). c11 h) o
 c11-or : (a b : Option Header) → c11_of (option_or a b) ≡ option_or (c11_of a) (c11_of b)
 c11-or a b = grind (arith, nat_tests)
 
--- The state before the first packet.
 pub knows_none :
     (s : Listener)
     → s.serial ≡ None
@@ -43,17 +42,14 @@ knows_none s serial opened subcode sent again page = grind (arith, nat_tests, ge
 module _ (heard : List (List ℕ)) (p : List ℕ) (s : Listener) (read : Option Header)
     (serial : Option Bool) (known : Knows heard s) (is_read : read ≡ header p)
     (serial_is : serial ≡ option_or s.serial (c11_of read)) where
-  -- C11 of the first header.
   serial_more : serial ≡ c11_of (first_header (heard ++ p ∷ []))
   serial_more = grind (arith, c11-or, first_header-push, known.serial_is)
 
-  -- The subcode of the last header, if the packet is a header of the page.
   subcode_this : (h : Header) → kind s.watched.page p ≡ ThisPage h
       → Some h.subcode
       ≡ option_map (λ (x : Header). x.subcode) (last_header s.watched.page (heard ++ p ∷ []))
   subcode_this h is = rw (last_header-push s.watched.page heard p, is) refl
 
-  -- After a header of the page no row has come again.
   none_again : (h : Header) → kind s.watched.page p ≡ ThisPage h
       → (row : ℕ) → 1 ≤ row → row ≤ 24
       → get_or (replicate 24 false) (row - 1) false ≡ has_row s.watched.page (heard ++ p ∷ []) row
@@ -61,7 +57,7 @@ module _ (heard : List (List ℕ)) (p : List ℕ) (s : Listener) (read : Option 
       rw (has_row-push s.watched.page heard p row, is)
       (get_or-replicate 24 (row - 1) false false (omega arith))
 
-  -- A header that begins the text opens the page, and no row has been received.
+  -- A header that begins the text opens the page, and clears the set of received rows.
   pub knows_begins : (h : Header) → kind s.watched.page p ≡ ThisPage h
       → (c4 h || not s.watched.keeps) ≡ true
       → Knows (heard ++ p ∷ []) (record s {
@@ -86,7 +82,7 @@ module _ (heard : List (List ℕ)) (p : List ℕ) (s : Listener) (read : Option 
     again_is = none_again h is;
   }
 
-  -- A header that keeps the text opens the page, and the rows received stay.
+  -- A header that keeps the text opens the page, and the received rows are kept.
   pub knows_repeat : (h : Header) → kind s.watched.page p ≡ ThisPage h
       → (c4 h || not s.watched.keeps) ≡ false
       → Knows (heard ++ p ∷ []) (record s {
@@ -99,7 +95,6 @@ module _ (heard : List (List ℕ)) (p : List ℕ) (s : Listener) (read : Option 
       grind (arith, nat_tests, serial_more, open-this, subcode_this, first_of_row-push, none_again)
 
   module _ (other : is_this_page (kind s.watched.page p) ≡ false) where
-    -- Otherwise the last header stays the same.
     subcode_still : s.subcode
         ≡ option_map (λ (x : Header). x.subcode) (last_header s.watched.page (heard ++ p ∷ []))
     subcode_still =
@@ -107,8 +102,8 @@ module _ (heard : List (List ℕ)) (p : List ℕ) (s : Listener) (read : Option 
         let more = last_header-push s.watched.page heard p in
         grind (arith, nat_tests)
 
-    -- Any other packet may close the page and leaves its rows as they are, unless it is a row of
-    -- the open page.
+    -- A packet that is neither a header of the page nor a row of the open page leaves the rows as
+    -- they are. The packet may close the page.
     pub knows_still : (opened : Bool)
         → opened ≡ (s.is_open && not (ends_page (kind s.watched.page p)))
         → ((row : ℕ) → 1 ≤ row → row ≤ 24 → s.is_open ≡ true
@@ -143,7 +138,6 @@ module _ (heard : List (List ℕ)) (p : List ℕ) (s : Listener) (read : Option 
       open_still : s.is_open ≡ is_open_after (kind s.watched.page) (heard ++ p ∷ [])
       open_still = grind (arith, nat_tests, open-other, known.open_is)
 
-      -- The row came.
       again_more : (row : ℕ) → 1 ≤ row → row ≤ 24
           → get_or (set s.again (y - 1) true) (row - 1) false
           ≡ has_row s.watched.page (heard ++ p ∷ []) row
@@ -152,7 +146,6 @@ module _ (heard : List (List ℕ)) (p : List ℕ) (s : Listener) (read : Option 
           let before = known.again_is row a b in
           grind (arith, nat_tests, known.open_is, get_or-set_at, get_or-set_other)
 
-      -- A row of the open page that was received before is received again.
       pub knows_again : get_or s.sent (y - 1) false ≡ true
           → Knows (heard ++ p ∷ []) (record s {
             serial = serial;
@@ -174,7 +167,6 @@ module _ (heard : List (List ℕ)) (p : List ℕ) (s : Listener) (read : Option 
         again_is = again_more;
       }
 
-      -- A row that was not received before is stored.
       pub knows_row : get_or s.sent (y - 1) false ≡ false
           → length s.sent ≡ 24 → length s.comparison.page ≡ 24
           → Knows (heard ++ p ∷ []) (record s {

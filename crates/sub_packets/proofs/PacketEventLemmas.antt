@@ -1,4 +1,4 @@
--- The events of the packets of a frame, after one that need not be examined,
+-- The events of the packets of a frame, after a packet that need not be examined,
 -- packets_reported-skipped, and if no rule is broken, packets_reported-none.
 use Rattle.std.proofs.lemmas.Bool.Decides.{nat_tests}
 use Rattle.std.proofs.Common.{◌≡◌, ℕ, zero, suc, ◌+◌, List, [], ◌++◌, map, take}
@@ -16,7 +16,6 @@ use Rattle.sub_rules.specs.declared.event.Event.TheVariants.{Reported}
 use Rattle.sub_rules.specs.declared.packet_rule.PacketRule.{PacketRule}
 use Rattle.sub_rules.specs.declared.packet_rule.Watched.{Watched}
 
--- The events of a packet, from the tests of its rules.
 abbrev reported_by : Watched → ℕ → ℕ → List (List ℕ) → List ℕ → List Event
 reported_by w frame k before p =
     map (λ (r : PacketRule). Reported (packet_fault r frame k))
@@ -29,7 +28,6 @@ unfolding rules_reported broken_rules
 reported_by-is w frame k before p = refl
 
 module _ (w : Watched) (frame from : ℕ) (before ps : List (List ℕ)) where
-  -- The events after one more packet.
   packets_reported-more : (k : ℕ) (p : List ℕ) → get_or ps k [] ≡ p
       → packets_reported w frame from before ps (k + 1)
       ≡ packets_reported w frame from before ps k ++ reported_by w frame (from + k)
@@ -37,7 +35,6 @@ module _ (w : Watched) (frame from : ℕ) (before ps : List (List ℕ)) where
   unfolding packets_reported
   packets_reported-more k p e = grind (arith, nat_tests, reported_by-is)
 
-  -- A packet that breaks no rule adds no event.
   pub packets_reported-skipped : (k : ℕ)
       → rule_set (λ r. breaks r w (before ++ take k ps) (get_or ps k [])) packet_rules ≡ 0
       → packets_reported w frame from before ps (k + 1) ≡ packets_reported w frame from before ps k
@@ -46,7 +43,6 @@ module _ (w : Watched) (frame from : ℕ) (before ps : List (List ℕ)) where
       ∙ rw (no_rules (λ r. breaks r w (before ++ take k ps) (get_or ps k [])) packet_rules empty)
       (append-nil (packets_reported w frame from before ps k))
 
-  -- Without broken rules there are no events.
   pub packets_reported-none : (n : ℕ) → BreakNone w before ps n
       → packets_reported w frame from before ps n ≡ []
   unfolding packets_reported rules_reported
@@ -57,14 +53,12 @@ module _ (w : Watched) (frame from : ℕ) (before ps : List (List ℕ)) where
   module _ (k : ℕ) (p : List ℕ) {D : Type 0} {IsReported : D → Event → D → Type 0} (a b c : D)
       (at : get_or ps k [] ≡ p)
       (reported : Reports IsReported a b (packets_reported w frame from before ps k)) where
-    -- The events of one more packet were reported. For `hear_all`.
     pub reported_one : Reports IsReported b c (reported_by w frame (from + k) (before ++ take k ps)
         p)
         → Reports IsReported a c (packets_reported w frame from before ps (k + 1))
     reported_one more =
         rw (packets_reported-more k p at) (Reports-trans a b c _ _ reported more)
 
-  -- One more packet breaks no rule. For `hear_all`.
   pub clean_one : (k : ℕ) (p : List ℕ) → get_or ps k [] ≡ p → BreakNone w before ps k
       → rule_set (λ r. breaks r w (before ++ take k ps) p) packet_rules ≡ 0
       → BreakNone w before ps (k + 1)

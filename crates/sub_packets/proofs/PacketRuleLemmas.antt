@@ -22,31 +22,22 @@ use Rattle.sub_rules.specs.PacketTests.{is_of_header, is_other_mode, is_other_te
 use Rattle.sub_rules.specs.PacketTests.{is_same_subcode, is_subtitle_header}
 use Rattle.sub_rules.specs.declared.packet_rule.Watched.{Watched}
 
--- ---- code words
-
--- Two tests of the same fact have the same negation.
 turned : {P : Type 0} (r s : Bool) → Decides r P → Decides s P → not r ≡ not s
 turned r s d e = ap not (same_from_decides r s d e)
 
--- For `has_wrong_address`.
 pub wrong_address : (p : List ℕ) (r : Bool) → Decides r (HasExactAddress p)
     → not r ≡ not (are_code_words 0 2 p)
 wrong_address p r d = turned r (are_code_words 0 2 p) d (address_decided p)
 
--- For `has_wrong_word`.
 pub wrong_header : (p : List ℕ) (r : Bool) → Decides r (HasExactHeader p)
     → not r ≡ not (are_code_words 2 8 p)
 wrong_header p r d = turned r (are_code_words 2 8 p) d (header_decided p)
 
--- A packet with a page header is X/0. For `has_wrong_codes`.
 pub header_is_zero :
     (p : List ℕ) (h : Header) → header p ≡ Some h → is_of_header (address p) ≡ true
 unfolding header
 header_is_zero p h e = grind (arith, nat_tests)
 
--- ---- the subcode of the last header
-
--- The code's comparison of subcodes agrees with the rule. For `is_same_subcode`.
 pub same_some : (o : Option Header) (h : Header) (subcode : ℕ)
     → Some subcode ≡ option_map (λ (x : Header). x.subcode) o
     → (h.subcode == subcode) ≡ is_same_subcode o h
@@ -57,9 +48,6 @@ pub same_none : (o : Option Header) (h : Header)
     → true ≡ is_same_subcode o h
 same_none o h e = grind (arith, nat_tests)
 
--- ---- the kinds of packets
-
--- A packet 25 to 28 is neither a header nor a row.
 enhancement_is_other :
     (w : Watched) (p : List ℕ)
     → is_of_enhancement w.page (address p) ≡ true
@@ -67,14 +55,12 @@ enhancement_is_other :
 unfolding kind
 enhancement_is_other w p e = grind (arith, nat_tests)
 
--- A header or a row is no packet 25 to 28.
 pub no_enhancement :
     (w : Watched) (p : List ℕ)
     → (kind w.page p ≡ Other → ⊥)
     → is_of_enhancement w.page (address p) ≡ false
 no_enhancement w p other = grind (arith, nat_tests, enhancement_is_other)
 
--- The row differs from the codes received before.
 other_text :
     (o : Option (List ℕ)) (codes : List ℕ)
     → is_other_text o codes ≡ (is_some o && not (row_differing (held o) codes == 0))
@@ -82,7 +68,8 @@ other_text None codes = refl
 other_text (Some q) codes = refl
 
 module _ (w : Watched) (heard : List (List ℕ)) (p : List ℕ) where
-  -- A header of the page can break only the rule for its control bits.
+  -- A header of the page can break only the rule for its control bits, of the rules from `Control`
+  -- on.
   pub later_this : (h : Header) → kind w.page p ≡ ThisPage h
       → rule_set (λ r. breaks r w heard p) (drop 3 packet_rules)
       ≡ cond (not (is_subtitle_header w heard h)) 1 0
@@ -91,7 +78,7 @@ module _ (w : Watched) (heard : List (List ℕ)) (p : List ℕ) where
       let none = no_enhancement w p (λ e. let both = sym k ∙ e in cc) in
       rw (k, none) (grind (arith, nat_tests))
 
-  -- A header that ends the page breaks none of these rules.
+  -- A header that ends the page breaks none of the rules from `Control` on.
   pub later_ends : kind w.page p ≡ EndsPage
       → rule_set (λ r. breaks r w heard p) (drop 3 packet_rules) ≡ 0
   unfolding breaks rule_set packet_rules
@@ -99,15 +86,16 @@ module _ (w : Watched) (heard : List (List ℕ)) (p : List ℕ) where
       let none = no_enhancement w p (λ e. let both = sym k ∙ e in cc) in
       rw (k, none) (grind (arith, nat_tests))
 
-  -- Any other packet that is no row breaks a rule only if it is an enhancement packet of the open
-  -- page.
+  -- A packet that is neither a header nor a row breaks a rule from `Control` on only if the packet
+  -- is X/25 to X/28 of the open page's magazine.
   pub later_other : kind w.page p ≡ Other
       → rule_set (λ r. breaks r w heard p) (drop 3 packet_rules)
       ≡ 8 * cond (is_open_after (kind w.page) heard && is_of_enhancement w.page (address p)) 1 0
   unfolding breaks rule_set packet_rules
   later_other k = rw k (grind (arith, nat_tests))
 
-  -- A row may have a byte with even parity, and other codes than those received before.
+  -- A row of the open page breaks a rule from `Control` on if it has a byte with even parity, or
+  -- codes that differ from those received before.
   pub later_row : (y : ℕ) (o : Option (List ℕ)) → kind w.page p ≡ Row y
       → o ≡ first_of_row w.page (text_span w.keeps (kind w.page) heard) y
       → rule_set (λ r. breaks r w heard p) (drop 3 packet_rules)
@@ -119,7 +107,6 @@ module _ (w : Watched) (heard : List (List ℕ)) (p : List ℕ) where
   unfolding breaks rule_set packet_rules
   later_row y o k e = grind (arith, nat_tests, no_enhancement, other_text)
 
--- The rules for all packets, followed by the later ones. For `broken_rules`.
 pub rules_are :
     (w : Watched) (heard : List (List ℕ)) (p : List ℕ) (serial : Option Bool)
     → serial ≡ option_map (λ (h : Header). c11 h) (first_header heard)

@@ -1,4 +1,4 @@
--- Sets of rules: if the set is empty no rule passes the test, `no_rules`; the events of the first
+-- Sets of rules: if the set is empty, no rule passes the test, `no_rules`; the events of the first
 -- remaining rule, `reported_next`.
 use Rattle.std.proofs.Common.{◌≡◌, ℕ, suc, ◌+◌, ◌*◌, ◌/◌, ◌%◌, ◌<◌, Bool, true, false, ◌==◌}
 use Rattle.std.proofs.Common.{List, [], ◌∷◌, ◌++◌, length, get_or, drop, map, refl, ◌∙◌, ap}
@@ -14,23 +14,19 @@ unfolding rule_set
 no_rules test [] e = refl
 no_rules test (r ∷ rules) e = grind (arith, nat_tests, no_rules test rules)
 
--- ---- the events of a set
-
--- The lowest bit, and the others without it.
+-- The lowest bit of a rule set is that of its first rule; half of the set is the set of the other
+-- rules.
 lowest_bit : (b : Bool) (n : ℕ)
     → (((cond b 1 0 + 2 * n) % 2 == 1) ≡ b) × ((cond b 1 0 + 2 * n) / 2 ≡ n)
 lowest_bit true n = let bit : (1 + 2 * n) % 2 ≡ 1 = omega arith in (rw bit refl, omega arith)
 lowest_bit false n = let bit : (0 + 2 * n) % 2 ≡ 0 = omega arith in (rw bit refl, omega arith)
 
 module _ {A : Type 0} (report : PacketRule → A) (test : PacketRule → Bool) where
-  -- The events of a list, by its first rule.
   reported_first : (r : PacketRule) (rules : List PacketRule)
       → map report (filter test (r ∷ rules))
       ≡ cond (test r) (report r ∷ []) [] ++ map report (filter test rules)
   reported_first r rules = grind (arith, nat_tests)
 
-  -- The events of the first remaining rule and of the others, and the rest of the set. For
-  -- `report_rules`.
   pub reported_next : (rules : List PacketRule) (i : ℕ) (d : PacketRule) (left : ℕ) (reported : A)
       → i < length rules
       → reported ≡ report (get_or rules i d)

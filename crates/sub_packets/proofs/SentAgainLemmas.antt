@@ -29,9 +29,6 @@ use Rattle.sub_rules.specs.declared.packet_rule.Watched.{Watched}
 use Rattle.sub_packets.proofs.PacketRuleLemmas.{no_enhancement}
 use Rattle.sub_rules.proofs.PacketLists.{first_header-append}
 
--- ---- a header with which the text begins
-
--- A header with which the text begins is a page header.
 header_of :
     (w : Watched) (p : List ℕ)
     → begins_text w.keeps (kind w.page p) ≡ true
@@ -42,9 +39,6 @@ header_of :
 unfolding kind
 header_of w p e = grind (arith, nat_tests)
 
--- ---- what the rules look back to
-
--- If each rule is broken in both cases or in neither, the broken rules are the same.
 rules_equal :
     (w : Watched) (b c : List (List ℕ)) (p : List ℕ)
     → ((r : PacketRule) → breaks r w b p ≡ breaks r w c p)
@@ -52,7 +46,6 @@ rules_equal :
 unfolding broken_rules
 rules_equal w b c p same = ap (λ test. filter test packet_rules) (λ k r. same r k)
 
--- A packet breaks the same rules after two lists that look alike.
 breaks_equal :
     (w : Watched) (b c : List (List ℕ)) (p : List ℕ)
     → HaveSameContent w b c
@@ -61,17 +54,15 @@ breaks_equal :
 unfolding breaks
 breaks_equal w b c p same x = grind (arith, nat_tests)
 
--- The state fits either of two lists that look alike.
 knows_equal :
     (b c : List (List ℕ)) (s : Listener) → HaveSameContent s.watched b c → Knows b s → Knows c s
 knows_equal b c s same k = grind (arith, nat_tests)
 
--- With the same header again, the first header stays.
 same_first : (o : Option Header) (h : Header)
     → option_or o (Some h) ≡ option_or (option_or o (Some h)) (Some h)
 same_first o h = grind arith
 
--- Repeating a header does not change whether it contradicts the first one.
+-- Repeating a header does not change whether its C11 differs from that of the first header.
 same_mode : (o : Option Header) (h : Header)
     → is_other_mode (option_map (λ (x : Header). c11 x) (option_or o (Some h))) (Some (c11 h))
     ≡ is_other_mode (option_map (λ (x : Header). c11 x) o) (Some (c11 h))
@@ -82,26 +73,23 @@ module _
     (w : Watched) (heard : List (List ℕ)) (first : List ℕ)
     (is : begins_text w.keeps (kind w.page first) ≡ true)
   where
-    -- The first page header after a header of the page and other packets.
     first_after :
         (xs others : List (List ℕ)) (h : Header)
         → header first ≡ Some h
         → first_header (xs ++ first ∷ others) ≡ option_or (first_header xs) (Some h)
     first_after xs others h e = grind (arith, first_header-append)
 
-    -- It is a header of the page.
     is_header : is_this_page (kind w.page first) ≡ true
     is_header = begins_is_header w.keeps (kind w.page first) is
 
-    -- The last header of the page after it, whatever came before.
     last_after : (xs more : List (List ℕ)) (h : Header)
         → kind w.page first ≡ ThisPage h
         → last_header w.page (xs ++ first ∷ more) ≡ option_or (last_header w.page more) (Some h)
     last_after xs more h e =
         let both = last_header-append w.page xs (first ∷ more) in grind (arith, nat_tests)
 
-    -- After a header that begins the text, the packets before it no longer matter. Only the first
-    -- page header does, which exists by then.
+    -- After a header that begins the text, the packets before it no longer matter, except for the
+    -- first page header, which has been received by then.
     alike :
         (others more : List (List ℕ))
         → HaveSameContent w (heard ++ first ∷ more) ((heard ++ first ∷ others) ++ first ∷ more)
@@ -130,7 +118,7 @@ module _
               (text_span-begins w.keeps w.page (heard ++ first ∷ others) (first ∷ more) begun);
         }
 
-    -- The header itself breaks the same rules again.
+    -- A header that begins the text breaks the same rules when it is sent again.
     first_again :
         (others : List (List ℕ)) (r : PacketRule)
         → breaks r w (heard ++ first ∷ others) first ≡ breaks r w heard first
@@ -150,7 +138,6 @@ module _
         let h = header_of w first is in rw h.2 (grind (arith, nat_tests))
     first_again others rule.Enhancement = grind (arith, nat_tests, header_of, no_enhancement)
 
-    -- Each of the packets breaks the same rules again.
     breaks_again : (others : List (List ℕ))
         → BreakSameRules w heard (heard ++ first ∷ others) (first ∷ others)
     breaks_again others zero l =
@@ -170,9 +157,6 @@ law_of_sent_again w heard packets begins =
       alike w heard first begins.is_header others others,
     )
 
--- ---- the state for the last packets
-
--- If the text begins with the first packet, it begins with one of them.
 begun_by : (w : Watched) (ps : List (List ℕ))
     → BeginsWithHeader w ps
     → holds_beginning w.keeps (kind w.page) ps ≡ true
@@ -180,7 +164,8 @@ begun_by w ps begins =
     subst (λ (xs : List (List ℕ)). holds_beginning w.keeps (kind w.page) xs ≡ true)
     (sym begins.packets_are) (or_left _ _ begins.is_header)
 
--- The last packets, received again. For `hear_sending`.
+-- If the last packets broke no rule and are received again, the state of the listener stays the
+-- same.
 pub heard_again :
     (heard last ps : List (List ℕ)) (headers : ℕ) (s : Listener)
     → KnowsLast heard last s
@@ -213,7 +198,8 @@ heard_again heard last ps headers s known is same =
           (grind (arith, nat_tests))),
     )
 
--- The state for the last packets, after receiving them. For `hear_all`.
+-- After packets that begin the text and break no rule, the listener's record of the last packets is
+-- right.
 pub kept_last :
     (w : Watched) (heard ps : List (List ℕ)) (headers from : ℕ) (before begun begins clean : Bool)
     (s : Listener)

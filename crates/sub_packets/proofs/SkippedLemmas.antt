@@ -19,20 +19,17 @@ use Rattle.sub_packets.proofs.PacketRuleLemmas.{later_ends, later_other, later_r
 use Rattle.sub_rules.proofs.CodeWordLemmas.{address_decided, header_decided}
 use Rattle.sub_rules.specs.PacketTests.{breaks, first_of_row, is_other_mode, packet_rules}
 
--- A packet without a page header does not contradict C11 of the first one.
 no_header_mode : (serial : Option Bool) → is_other_mode serial None ≡ false
 no_header_mode None = refl
 no_header_mode (Some true) = refl
 no_header_mode (Some false) = refl
 
--- Nor does a header with the same C11.
 same_mode : (serial : Option Bool) (b : Bool) → serial ≡ Some b
     → is_other_mode serial (Some b) ≡ false
 same_mode serial true e = rw e refl
 same_mode serial false e = rw e refl
 
 module _ (p : List ℕ) (s : Listener) (a : PacketAddress) (at : address p ≡ Some a) where
-  -- A packet other than X/0 is no header of the page.
   pub no_header_plain : a.packet_number ≢ 0 → is_this_page (kind s.watched.page p) ≡ false
   unfolding kind
   no_header_plain some = grind (arith, nat_tests)
@@ -47,7 +44,6 @@ module _
     (heard : List (List ℕ)) (p : List ℕ) (s : Listener) (known : Knows heard s)
     (exact : HasExactAddress p) (a : PacketAddress) (at : address p ≡ Some a)
   where
-    -- The kind of a packet other than X/0.
     plain_kind : a.packet_number ≢ 0
         → (header p ≡ None)
         × (kind s.watched.page p
@@ -56,7 +52,6 @@ module _
     unfolding kind header
     plain_kind some = grind (arith, nat_tests)
 
-    -- A packet of another magazine, or any while the page is closed, other than X/0.
     module _ (some : a.packet_number ≢ 0)
         (closed : (s.is_open && a.magazine == s.watched.page.magazine) ≡ false) where
       plain_later : rule_set (λ r. breaks r s.watched heard p) (drop 3 packet_rules) ≡ 0
@@ -89,7 +84,6 @@ module _
           ∙ rw ((address_decided p).1 exact, at, is.0, no_header_mode s.serial)
           (grind (arith, nat_tests, plain_later))
 
-      -- For `is_skipped`.
       pub skipped_packet : IsSkipped heard p s
       skipped_packet =
           let is = plain_kind some in
@@ -101,7 +95,8 @@ module _
                 (λ row low high opened. grind (arith, nat_tests));
           }
 
-    -- A header with the C11 of the first one that is not of the page and does not end it.
+    -- Assume a header that has the C11 of the first header, is not of the page, and does not end
+    -- the page.
     module _ (none : a.packet_number ≡ 0) (coded : HasExactHeader p) (h : Header)
         (says : coded_header p ≡ Some h)
         (passes : is_skipped_header a.magazine h s ≡ true) where
@@ -128,7 +123,6 @@ module _
           ∙ rw ((address_decided p).1 exact, (header_decided p).1 coded, at, header_is)
           (grind (arith, nat_tests, header_later, same_mode))
 
-      -- For `is_skipped`.
       pub skipped_header : IsSkipped heard p s
       skipped_header =
           let is = header_kind in

@@ -18,8 +18,8 @@ use Rattle.sub_rules.specs.PacketRules.{header_count}
 use Rattle.sub_rules.specs.declared.packet_rule.Watched.{Watched}
 use Rattle.sub_rules.proofs.PacketLists.{header_count-push}
 
--- The state after the first n packets of a frame, sent after these, if packet `start` and the
--- following ones added no event.
+-- Packets `start` to n - 1 of a frame added no event, and the listener's state agrees with the
+-- first n packets of the frame, received after `heard`.
 pub record IsSkippedTo
     (w : Watched) (frame from : ℕ) (heard ps : List (List ℕ)) (s : Listener) (start n : ℕ) : Type 0
   where
@@ -28,7 +28,6 @@ pub record IsSkippedTo
         start
     pub clean : BreakNone w heard ps start → BreakNone w heard ps n
 
--- The first packet and those after it. For `hear_all`.
 pub passes_from : (a b : ℕ) (ps : List (List ℕ)) (s : Listener)
     → IsAlwaysSkipped (get_or ps a []) s
     → ((k : ℕ) → a + 1 ≤ k → k < b → IsAlwaysSkipped (get_or ps k []) s)
@@ -40,7 +39,6 @@ passes_from a b ps s first later k low high =
     ]
 
 module _ (w : Watched) (ps : List (List ℕ)) (s : Listener) (same : s.watched ≡ w) (a : ℕ) where
-  -- No header is among them.
   no_headers : (n : ℕ) → n + a ≤ length ps
       → ((k : ℕ) → a ≤ k → k < n + a → IsAlwaysSkipped (get_or ps k []) s)
       → header_count w.page (take (n + a) ps) ≡ header_count w.page (take a ps)
@@ -61,7 +59,6 @@ module _ (w : Watched) (ps : List (List ℕ)) (s : Listener) (same : s.watched �
       (grind (arith, nat_tests)) in
       ap (λ k. header_count w.page (take k ps)) (sym next) ∙ step
 
-  -- So the text begins with none of them.
   no_beginning : (n : ℕ) → n + a ≤ length ps
       → ((k : ℕ) → a ≤ k → k < n + a → IsAlwaysSkipped (get_or ps k []) s)
       → holds_beginning w.keeps (kind w.page) (take (n + a) ps)
@@ -86,7 +83,6 @@ module _ (w : Watched) (ps : List (List ℕ)) (s : Listener) (same : s.watched �
       ap (λ k. holds_beginning w.keeps (kind w.page) (take k ps)) (sym next) ∙ step
 
   module _ (frame from : ℕ) (heard : List (List ℕ)) where
-    -- One more packet.
     skipped_one : (k : ℕ) → k < length ps → IsAlwaysSkipped (get_or ps k []) s
         → IsSkippedTo w frame from heard ps s a k
         → IsSkippedTo w frame from heard ps s a (k + 1)
@@ -120,14 +116,12 @@ module _ (w : Watched) (ps : List (List ℕ)) (s : Listener) (same : s.watched �
 
   module _ (b : ℕ) (low : a ≤ b) (high : b ≤ length ps)
       (passes : (k : ℕ) → a ≤ k → k < b → IsAlwaysSkipped (get_or ps k []) s) where
-    -- For `hear_all`.
     pub no_headers_skipped : header_count w.page (take b ps) ≡ header_count w.page (take a ps)
     no_headers_skipped =
         let to : b - a + a ≡ b = omega arith in
         subst (λ k. header_count w.page (take k ps) ≡ header_count w.page (take a ps)) to
         (no_headers (b - a) (omega arith) (λ k l h. passes k l (omega arith)))
 
-    -- For `hear_all`.
     pub no_beginning_skipped :
         holds_beginning w.keeps (kind w.page) (take b ps)
         ≡ holds_beginning w.keeps (kind w.page) (take a ps)
@@ -137,7 +131,6 @@ module _ (w : Watched) (ps : List (List ℕ)) (s : Listener) (same : s.watched �
         ≡ holds_beginning w.keeps (kind w.page) (take a ps)) to
         (no_beginning (b - a) (omega arith) (λ k l h. passes k l (omega arith)))
 
-    -- For `hear_all`.
     pub skipped_run : (frame from : ℕ) (heard : List (List ℕ)) → Knows (heard ++ take a ps) s
         → IsSkippedTo w frame from heard ps s a b
     skipped_run frame from heard known =

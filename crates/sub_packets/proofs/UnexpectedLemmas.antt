@@ -20,9 +20,6 @@ use Rattle.sub_packets.proofs.WrongCellLemmas.{by_cells, cell-blank, first_cell-
 use Rattle.sub_packets.proofs.WrongCellLemmas.{first_difference}
 use Rattle.sub_rules.specs.Events.{was_due}
 
--- ---- frames with the same due page
-
--- Without a page change between two frames the same page is due. For `frame_before`.
 pub due_same : (programme : ProgrammeValue) (f at : ℕ)
     → f ≤ at
     → ((e : ℕ) → IsEdge programme.records e → f < e → e ≤ at → ⊥)
@@ -33,10 +30,7 @@ due_same programme f at until none =
     (due_back programme.drawing programme.records at (at - f) (omega arith)
     (λ e edge after low. none e edge (omega arith) low))
 
--- ---- codes that were due
-
 module _ (page : ℕ → Rows) (first f : ℕ) where
-  -- One more frame, with the same due page as the frame after it.
   was_due-one : (n row column code : ℕ)
       → (first + suc n ≤ f → page (f - suc n) ≡ page (f - n))
       → was_due page first f (suc n) row column code ≡ was_due page first f n row column code
@@ -45,7 +39,6 @@ module _ (page : ℕ → Rows) (first f : ℕ) where
       let here : f - 0 ≡ f = omega arith in grind (arith, nat_tests)
   was_due-one (suc n) row column code same = grind (arith, nat_tests)
 
-  -- More frames, with the same due page as the last of them.
   was_due-same : (n m row column code : ℕ)
       → n ≤ m
       → ((j : ℕ) → n ≤ j → j < m → first + suc j ≤ f → page (f - suc j) ≡ page (f - j))
@@ -54,7 +47,8 @@ module _ (page : ℕ → Rows) (first f : ℕ) where
   was_due-same n (suc m) row column code low same =
       grind (arith, nat_tests, was_due-one, (was_due-same n m row column code))
 
-  -- The codes that are due at the frame itself are removed. For `left_of`.
+  -- After the codes due at frame f itself are replaced by spaces, the remaining page is right for 0
+  -- frames before f.
   pub left_first : (shown left : Rows)
       → ((row column : ℕ) → IsCell row column
       → cell left row column ≡ unless_due (cell (page f) row column) (cell shown row column))
@@ -63,8 +57,9 @@ module _ (page : ℕ → Rows) (first f : ℕ) where
   left_first shown left cells row column is =
       let none : f - f ≡ 0 = omega arith in rw none (cells row column is)
 
-  -- So are those of an earlier frame, if the same page was due up to the frame examined before. For
-  -- `left_of`.
+  -- After the codes due at an earlier frame are replaced by spaces, the remaining page is right
+  -- back to that frame, if the page due did not change between that frame and the frame examined
+  -- before.
   pub left_more : (at before : ℕ) (shown left new : Rows)
       → before < at
       → at ≤ f
@@ -88,8 +83,8 @@ module _ (page : ℕ → Rows) (first f : ℕ) where
       ∙ sym (same (f - j) (omega arith) (omega arith))) in
       rw next (grind (arith, nat_tests))
 
-  -- So are those of all these frames, if the same page was due since the earliest of them. For
-  -- `left_of`.
+  -- The remaining page is right for all n frames before f, if the page due did not change since the
+  -- earliest of these frames.
   pub left_all : (at n : ℕ) (shown left : Rows)
       → at ≤ f
       → f ≤ at + n
@@ -98,9 +93,6 @@ module _ (page : ℕ → Rows) (first f : ℕ) where
       → IsLeft page first f n shown left
   left_all at n shown left h1 h2 h3 h4 = grind (arith, nat_tests, was_due-same)
 
--- ---- the first cell that is left
-
--- The first cell that is left has a code that was not due. For `first_unexpected`.
 pub unexpected_is :
     (s : Listener) (page : ℕ → Rows) (first f n : ℕ) (left : Rows) (o : Option (ℕ × ℕ))
     → IsLeft page first f n s.comparison.page left
@@ -115,7 +107,6 @@ unexpected_is s page first f n left o is_left found =
     grind (arith, nat_tests))
     (by_cells left blank o (λ place. DiffersFirst left blank place.0 place.1) found)
 
--- Nothing is left of a blank page. For `first_unexpected`.
 pub unexpected_none :
     (s : Listener) (page : ℕ → Rows) (first f n : ℕ)
     → differing blank s.comparison.page ≡ 0
@@ -128,9 +119,6 @@ unexpected_none s page first f n same =
     let equal = cells_same blank s.comparison.page same row column is in
     grind (arith, nat_tests))
 
--- ---- rows
-
--- A row of spaces stays as it is. For `excuse_row`.
 pub blank_stays : (left : Rows) (row column due : ℕ)
     → row_differing (row_at left row) blank_row ≡ 0
     → column < 40

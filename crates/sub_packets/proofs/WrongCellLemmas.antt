@@ -1,4 +1,4 @@
--- The kept page is that of the packets, `shown_is`; the first wrong cell: `wrong_is`, and if
+-- The stored page is that of the packets, `shown_is`; the first wrong cell: `wrong_is`, and if
 -- repeats may keep the page, `wrong_keeping`.
 use Rattle.std.proofs.lemmas.Bool.Decides.{nat_tests}
 use Rattle.std.proofs.Common.{◌≡◌, ℕ, ◌+◌, ◌-◌, ◌<◌, ◌≤◌, ◌⊎◌, ◌||◌, ◌==◌, Bool, true, false, not}
@@ -20,9 +20,6 @@ use Rattle.sub_packets.specs.Listener.{Knows, held}
 use Rattle.sub_packets.specs.Missing.{earlier}
 use Rattle.sub_packets.specs.declared.listener.Listener.{Listener}
 
--- ---- the kept page
-
--- The stored code of a row's cell.
 code_held :
     (o : Option (List ℕ)) (column : ℕ)
     → column < 40
@@ -32,7 +29,6 @@ unfolding blank_row
 code_held None column l = get_or-replicate 40 column space 0 l
 code_held (Some p) column l = grind (arith, nat_tests, code_at, get_or-drop)
 
--- A cell of the kept page has the code that the packets give it.
 pub shown_is :
     (heard : List (List ℕ)) (s : Listener)
     → Knows heard s
@@ -41,15 +37,12 @@ pub shown_is :
     → cell s.comparison.page row column ≡ kept s.watched.keeps s.watched.page heard row column
 shown_is heard s known row column is = grind (arith, nat_tests, code_held)
 
--- ---- equal pages
-
 pub cell-blank : (row column : ℕ) → IsCell row column → cell blank row column ≡ space
 unfolding blank blank_row
 cell-blank row column is =
     rw (get_or-replicate 24 (row - 1) (replicate 40 space) [] (omega (arith, is.0, is.1)))
     (get_or-replicate 40 column space 0 is.2)
 
--- Equal pages have the same code in each cell.
 pub by_cells : (a b : Rows) (o : Option (ℕ × ℕ)) (P : ℕ × ℕ → Type 0)
     → MatchOption o (a ≡ b) P
     → MatchOption o
@@ -57,10 +50,7 @@ pub by_cells : (a b : Rows) (o : Option (ℕ × ℕ)) (P : ℕ × ℕ → Type 0
 by_cells a b None P same = λ row column is. ap (λ page. cell page row column) same
 by_cells a b (Some place) P differ = differ
 
--- ---- the first cell that passes a test
-
 module _ (test : ℕ → ℕ → Bool) where
-  -- If no cell passes, there is none.
   pub first_cell-none : ((row column : ℕ) → IsCell row column → test row column ≡ false)
       → first_cell test ≡ None
   unfolding first_cell
@@ -70,7 +60,6 @@ module _ (test : ℕ → ℕ → Bool) where
       (first_below-none 40 (test (k + 1))
       (λ c m. none (k + 1) c (omega arith, omega arith, m))))) refl
 
-  -- A cell that passes is the first if none above it or to its left does.
   first_cell-below : (above column : ℕ) → above < 24 → column < 40
       → test (above + 1) column ≡ true
       → ((r c : ℕ) → IsCell r c → r < above + 1 → test r c ≡ false)
@@ -92,14 +81,13 @@ module _ (test : ℕ → ℕ → Bool) where
       → first_cell test ≡ Some (row, column)
   first_cell-at row column is passes rows cells = grind (arith, nat_tests, first_cell-below)
 
--- The cell is the first that passes a test.
+-- (row, column) is the first cell that passes a test, by row and then by column.
 pub record PassesFirst (test : ℕ → ℕ → Bool) (row column : ℕ) : Type 0 where
   pub is_cell : IsCell row column
   pub passes : test row column ≡ true
   pub rows_above : (r c : ℕ) → IsCell r c → r < row → test r c ≡ false
   pub cells_before : (c : ℕ) → c < column → test row c ≡ false
 
--- Two tests that agree on each cell find the same cell.
 below_same : (n : ℕ) (p q : ℕ → Bool) → ((k : ℕ) → k < n → p k ≡ q k)
     → first_below n p ≡ first_below n q
 below_same zero p q same = refl
@@ -132,7 +120,6 @@ first_cell-same p q same =
         let place : Option ℕ → Option (ℕ × ℕ) = option_map (λ column. (above + 1, column)) in
         ap place (in_row above (first_below_is 24 first above is).0)
 
--- If none is found, no cell passes. For `no_unexpected`.
 below_fails : (n : ℕ) (test : ℕ → Bool) → first_below n test ≡ None
     → (k : ℕ) → k < n → test k ≡ false
 below_fails zero test none k l = absurd (omega arith)
@@ -171,13 +158,11 @@ no_cell test none row column is = go (first_below 24 in_row) refl none
         ∙ below_fails 24 in_row first (row - 1) (omega (arith, is.0, is.1))) in
         below_fails 40 (test row) none_there column is.2
 
--- The first cell that passes was found, or none passes.
 abbrev pub FindsFirst : (ℕ → ℕ → Bool) → Option (ℕ × ℕ) → Type 0
 FindsFirst test o =
     MatchOption o ((row column : ℕ) → IsCell row column → test row column ≡ false)
     (λ place. PassesFirst test place.0 place.1)
 
--- So it is `first_cell`.
 found_first : (test : ℕ → ℕ → Bool) (o : Option (ℕ × ℕ)) → FindsFirst test o → o ≡ first_cell test
 found_first test None none = sym (first_cell-none test none)
 found_first test (Some place) first =
@@ -185,8 +170,6 @@ found_first test (Some place) first =
     (first_cell-at test place.0 place.1 first.is_cell first.passes first.rows_above
     first.cells_before)
 
--- If a test passes exactly the cells in which two pages differ, the first difference is the first
--- cell that passes.
 differing_found :
     (test : ℕ → ℕ → Bool) (a b : Rows) (o : Option (ℕ × ℕ))
     → ((row column : ℕ)
@@ -198,7 +181,8 @@ differing_found :
     → FindsFirst test o
 differing_found test a b o is same = grind (arith, nat_tests)
 
--- For `wrong_is` and `unexpected_is`.
+-- If a test passes exactly the cells in which two pages differ, the first difference that was found
+-- is the first cell that passes.
 pub first_difference :
     (test : ℕ → ℕ → Bool) (a b : Rows) (o : Option (ℕ × ℕ))
     → ((row column : ℕ)
@@ -210,19 +194,14 @@ pub first_difference :
     → o ≡ first_cell test
 first_difference test a b o is found = found_first test o (differing_found test a b o is found)
 
--- ---- the earlier of two cells
-
 module _ (ta tb test : ℕ → ℕ → Bool) (one : (r c : ℕ) → ta r c ≡ true → test r c ≡ true)
     (none : (r c : ℕ) → ta r c ≡ false → tb r c ≡ false → test r c ≡ false) where
-  -- If no cell passes the second test, the first cell that passes the first is the first that
-  -- passes either.
   first_alone : (row column : ℕ)
       → PassesFirst ta row column
       → ((r c : ℕ) → IsCell r c → tb r c ≡ false)
       → PassesFirst test row column
   first_alone row column a fails = grind (arith, nat_tests)
 
-  -- So it is if it is not after the first cell that passes the second test.
   first_of : (row column y x : ℕ)
       → PassesFirst ta row column
       → PassesFirst tb y x
@@ -230,37 +209,30 @@ module _ (ta tb test : ℕ → ℕ → Bool) (one : (r c : ℕ) → ta r c ≡ t
       → PassesFirst test row column
   first_of row column y x a b before = grind (arith, nat_tests)
 
--- The earlier of the two cells is the first that passes either test.
 earlier_found : (ta tb : ℕ → ℕ → Bool) (a b : Option (ℕ × ℕ))
     → FindsFirst ta a
     → FindsFirst tb b
     → FindsFirst (λ row column. ta row column || tb row column) (earlier a b)
 earlier_found ta tb a b na nb = grind (arith, nat_tests, first_alone, first_of)
 
--- ---- the first wrong cell
-
 module _ (s : Listener) where
-  -- It has another code than the due page.
+  -- The stored cell has another code than the due page.
   abbrev other : ℕ → ℕ → Bool
   other row column =
       not (cell s.comparison.page row column == cell s.comparison.due row column)
 
-  -- It has due text, and its row did not come.
+  -- The cell has due text, and its row did not come since the last header.
   abbrev lacks : ℕ → ℕ → Bool
   lacks row column =
       not (cell s.comparison.due row column == space || get_or s.again (row - 1) false)
 
-  -- It is wrong.
   abbrev wrong : ℕ → ℕ → Bool
   wrong row column = not (is_right_kept s row column)
 
-  -- A cell is wrong in one of these two ways.
   wrong_as : (row column : ℕ) → s.watched.keeps ≡ true
       → wrong row column ≡ (other row column || lacks row column)
   wrong_as row column keeps = grind (arith, nat_tests)
 
-  -- If repeats may not keep the page, only the first way counts. For `first_wrong` and
-  -- `is_known_right`.
   pub wrong_is : (o : Option (ℕ × ℕ))
       → s.watched.keeps ≡ false
       → MatchOption o
@@ -274,7 +246,6 @@ module _ (s : Listener) where
       first_difference wrong s.comparison.page s.comparison.due o
       (λ row column is. grind (arith, nat_tests)) found
 
-  -- The due page without the rows that came.
   abbrev pub IsMissing : Rows → Type 0
   IsMissing missing =
       (row column : ℕ)
@@ -282,7 +253,6 @@ module _ (s : Listener) where
       → cell missing row column
       ≡ cond (get_or s.again (row - 1) false) space (cell s.comparison.due row column)
 
-  -- It gives the first cell whose row did not come.
   lacks_found : (missing : Rows) (o : Option (ℕ × ℕ))
       → IsMissing missing
       → MatchOption o (missing ≡ blank) (λ place. DiffersFirst missing blank place.0 place.1)
@@ -290,7 +260,6 @@ module _ (s : Listener) where
   lacks_found missing o cells found =
       grind (arith, nat_tests, differing_found, cell-blank, by_cells)
 
-  -- If repeats may keep the page, it is the earlier of both. For `first_wrong`.
   pub wrong_keeping : (missing : Rows) (a b : Option (ℕ × ℕ))
       → s.watched.keeps ≡ true
       → IsMissing missing

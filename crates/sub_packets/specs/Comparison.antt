@@ -1,5 +1,5 @@
--- The page that is shown next to the page that is due. In other crates, only contracts of private
--- functions use it.
+-- The page that is shown, and the page that is due. In other crates, only contracts of private
+-- functions use this record.
 use Rattle.std.specs.Prelude.{◌≡◌, ℕ, ◌+◌, ◌-◌, IfSome, Option, Some, None}
 use Rattle.ttx_page.specs.Differing.{differing}
 use Rattle.ttx_page.specs.Page.{Rows, blank}
@@ -8,13 +8,13 @@ pub record ComparisonValue : Type 0 where
   pub page : Rows
   pub due : Rows
 
--- The numbers of cells in which the page that is shown and the blank page differ from the due page.
--- The first may be unknown.
+-- `wrong`, if known, and `blank_wrong` are the numbers of cells in which the page that is shown and
+-- the blank page differ from the due page.
 pub record IsCounted (page due : Rows) (wrong : Option ℕ) (blank_wrong : ℕ) : Type 0 where
   pub wrong_is : IfSome wrong (λ n. n ≡ differing page due)
   pub blank_is : blank_wrong ≡ differing blank due
 
--- The count after a row changed from `before` to `after` differing cells.
+-- The number of differing cells after one row changed from `before` to `after` differing cells.
 abbrev pub recounted : Option ℕ → ℕ → ℕ → Option ℕ
 recounted None before after = None
 recounted (Some n) before after = Some (n - before + after)

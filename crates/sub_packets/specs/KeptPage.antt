@@ -1,12 +1,12 @@
--- Properties of the page that a listener keeps. In other crates, only contracts of private
--- functions use them.
+-- Properties of the page that a listener stores. In other crates, only contracts of private
+-- functions use these definitions.
 use Rattle.std.specs.Prelude.{ℕ, ◌-◌, ◌&&◌, ◌||◌, ◌==◌, Bool, Option, false, not, slice_index_or}
 use Rattle.ttx_page.specs.Page.{Rows, cell, space}
 use Rattle.sub_rules.specs.Events.{first_cell, was_due}
 use Rattle.sub_packets.specs.declared.listener.Listener.{Listener}
 
--- A cell is right: it has the due code, and, if repeats may keep the page, text in it came since
--- the last header of the page.
+-- A cell of the stored page is right: it has the due code, and, if repeats may keep the page and
+-- the due code is no space, its row came since the last header of the page.
 abbrev pub is_right_kept : Listener → ℕ → ℕ → Bool
 is_right_kept s row column =
     cell s.comparison.page row column == cell s.comparison.due row column
@@ -14,12 +14,12 @@ is_right_kept s row column =
     || cell s.comparison.due row column == space
     || slice_index_or s.again (row - 1) false)
 
--- The first wrong cell.
+-- The first wrong cell of the stored page, by row and then by column.
 unfoldable pub wrong_kept : Listener → Option (ℕ × ℕ)
 wrong_kept s = first_cell (λ row column. not (is_right_kept s row column))
 
--- The first cell whose code is neither a space nor was due there at frame f or at one of the n
--- frames before it, from `first` on.
+-- The first cell of the stored page whose code is neither a space nor due in that cell at frame f
+-- or at one of the n frames before f. Frames before `first` do not count.
 unfoldable pub unexpected_kept : Listener → (ℕ → Rows) → ℕ → ℕ → ℕ → Option (ℕ × ℕ)
 unexpected_kept s due first f n =
     first_cell
@@ -27,6 +27,6 @@ unexpected_kept s due first f n =
     not (cell s.comparison.page row column == space)
     && not (was_due due first f n row column (cell s.comparison.page row column)))
 
--- Complete pages are required, and the page is still open.
+-- Complete pages are required, and the stored page is still open.
 abbrev pub is_incomplete_kept : Listener → Bool
 is_incomplete_kept s = s.watched.complete && s.is_open

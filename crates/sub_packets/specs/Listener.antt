@@ -1,5 +1,5 @@
--- How the state of a listener follows from the packets that it received, whatever rules they break.
--- In other crates, only contracts of private functions use it.
+-- How the state of a listener follows from the packets that it received, whether or not they break
+-- rules. In other crates, only contracts of private functions use these definitions.
 use Rattle.std.specs.Prelude.{◌≡◌, ℕ, ◌-◌, ◌<◌, ◌≤◌, Bool, false, List, [], ◌∷◌, ◌++◌, Option}
 use Rattle.std.specs.Prelude.{None, Some, if◌then◌else◌, is_some, length, option_map, not}
 use Rattle.std.specs.Prelude.{◌+◌, ◌*◌, ◌&&◌, ◌||◌, ◌==◌, nat_lt, true}
@@ -20,7 +20,7 @@ use Rattle.sub_rules.specs.declared.packet_rule.Watched.{Watched}
 
 -- ---- a set of rules
 
--- The set of the rules of a list that pass a test: one bit for each, the first rule in the lowest
+-- The set of those rules of a list that pass a test: one bit per rule, the first rule in the lowest
 -- bit.
 unfoldable pub rule_set : (PacketRule → Bool) → List PacketRule → ℕ
 rule_set test [] = 0
@@ -28,18 +28,20 @@ rule_set test (r ∷ rules) = (if test r then 1 else 0) + 2 * rule_set test rule
 
 -- ---- the state
 
--- The codes of a row, given its first packet; spaces if there is none.
+-- The codes of a row, given its first packet; spaces if no packet of the row was received.
 abbrev pub held : Option (List ℕ) → List ℕ
 held None = blank_row
 held (Some p) = codes_of p
 
--- The state is what the definitions give, which look back over all packets.
+-- The stored state of a listener is the one that the definitions of `sub_rules` compute from all
+-- packets received.
 pub record Knows (heard : List (List ℕ)) (s : Listener) : Type 0 where
   pub serial_is : s.serial ≡ option_map (λ (h : Header). c11 h) (first_header heard)
   pub open_is : s.is_open ≡ is_open_after (kind s.watched.page) heard
   pub subcode_is :
       s.subcode ≡ option_map (λ (h : Header). h.subcode) (last_header s.watched.page heard)
-  -- The rows received since the text began, and the codes of the first packet of each.
+  -- The rows received since the text of the page began, and the codes of the first packet of each
+  -- row.
   pub sent_is : (row : ℕ) → 1 ≤ row → row ≤ 24
       → slice_index_or s.sent (row - 1) false
       ≡ is_some
@@ -52,13 +54,13 @@ pub record Knows (heard : List (List ℕ)) (s : Listener) : Type 0 where
   pub again_is : (row : ℕ) → 1 ≤ row → row ≤ 24
       → slice_index_or s.again (row - 1) false ≡ has_row s.watched.page heard row
 
--- The first n packets of a frame, sent after those of `before`, break no rule.
+-- The first n packets of a frame, sent after the packets `before`, break no rule.
 abbrev pub BreakNone : Watched → List (List ℕ) → List (List ℕ) → ℕ → Type 0
 BreakNone w before packets n =
     (k : ℕ) → k < n → broken_rules w (before ++ take k packets) (slice_index_or packets k []) ≡ []
 
--- The last packets begin with a header that begins the text, contain `headers` headers of the page,
--- and break no rule.
+-- The last packets received begin with a header that begins the text of the page, contain `headers`
+-- headers of the page, and break no rule.
 pub record WereJudged (w : Watched) (heard last : List (List ℕ)) (headers : ℕ) : Type 0 where
   pub before : List (List ℕ)
   pub heard_is : heard ≡ before ++ last
@@ -67,12 +69,12 @@ pub record WereJudged (w : Watched) (heard last : List (List ℕ)) (headers : �
   pub count : header_count w.page last ≡ headers
 
 -- The text of the page begins with a packet of a frame: with one of its first `from` packets, or
--- with one of these.
+-- with one of `packets`.
 abbrev pub begins_frame : Watched → ℕ → Bool → List (List ℕ) → Bool
 begins_frame w from before packets =
     (nat_lt 0 from && before) || holds_beginning w.keeps (kind w.page) packets
 
--- The state for all packets, and for the last ones.
+-- A listener's state agrees with all packets received, `heard`, and with the last ones, `last`.
 pub record KnowsLast (heard last : List (List ℕ)) (s : Listener) : Type 0 where
   pub knows : Knows heard s
   pub last_is : (headers : ℕ) → s.last ≡ Some headers → WereJudged s.watched heard last headers
@@ -80,26 +82,28 @@ pub record KnowsLast (heard last : List (List ℕ)) (s : Listener) : Type 0 wher
 
 -- ---- packets that need not be examined
 
--- A header with this C11 has the C11 of the first header. There was one.
+-- A header whose C11 is `serial` has the C11 of the first page header; false if no page header was
+-- received.
 abbrev pub is_of_mode : Option Bool → Bool → Bool
 is_of_mode None serial = false
 is_of_mode (Some first) serial = is_same_bit first serial
 
--- A header, without coding errors, has the C11 of the first header, is no header of the page, and
--- does not end it while it is open.
+-- A header without coding errors needs no examination: it has the C11 of the first page header, is
+-- no header of the page, and does not end the page while it is open.
 abbrev pub is_skipped_header : ℕ → Header → Listener → Bool
 is_skipped_header magazine h s =
     is_of_mode s.serial (c11 h)
     && (if s.is_open then not (magazine == s.watched.page.magazine) && not (c11 h)
     else not (magazine == s.watched.page.magazine && h.page == s.watched.page.page))
 
--- The packet, coming next, breaks no rule and leaves the state as it is.
+-- The packet p, received after `heard`, breaks no rule and leaves the state of the listener as it
+-- is.
 pub record IsSkipped (heard : List (List ℕ)) (p : List ℕ) (s : Listener) : Type 0 where
   pub breaks_none : rule_set (λ r. breaks r s.watched heard p) packet_rules ≡ 0
   pub knows : Knows (heard ++ p ∷ []) s
 
--- Whenever the packet comes, it is no header of the page, breaks no rule, and leaves the state as
--- it is.
+-- Whenever the packet p comes while the listener is in state s, it is no header of the page, breaks
+-- no rule, and leaves the state as it is.
 pub record IsAlwaysSkipped (p : List ℕ) (s : Listener) : Type 0 where
   pub no_header : is_this_page (kind s.watched.page p) ≡ false
   pub skipped : (heard : List (List ℕ)) → Knows heard s → IsSkipped heard p s

@@ -1,5 +1,5 @@
--- Packets that are sent again. If the first of them is a header with which the text of the page
--- begins, each breaks the same rules again.
+-- Packets that are sent again. If the first packet is a header with which the text of the page
+-- begins, each packet breaks the same rules again.
 use Rattle.std.specs.Prelude.{◌≡◌, ℕ, ◌<◌, List, [], ◌∷◌, ◌++◌, length, IsTrue, slice_index_or}
 use Rattle.std.specs.Prelude.{take}
 use Rattle.ttx_page.specs.PacketKind.{begins_text, kind}
@@ -9,7 +9,7 @@ use Rattle.sub_rules.specs.PacketRules.{first_header}
 use Rattle.sub_rules.specs.PacketTests.{broken_rules}
 use Rattle.sub_rules.specs.declared.packet_rule.Watched.{Watched}
 
--- The first of the packets is a header of the page with which its text begins.
+-- The first packet of the list is a header of the page with which the text of the page begins.
 pub record BeginsWithHeader (w : Watched) (packets : List (List ℕ)) : Type 0 where
   pub first : List ℕ
   pub others : List (List ℕ)
@@ -26,7 +26,8 @@ pub record HaveSameContent (w : Watched) (one other : List (List ℕ)) : Type 0 
   pub span_is : span (kind w.page) one ≡ span (kind w.page) other
   pub text_is : text_span w.keeps (kind w.page) one ≡ text_span w.keeps (kind w.page) other
 
--- Each of these packets breaks the same rules after the one list as after the other.
+-- Each packet of the list `packets` breaks the same rules after the packets `one` as after the
+-- packets `other`.
 abbrev pub BreakSameRules : Watched → List (List ℕ) → List (List ℕ) → List (List ℕ) → Type 0
 BreakSameRules w one other packets =
     (k : ℕ)
@@ -34,9 +35,9 @@ BreakSameRules w one other packets =
     → broken_rules w (one ++ take k packets) (slice_index_or packets k [])
     ≡ broken_rules w (other ++ take k packets) (slice_index_or packets k [])
 
--- Packets that begin with such a header break the same rules when they are sent again at once, and
--- leave everything that the rules look back to as it was. So a checker need not examine packets
--- that broke no rule when they are sent again.
+-- Packets that begin with a header that begins the text break the same rules when they are sent
+-- again at once, and everything that the rules look back to stays the same. So a checker need not
+-- examine packets that broke no rule when they are sent again.
 abbrev pub LawOfSentAgain : Type 0
 LawOfSentAgain =
     (w : Watched) (heard packets : List (List ℕ))

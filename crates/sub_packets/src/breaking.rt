@@ -25,8 +25,9 @@ use ttx_page::PacketKind;
 impl Listener {
     ghost use Rattle.sub_packets.specs.Listener.{Knows};
 
-    /// Returns the rules that the next packet breaks. `found` is its kind, and `page_header` its
-    /// page header. The set is built from the last rule to the first.
+    /// Returns the rules that the packet breaks, given the packets received before it. `found` is
+    /// its kind, and `page_header` its page header. The set is built from the last rule to the
+    /// first.
     #[inline(always)]
     pub(crate) fn broken_rules(
         &self,
@@ -46,7 +47,8 @@ impl Listener {
             .with_before(has_wrong_address(packet))
     }
 
-    // Returns which of the rules after the third the packet breaks; these depend on its kind.
+    // Returns which rules from `Control` on the packet breaks. They depend on the packet's kind;
+    // the first three rules do not.
     #[inline(always)]
     fn broken_later(&self, packet: &Packet, found: PacketKind) -> RuleSet
         requires kind { found ≡ kind self.now.watched.page packet.now }
@@ -66,8 +68,8 @@ impl Listener {
         }
     }
 
-    // Returns whether a header of the page has the control bits of a subtitle and may come at this
-    // point.
+    // Returns whether a header of the page has the control bits of a subtitle, and erases the page
+    // or is an allowed repeat.
     fn is_subtitle(&self, header: &Header) -> bool
         ensures { (heard : List (List ℕ)) → Knows heard self.now
             → result ≡ is_subtitle_header self.now.watched heard header.now }
@@ -75,7 +77,8 @@ impl Listener {
         self.may_follow_as_header(header) && has_subtitle_bits(self.watched.national, header)
     }
 
-    // Returns whether a header of the page erases it, or repeats it if repeats may keep the page.
+    // Returns whether a header of the page erases the page, or repeats the last header if repeats
+    // may keep the page.
     fn may_follow_as_header(&self, header: &Header) -> bool
         ensures { (heard : List (List ℕ)) → Knows heard self.now
             → result ≡ may_follow_as_header self.now.watched heard header.now }
@@ -83,7 +86,8 @@ impl Listener {
         is_erasing(header) || (self.watched.keeps && self.repeats_page(header))
     }
 
-    // Returns whether a header of the page repeats it.
+    // Returns whether a header of the page repeats the last header: it has the same subcode, and
+    // the page is complete if complete pages are required.
     fn repeats_page(&self, header: &Header) -> bool
         ensures { (heard : List (List ℕ)) → Knows heard self.now → result
             ≡ repeats_page self.now.watched.complete self.now.watched.page heard header.now }

@@ -1,4 +1,4 @@
-//! The page that the packets show, next to the page that is due, and the number of cells that
+//! The page that the packets show, the page that is due, and the number of cells in which they
 //! differ.
 ghost use Rattle.std.specs.Prelude.{◌≡◌, ◌↔◌, ℕ, ◌-◌, ◌≤◌, ◌==◌, not, IfSome, IsTrue, MatchOption};
 ghost use Rattle.std.specs.Prelude.{Some, slice_set};
@@ -25,8 +25,9 @@ use ttx_page::{Page, differing_columns};
 pub struct Comparison {
     page: Page,
     due: Page,
-    // The number of differing cells. `None` after another page became due, up to the next header,
-    // which usually comes before the number is needed.
+    // The number of cells in which the page that is shown differs from the due page, 0 to 960.
+    // `None` after another page became due, up to the next header, which usually comes before the
+    // number is needed.
     wrong: Option<u16>,
     // The number of cells in which a blank page differs from the due page: the value of `wrong`
     // after a header.
@@ -44,7 +45,7 @@ impl Model for Comparison {
 }
 
 impl Comparison {
-    /// Returns a blank page next to the page that is due.
+    /// Returns the comparison of a blank page with the page that is due.
     pub(crate) fn new(due: Page) -> Self
         ensures { result ≡ record { page = blank; due = due } }
     {
@@ -74,7 +75,7 @@ impl Comparison {
         drawn
     }
 
-    /// Blanks the page that is shown.
+    /// Makes the page that is shown blank.
     pub(crate) fn clear(&mut self)
         ensures { self.new ≡ record self.old { page = blank } }
     {
@@ -97,7 +98,7 @@ impl Comparison {
         self.wrong = recounted(self.wrong, before, after);
     }
 
-    /// Returns whether the row that is shown has other codes than the packet.
+    /// Returns whether the row of the page that is shown differs from the codes of the packet.
     pub(crate) fn differs_from(&self, row: u8, packet: &Packet) -> bool
         requires { IsRow row }
         ensures { result
@@ -106,7 +107,8 @@ impl Comparison {
         differing_columns(self.page.row(row), &text_codes(packet)) != 0
     }
 
-    /// Returns whether the count shows that no cell differs from the due page.
+    /// Returns whether the count shows that no cell differs from the due page. `false` if the count
+    /// is unknown.
     #[inline(always)]
     #[tactic(auto, using(ttx_page::proofs::DifferingLemmas::cells_same))]
     pub(crate) fn is_known_right(&self) -> bool
@@ -130,7 +132,8 @@ impl Comparison {
         &self.due
     }
 
-    /// Returns the first cell that differs from the due page. Uses the count if it is known.
+    /// Returns the row (1 to 24) and column (0 to 39) of the first cell that differs from the due
+    /// page. If the count is known to be 0, no cell is compared.
     #[tactic(auto, using(ttx_page::proofs::DifferingLemmas::cells_same))]
     pub(crate) fn first_wrong(&self) -> Option<(u8, u8)>
         ensures { MatchOption result
@@ -146,7 +149,8 @@ impl Comparison {
     }
 }
 
-// Returns the count after a row changed from `before` to `after` differing cells.
+// Returns the number of differing cells after one row changed from `before` to `after` differing
+// cells.
 fn recounted(wrong: Option<u16>, before: u16, after: u16) -> Option<u16>
     requires wrong { IfSome wrong (λ n. (before ≤ n) × (n ≤ 960)) }
     requires after { after ≤ 40 }

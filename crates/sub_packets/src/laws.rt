@@ -1,9 +1,9 @@
-//! A law of packets that are sent again.
+//! A law about packets that are sent again.
 //!
-//! The function does nothing: its contract is a law about the definitions of `specs/`.
+//! The function has no body: its contract is a law about the definitions of `specs/`.
 ghost use Rattle.sub_packets.specs.SentAgain.{LawOfSentAgain};
 
-/// Packets that begin with a header of the page and break no rule break none when they are sent
+/// Packets that begin with a header of the page and break no rule break no rule when they are sent
 /// again.
 pub fn law_of_sent_again()
     ensures { LawOfSentAgain }

@@ -1,4 +1,4 @@
-//! Keeps what the rules need of the packets received so far.
+//! Stores what the rules need to know about the packets received so far.
 ghost use Rattle.std.specs.Prelude.{◌≡◌, ◌≢◌, ℕ, ◌+◌, ◌-◌, ◌<◌, ◌≤◌, ◌++◌, List, [], ◌∷◌};
 ghost use Rattle.std.specs.Prelude.{length, IsTrue, true, false, map};
 ghost use Rattle.std.specs.Prelude.{replicate};
@@ -32,43 +32,44 @@ use ttx_packet::{Header, Packet, SentPacket};
 use ttx_page::{PacketKind, Page};
 use ttx_pes::SentUnits;
 
-/// What the rules need of the packets received so far.
+/// What the rules need to know about the packets received so far.
 ///
 /// Which rules a packet breaks depends on the packets before it: on the first page header, whether
 /// the page is open, the subcode of its last header, and the rows received since its text began.
-/// The listener keeps these, and the page that the packets show next to the page that is due.
+/// The listener stores these facts, the page that the packets show, and the page that is due.
 #[derive(Drop)]
 pub struct Listener {
     /// The page, its national option, whether complete pages are required, and whether repeats may
     /// keep the page.
     pub watched: Watched,
-    // C11 of the first page header.
+    // C11 (magazine serial) of the first page header; `None` before a header was received.
     pub(crate) serial: Option<bool>,
-    // The page is open for rows.
+    // Whether the page is open: rows that are received now belong to the page.
     pub(crate) is_open: bool,
-    // The subcode of the last header of the page.
+    // The subcode of the last header of the page; `None` before a header of the page was received.
     pub(crate) subcode: Option<u16>,
-    // The rows received since the last header with which the text of the page began.
+    // The rows received since the last header with which the text of the page began; row 1 is at
+    // index 0.
     pub(crate) sent: [bool; 24],
-    // The rows received since the last header of the page.
+    // The rows received since the last header of the page; row 1 is at index 0.
     pub(crate) again: [bool; 24],
-    /// The page that the packets show, next to the page that is due.
+    /// The page that the packets show, and the page that is due.
     pub comparison: Comparison,
-    /// The text of the page begins with one of the packets of the last frame.
+    /// Whether the text of the page begins with one of the packets of the last frame.
     pub begun: bool,
     // The number of headers of the page in the last packets, if the text begins with the first of
     // them and none breaks a rule.
     last: Option<u8>,
 }
 
-// The properties of a packet that was received.
+// Whether a received packet is a header of the page, begins the text, and breaks no rule.
 #[derive(Clone, Copy)]
 struct Heard {
-    // It is a header of the page.
+    // The packet is a header of the page.
     is_header: bool,
-    // The text begins with it.
+    // The text of the page begins with the packet.
     begins: bool,
-    // It breaks no rule.
+    // The packet breaks no rule.
     is_clean: bool,
 }
 
@@ -78,7 +79,7 @@ impl Listener {
     ghost use Rattle.sub_packets.specs.Listener.{begins_frame};
     ghost use Rattle.sub_packets.specs.Listener.{is_skipped_header, rule_set};
 
-    /// Returns the state before the first packet, with this page due.
+    /// Returns the state before the first packet. `due` is the page that is due.
     pub fn new(watched: Watched, due: Page) -> Self
         ensures watched { result.watched ≡ watched }
         ensures due { result.comparison.due ≡ due }
@@ -121,11 +122,11 @@ impl Listener {
     }
 
     /// Receives packets of a frame, reports the rules that they break, and returns the number of
-    /// headers of the page. `again`: they equal the last packets. `from` is the number of the first
-    /// packet in its frame, which is 0 except after PES packets of the same frame.
+    /// headers of the page. `again`: the packets equal the last packets. `from` is the number of
+    /// the first packet in its frame, which is 0 except after PES packets of the same frame.
     ///
-    /// If packets that begin the text and break no rule are sent again, they break none and change
-    /// nothing, so they are not examined.
+    /// If packets that begin the text and break no rule are sent again, they break no rule and
+    /// change nothing, so they are not examined.
     #[inline(always)]
     pub fn hear_sending<A: Taker>(
         &mut self,
@@ -157,7 +158,7 @@ impl Listener {
         self.hear_all(units, frame, from, taker)
     }
 
-    // Receives packets of a frame, and reports the rules that they break.
+    // Receives packets of a frame, and reports the rules that the packets break.
     #[inline(never)]
     fn hear_all<A: Taker>(
         &mut self,
@@ -203,11 +204,11 @@ impl Listener {
     }
 
     // Returns the number of the first packet from `from` on that has to be examined, or the number
-    // of packets if none has.
+    // of packets if no packet has to be.
     //
-    // Most packets of a service need not be examined. So this is a function of its own, whose loop
-    // keeps its values in registers, and which is compiled once for an open page and once for a
-    // closed one.
+    // Most packets of a service need not be examined. This function is separate so that the loop
+    // keeps its values in registers, and so that it is compiled once for an open page and once for
+    // a closed page.
     #[inline(never)]
     fn next_heard(&self, units: &SentUnits<'_>, from: usize) -> usize
         requires { from ≤ length units.now }
@@ -267,7 +268,8 @@ impl Listener {
 
     // Returns whether a page header breaks no rule and changes nothing.
     //
-    // Kept out of `is_skipped`, which would otherwise keep less in registers for other packets.
+    // Not inlined into `is_skipped`, which would otherwise keep fewer values in registers for other
+    // packets.
     #[inline(never)]
     fn skips_header(&self, magazine: u8, packet: &SentPacket<'_>) -> bool
         ensures { IsTrue result → HasExactHeader packet.now × ((h : Header)
@@ -329,8 +331,8 @@ impl Listener {
         }
     }
 
-    // Receives a packet, and returns whether it is a header of the page. If a row is received
-    // again, its first packet stays.
+    // Receives a packet, and returns whether the packet is a header of the page. If a row is
+    // received again, the codes of its first packet are kept.
     #[inline(always)]
     fn hear(&mut self, packet: &Packet, found: PacketKind, page_header: Option<Header>) -> bool
         requires kind { found ≡ kind self.old.watched.page packet.now }
@@ -407,7 +409,7 @@ impl Listener {
         self.again = [false; 24];
     }
 
-    // Stores a row.
+    // Stores the codes of a row, and marks the row as received.
     fn store(&mut self, row: u8, codes: &[u8; 40])
         requires row { (1 ≤ row) × (row ≤ 24) }
         requires codes { AreCodes codes.now }
@@ -425,7 +427,7 @@ impl Listener {
         self.comparison.set_row(row, codes);
     }
 
-    // Notes that a row was received again.
+    // Marks a row as received since the last header, without changing its codes.
     fn set_again(&mut self, row: u8)
         requires { (1 ≤ row) × (row ≤ 24) }
         ensures { self.new ≡ record self.old {

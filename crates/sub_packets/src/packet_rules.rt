@@ -1,4 +1,5 @@
-//! The rules for a single packet. The listener combines them with what it keeps.
+//! The rules for a single packet. The listener combines them with its stored facts about earlier
+//! packets.
 ghost use Rattle.std.specs.Prelude.{◌≡◌, ◌&&◌, Bool, not, Option, is_some, option_map};
 ghost use Rattle.std.specs.Option.{option_or};
 ghost use Rattle.ttx_packet.specs.PacketAddress.{IsPacket, address};
@@ -29,8 +30,8 @@ fn is_header_packet(packet: &Packet) -> bool
     }
 }
 
-/// Returns whether a packet is X/0 and one of its eight coded bytes is no code word. `page_header`
-/// is its page header.
+/// Returns whether a packet is X/0 and one of its eight coded header bytes is no Hamming 8/4 code
+/// word. `page_header` is the packet's page header.
 #[tactic(auto, using(crate::proofs::PacketRuleLemmas::header_is_zero))]
 pub(crate) fn has_wrong_codes(packet: &Packet, page_header: Option<Header>) -> bool
     requires { page_header ≡ header packet.now }
@@ -42,28 +43,29 @@ pub(crate) fn has_wrong_codes(packet: &Packet, page_header: Option<Header>) -> b
     }
 }
 
-/// Returns whether one of the two address bytes is no code word.
+/// Returns whether one of the two address bytes of a packet is no Hamming 8/4 code word.
 pub(crate) fn has_wrong_address(packet: &Packet) -> bool
     ensures { result ≡ not (are_code_words 0 2 packet.now) }
 {
     !packet.is_clean_address()
 }
 
-// Returns whether one of the eight coded bytes is no code word.
+// Returns whether one of the eight coded header bytes of a packet is no Hamming 8/4 code word.
 fn has_wrong_word(packet: &Packet) -> bool
     ensures { result ≡ not (are_code_words 2 8 packet.now) }
 {
     !packet.is_clean_header()
 }
 
-/// Returns C11, magazine serial.
+/// Returns C11, magazine serial, of a page header.
 pub(crate) fn is_serial(header: &Header) -> bool
     ensures { result ≡ c11 header.now }
 {
     header.control.contains(Control::C11)
 }
 
-/// Returns whether the packet has a page header with another C11 than the first page header.
+/// Returns whether the packet has a page header whose C11 differs from that of the first page
+/// header.
 pub(crate) fn is_other_mode(serial: Option<bool>, page_header: Option<Header>) -> bool
     ensures { result ≡ is_other_mode serial (option_map (λ (h : Header). c11 h) page_header) }
 {
@@ -73,7 +75,7 @@ pub(crate) fn is_other_mode(serial: Option<bool>, page_header: Option<Header>) -
     }
 }
 
-/// Returns C11 of the first page header, after one more packet.
+/// Returns C11 of the first page header, after one more packet with the page header `page_header`.
 pub(crate) fn first_serial(serial: Option<bool>, page_header: Option<Header>) -> Option<bool>
     ensures { result ≡ option_or serial (option_map (λ (h : Header). c11 h) page_header) }
 {
@@ -86,14 +88,14 @@ pub(crate) fn first_serial(serial: Option<bool>, page_header: Option<Header>) ->
     }
 }
 
-/// Returns whether a control bit is set.
+/// Returns whether `control` has the control bit `flag`.
 fn is_bit(control: Control, flag: Control) -> bool
     ensures { result ≡ is_set control flag.0 }
 {
     control.contains(flag)
 }
 
-/// Returns C12, C13 and C14 of a header, which name its national option.
+/// Returns C12, C13 and C14 of a header, which select its national option.
 fn national_bits(header: &Header) -> NationalBits
     ensures { result ≡ national_bits header.now }
 {
@@ -110,8 +112,8 @@ pub(crate) fn is_same_bit(one: bool, other: bool) -> bool
     one == other
 }
 
-/// Returns whether a header with this C11 has the C11 of the first page header; `false` if there
-/// was none.
+/// Returns whether `is_serial` equals C11 of the first page header; `false` if no page header was
+/// received.
 pub(crate) fn is_of_mode(serial: Option<bool>, is_serial: bool) -> bool
     ensures { result ≡ is_of_mode serial is_serial }
 {
@@ -128,8 +130,8 @@ pub(crate) fn is_erasing(header: &Header) -> bool
     is_bit(header.control, Control::C4)
 }
 
-/// Returns whether the text of the page begins with a packet of this kind: a header of the page
-/// that erases it, or any header of it if repeats may not keep the page.
+/// Returns whether the text of the page begins with a packet of this kind: a header that erases the
+/// page, or any header of the page if repeats may not keep the page.
 pub(crate) fn begins_text(keeps: bool, found: &PacketKind) -> bool
     ensures { result ≡ begins_text keeps found.now }
 {
@@ -139,7 +141,8 @@ pub(crate) fn begins_text(keeps: bool, found: &PacketKind) -> bool
     }
 }
 
-/// Returns whether a header has the subcode of the last one; `true` if there was none.
+/// Returns whether a header has the subcode of the last header of the page; `true` if no header of
+/// the page was received.
 pub(crate) fn is_same_subcode(last: Option<u16>, header: &Header) -> bool
     ensures { (o : Option Header) → last ≡ option_map (λ (h : Header). h.subcode) o
         → result ≡ is_same_subcode o header.now }
@@ -150,7 +153,7 @@ pub(crate) fn is_same_subcode(last: Option<u16>, header: &Header) -> bool
     }
 }
 
-/// Returns whether a header has the control bits of a subtitle, whatever C4 is: C6 and C7 are set,
+/// Returns whether a header has the control bits of a subtitle, apart from C4: C6 and C7 are set,
 /// C5 and C10 are clear, and C12, C13 and C14 are those of the national option.
 pub(crate) fn has_subtitle_bits(national: National, header: &Header) -> bool
     ensures { result ≡ has_subtitle_bits national header.now }

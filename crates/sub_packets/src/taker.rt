@@ -1,23 +1,24 @@
-//! A receiver of events that cannot say stop.
+//! A consumer of events that cannot stop the checker.
 ghost use Rattle.std.specs.Prelude.{◌≡◌, [], ◌∷◌, if◌then◌else◌};
 ghost use Rattle.sub_io.specs.Reporting.{Reports};
 
 use sub_rules::Event;
 
-/// Takes events, one after another, and cannot say stop; for example what protects a device that
-/// can.
+/// Takes events, one after another, and cannot stop the checker. An example is the wrapper that
+/// discards events once an audience has stopped.
 pub trait Taker {
     ghost use Rattle.sub_rules.specs.declared.event.Event.{Event};
 
-    // The relation of its state before an event, the event, and its state afterwards.
+    // The relation between the state of the consumer before an event, the event, and the state
+    // afterwards.
     ghost is_reported: { Self → Event → Self → Type 0 };
 
-    /// Takes one more event.
+    /// Takes one more event from the checker.
     fn report(&mut self, event: Event)
         ensures { Reports is_reported self.old self.new (event ∷ []) };
 }
 
-/// Tells an event if the condition holds.
+/// Reports `event` if `is_reported`.
 #[tactic(auto, using(sub_io::proofs::ReportingLemmas::tellings))]
 pub fn report_if<A: Taker>(is_reported: bool, event: Event, taker: &mut A)
     ensures { Reports A.is_reported taker.old taker.new (if is_reported then event ∷ [] else []) }

@@ -1,4 +1,4 @@
-//! Cells whose code was not due within the last frames.
+//! Cells with a code that was due in none of the last frames.
 ghost use Rattle.std.specs.Prelude.{◌≡◌, ℕ, ◌+◌, ◌-◌, ◌<◌, ◌≤◌, ◌==◌, MatchOption};
 ghost use Rattle.std.specs.Prelude.{if◌then◌else◌, slice_index};
 ghost use Rattle.ttx_page.specs.Page.{AreCodes, IsCell, IsPage, IsRow, blank_row, cell};
@@ -12,12 +12,13 @@ use ttx_page::{Page, differing_columns};
 impl Listener {
     ghost use Rattle.sub_packets.specs.KeptPage.{unexpected_kept};
 
-    /// Returns the first cell whose code is neither a space nor due there at `frame` or at one of
-    /// the `within` frames before it, from the frame `first` on.
+    /// Returns the row (1 to 24) and column (0 to 39) of the first cell whose code is neither a
+    /// space nor due in that cell at `frame` or at one of the `within` frames before `frame`.
+    /// Frames before `first` do not count.
     ///
-    /// This is only needed at the end of a frame if the page is wrong and still has time to become
-    /// right. So nothing is stored for it: the due pages are drawn again, each once, without
-    /// allocating memory.
+    /// This search is only needed at the end of a frame if the page is wrong and still has time to
+    /// become right. So nothing is stored for the search: the due pages are drawn again, each once,
+    /// without allocating memory.
     pub fn first_unexpected(
         &self,
         programme: &Programme,
@@ -28,7 +29,8 @@ impl Listener {
         ensures { result ≡ unexpected_kept self.now (due_in programme.now) first frame within }
     {
         let shown = self.comparison.shown();
-        // Usually a header has erased the page, and its rows come in a later frame.
+        // A blank page has no unexpected cell. This is usual: a header has erased the page, and the
+        // rows come in a later frame.
         if shown.cells_not_blank() == 0 {
             return None;
         }
@@ -37,7 +39,7 @@ impl Listener {
     }
 }
 
-// Returns the page without the codes that were due within the last frames.
+// Returns the page with a space for each code that was due in its cell within the last frames.
 fn left_of(shown: &Page, programme: &Programme, first: u32, frame: u32, within: u32) -> Page
     ensures { IsLeft (due_in programme.now) first frame within shown.now result }
 {
@@ -62,8 +64,8 @@ fn earliest(first: u32, frame: u32, within: u32) -> u32
     if from < first { first } else { from }
 }
 
-// Returns the last frame before `at` at which another page may be due; `None` if that is before
-// `least`.
+// Returns the last frame before `at` at which another page may be due; `None` if that frame is
+// earlier than `least`.
 fn frame_before(programme: &Programme, at: u32, least: u32) -> Option<u32>
     ensures { MatchOption result
         ((f : ℕ) → least ≤ f → f ≤ at → due_in programme.now f ≡ due_in programme.now at)
@@ -86,7 +88,8 @@ fn excuse(left: &mut Page, due: &Page)
     }
 }
 
-/// Replaces each cell of a row that has the due code by a space. Most rows are blank.
+/// Replaces each cell of a row that has the due code by a space. A blank row, the usual case, is
+/// not copied.
 pub(crate) fn excuse_row(left: &mut Page, due: &Page, row: u8)
     requires { IsRow row }
     ensures { (r column : ℕ) → IsCell r column → cell left.new r column
@@ -109,7 +112,7 @@ fn spaces() -> [u8; 40]
     [0x20; 40]
 }
 
-// Returns the codes of a row, with a space for each code that is due.
+// Returns the codes of a row, with a space in each cell that has the due code.
 fn excused(shown: &[u8; 40], due: &[u8; 40]) -> [u8; 40]
     requires { AreCodes shown.now }
     ensures value { (column : ℕ) → column < 40 → slice_index result column
@@ -123,7 +126,7 @@ fn excused(shown: &[u8; 40], due: &[u8; 40]) -> [u8; 40]
     codes
 }
 
-// Returns the code, or a space if it is the due one.
+// Returns the code `shown`, or a space if `shown` is the due code.
 #[inline(always)]
 fn unless_due(due: u8, shown: u8) -> u8
     ensures { result ≡ unless_due due shown }

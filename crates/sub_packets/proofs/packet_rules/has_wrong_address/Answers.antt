@@ -1,4 +1,4 @@
--- The test and the fact: PacketRuleLemmas.
+-- `has_wrong_address` decides whether both address bytes are code words: PacketRuleLemmas.
 use Rattle.sub_packets.proofs.PacketRuleLemmas.{wrong_address}
 use Rattle.sub_packets.proofs.packet_rules.has_wrong_address.Goals as goal
 

@@ -1,4 +1,4 @@
--- The codes so far are those of the text.
+-- The codes computed so far are those of the packet's text.
 use Rattle.std.proofs.Common.{◌≡◌, ℕ, ◌+◌, ◌<◌, ◌%◌, length, slice_index}
 use Rattle.sub_packets.proofs.packet_rules.text_codes.Given as goal
 

@@ -1,4 +1,4 @@
--- The events of the remaining rules are those still to be reported.
+-- The events reported so far, followed by those of the remaining rules, are all events of the set.
 use Rattle.std.proofs.Common.{◌≡◌, Bool, drop, map}
 use Rattle.std.specs.List.{filter}
 use Rattle.sub_io.specs.Reporting.{Reports}

@@ -1,4 +1,4 @@
--- The due codes are removed from the rows so far; the others are unchanged.
+-- In the rows examined so far, each due code is replaced by a space; the other rows are unchanged.
 use Rattle.std.proofs.Common.{◌≡◌, ℕ, ◌<◌, ◌≤◌}
 use Rattle.ttx_page.specs.Page.{IsCell, cell}
 use Rattle.sub_packets.specs.Unexpected.{unless_due}

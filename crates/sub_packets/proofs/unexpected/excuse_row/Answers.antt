@@ -1,4 +1,4 @@
--- A row of spaces stays: blank_stays.
+-- A row of spaces does not change when due codes are replaced by spaces: blank_stays.
 use Rattle.std.proofs.Common.{arith}
 use Rattle.std.proofs.lemmas.Bool.Decides.{nat_tests}
 use Rattle.sub_packets.proofs.UnexpectedLemmas.{blank_stays}

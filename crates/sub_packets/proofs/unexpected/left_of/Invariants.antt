@@ -1,4 +1,4 @@
--- What is left, given the frames from the one that was examined last.
+-- `left` is the remaining page for the frames from `at` to `frame`.
 use Rattle.std.proofs.Common.{◌+◌, ◌-◌, ◌≤◌}
 use Rattle.sub_packets.specs.Unexpected.{IsLeft}
 use Rattle.sub_plan.specs.Schedule.{due_in}

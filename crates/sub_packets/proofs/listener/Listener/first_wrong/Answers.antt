@@ -1,4 +1,4 @@
--- The kept page is that of the packets: WrongCellLemmas.
+-- The first wrong cell of the stored page: WrongCellLemmas.
 use Rattle.std.proofs.lemmas.Bool.Decides.{nat_tests}
 use Rattle.std.proofs.Common.{arith, ◌≡◌, ◌∙◌, MatchOption, subst}
 use Rattle.ttx_page.specs.Page.{DiffersFirst, Rows}

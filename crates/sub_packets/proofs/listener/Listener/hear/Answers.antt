@@ -1,4 +1,4 @@
--- The state after one more packet: ListenerLemmas.
+-- The state of the listener after one more packet: ListenerLemmas.
 use Rattle.std.proofs.Common.{◌≡◌, true, [], ◌∷◌, ◌++◌, sym, ap, ◌∙◌, subst, arith}
 use Rattle.std.proofs.lemmas.Bool.Decides.{nat_tests}
 use Rattle.ttx_page.specs.PacketKind.{is_this_page}

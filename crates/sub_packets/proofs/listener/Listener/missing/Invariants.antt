@@ -1,4 +1,5 @@
--- The rows so far lack those that came; the others are those of the due page.
+-- The page `missing` has spaces in the rows that came, of those examined so far, and the due codes
+-- in all other rows.
 use Rattle.std.proofs.Common.{◌≡◌, ℕ, ◌-◌, ◌<◌, ◌≤◌, cond, false, get_or}
 use Rattle.ttx_page.specs.Page.{IsCell, cell, space}
 use Rattle.sub_packets.proofs.listener.Listener.missing.Given as goal

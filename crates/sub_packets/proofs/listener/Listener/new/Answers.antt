@@ -1,4 +1,4 @@
--- The state before the first packet.
+-- A new listener's state agrees with the empty list of packets.
 use Rattle.std.proofs.Common.{refl, arith}
 use Rattle.sub_packets.proofs.ListenerLemmas.{knows_none}
 use Rattle.sub_packets.proofs.listener.Listener.new.Goals as goal
