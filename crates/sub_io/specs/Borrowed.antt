@@ -2,6 +2,7 @@
 -- it. So pulling lent bytes neither blocks nor fails.
 use Rattle.std.specs.Prelude.{◌≡◌, ◌≢◌, ℕ, List, [], ◌++◌, length, take, Result, MatchResult}
 
+-- The lent bytes of a source that lends no bytes.
 abbrev pub lends_nothing : {D : Type 0} → D → List ℕ
 lends_nothing device = []
 

@@ -6,5 +6,6 @@ pub record FaultCodeValue : Type 0 where
   pub number : ℕ
   pub name : List ℕ
 
+-- The fault code with this number and these characters as its name.
 abbrev pub fault_code : ℕ → List ℕ → FaultCodeValue
 fault_code number name = record { number = number; name = name }

@@ -11,6 +11,7 @@ ReportsInOrder IsReported old new [] = new ≡ old
 ReportsInOrder {A} {D} IsReported old new (x ∷ xs) =
     (mid : D) × IsReported old x mid × ReportsInOrder IsReported mid new xs
 
+-- All items of the list were reported to the audience, in order (as a record, for contracts).
 pub record Reports
     {A D : Type 0} (IsReported : D → A → D → Type 0) (old new : D) (items : List A) : Type 0
   where

@@ -1,5 +1,5 @@
--- The order of bits: std's reverse_bits agrees with the definition of mirror, and mirroring twice
--- gives the byte.
+-- Reversing the bits of a byte: std's reverse_bits agrees with the definition of mirror, and
+-- mirroring a byte twice gives the same byte.
 use Rattle.std.proofs.Common.{◌≡◌, ℕ, ◌<◌, List, length, map, slice_index, arith, sym, ◌∙◌}
 use Rattle.std.proofs.Common.{eqb-true}
 use Rattle.std.proofs.lemmas.Bool.Decides.{nat_tests}
@@ -8,17 +8,16 @@ use Rattle.std.proofs.lemmas.Bool.{agree_below_at}
 use Rattle.std.proofs.lemmas.List.{get_or-map, length-map, ext_get_or}
 use Rattle.ttx_packet.specs.BitOrder.{mirror}
 
--- std's reversal of bits is `mirror`: 256 cases, computed.
+-- The function of std that reverses bits agrees with `mirror` on all 256 bytes, by computation.
 pub mirror_is_reversal : (b : ℕ) → b < 0x100 → reverse_bits_onto 8 b 0 ≡ mirror b
 unfolding reverse_bits_onto mirror
 mirror_is_reversal b l = grind (arith, nat_tests, eqb-true, agree_below_at)
 
--- Mirroring twice gives the byte: 256 cases, computed.
+-- Mirroring a byte twice gives the same byte, by computation for all 256 bytes.
 pub mirror-mirror : (b : ℕ) → b < 0x100 → mirror (mirror b) ≡ b
 unfolding mirror
 mirror-mirror b l = grind (arith, nat_tests, eqb-true, agree_below_at)
 
--- A list whose elements are f of those of another, place by place, is f mapped over it.
 pub map-from_places : (f : ℕ → ℕ) (xs ys : List ℕ) (n : ℕ)
     → length xs ≡ n
     → length ys ≡ n

@@ -1,5 +1,6 @@
--- Lists processed in blocks: block_of, the effect of storing a block (block_more), and the first
--- item that passes a test, found by the masks of blocks (first_so_far).
+-- Lists that are processed in blocks of 16: each block is a chunk of the list (block_of), storing a
+-- block extends the processed part (block_more), and the masks of the blocks find the first item
+-- that passes a test (first_so_far).
 use Rattle.std.proofs.Common.{◌≡◌, ℕ, zero, suc, ◌+◌, ◌*◌, ◌/◌, ◌^◌, ◌<◌, ◌≤◌, Bool, true, false}
 use Rattle.std.proofs.Common.{not, List, [], ◌++◌, map, length, get_or, take, drop, sym, ap, ap₂}
 use Rattle.std.proofs.Common.{◌∙◌, take_all, arith, w16}
@@ -16,7 +17,6 @@ use lib.Count.{count_trailing_zeros}
 use lib.Seq.{take-add}
 use lib.Lanes.{chunk, mask_l}
 
--- A block of a list is the chunk at its place.
 pub block_at : (n k : ℕ) (xs : List ℕ) (i : ℕ) → i < k
     → get_or (first_chunks n k xs) i [] ≡ chunk (n * i) n xs
 block_at n zero xs i l = absurd (omega arith)
@@ -26,21 +26,18 @@ block_at n (suc k) xs (suc i) l =
     block_at n k (drop n xs) i (omega arith)
     ∙ ap (take n) (drop-drop (n * i) n xs ∙ ap (λ m. drop m xs) e)
 
--- A block from `as_chunks` is the chunk at its place.
 pub block_of : (blocks : List (List ℕ)) (n : ℕ) (xs : List ℕ) (i : ℕ)
     → blocks ≡ first_chunks n (length xs / n) xs
     → i < length xs / n
     → get_or blocks i [] ≡ chunk (n * i) n xs
 block_of blocks n xs i e l = rw e (block_at n (length xs / n) xs i l)
 
--- The last block of a list.
 pub last_block : (a n : ℕ) (xs ys : List ℕ)
     → length xs ≡ a + n
     → ys ≡ drop a xs
     → ys ≡ chunk a n xs
 last_block a n xs ys size e = grind (arith, nat_tests, take_all, length-drop)
 
--- A bound on all elements of a list, and on 0, holds for those of a block.
 pub below_in_chunk : (b a n : ℕ) (xs : List ℕ)
     → a + n ≤ length xs
     → ((k : ℕ) → get_or xs k 0 < b)
@@ -49,14 +46,11 @@ pub below_in_chunk : (b a n : ℕ) (xs : List ℕ)
 below_in_chunk b a n xs room below k =
     let here = below (a + k) in grind (arith, nat_tests, get_or-chunk, get_or_past, length-chunk)
 
--- ---- lists that are built block by block
-
--- The first bytes of a list of length n are f of those of another.
+-- The first `to` of the n elements of `out` are f of the elements of `xs` at the same places.
 pub record IsMadeTo (f : ℕ → ℕ) (xs : List ℕ) (n to : ℕ) (out : List ℕ) : Type 0 where
   pub size : length out ≡ n
   pub done : take to out ≡ map f (take to xs)
 
--- Storing f of the next block extends them.
 pub block_more : (f : ℕ → ℕ) (xs out ys : List ℕ) (n a w k m : ℕ)
     → m ≡ a + w
     → k ≡ w
@@ -77,16 +71,14 @@ block_more f xs out ys n a w k m e width size room block to =
           ∙ ap (map f) (sym (take-add a w xs) ∙ ap (λ n. take n xs) (sym e));
     }
 
--- When all bytes are done, the list is f mapped over the other.
 pub made_complete : (f : ℕ → ℕ) (xs out : List ℕ) (n : ℕ)
     → length xs ≡ n
     → IsMadeTo f xs n n out
     → out ≡ map f xs
 made_complete f xs out n size to = grind (arith, nat_tests, take_all)
 
--- ---- the first item that passes a test, by the masks of blocks of 16
-
--- If the mask is empty and no earlier item passes, none up to the end of the block passes.
+-- If the mask of a block is empty and no item before the block passes the test, no item up to the
+-- end of the block passes.
 pub none_so_far : {X : Type 0} (p : X → Bool) (xs : List X) (a m : ℕ) (d : X)
     → a + 16 ≤ length xs
     → m ≡ mask_l (map p (chunk a 16 xs))
@@ -98,12 +90,13 @@ pub none_so_far : {X : Type 0} (p : X → Bool) (xs : List X) (a m : ℕ) (d : X
 none_so_far p xs a m d room e zeroes before k l =
     grind (arith, nat_tests, none_from_empty_mask p xs a 16 d room (sym e ∙ zeroes) k)
 
--- The item at a place passes, and none before it does.
+-- The item at `place` passes the test, and no item before it does.
 pub record IsFirst {X : Type 0} (p : X → Bool) (xs : List X) (place : ℕ) (d : X) : Type 0 where
   pub passes : p (get_or xs place d) ≡ true
   pub before : (k : ℕ) → k < place → p (get_or xs k d) ≡ false
 
--- Otherwise the lowest bit of the mask is the first item of the block that passes.
+-- If the mask of a block is not empty and no item before the block passes the test, the lowest bit
+-- of the mask is the first item that passes.
 pub first_so_far : {X : Type 0} (p : X → Bool) (xs : List X) (a m : ℕ) (d : X)
     → a + 16 ≤ length xs
     → m ≡ mask_l (map p (chunk a 16 xs))

@@ -1,5 +1,5 @@
--- Hamming 8/4: the definition by nearness, the function, and the effect of one wrong bit
--- (decoded-near).
+-- Hamming 8/4: decoding by table agrees with the definition by nearness, and one wrong bit does not
+-- change the decoded number (decoded-near).
 use Rattle.std.proofs.Common.{rules, ◌≡◌, ℕ, ◌^◌, ◌<◌, inl, inr, Bool, true, false, not, cond, ◌==◌}
 use Rattle.std.proofs.Common.{◌||◌, Option, Some, None, bit_xor, ◌∙◌, ◌%◌, refl, sym, get_or, arith}
 use Rattle.std.proofs.Common.{nat_eq, nat_lt}
@@ -10,9 +10,6 @@ use Rattle.ttx_packet.specs.Hamming84.{IsCodeWord, Decodes, code_word, decoded}
 use Rattle.ttx_packet.specs.declared.hamming.TheConstants.{DECODED}
 use Rattle.ttx_packet.proofs.OneBitLemmas.{first_below_is, near_from_test}
 
--- ---- decoding against nearness
-
--- The result is this number.
 abbrev is_number : Option ℕ → ℕ → Bool
 is_number None n = false
 is_number (Some m) n = m == n
@@ -20,19 +17,20 @@ is_number (Some m) n = m == n
 is_number_true : (o : Option ℕ) (n : ℕ) → is_number o n ≡ true → o ≡ Some n
 is_number_true o n e = grind (arith, nat_tests)
 
--- A code word decodes to its number: 16 cases, computed.
+-- The code word of each number decodes to that number, by computation for all 16 numbers.
 pub decoded-code_word : (n : ℕ) → n < 16 → decoded (code_word n) ≡ Some n
 unfolding decoded is_near
 decoded-code_word n l = search (rules, is_number_true, agree_below_at)
 
--- Each code word with one bit changed decodes to its number: 16 times 8 cases, computed.
+-- Each code word with one changed bit decodes to the word's number, by computation for all 16 * 8
+-- cases.
 changed_code_words_decode : agree_below
     (λ n. agree_below (λ bit. is_number (decoded (bit_xor (code_word n) (2 ^ bit))) n)
     (λ bit. true) 8) (λ n. true) 16 ≡ true
 unfolding decoded is_near
 changed_code_words_decode = refl
 
--- A byte within one bit of a code word decodes to the word's number.
+-- A byte that differs from a code word in at most one bit decodes to the word's number.
 pub decoded_from : (g n : ℕ) → Decodes g n → decoded g ≡ Some n
 decoded_from g n (l, inl same) = rw same (decoded-code_word n l)
 decoded_from g n (l, inr changed) =
@@ -45,29 +43,22 @@ decoded_from g n (l, inr changed) =
     (agree_below_at (λ bit. is_number (decoded (bit_xor (code_word n) (2 ^ bit))) n) (λ bit. true)
     8 changed.0 row changed.1))
 
--- A byte that decodes to a number is within one bit of that number's code word.
+-- A byte that decodes to a number differs from the number's code word in at most one bit.
 pub decodes_from : (g n : ℕ) → decoded g ≡ Some n → Decodes g n
 unfolding decoded
 decodes_from g n e = let r = first_below_is 16 (λ n. is_near (code_word n) g) n e in
     (r.0, near_from_test (code_word n) g r.1)
 
--- A byte near a code word decodes to the same number.
 pub decoded-near : (sent got : ℕ) → IsCodeWord sent → IsNear sent got → decoded got ≡ decoded sent
 decoded-near sent got (n, l, is) near =
     decoded_from got n (l, rw is at near) ∙ sym (decoded_from sent n (l, inl is))
 
--- ---- code words
-
 pub code_word_is_exact : (n : ℕ) → n < 16 → IsCodeWord (code_word n)
 code_word_is_exact n l = (n, l, refl)
 
--- ---- the table of 256 entries
-
--- The number of an entry of the table.
 abbrev entry : ℕ → Option ℕ
 entry b = cond (nat_eq (get_or DECODED b 0) 255) None (Some (get_or DECODED b 0 % 16))
 
--- Two results are the same.
 abbrev same_answer : Option ℕ → Option ℕ → Bool
 same_answer None None = true
 same_answer None (Some y) = false
@@ -77,14 +68,15 @@ same_answer (Some x) (Some y) = nat_eq x y
 same_answer-true : (a b : Option ℕ) → same_answer a b ≡ true → a ≡ b
 same_answer-true a b e = grind (arith, nat_tests)
 
--- Each entry agrees with the definition: 256 cases, computed.
+-- The table `DECODED` agrees with the definition of decoding, by computation for all 256 bytes.
 pub decoded-by_table : (b : ℕ) → b < 0x100 → decoded b ≡ entry b
 unfolding decoded is_near
 decoded-by_table b l =
     same_answer-true _ _
     (agree_below_at (λ b. same_answer (decoded b) (entry b)) (λ b. true) 0x100 b refl l)
 
--- An entry below 16 is the number of the code word at its place: 256 cases, computed.
+-- If the entry of a byte in the table `DECODED` is below 16, the byte is a code word, by
+-- computation for all 256 bytes.
 pub word_from_entry : (b : ℕ) → b < 0x100 → get_or DECODED b 0 < 16 → IsCodeWord b
 word_from_entry b l small =
     let test : ℕ → Bool = λ b. not (nat_lt (get_or DECODED b 0) 16)
@@ -92,7 +84,8 @@ word_from_entry b l small =
     let passes = agree_below_at test (λ b. true) 0x100 b refl l in
     (get_or DECODED b 0, small, grind (arith, nat_tests))
 
--- The entry of a code word is below 16: 16 cases, computed.
+-- The entry of each code word in the table `DECODED` is below 16, by computation for all 16 code
+-- words.
 pub entry_from_word : (b : ℕ) → IsCodeWord b → get_or DECODED b 0 < 16
 entry_from_word b (n, l, is) =
     rw is

@@ -1,4 +1,5 @@
--- The vector code, byte by byte: mirror_lanes, even_lanes, odd_lanes.
+-- The vector code computes for each byte what its definition says: mirror_lanes, even_lanes,
+-- odd_lanes.
 use Rattle.std.proofs.Common.{◌≡◌, ℕ, suc, ◌*◌, ◌/◌, ◌%◌, ◌^◌, ◌-◌, ◌<◌, true, cond, List, [], ◌∷◌}
 use Rattle.std.proofs.Common.{map, length, get_or, replicate, refl, sym, ap, ap₂, ◌∙◌, arith, w8}
 use Rattle.std.proofs.Common.{Fits, nat_eq, eqb-true}
@@ -14,20 +15,16 @@ use Rattle.ttx_packet.specs.BitOrder.{mirror}
 use Rattle.ttx_packet.specs.Lanes.{swapped, folded, is_even, evens_mask}
 use Rattle.ttx_packet.specs.Parity.{is_odd, odd_byte}
 
--- A lane shifted right.
 abbrev pub down : ℕ → ℕ → ℕ
 down a b = a / 2 ^ b
 
--- A lane shifted left.
 abbrev pub up : ℕ → ℕ → ℕ
 up a b = a * 2 ^ b % 2 ^ 8
 
--- Lanes that fit a byte are below 256.
 pub lane_below : (v : List ℕ) → Each1 (Fits w8) v → (i : ℕ) → get_or v i 0 < 0x100
 lane_below [] h i = omega arith
 lane_below (x ∷ xs) h i = grind (arith, nat_tests, lane_below xs h.1)
 
--- Two functions that agree on bytes agree on lanes of bytes.
 same_lanes : {X : Type 0} (f g : ℕ → X) (v : List ℕ) (n : ℕ)
     → ((x : ℕ) → x < n → f x ≡ g x)
     → ((i : ℕ) → get_or v i 0 < n)
@@ -36,9 +33,6 @@ same_lanes f g [] n same below = refl
 same_lanes f g (x ∷ xs) n same below =
     ap₂ (λ y ys. y ∷ ys) (same x (below 0)) (same_lanes f g xs n same (λ i. below (suc i)))
 
--- ---- reversing bits
-
--- One swapping step, as the lanes compute it.
 pub swapped_lanes : (v : List ℕ) (n k m : ℕ) → length v ≡ n
     → zip2 bit_or (zip2 bit_and (zip2 down v (replicate n k)) (replicate n m))
     (zip2 up (zip2 bit_and v (replicate n m)) (replicate n k)) ≡ map (swapped k m) v
@@ -57,17 +51,15 @@ swapped_lanes v n k m long =
     in
     zip2_of_maps bit_or (λ x. bit_and (x / 2 ^ k) m) (λ x. bit_and x m * 2 ^ k % 2 ^ 8) v high low
 
--- The three steps for one byte.
 abbrev mirrors : ℕ → ℕ
 mirrors x = swapped 1 0x55 (swapped 2 0x33 (swapped 4 0x0F x))
 
--- They agree with the definition: 256 cases, computed.
+-- The three swapping steps reverse the bits of a byte, by computation for all 256 bytes.
 mirrors_is : (x : ℕ) → x < 0x100 → mirrors x ≡ mirror x
 unfolding mirror
 mirrors_is x l =
     eqb-true _ _ (agree_below_at (λ x. nat_eq (mirrors x) (mirror x)) (λ x. true) 0x100 x refl l)
 
--- The three steps mirror each lane.
 pub mirror_lanes : (v a b c : List ℕ)
     → ((i : ℕ) → get_or v i 0 < 0x100)
     → a ≡ map (swapped 4 0x0F) v
@@ -77,19 +69,14 @@ pub mirror_lanes : (v a b c : List ℕ)
 mirror_lanes v a b c fits ea eb ec =
     rw (ec, eb, ea, map-map, map-map) (same_lanes mirrors mirror v 0x100 mirrors_is fits)
 
--- ---- parity
-
--- One folding step, as the lanes compute it.
 pub folded_lanes : (v : List ℕ) (n k : ℕ) → length v ≡ n
     → zip2 bit_xor v (zip2 down v (replicate n k)) ≡ map (folded k) v
 folded_lanes v n k long =
     zip2_of_maps bit_xor (λ x. x) (λ x. down x k) v (sym (map-id v)) (zip2_splat down v n k long)
 
--- The three steps for one byte.
 abbrev pub folds : ℕ → ℕ
 folds x = folded 1 (folded 2 (folded 4 x))
 
--- The three steps for all lanes.
 pub folds_lanes : (v a b c : List ℕ)
     → a ≡ map (folded 4) v
     → b ≡ map (folded 2) a
@@ -97,16 +84,15 @@ pub folds_lanes : (v a b c : List ℕ)
     → c ≡ map folds v
 folds_lanes v a b c ea eb ec = rw (ec, eb, ea, map-map, map-map)
 
--- The lowest bit after these steps.
 abbrev last_bit : ℕ → ℕ
 last_bit x = bit_and (folds x) 1
 
--- It is 0 for an even number of ones: 256 cases, computed.
+-- The lowest bit after the three folding steps is 0 exactly for bytes with an even number of ones,
+-- by computation for all 256 bytes.
 last_bit_is : (x : ℕ) → x < 0x100 → nat_eq (last_bit x) 0 ≡ is_even x
 unfolding is_odd count_ones ones_in
 last_bit_is x l = agree_below_at (λ x. nat_eq (last_bit x) 0) is_even 0x100 x refl l
 
--- The mask computed by comparing the lanes.
 pub even_lanes : (v a b c : List ℕ)
     → length v ≡ 16
     → ((i : ℕ) → get_or v i 0 < 0x100)
@@ -130,17 +116,16 @@ even_lanes v a b c long fits ea eb ec =
     ∙ map-map (λ x. nat_eq x 0) last_bit v
     ∙ same_lanes (λ x. nat_eq (last_bit x) 0) is_even v 0x100 last_bit_is fits)
 
--- A code with bit 8 set if its number of ones is even.
 abbrev odd_code : ℕ → ℕ
 odd_code x = bit_or x (bit_xor (folds x) 1 * 2 ^ 7 % 2 ^ 8)
 
--- It is the odd byte of the code: 128 cases, computed.
+-- Setting bit 8 of a code if its number of ones is even gives the odd byte of the code, by
+-- computation for all 128 codes.
 odd_code_is : (x : ℕ) → x < 0x80 → odd_code x ≡ odd_byte x
 unfolding is_odd count_ones ones_in
 odd_code_is x l =
     eqb-true _ _ (agree_below_at (λ x. nat_eq (odd_code x) (odd_byte x)) (λ x. true) 0x80 x refl l)
 
--- The lanes computed from codes are their odd bytes.
 pub odd_lanes : (v a b c : List ℕ)
     → length v ≡ 16
     → ((i : ℕ) → get_or v i 0 < 0x80)

@@ -1,4 +1,5 @@
--- Reading back created packets: law_of_header_packet, law_of_row_packet.
+-- Reading a created packet gives back the contents that it was created from: law_of_header_packet,
+-- law_of_row_packet.
 use Rattle.std.proofs.Common.{rules, ◌≡◌, ℕ, [], zero, suc, ◌+◌, ◌*◌, ◌/◌, ◌%◌, ◌<◌, ◌≤◌, Bool}
 use Rattle.std.proofs.Common.{true, ◌==◌, List, ◌∷◌, ◌++◌, map, replicate, Some, slice_index, refl}
 use Rattle.std.proofs.Common.{sym, ap, ◌∙◌, subst, arith, ◌-◌, ◌^◌, bit_and, div-add-mod', All}
@@ -23,25 +24,19 @@ use Rattle.ttx_packet.proofs.Hamming84Lemmas.{decoded-code_word, code_word_is_ex
 use Rattle.ttx_packet.proofs.ParityLemmas.{odd_of_code, code_of_odd}
 use Rattle.ttx_packet.proofs.ControlLemmas.{bit_small, nibble_small, control_is}
 
--- ---- the header
-
--- The eight numbers of a header are below 16.
 numbers_small : (h : Header) → IsHeader h → All (λ n. n < 16) (header_numbers h)
 numbers_small h is = search (rules, nibble_small, bit_small, All-from_recursion)
 
--- The sub-code, reassembled from its four numbers.
 subcode_is : (n : ℕ) (b c d : Bool) → n < 0x4000 → n / 128 % 2 ≡ 0
     → n % 16 + 16 * ((n / 16 % 8 + 8 * bit b) % 8) + 256 * (n / 256 % 16) + 4096 *
     ((n / 4096 % 4 + 4 * bit c + 8 * bit d) % 4) ≡ n
 subcode_is n b c d l gap = grind (arith, nat_tests)
 
--- The numbers of the control bits, from the numbers that contain them.
 control_of : (n s2 s4 : ℕ) (c4 c5 c6 : Bool) → s2 < 8 → s4 < 4
     → (s2 + 8 * bit c4) / 8 + 2 * ((s4 + 4 * bit c5 + 8 * bit c6) / 4) ≡ bit c4 + 2 *
     (bit c5 + 2 * bit c6)
 control_of n s2 s4 c4 c5 c6 l m = omega (arith, bit_small c4, bit_small c5, bit_small c6)
 
--- The coded bytes of a header packet decode to the header.
 coded_is : (magazine : ℕ) (h : Header) → IsHeader h
     → coded_header (header_packet magazine h) ≡ Some h
 unfolding coded_header header_packet
@@ -63,7 +58,6 @@ coded_is magazine h is =
     let control = control_is h.control.0 is.control in
     rw (e2, e3, e4, e5, e6, e7, e8, e9, page, subcode, low, control) refl
 
--- The eight coded bytes of a header packet are code words.
 coded_exact : (magazine : ℕ) (h : Header) → IsHeader h → (k : ℕ) → 2 ≤ k → k < 10
     → IsCodeWord (slice_index (header_packet magazine h) k)
 unfolding header_packet
@@ -75,9 +69,6 @@ coded_exact magazine h is (suc (suc k)) a b =
     (rw (get_or-map code_word (header_numbers h) k 0 0 (omega arith))
     (code_word_is_exact _ (numbers_small h is k 0 (omega arith))))
 
--- ---- the address
-
--- The two code words of an address decode to it.
 pub address_is : (magazine y : ℕ) (rest : List ℕ) → magazine < 8 → y < 32
     → address (address_words magazine y ++ rest) ≡ Some
     (record { magazine = magazine; packet_number = y })
@@ -86,7 +77,6 @@ address_is magazine y rest m l =
     let low = decoded-code_word ((magazine + 8 * y) % 16) (omega arith) in
     grind (arith, nat_tests, decoded-code_word)
 
--- Both bytes of an address are code words.
 address_exact : (magazine y : ℕ) (rest : List ℕ) → magazine < 8 → y < 32 → (k : ℕ) → k < 2
     → IsCodeWord (slice_index (address_words magazine y ++ rest) k)
 address_exact magazine y rest m l zero b =
@@ -94,14 +84,10 @@ address_exact magazine y rest m l zero b =
 address_exact magazine y rest m l (suc zero) b = search (rules, code_word_is_exact)
 address_exact magazine y rest m l (suc (suc k)) b = absurd (omega arith)
 
--- ---- the two laws
-
--- A space is odd.
 space_odd : is_odd 0x20 ≡ true
 unfolding is_odd count_ones ones_in
 space_odd = refl
 
--- The text of a header packet is spaces.
 header_text : (magazine : ℕ) (h : Header) → HasOddHeaderText (header_packet magazine h)
 unfolding header_packet
 header_text magazine h place from below =
@@ -112,13 +98,11 @@ header_text magazine h place from below =
     ∙ get_or-replicate 32 (place - 10) 0x20 0 (omega arith) in
     rw at space_odd
 
--- A header packet decodes to the header that it was created from.
 pub law_of_header_packet : LawOfHeaderPacket
 unfolding header_packet header
 law_of_header_packet magazine h m is =
     search (rules, address_is, coded_is, address_exact, coded_exact, header_text)
 
--- A control bit is the same after the bits outside C4 to C14 are dropped.
 placed_bit : (n k : ℕ)
     → k < 11
     → (bit_and (n % 0x800) (2 ^ k) == 2 ^ k) ≡ (bit_and n (2 ^ k) == 2 ^ k)
@@ -128,7 +112,8 @@ placed_bit n k l =
     ∙ ap (λ m. bit_at m k) (div-add-mod' n 0x800) in
     grind (arith, nat_tests, and_pow)
 
--- Bits without a place in a header are in no byte of the packet.
+-- Bits that have no place in a page header are in no byte of the header packet, so dropping them
+-- first does not change the packet.
 header_packet-placed :
     (magazine : ℕ) (h : Header) → header_packet magazine (placed h) ≡ header_packet magazine h
 unfolding header_packet
@@ -145,7 +130,6 @@ header_packet-placed magazine h =
     (rw (at 3 (omega arith), at 4 (omega arith), at 5 (omega arith), at 6 (omega arith))
     (rw (at 7 (omega arith), at 8 (omega arith), at 9 (omega arith), at 10 (omega arith)) refl))
 
--- Reading back the packet of any header.
 pub made_placed : (magazine : ℕ) (h : Header) → magazine < 8 → h.page < 0x100
     → IsMadeHeader magazine (placed h) (header_packet magazine h)
 made_placed magazine h m page =
@@ -158,7 +142,6 @@ made_placed magazine h m page =
       control = omega arith;
     }))
 
--- A row packet decodes to the row and the codes that it was created from.
 pub law_of_row_packet : LawOfRowPacket
 unfolding row_packet header
 law_of_row_packet magazine y codes m one small forty all =
@@ -180,9 +163,6 @@ law_of_row_packet magazine y codes m one small forty all =
       odd = λ column l. rw (byte column l) (odd_of_code _ (code column l));
     }
 
--- ---- a header that was created byte by byte
-
--- Ten bytes, each the code word of its number, and 32 spaces are the header packet.
 pub header_packet-from_words : (magazine : ℕ) (h : Header) (b0 b1 b2 b3 b4 b5 b6 b7 b8 b9 : ℕ)
     → magazine < 8
     → b0 ≡ code_word magazine
@@ -200,9 +180,6 @@ unfolding header_packet
 header_packet-from_words magazine h b0 b1 b2 b3 b4 b5 b6 b7 b8 b9 l e0 e1 e2 e3 e4 e5 e6 e7 e8 e9 =
     grind (arith, nat_tests)
 
--- ---- a row that was created from two code words and its text
-
--- Two code words, each of its number, and the odd bytes of the codes are the row packet.
 pub row_packet-from_text : (magazine y low high : ℕ) (codes text : List ℕ)
     → low ≡ code_word ((magazine + 8 * y) % 16)
     → high ≡ code_word ((magazine + 8 * y) / 16)

@@ -1,4 +1,5 @@
--- A packet's address and header under one wrong bit in each byte: address-near, header-near.
+-- One wrong bit in each byte changes neither the address nor the header of a packet: address-near,
+-- header-near.
 use Rattle.std.proofs.Common.{◌≡◌, ℕ, inl, ◌==◌, cond, List, [], ◌∷◌, slice_index, Option, Some}
 use Rattle.std.proofs.Common.{None, refl, arith, option_and_then}
 use Rattle.std.proofs.lemmas.Bool.Decides.{nat_tests}
@@ -8,31 +9,26 @@ use Rattle.ttx_packet.specs.PacketAddress.{decoded_at, address, PacketAddress, H
 use Rattle.ttx_packet.specs.PageHeader.{coded_header, header, HasExactHeader, HasExactWords}
 use Rattle.ttx_packet.proofs.Hamming84Lemmas.{decoded-near}
 
--- Near lists are near at each place.
 pub near_at : (sent got : List ℕ) (k : ℕ) → AreNear sent got
     → IsNear (slice_index sent k) (slice_index got k)
 near_at [] [] k near = inl refl
 near_at [] (g ∷ gs) k near = elim near [ ]
 near_at (c ∷ cs) got k near = grind (arith, nat_tests, near_at cs)
 
--- A code word at a place decodes to the same in a near list.
 decoded_at-near : (sent got : List ℕ) (k : ℕ) → AreNear sent got → IsCodeWord (slice_index sent k)
     → decoded_at got k ≡ decoded_at sent k
 decoded_at-near sent got k near exact = decoded-near _ _ exact (near_at sent got k near)
 
--- A near packet has the same address if all its address bytes were code words.
 pub address-near : (sent got : List ℕ) → HasExactAddress sent → AreNear sent got
     → address got ≡ address sent
 unfolding address
 address-near sent got exact near = grind (arith, nat_tests, decoded_at-near)
 
--- Near coded bytes decode to the same header if they were code words.
 coded_header-near : (sent got : List ℕ) → HasExactHeader sent → AreNear sent got
     → coded_header got ≡ coded_header sent
 unfolding coded_header
 coded_header-near sent got exact near = grind (arith, nat_tests, decoded_at-near)
 
--- A near packet has the same header if its coded bytes were code words.
 pub header-near : (sent got : List ℕ) → HasExactWords sent → AreNear sent got
     → header got ≡ header sent
 unfolding header
@@ -46,5 +42,4 @@ header-near sent got exact near = rw (address-near sent got exact.0 near) (go (a
         let coded = λ (z : a.packet_number ≡ 0). coded_header-near sent got (exact.1 a p z) near in
         grind (arith, nat_tests)
 
--- For `law_of_address` and `law_of_header`.
 pub ruleset near_laws = (address-near, header-near)

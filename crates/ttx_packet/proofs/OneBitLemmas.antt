@@ -1,24 +1,19 @@
--- Nearness as a test: a byte that passes `is_near` is near (near_from_test).
+-- A byte that passes the test `is_near` is near (near_from_test).
 use Rattle.std.proofs.Common.{◌≡◌, ℕ, zero, suc, ◌<◌, Bool, true, false, Some, None, refl, arith}
 use Rattle.std.proofs.lemmas.Bool.Decides.{nat_tests}
 use Rattle.ttx_packet.specs.OneBit.{IsNear, first_below, is_near}
 
--- ---- a search below a bound
-
--- The result passes the test, and is below the bound.
 pub first_below_is : (n : ℕ) (test : ℕ → Bool) (x : ℕ) → first_below n test ≡ Some x
     → (x < n) × (test x ≡ true)
 first_below_is zero test x e = grind arith
 first_below_is (suc n) test x e = let below = first_below_is n test x in grind (arith, nat_tests)
 
--- There is no result if no number passes.
 pub first_below-none : (n : ℕ) (test : ℕ → Bool) → ((k : ℕ) → k < n → test k ≡ false)
     → first_below n test ≡ None
 first_below-none zero test none = refl
 first_below-none (suc n) test none =
     rw (first_below-none n test (λ k l. none k (omega arith)), none n (omega arith)) refl
 
--- The least number that passes is the result.
 pub first_below-at : (n : ℕ) (test : ℕ → Bool) (x : ℕ)
     → x < n
     → test x ≡ true
@@ -27,8 +22,6 @@ pub first_below-at : (n : ℕ) (test : ℕ → Bool) (x : ℕ)
 first_below-at zero test x l e before = absurd (omega arith)
 first_below-at (suc n) test x l e before =
     grind (arith, nat_tests, first_below-none x test before, first_below-at n test x)
-
--- ---- nearness as a test
 
 pub near_from_test : (c g : ℕ) → is_near c g ≡ true → IsNear c g
 unfolding is_near

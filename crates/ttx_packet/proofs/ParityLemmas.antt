@@ -1,5 +1,5 @@
--- Odd parity: one changed bit makes the number of ones even (even_from_changed), and the properties
--- of odd_byte.
+-- Odd parity: a byte of odd parity with one changed bit has even parity (even_from_changed), and
+-- the properties of odd_byte.
 use Rattle.std.proofs.Common.{◌≡◌, ◌≢◌, ℕ, zero, suc, ◌+◌, ◌*◌, ◌/◌, ◌%◌, ◌^◌, ◌<◌, inl, inr, true}
 use Rattle.std.proofs.Common.{bit_xor, refl, arith, IsTrue, IsFalse, div-add-mod', pow-suc}
 use Rattle.std.specs.Int.RustNames.{count_ones}
@@ -11,12 +11,9 @@ use lib.Bits.{xor_zero_r}
 use Rattle.ttx_packet.specs.OneBit.{IsNear}
 use Rattle.ttx_packet.specs.Parity.{is_odd, code_of, odd_byte}
 
--- ---- one changed bit adds or removes a one
-
 one_one : count_ones 1 ≡ 1
 one_one = let step = ones_step 1 in let none = ones_le_self 0 in omega arith
 
--- Changing the lowest bit makes the sum of both numbers of ones odd.
 flip_lowest : (q r : ℕ) → r < 2
     → (count_ones (bit_xor (q * 2 ^ 1 + r) (0 * 2 ^ 1 + 1)) + count_ones (q * 2 ^ 1 + r)) % 2 ≡ 1
 flip_lowest q zero l =
@@ -37,7 +34,6 @@ flip_lowest q (suc zero) l =
     rw split (rw same (omega arith))
 flip_lowest q (suc (suc r)) l = absurd (omega arith)
 
--- Changing a higher bit makes the sum odd if it does so for the bits above the lowest.
 flip_higher : (q r m : ℕ) → r < 2 → (count_ones (bit_xor q m) + count_ones q) % 2 ≡ 1
     → (count_ones (bit_xor (q * 2 ^ 1 + r) (m * 2 ^ 1 + 0)) + count_ones (q * 2 ^ 1 + r)) % 2 ≡ 1
 flip_higher q r m l h =
@@ -47,7 +43,8 @@ flip_higher q r m l h =
     let ones_new = ones_cat 1 (bit_xor q m) r l in
     rw split (rw same (omega arith))
 
--- Changing any bit makes the sum of both numbers of ones odd.
+-- Changing one bit of a number changes its number of ones by one, so the sum of both numbers of
+-- ones is odd.
 pub flip : (k b : ℕ) → (count_ones (bit_xor b (2 ^ k)) + count_ones b) % 2 ≡ 1
 flip zero b = grind (arith, nat_tests, div-add-mod' b 2, flip_lowest)
 flip (suc k) b =
@@ -56,7 +53,6 @@ flip (suc k) b =
     flip_higher (b / 2) (b % 2) (2 ^ k) (omega arith) (flip k (b / 2)) in
     grind (arith, nat_tests, pow-suc, flip_higher, div-add-mod', flip k (b / 2))
 
--- A byte of odd parity with one bit changed has even parity.
 pub even_from_changed : (sent got : ℕ) → IsTrue (is_odd sent) → IsNear sent got → got ≢ sent
     → IsFalse (is_odd got)
 unfolding is_odd
@@ -64,13 +60,9 @@ even_from_changed sent got odd (inl same) other = absurd (other same)
 even_from_changed sent got odd (inr (bit, below, changed)) other =
     let both = flip bit sent in rw changed (grind (arith, nat_tests))
 
--- ---- odd bytes
-
--- The odd byte of a code is odd: 128 cases, computed.
 pub odd_of_code : (c : ℕ) → c < 128 → is_odd (odd_byte c) ≡ true
 unfolding is_odd count_ones ones_in
 odd_of_code c l = agree_below_at (λ c. is_odd (odd_byte c)) (λ c. true) 128 c refl l
 
--- The odd byte of a code contains that code.
 pub code_of_odd : (c : ℕ) → c < 128 → code_of (odd_byte c) ≡ c
 code_of_odd c l = grind (arith, nat_tests)

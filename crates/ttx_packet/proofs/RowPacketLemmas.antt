@@ -1,4 +1,4 @@
--- The first data byte with even parity, as Packet::first_even finds it: first_even-at,
+-- The first data byte with even parity of a packet, as Packet::first_even finds it: first_even-at,
 -- first_even-none.
 use Rattle.std.proofs.Common.{◌≡◌, ℕ, ◌<◌, List, Option, Some, None, IsNone, ◌↔◌, true, false}
 use Rattle.std.proofs.Common.{get_or, sym, refl, arith, drop}
@@ -9,16 +9,13 @@ use Rattle.ttx_packet.specs.RowPacket.{text_byte, first_even_byte, HasOddText}
 use Rattle.ttx_packet.proofs.BlockLemmas.{IsFirst}
 use Rattle.ttx_packet.proofs.OneBitLemmas.{first_below-at, first_below-none}
 
--- The result is the column of the first byte with even parity, or there is none and all are odd.
 pub record IsFirstEven (packet : List ℕ) (found : Option ℕ) : Type 0 where
   pub value : found ≡ first_even_byte packet
   pub odd : IsNone found ↔ HasOddText packet
 
--- The data bytes are the bytes of the columns.
 text_is : (packet : List ℕ) (k : ℕ) → get_or (drop 2 packet) k 0 ≡ text_byte packet k
 text_is packet k = grind (arith, nat_tests, get_or-drop)
 
--- The first data byte with even parity is at this column.
 pub first_even-at : (packet : List ℕ) (column : ℕ)
     → column < 40
     → IsFirst is_even (drop 2 packet) column 0
@@ -31,7 +28,6 @@ first_even-at packet column small first =
       odd = (λ n. absurd cc, λ odd. let both = odd column small in grind (arith, nat_tests));
     }
 
--- If no data byte has even parity, there is no such column.
 pub first_even-none : (packet : List ℕ)
     → ((k : ℕ) → k < 40 → is_even (get_or (drop 2 packet) k 0) ≡ false)
     → IsFirstEven packet None

@@ -1,4 +1,5 @@
--- The table of code words in the order of transmission: word_from_sent, no_word_from_sent.
+-- The table of code words whose bits are in the order of transmission: word_from_sent,
+-- no_word_from_sent.
 use Rattle.std.proofs.Common.{◌≡◌, ℕ, ◌<◌, Bool, ◌||◌, ◌&&◌, true, nat_eq, nat_le, nat_lt}
 use Rattle.std.proofs.Common.{◌≤◌, get_or}
 use Rattle.std.proofs.Common.{Some}
@@ -16,14 +17,14 @@ use Rattle.ttx_packet.specs.declared.sent_packet.TheConstants.{SENT_WORDS}
 use Rattle.ttx_packet.proofs.BitOrderLemmas.{mirror-mirror}
 use Rattle.ttx_packet.proofs.Hamming84Lemmas.{decoded-code_word}
 
--- No entry is greater than 256. For `sent_entry`.
 pub entry_small : (b : ℕ) → b < 0x100 → get_or SENT_WORDS b 0 ≤ 256
 entry_small b l =
     let passes = agree_below_at (λ b. nat_le (get_or SENT_WORDS b 0) 256) (λ b. true) 0x100 b refl l
     in
     grind (arith, nat_tests)
 
--- An entry other than 256 is the number of the code word: 256 cases, computed.
+-- If the entry of a byte in the table `SENT_WORDS` is not 256, the byte in reverse bit order is the
+-- code word of the entry, by computation for all 256 bytes.
 word_of_entry : (b : ℕ) → b < 0x100 → (get_or SENT_WORDS b 0 ≡ 256 → ⊥)
     → (get_or SENT_WORDS b 0 < 16) × (mirror b ≡ code_word (get_or SENT_WORDS b 0))
 unfolding mirror
@@ -34,7 +35,6 @@ word_of_entry b l some =
     let passes = agree_below_at test (λ b. true) 0x100 b refl l in
     grind (arith, nat_tests)
 
--- The meaning of an entry other than 256. For `sent_entry`.
 pub word_from_sent : (b : ℕ) → b < 0x100
     → (get_or SENT_WORDS b 0 ≡ 256 → ⊥)
     → (get_or SENT_WORDS b 0 < 16) × IsCodeWord (mirror b)
@@ -46,7 +46,8 @@ word_from_sent b l some =
       rw word.1 (decoded-code_word (get_or SENT_WORDS b 0) word.0),
     )
 
--- The entry of a code word is its number: 16 cases, computed. For `sent_entry`.
+-- If the entry of a byte in the table `SENT_WORDS` is 256, the byte in reverse bit order is no code
+-- word.
 pub no_word_from_sent : (b : ℕ) → b < 0x100 → get_or SENT_WORDS b 0 ≡ 256
     → IsCodeWord (mirror b) → ⊥
 unfolding mirror
@@ -58,33 +59,26 @@ no_word_from_sent b l none (n, small, is) =
     let number : get_or SENT_WORDS b 0 ≡ n = rw (← back) (eqb-true _ _ entry) in
     omega (arith, none, number, small)
 
--- ---- a packet that is read in the order of transmission
-
 module _ (packet bytes : List ℕ) (is : map mirror bytes ≡ packet) (long : length bytes ≡ 42) where
-  -- The byte at a place of the packet.
   pub sent_at : (k : ℕ) → k < 42 → mirror (slice_index bytes k) ≡ slice_index packet k
   sent_at k l = rw (← is, get_or-map mirror bytes k 0 0 (omega arith)) refl
 
-  -- It is no code word.
   pub no_word_at : (k : ℕ) → k < 42 → (IsCodeWord (mirror (slice_index bytes k)) → ⊥)
       → IsCodeWord (slice_index packet k) → ⊥
   no_word_at k l none word = none (rw (sent_at k l) word)
 
-  -- It is the code word of a number.
   pub word_at : (k n : ℕ) → k < 42
       → (n < 16) × IsCodeWord (mirror (slice_index bytes k))
       × (decoded (mirror (slice_index bytes k)) ≡ Some n)
       → IsCodeWord (slice_index packet k) × (decoded_at packet k ≡ Some n)
   word_at k n l word = rw (← sent_at k l) (word.1, word.2)
 
--- Two code words make an exact address.
 pub exact_words : (packet : List ℕ) → IsCodeWord (slice_index packet 0)
     → IsCodeWord (slice_index packet 1) → HasExactAddress packet
 exact_words packet first second zero l = first
 exact_words packet first second (suc zero) l = second
 exact_words packet first second (suc (suc k)) l = absurd (omega arith)
 
--- Eight code words make an exact header.
 pub exact_coded_words : (p : List ℕ) → IsCodeWord (slice_index p 2) → IsCodeWord (slice_index p 3)
     → IsCodeWord (slice_index p 4) → IsCodeWord (slice_index p 5) → IsCodeWord (slice_index p 6)
     → IsCodeWord (slice_index p 7) → IsCodeWord (slice_index p 8) → IsCodeWord (slice_index p 9)
@@ -95,7 +89,6 @@ exact_coded_words p b2 b3 b4 b5 b6 b7 b8 b9 k low high =
       | inr l ↦ grind (arith, cases_eq k 6, cases_eq k 7, cases_eq k 8, cases_eq k 9)
     ]
 
--- The address, from its decoded bytes.
 pub address_of : (p : List ℕ) (low high : ℕ)
     → decoded_at p 0 ≡ Some low
     → decoded_at p 1 ≡ Some high
@@ -107,7 +100,6 @@ pub address_of : (p : List ℕ) (low high : ℕ)
 unfolding address
 address_of p low high first second = rw (first, second) refl
 
--- The header, from its eight decoded bytes.
 pub coded_header_of : (p : List ℕ) (units tens s1 s2_c4 s3 s4_c6 c7_c10 c11_c14 : ℕ) (h : Header)
     → decoded_at p 2 ≡ Some units → decoded_at p 3 ≡ Some tens → decoded_at p 4 ≡ Some s1
     → decoded_at p 5 ≡ Some s2_c4 → decoded_at p 6 ≡ Some s3 → decoded_at p 7 ≡ Some s4_c6
@@ -121,7 +113,6 @@ coded_header_of p units tens s1 s2_c4 s3 s4_c6 c7_c10 c11_c14 h
     a b c d e f g i page subcode control =
     rw (a, b, c, d, e, f, g, i, ← page, ← subcode, ← control) refl
 
--- The page number, from its two decoded bytes.
 pub coded_page_of : (p : List ℕ) (units tens : ℕ)
     → decoded_at p 2 ≡ Some units
     → decoded_at p 3 ≡ Some tens

@@ -5,7 +5,9 @@
 use Rattle.std.specs.Prelude.{◌≡◌, ℕ, ◌<◌, List, [], ◌∷◌, Option, slice_index}
 use Rattle.ttx_packet.specs.OneBit.{IsNear, first_below, is_near}
 
--- The code words of the numbers 0 to 15. Any two of them differ in at least four bits.
+-- The Hamming 8/4 code words of the numbers 0 to 15. Any two code words differ in at least four
+-- bits.
+-- The Hamming 8/4 code word of the number n, which is less than 16.
 abbrev pub code_words : List ℕ
 code_words =
     0x15 ∷ 0x02 ∷ 0x49 ∷ 0x5E ∷ 0x64 ∷ 0x73 ∷ 0x38 ∷ 0x2F
@@ -15,15 +17,16 @@ code_words =
 abbrev pub code_word : ℕ → ℕ
 code_word n = slice_index code_words n
 
--- The byte is a code word, without a wrong bit.
+-- The byte is a Hamming 8/4 code word, without a wrong bit.
 abbrev pub IsCodeWord : ℕ → Type 0
 IsCodeWord b = (n : ℕ) × (n < 16) × (b ≡ code_word n)
 
--- The byte decodes to n: it is within one bit of the code word of n.
+-- The byte b decodes to the number n: b is the code word of n, or differs from it in exactly one
+-- bit.
 abbrev pub Decodes : ℕ → ℕ → Type 0
 Decodes b n = (n < 16) × IsNear (code_word n) b
 
--- The number to which a byte decodes, as a function. `None` for the 112 bytes that are two bits
--- away from the nearest code words.
+-- The number to which a byte decodes. `None` for the 112 bytes that differ in two bits from the
+-- nearest code words.
 unfoldable pub decoded : ℕ → Option ℕ
 decoded b = first_below 16 (λ n. is_near (code_word n) b)

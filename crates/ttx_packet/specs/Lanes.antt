@@ -1,13 +1,13 @@
--- The steps of the vector code, applied to one byte. No public clause uses this.
+-- The steps of the vector code, defined for one byte. No public clause uses these definitions.
 use Rattle.std.specs.Prelude.{ℕ, ◌*◌, ◌/◌, ◌%◌, ◌^◌, Bool, not, List, map, bit_and, bit_or, bit_xor}
 use lib.Lanes.{mask_l}
 use Rattle.ttx_packet.specs.Parity.{is_odd}
 
--- Swaps the bits in the mask with those n places above them.
+-- Swaps each bit of the byte that the mask selects with the bit n places above it.
 abbrev pub swapped : ℕ → ℕ → ℕ → ℕ
 swapped n mask b = bit_or (bit_and (b / 2 ^ n) mask) (bit_and b mask * 2 ^ n % 0x100)
 
--- Folds the byte onto itself, n bits lower.
+-- Folds the byte onto itself: each bit is combined by exclusive or with the bit n places above it.
 abbrev pub folded : ℕ → ℕ → ℕ
 folded n b = bit_xor b (b / 2 ^ n)
 
@@ -15,6 +15,7 @@ folded n b = bit_xor b (b / 2 ^ n)
 abbrev pub is_even : ℕ → Bool
 is_even b = not (is_odd b)
 
--- The mask with a bit for each byte of even parity; the lowest bit is the first byte.
+-- A mask with one bit for each byte of the list, set if the byte has even parity. The lowest bit is
+-- that of the first byte.
 abbrev pub evens_mask : List ℕ → ℕ
 evens_mask bytes = mask_l (map is_even bytes)

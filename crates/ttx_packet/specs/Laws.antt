@@ -1,5 +1,5 @@
--- Laws of packets: the effect of one wrong bit in each byte, and that created packets can be read
--- back.
+-- Laws of Teletext packets: the effect of one wrong bit in each byte, and the result of reading a
+-- created packet.
 use Rattle.std.specs.Prelude.{◌≡◌, ◌≢◌, ◌↔◌, ℕ, ◌<◌, ◌≤◌, List, length, Some, None, All, IsTrue}
 use Rattle.std.specs.Prelude.{IsFalse, slice_index}
 use Rattle.ttx_packet.specs.declared.header.Header.{Header}
@@ -17,8 +17,8 @@ use Rattle.ttx_packet.specs.RowPacket.{text_byte, HasOddText, row_packet}
 abbrev pub LawOfDecoding : Type 0
 LawOfDecoding = (b n : ℕ) → decoded b ≡ Some n ↔ Decodes b n
 
--- One wrong bit in each byte does not change an address of code words. So a receiver that corrects
--- Hamming 8/4 never takes such noise for another packet.
+-- One wrong bit in each byte does not change the address of a packet if both address bytes were
+-- code words. So a receiver that corrects Hamming 8/4 never takes such noise for another packet.
 abbrev pub LawOfAddress : Type 0
 LawOfAddress =
     (sent got : List ℕ)
@@ -26,8 +26,8 @@ LawOfAddress =
     → AreNear sent got
     → address got ≡ address sent
 
--- One wrong bit in each byte does not change the header of a packet of code words. So a receiver
--- that corrects Hamming 8/4 never takes such noise for another page.
+-- One wrong bit in each byte does not change the header of a packet if its coded bytes were code
+-- words. So a receiver that corrects Hamming 8/4 never takes such noise for another page.
 abbrev pub LawOfHeader : Type 0
 LawOfHeader =
     (sent got : List ℕ)
@@ -35,8 +35,8 @@ LawOfHeader =
     → AreNear sent got
     → header got ≡ header sent
 
--- A byte of odd parity with one bit changed has even parity. So a receiver detects each such error
--- in a row.
+-- A byte of odd parity with one changed bit has even parity. So a receiver detects each single
+-- wrong bit in a row.
 abbrev pub LawOfParity : Type 0
 LawOfParity =
     (sent got : ℕ)
@@ -49,8 +49,8 @@ LawOfParity =
 abbrev pub LawOfMirror : Type 0
 LawOfMirror = (b : ℕ) → b < 0x100 → mirror (mirror b) ≡ b
 
--- Reading a created header packet gives its header back; its coded bytes are code words, and its
--- text bytes are odd.
+-- A header packet that was created from the header h can be read back: its header is h, its coded
+-- bytes are code words, and its text bytes have odd parity.
 pub record IsMadeHeader (magazine : ℕ) (h : Header) (packet : List ℕ) : Type 0 where
   pub whole : length packet ≡ 42
   pub address : address packet ≡ Some (record { magazine = magazine; packet_number = 0 })
@@ -58,7 +58,7 @@ pub record IsMadeHeader (magazine : ℕ) (h : Header) (packet : List ℕ) : Type
   pub exact : HasExactWords packet
   pub odd : HasOddHeaderText packet
 
--- A header packet decodes to the header that it was created from.
+-- A created header packet decodes to the header that it was created from.
 abbrev pub LawOfHeaderPacket : Type 0
 LawOfHeaderPacket =
     (magazine : ℕ) (h : Header)
@@ -66,7 +66,8 @@ LawOfHeaderPacket =
     → IsHeader h
     → IsMadeHeader magazine h (header_packet magazine h)
 
--- Reading a created row packet gives its codes back, in bytes of odd parity.
+-- A row packet that was created from `codes` can be read back: its address is that of the row, its
+-- text has these codes, and its text bytes have odd parity.
 pub record IsMadeRow (magazine row : ℕ) (codes packet : List ℕ) : Type 0 where
   pub whole : length packet ≡ 42
   pub address : address packet ≡ Some (record { magazine = magazine; packet_number = row })
@@ -77,7 +78,7 @@ pub record IsMadeRow (magazine row : ℕ) (codes packet : List ℕ) : Type 0 whe
       → code_of (text_byte packet column) ≡ slice_index codes column
   pub odd : HasOddText packet
 
--- A row packet decodes to the row and the codes that it was created from.
+-- A created row packet decodes to the row and the codes that it was created from.
 abbrev pub LawOfRowPacket : Type 0
 LawOfRowPacket =
     (magazine row : ℕ) (codes : List ℕ)

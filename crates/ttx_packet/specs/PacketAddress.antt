@@ -1,4 +1,5 @@
--- Magazine and packet address (EN 300 706): the first two bytes of each packet.
+-- Magazine and packet address (EN 300 706): the first two bytes of each Teletext packet, both
+-- Hamming 8/4.
 --
 --   byte 0   D1 to D3: magazine number, 0 means magazine 8   D4: the lowest bit of Y
 --   byte 1   D1 to D4: the four higher bits of the packet number Y
@@ -6,17 +7,18 @@ use Rattle.std.specs.Prelude.{◌≡◌, ℕ, ◌+◌, ◌*◌, ◌/◌, ◌%◌
 use Rattle.std.specs.Prelude.{Option, Some, slice_index, option_and_then}
 use Rattle.ttx_packet.specs.Hamming84.{IsCodeWord, code_word, decoded}
 
--- A packet has 42 bytes: run-in and framing code are left out.
+-- A Teletext packet has 42 bytes: run-in and framing code are left out.
 pub record IsPacket (packet : List ℕ) : Type 0 where
   pub size : length packet ≡ 42
   pub bytes : (place : ℕ) → slice_index packet place < 0x100
 
 infixl 10 ◌>>=◌
--- Continues with a value, if there is one.
+-- Applies f to the value of an option. The result is `None` if the option is `None`.
 abbrev pub ◌>>=◌ : {A B : Type 0} → Option A → (A → Option B) → Option B
 o >>= f = option_and_then f o
 
--- The number to which the byte at this place of a packet decodes.
+-- The number to which the byte at `place` of a packet decodes, counted from 0. `None` if the byte
+-- cannot be decoded.
 abbrev pub decoded_at : List ℕ → ℕ → Option ℕ
 decoded_at packet place = decoded (slice_index packet place)
 
@@ -25,8 +27,8 @@ pub record PacketAddress : Type 0 where
   pub magazine : ℕ
   pub packet_number : ℕ
 
--- The address of a packet. The number magazine + 8 * Y has its low four bits in the first byte and
--- its high four bits in the second. `None` if one of the two cannot be decoded.
+-- The address of a packet. The number magazine + 8 * Y has its low four bits in byte 0 and its high
+-- four bits in byte 1. `None` if one of these bytes cannot be decoded.
 unfoldable pub address : List ℕ → Option PacketAddress
 address packet = do
   low ← decoded_at packet 0
@@ -37,15 +39,15 @@ address packet = do
         packet_number = (low + 0x10 * high) / 8;
       })
 
--- An address as the pair that `Packet::address` returns.
+-- The address as a pair of magazine and packet number, which `Packet::address` returns.
 abbrev pub address_pair : PacketAddress → ℕ × ℕ
 address_pair a = (a.magazine, a.packet_number)
 
--- Both address bytes are code words, without a wrong bit.
+-- Both address bytes of the packet are code words, without a wrong bit.
 abbrev pub HasExactAddress : List ℕ → Type 0
 HasExactAddress packet = (place : ℕ) → place < 2 → IsCodeWord (slice_index packet place)
 
--- The two code words of an address.
+-- The two code words of the address of packet Y in a magazine.
 abbrev pub address_words : ℕ → ℕ → List ℕ
 address_words magazine y =
     code_word ((magazine + 8 * y) % 16) ∷ code_word ((magazine + 8 * y) / 16) ∷ []

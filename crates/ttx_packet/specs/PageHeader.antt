@@ -1,4 +1,5 @@
 -- The page header, packet X/0 (EN 300 706, page header): eight Hamming 8/4 bytes and 32 text bytes.
+-- Bytes are counted from 0; bytes 0 and 1 are the packet's address.
 --
 --   byte       D1      D2      D3      D4
 --   2          page units, 4 bits
@@ -23,64 +24,65 @@ use Rattle.ttx_packet.specs.PacketAddress.{HasExactAddress, address_words}
 use Rattle.ttx_packet.specs.declared.control.Control.{Control}
 use Rattle.ttx_packet.specs.declared.header.Header.{Header}
 
--- A control bit is set. C4 is bit 1 of the number, C14 is bit 11.
+-- Whether a control bit of a page header is set. C4 is bit 1 of the number (value 1), and C14 is
+-- bit 11 (value 1024).
 abbrev pub is_set : Control → ℕ → Bool
 is_set control bit = bit_and control.0 bit == bit
 
--- Erase page: the page is blanked before the packets after the header.
+-- Control bit C4, erase page: the page is blanked before the packets after the header are stored.
 abbrev pub c4 : Header → Bool
 c4 h = is_set h.control 1
 
--- Newsflash.
+-- Control bit C5, newsflash.
 abbrev pub c5 : Header → Bool
 c5 h = is_set h.control 2
 
--- Subtitle.
+-- Control bit C6, subtitle.
 abbrev pub c6 : Header → Bool
 c6 h = is_set h.control 4
 
--- Suppress header.
+-- Control bit C7, suppress header.
 abbrev pub c7 : Header → Bool
 c7 h = is_set h.control 8
 
--- Update indicator.
+-- Control bit C8, update indicator.
 abbrev pub c8 : Header → Bool
 c8 h = is_set h.control 0x10
 
--- Interrupted sequence.
+-- Control bit C9, interrupted sequence.
 abbrev pub c9 : Header → Bool
 c9 h = is_set h.control 0x20
 
--- Inhibit display.
+-- Control bit C10, inhibit display.
 abbrev pub c10 : Header → Bool
 c10 h = is_set h.control 0x40
 
--- Magazine serial: set in serial mode, clear in parallel mode.
+-- Control bit C11, magazine serial: set in serial mode, clear in parallel mode.
 abbrev pub c11 : Header → Bool
 c11 h = is_set h.control 0x80
 
--- National option character sub-set, first bit.
+-- Control bit C12, the first bit of the national option character sub-set.
 abbrev pub c12 : Header → Bool
 c12 h = is_set h.control 0x100
 
--- National option character sub-set, second bit.
+-- Control bit C13, the second bit of the national option character sub-set.
 abbrev pub c13 : Header → Bool
 c13 h = is_set h.control 0x200
 
--- National option character sub-set, third bit.
+-- Control bit C14, the third bit of the national option character sub-set.
 abbrev pub c14 : Header → Bool
 c14 h = is_set h.control 0x400
 
--- The page number of a header, with page tens in the upper half, whatever the address. `None` if
--- one of its two bytes cannot be decoded.
+-- The page number in bytes 2 and 3 of a packet, with page tens in the upper four bits. The address
+-- is not checked. `None` if one of the two bytes cannot be decoded.
 unfoldable pub coded_page : List ℕ → Option ℕ
 coded_page packet = do
   units ← decoded_at packet 2
   tens ← decoded_at packet 3
   Some (units + 0x10 * tens)
 
--- The contents of the eight coded bytes, whatever the address. `None` if one of them cannot be
--- decoded.
+-- The contents of bytes 2 to 9 of a packet, read as a page header. The address is not checked.
+-- `None` if one of the eight bytes cannot be decoded.
 unfoldable pub coded_header : List ℕ → Option Header
 coded_header packet = do
   units ← decoded_at packet 2
@@ -98,23 +100,24 @@ coded_header packet = do
         control = record { 0 = s2_c4 / 8 + 2 * (s4_c6 / 4) + 8 * c7_c10 + 0x80 * c11_c14 };
       })
 
--- The header of a packet with packet number 0; `None` for any other packet.
+-- The page header of a packet X/0. `None` for a packet with another packet number, and for a packet
+-- with an address byte or one of the bytes 2 to 9 that cannot be decoded.
 unfoldable pub header : List ℕ → Option Header
 header packet = do
   a ← address packet
   if a.packet_number == 0 then coded_header packet else None
 
--- The eight coded bytes of a header are code words, without a wrong bit.
+-- The eight coded bytes of the page header, bytes 2 to 9, are code words without a wrong bit.
 abbrev pub HasExactHeader : List ℕ → Type 0
 HasExactHeader packet =
     (place : ℕ) → 2 ≤ place → place < 10 → IsCodeWord (slice_index packet place)
 
--- The two bytes of the page number are code words, without a wrong bit.
+-- The two bytes of the page number, bytes 2 and 3, are code words without a wrong bit.
 abbrev pub HasExactPage : List ℕ → Type 0
 HasExactPage packet = IsCodeWord (slice_index packet 2) × IsCodeWord (slice_index packet 3)
 
--- Both address bytes are code words; in a packet with packet number 0, so are the eight coded
--- bytes.
+-- Both address bytes of the packet are code words; in a packet X/0, the eight coded bytes of the
+-- page header are code words too.
 abbrev pub HasExactWords : List ℕ → Type 0
 HasExactWords packet =
     HasExactAddress packet
@@ -123,23 +126,23 @@ HasExactWords packet =
     → a.packet_number ≡ 0
     → HasExactHeader packet)
 
--- The 32 text bytes of a header have odd parity.
+-- The 32 text bytes of the page header, bytes 10 to 41, have odd parity.
 abbrev pub HasOddHeaderText : List ℕ → Type 0
 HasOddHeaderText packet =
     (place : ℕ) → 10 ≤ place → place < 42 → IsTrue (is_odd (slice_index packet place))
 
--- ---- creating header packets
+-- ---- created header packets
 
--- A bit as a number.
+-- The value of a bit as a number, 0 or 1.
 abbrev pub bit : Bool → ℕ
 bit true = 1
 bit false = 0
 
--- The number with these data bits D1 to D4.
+-- The number whose data bits D1 to D4 are these, D1 with value 1.
 abbrev pub nibble : Bool → Bool → Bool → Bool → ℕ
 nibble d1 d2 d3 d4 = bit d1 + 2 * bit d2 + 4 * bit d3 + 8 * bit d4
 
--- The eight numbers of a header, arranged as in the table above.
+-- The eight numbers of a page header, for bytes 2 to 9, as in the table of the packet's layout.
 abbrev pub header_numbers : Header → List ℕ
 header_numbers h =
     (h.page % 0x10)
@@ -157,8 +160,8 @@ unfoldable pub header_packet : ℕ → Header → List ℕ
 header_packet magazine h =
     address_words magazine 0 ++ map code_word (header_numbers h) ++ replicate 32 0x20
 
--- Drops the bits of a header that have no place in the table above: the bits of 3F7F remain of the
--- sub-code, C4 to C14 of the control bits.
+-- Drops the bits of a header that have no place in a packet X/0: the bits of the sub-code outside
+-- 3F7F, and control bits other than C4 to C14.
 abbrev pub placed : Header → Header
 placed h = record {
   page = h.page;
@@ -166,8 +169,8 @@ placed h = record {
   control = record { 0 = h.control.0 % 0x800 };
 }
 
--- The header fits in a packet: a page number of two hexadecimal digits, a sub-code with no bit
--- outside 3F7F, and no control bit but C4 to C14.
+-- The header fits in a packet: the page number has two hexadecimal digits, the sub-code has no bit
+-- outside 3F7F, and no control bit but C4 to C14 is set.
 pub record IsHeader (h : Header) : Type 0 where
   pub page : h.page < 0x100
   pub subcode : h.subcode < 0x4000

@@ -4,31 +4,31 @@ use Rattle.std.specs.Prelude.{ℕ, ◌+◌, ◌-◌, ◌*◌, ◌%◌, Bool, ◌
 use Rattle.std.specs.Prelude.{◌==◌, nat_le, if◌then◌else◌, not}
 use Rattle.ttx_packet.specs.PacketAddress.{◌>>=◌}
 
--- A page: its magazine, 0 to 7 (0 means magazine 8), and its page number.
+-- A Teletext page: its magazine, 0 to 7 (0 means magazine 8), and its page number, 0 to FE.
 pub record PageIdValue : Type 0 where
   pub magazine : ℕ
   pub page : ℕ
 
--- A byte is an ASCII character from `first` to `last`.
+-- The byte is an ASCII character from `first` to `last`.
 abbrev pub is_from : ℕ → ℕ → ℕ → Bool
 is_from first last b = nat_le first b && nat_le b last
 
--- The value of a hexadecimal digit of either case, in ASCII.
+-- The value of a hexadecimal digit in ASCII, upper or lower case. `None` for any other byte.
 abbrev pub hexadecimal_digit : ℕ → Option ℕ
 hexadecimal_digit b =
     if is_from 0x30 0x39 b then Some (b - 0x30)
     else (if is_from 0x61 0x66 b then Some (b - 0x57)
     else (if is_from 0x41 0x46 b then Some (b - 0x37) else None))
 
--- The page of a magazine digit and a page number. Page number FF is not displayed, so no page has
--- it.
+-- The page with a magazine digit 1 to 8 (in ASCII) and a page number. `None` for any other digit,
+-- and for page number FF, which is not displayed.
 abbrev pub page_of_numbers : ℕ → ℕ → Option PageIdValue
 page_of_numbers digit page =
     if is_from 0x31 0x38 digit && not (page == 0xFF)
     then Some (record { magazine = (digit - 0x30) % 8; page = page })
     else None
 
--- The page of a text, if it is valid.
+-- The page that a text of three characters names, such as 888. `None` if the text names no page.
 unfoldable pub page_of_text : List ℕ → Option PageIdValue
 page_of_text (magazine ∷ tens ∷ units ∷ []) = do
   high ← hexadecimal_digit tens

@@ -9,6 +9,6 @@ is_odd b = count_ones b % 2 == 1
 abbrev pub code_of : ℕ → ℕ
 code_of b = b % 0x80
 
--- Adds the odd parity bit to a code.
+-- The byte with these seven code bits and odd parity.
 abbrev pub odd_byte : ℕ → ℕ
 odd_byte code = if is_odd code then code else code + 0x80

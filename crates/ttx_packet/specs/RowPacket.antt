@@ -5,7 +5,7 @@ use Rattle.ttx_packet.specs.OneBit.{first_below}
 use Rattle.ttx_packet.specs.Parity.{is_odd, odd_byte}
 use Rattle.ttx_packet.specs.PacketAddress.{address_words}
 
--- The byte of a packet for a column, 0 to 39.
+-- The byte of a packet for a column, counted from 0 to 39.
 abbrev pub text_byte : List ℕ → ℕ → ℕ
 text_byte packet column = slice_index packet (column + 2)
 
@@ -13,10 +13,10 @@ text_byte packet column = slice_index packet (column + 2)
 abbrev pub HasOddText : List ℕ → Type 0
 HasOddText packet = (column : ℕ) → column < 40 → IsTrue (is_odd (text_byte packet column))
 
--- The first of the 40 data bytes that has even parity.
+-- The column of the first of the 40 data bytes with even parity. `None` if all have odd parity.
 unfoldable pub first_even_byte : List ℕ → Option ℕ
 first_even_byte packet = first_below 40 (λ column. not (is_odd (text_byte packet column)))
 
--- The packet of a row in a magazine, with these 40 codes.
+-- The packet of a row in a magazine, with these 40 codes as its text in odd parity.
 unfoldable pub row_packet : ℕ → ℕ → List ℕ → List ℕ
 row_packet magazine row codes = address_words magazine row ++ map odd_byte codes

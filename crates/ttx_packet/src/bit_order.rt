@@ -1,4 +1,5 @@
-//! The order of bits in a byte: Teletext's, and that of DVB data units.
+//! The order of bits in a byte: Teletext sends the lowest bit first, and DVB data units carry that
+//! bit as the highest.
 ghost use Rattle.std.specs.Prelude.{◌≡◌, map};
 ghost use Rattle.ttx_packet.specs.BitOrder.{mirror};
 
@@ -14,7 +15,7 @@ pub fn mirror(byte: u8) -> u8
     byte.reverse_bits()
 }
 
-/// Reverses the bits of each of the 42 bytes of a packet. The same function serves both directions.
+/// Reverses the bits of each of the 42 bytes of a packet, in either direction.
 ///
 /// The last 10 bytes are handled by a block that starts 6 bytes before them, so no byte is handled
 /// alone.

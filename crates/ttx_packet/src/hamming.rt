@@ -2,7 +2,7 @@
 ghost use Rattle.std.specs.Prelude.{◌≡◌, ◌<◌, ◌↔◌, ℕ, IfSome, IsTrue, Some};
 ghost use Rattle.ttx_packet.specs.Hamming84.{Decodes, IsCodeWord, code_word, decoded};
 
-/// The code words of the numbers 0 to 15.
+/// The Hamming 8/4 code words of the numbers 0 to 15.
 const CODE_WORDS: [u8; 16] = [
     0x15, 0x02, 0x49, 0x5E, 0x64, 0x73, 0x38, 0x2F, 0xD0, 0xC7, 0x8C, 0x9B, 0xA1, 0xB6, 0xFD, 0xEA,
 ];
@@ -10,11 +10,11 @@ const CODE_WORDS: [u8; 16] = [
 /// The entry of `DECODED` for a byte that cannot be decoded.
 const NOTHING: u8 = 255;
 
-/// Added to an entry of `DECODED` if a bit was corrected.
+/// The difference in an entry of `DECODED` that marks a corrected bit.
 const CORRECTED: u8 = 16;
 
 /// The number to which each byte decodes, plus `CORRECTED` if the byte is no code word. Generated
-/// by changing each bit of each code word; the check computes the definitions for all 256 bytes and
+/// by changing each bit of each code word; the proof computes the definition for all 256 bytes and
 /// compares.
 #[rattlefmt::skip]
 const DECODED: [u8; 256] = [

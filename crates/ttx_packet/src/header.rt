@@ -1,4 +1,4 @@
-//! The contents of a page header.
+//! The contents of a Teletext page header.
 use crate::control::Control;
 
 /// The contents of the eight coded bytes of a page header (EN 300 706, page header).
@@ -8,6 +8,6 @@ pub struct Header {
     pub page: u8,
     /// The page sub-code, `S1 + 16 * S2 + 256 * S3 + 4096 * S4`, with no bit outside `0x3F7F`.
     pub subcode: u16,
-    /// The control bits.
+    /// The control bits C4 to C14 of the header.
     pub control: Control,
 }

@@ -1,4 +1,4 @@
-//! Packets of 42 bytes: address, header and text.
+//! Teletext packets of 42 bytes: address, header and text.
 ghost use Rattle.std.specs.Prelude.{◌≡◌, ◌+◌, ◌*◌, ◌/◌, ◌%◌, ◌≤◌, ◌<◌, ◌↔◌, ℕ, IfSome, IsNone};
 ghost use Rattle.std.specs.Prelude.{IsTrue};
 ghost use Rattle.std.specs.Prelude.{drop, map, option_map, slice_index};
@@ -50,7 +50,7 @@ impl Packet {
         Packet { bytes }
     }
 
-    /// Returns the 42 bytes.
+    /// Returns the 42 bytes of the packet.
     pub fn bytes(&self) -> &[u8; 42]
         ensures value { result.now ≡ self.now }
         ensures whole { IsPacket self.now }
@@ -58,15 +58,15 @@ impl Packet {
         &self.bytes
     }
 
-    /// Returns the 40 data bytes after the address. In a row, there is one for each column.
+    /// Returns the 40 data bytes after the address. In a row packet, each data byte is a column.
     pub fn data(&self) -> &[u8; 40]
         ensures { result.now ≡ drop 2 self.now }
     {
         self.bytes.last_chunk().unwrap()
     }
 
-    /// Returns the 42 bytes as a DVB data unit carries them, with the bits of each byte reversed
-    /// (EN 300 472, data field syntax).
+    /// Returns the 42 bytes of the packet as a DVB data unit carries them, with the bits of each
+    /// byte reversed (EN 300 472, data field syntax).
     pub fn mirrored(&self) -> [u8; 42]
         ensures { result ≡ map mirror self.now }
     {
@@ -103,10 +103,10 @@ impl Packet {
         self.coded_header()
     }
 
-    /// Decodes the eight coded bytes of a header without checking the address, for callers that
-    /// have read it already.
+    /// Decodes the eight coded bytes of a page header without checking the address, for callers
+    /// that have read the address already.
     ///
-    /// Returns `None` if one of them cannot be decoded.
+    /// Returns `None` if one of the eight bytes cannot be decoded.
     #[inline(always)]
     #[tactic(auto, unfolding(crate::specs::PageHeader::coded_header))]
     pub fn coded_header(&self) -> Option<Header>
@@ -143,8 +143,8 @@ impl Packet {
         true
     }
 
-    /// Returns the index, 0 to 39, of the first data byte with even parity, or `None` if all are
-    /// odd.
+    /// Returns the column, 0 to 39, of the first data byte with even parity, or `None` if all data
+    /// bytes have odd parity.
     pub fn first_even(&self) -> Option<u8>
         ensures value { result ≡ first_even_byte self.now }
         ensures odd { IsNone result ↔ HasOddText self.now }
@@ -172,8 +172,8 @@ impl Packet {
     pub fn of_header(magazine: u8, header: &Header) -> Packet
         requires { magazine < 8 }
         ensures value { result ≡ header_packet magazine header.now }
-        // Reading it back gives the header without the dropped bits, with code words and odd text
-        // bytes.
+        // Reading the packet gives the header without the dropped bits; the coded bytes are code
+        // words, and the text bytes have odd parity.
         ensures made { IsMadeHeader magazine (placed header.now) result }
     {
         Packet::new(header_bytes(magazine, header))
@@ -189,7 +189,8 @@ impl Packet {
         requires last { row ≤ 24 }
         requires codes { (k : ℕ) → slice_index codes.now k < 0x80 }
         ensures value { result ≡ row_packet magazine row codes.now }
-        // Reading it back gives the row and its codes, with code words and odd bytes.
+        // Reading the packet gives the row and its codes; the address bytes are code words, and the
+        // text bytes have odd parity.
         ensures made { IsMadeRow magazine row codes.now result }
     {
         Packet::new(row_bytes(magazine, row, codes))
@@ -238,7 +239,7 @@ fn bit_of(control: Control, flag: Control) -> u8
     if control.contains(flag) { 1 } else { 0 }
 }
 
-// Returns the code word with these control bits as data bits D1 to D4.
+// Returns the code word whose data bits D1 to D4 are these control bits.
 fn nibble_word(control: Control, d1: Control, d2: Control, d3: Control, d4: Control) -> u8
     ensures { result ≡ code_word (nibble (is_set control d1.0) (is_set control d2.0)
         (is_set control d3.0) (is_set control d4.0)) }
@@ -251,7 +252,7 @@ fn nibble_word(control: Control, d1: Control, d2: Control, d3: Control, d4: Cont
     )
 }
 
-// Returns the bytes of a header packet.
+// Returns the 42 bytes of a header packet.
 #[tactic(auto, unfolding(crate::specs::PageHeader::header_packet))]
 fn header_bytes(magazine: u8, header: &Header) -> [u8; 42]
     requires { magazine < 8 }
@@ -283,7 +284,7 @@ fn header_bytes(magazine: u8, header: &Header) -> [u8; 42]
     bytes
 }
 
-// Returns the bytes of a row packet.
+// Returns the 42 bytes of a row packet.
 fn row_bytes(magazine: u8, row: u8, codes: &[u8; 40]) -> [u8; 42]
     requires magazine { magazine < 8 }
     requires first { 1 ≤ row }

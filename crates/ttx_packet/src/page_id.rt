@@ -4,8 +4,8 @@ ghost use Rattle.ttx_packet.specs.PageId.{hexadecimal_digit, page_of_numbers, pa
 
 use std::marker::Model;
 
-/// A Teletext page: a magazine and a page number (EN 300 706, page number). Never page number FF,
-/// which is not displayed.
+/// A Teletext page: a magazine and a page number (EN 300 706, page number). The page number is
+/// never FF, which is not displayed.
 #[derive(Clone, Copy, Debug, PartialEq, Eq)]
 pub struct PageId {
     magazine: u8,
@@ -28,7 +28,7 @@ impl Model for PageId {
 /// The error of parsing a page number.
 #[derive(Clone, Copy, Debug, PartialEq, Eq)]
 pub enum PageFault {
-    /// The text is not a digit 1 to 8 and two hexadecimal digits, or its page number is FF.
+    /// The text is not a digit 1 to 8 followed by two hexadecimal digits, or its page number is FF.
     BadPage,
 }
 
@@ -48,7 +48,7 @@ impl PageId {
         page_of_digits(text[0], text[1], text[2]).ok_or(PageFault::BadPage)
     }
 
-    /// Returns the magazine, 0 to 7; 0 means magazine 8.
+    /// Returns the magazine of the page, 0 to 7; 0 means magazine 8.
     pub fn magazine(self) -> u8
         ensures value { result ≡ self.magazine }
         ensures small { result < 8 }
@@ -56,7 +56,7 @@ impl PageId {
         self.magazine
     }
 
-    /// Returns the page number, `0x00` to `0xFE`, with page tens in the upper half.
+    /// Returns the page number, `0x00` to `0xFE`, with page tens in the upper four bits.
     pub fn page(self) -> u8
         ensures value { result ≡ self.page }
         ensures small { result < 0xFF }
@@ -78,7 +78,7 @@ fn hexadecimal_digit(byte: u8) -> Option<u8>
     }
 }
 
-// Returns the page of a magazine digit and two hexadecimal digits.
+// Returns the page with a magazine digit and two hexadecimal digits.
 #[tactic(auto, unfolding(crate::specs::PageId::page_of_text))]
 fn page_of_digits(magazine: u8, tens: u8, units: u8) -> Option<PageId>
     ensures { result ≡ page_of_text (magazine ∷ tens ∷ units ∷ []) }
@@ -88,7 +88,7 @@ fn page_of_digits(magazine: u8, tens: u8, units: u8) -> Option<PageId>
     page_of_numbers(magazine, 16 * high + low)
 }
 
-// Returns the page of a magazine digit and a page number.
+// Returns the page with a magazine digit and a page number.
 fn page_of_numbers(digit: u8, page: u8) -> Option<PageId>
     ensures { result ≡ page_of_numbers digit page }
 {

@@ -9,12 +9,12 @@ use crate::header::Header;
 use crate::packet::{Packet, header_of};
 use std::marker::Model;
 
-/// The entry of `SENT_WORDS` for a byte that is no code word. It is greater than any number that
-/// two code words make.
+/// The entry of `SENT_WORDS` for a byte that is no code word. 256 is greater than any number that
+/// two code words form.
 const NOTHING: u32 = 256;
 
 /// The number whose Hamming 8/4 code word each byte is, with the bit that is sent first as the
-/// highest. Generated from the code words; the check computes the definitions for all 256 bytes and
+/// highest. Generated from the code words; the proof computes the definitions for all 256 bytes and
 /// compares.
 #[rattlefmt::skip]
 const SENT_WORDS: [u16; 256] = [
@@ -67,8 +67,8 @@ fn sent_number(byte: u8) -> Option<u8>
 /// first as the highest (EN 300 472, data field syntax).
 ///
 /// Its model is the packet with its bytes in Teletext's own bit order. Most packets of a service
-/// belong to other pages, and their first bytes show that. So only these are read, by table, and
-/// the other bytes are never reversed.
+/// belong to other pages, and their first bytes show that. So only the first bytes are read, by
+/// table, and the bits of the others are never reversed.
 #[derive(Drop)]
 pub struct SentPacket<'a> {
     bytes: &'a [u8; 42],
@@ -90,7 +90,7 @@ impl<'a> SentPacket<'a> {
     ghost use Rattle.ttx_packet.specs.PageHeader.{coded_page};
     ghost use Rattle.ttx_packet.specs.declared.header.Header.{Header};
 
-    /// Creates the packet that a data unit carries as these 42 bytes.
+    /// Creates the packet from the 42 bytes of a data unit.
     #[inline(always)]
     pub fn new(bytes: &'a [u8; 42]) -> Self
         ensures { result ≡ map mirror bytes.now }
@@ -98,7 +98,7 @@ impl<'a> SentPacket<'a> {
         SentPacket { bytes }
     }
 
-    /// Returns the packet in Teletext's own bit order, by reversing each byte.
+    /// Returns the packet in Teletext's own bit order, by reversing the bits of each byte.
     #[inline(always)]
     pub fn packet(&self) -> Packet
         ensures { result ≡ self.now }
@@ -107,10 +107,10 @@ impl<'a> SentPacket<'a> {
     }
 
     /// Returns the magazine, 0 to 7, and the packet number Y, 0 to 31, if both address bytes are
-    /// code words, without a wrong bit (EN 300 706, magazine and packet address). Magazine 0 means
+    /// code words without a wrong bit (EN 300 706, magazine and packet address). Magazine 0 means
     /// magazine 8.
     ///
-    /// Otherwise returns `None`.
+    /// Returns `None` if an address byte is no code word.
     #[inline(always)]
     #[tactic(auto, unfolding(crate::specs::PacketAddress::address))]
     pub fn exact_address(&self) -> Option<(u8, u8)>
@@ -118,7 +118,7 @@ impl<'a> SentPacket<'a> {
             (λ a. HasExactAddress self.now × (address self.now
             ≡ Some (record { magazine = a.0; packet_number = a.1 }))) }
     {
-        // Every packet of a service comes here, so one comparison covers both bytes.
+        // This function runs for every packet of a service, so one comparison tests both bytes.
         let low = sent_entry(self.bytes[0]);
         let high = sent_entry(self.bytes[1]);
         let number = low + 16 * high;
@@ -129,11 +129,12 @@ impl<'a> SentPacket<'a> {
         }
     }
 
-    /// Returns the page number of a header, with page tens in the upper half, if both of its bytes
-    /// are code words, without a wrong bit (EN 300 706, page header). Ignores the address and the
-    /// other six coded bytes: these two usually suffice to see that a header is of another page.
+    /// Returns the page number of a header, with page tens in the upper four bits, if both of its
+    /// bytes are code words without a wrong bit (EN 300 706, page header). Ignores the address and
+    /// the other six coded bytes: the page number usually suffices to see that a header is of
+    /// another page.
     ///
-    /// Otherwise returns `None`.
+    /// Returns `None` if one of the two bytes is no code word.
     #[inline(always)]
     pub fn exact_page(&self) -> Option<u8>
         ensures { MatchOption result (HasExactPage self.now → ⊥)
@@ -144,10 +145,10 @@ impl<'a> SentPacket<'a> {
         Some(units + 0x10 * tens)
     }
 
-    /// Decodes the eight coded bytes of a header if all are code words, without a wrong bit (EN 300
-    /// 706, page header). Ignores the address.
+    /// Decodes the eight coded bytes of a header if all eight are code words without a wrong bit
+    /// (EN 300 706, page header). Ignores the address.
     ///
-    /// Otherwise returns `None`.
+    /// Returns `None` if one of the eight bytes is no code word.
     #[inline(always)]
     #[tactic(auto, unfolding(crate::specs::PageHeader::coded_header))]
     pub fn exact_header(&self) -> Option<Header>

@@ -11,7 +11,7 @@ ghost use Rattle.ttx_packet.specs.Lanes.{swapped};
 
 use std::simd::prelude::*;
 
-// Swaps the halves of each byte.
+// Swaps the two halves of each byte.
 #[inline(always)]
 fn swap_halves(bytes: u8x16) -> u8x16
     ensures lanes { result ≡ map (swapped 4 0x0F) bytes }
@@ -22,7 +22,7 @@ fn swap_halves(bytes: u8x16) -> u8x16
     ((bytes >> n) & mask) | ((bytes & mask) << n)
 }
 
-// Swaps the two pairs of bits in each half.
+// Swaps the two pairs of bits in each half of each byte.
 #[inline(always)]
 fn swap_pairs(bytes: u8x16) -> u8x16
     ensures { result ≡ map (swapped 2 0x33) bytes }
@@ -42,7 +42,7 @@ fn swap_bits(bytes: u8x16) -> u8x16
     ((bytes >> n) & mask) | ((bytes & mask) << n)
 }
 
-// Reverses the bits of each byte.
+// Reverses the bits of each of the 16 bytes.
 #[inline(always)]
 pub(super) fn mirrored_block(block: &[u8; 16]) -> [u8; 16]
     ensures { result ≡ map mirror block.now }

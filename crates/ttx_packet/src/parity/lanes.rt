@@ -20,7 +20,7 @@ fn fold_halves(bytes: u8x16) -> u8x16
     bytes ^ (bytes >> u8x16::splat(4))
 }
 
-// Folds each byte by two bits.
+// Folds each byte onto itself by two bits.
 #[inline(always)]
 fn fold_pairs(bytes: u8x16) -> u8x16
     ensures { result ≡ map (folded 2) bytes }
@@ -28,7 +28,7 @@ fn fold_pairs(bytes: u8x16) -> u8x16
     bytes ^ (bytes >> u8x16::splat(2))
 }
 
-// Folds each byte by one bit.
+// Folds each byte onto itself by one bit.
 #[inline(always)]
 fn fold_bits(bytes: u8x16) -> u8x16
     ensures { result ≡ map (folded 1) bytes }
@@ -36,7 +36,8 @@ fn fold_bits(bytes: u8x16) -> u8x16
     bytes ^ (bytes >> u8x16::splat(1))
 }
 
-// Returns a mask with a bit for each byte of even parity; the lowest bit is the first byte.
+// Returns a mask with one bit for each byte, set if the byte has even parity. The lowest bit is
+// that of the first byte.
 #[inline(always)]
 pub(crate) fn evens(block: &[u8; 16]) -> u64
     ensures { result ≡ evens_mask block.now }

@@ -3,6 +3,6 @@ use Rattle.ttx_packet.specs.BitOrder.{mirror}
 use Rattle.ttx_packet.proofs.BlockLemmas.{IsMadeTo}
 use Rattle.ttx_packet.proofs.bit_order.mirrored.Given as goal
 
--- The earlier blocks are mirrored.
+-- After each iteration of `mirrored`, the bytes of all earlier blocks are mirrored.
 abbrev pub invariant-loop-i : goal.invariant-loop-i
 invariant-loop-i l = IsMadeTo mirror l.bytes 42 (16 * l.i) l.other

@@ -1,4 +1,4 @@
--- Each byte is the code word of its number, or no code word: SentWordLemmas.
+-- `exact_header` returns a header exactly if all eight coded bytes are code words: SentWordLemmas.
 use Rattle.std.proofs.Common.{arith}
 use Rattle.ttx_packet.proofs.SentWordLemmas.{coded_header_of, exact_coded_words, no_word_at}
 use Rattle.ttx_packet.proofs.SentWordLemmas.{word_at}

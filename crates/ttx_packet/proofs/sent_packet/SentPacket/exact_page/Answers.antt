@@ -1,4 +1,5 @@
--- Each byte is the code word of its number, or no code word: SentWordLemmas.
+-- `exact_page` returns a page number exactly if both bytes of the page number are code words:
+-- SentWordLemmas.
 use Rattle.std.proofs.Common.{arith}
 use Rattle.ttx_packet.proofs.SentWordLemmas.{coded_page_of, no_word_at, word_at}
 use Rattle.ttx_packet.proofs.sent_packet.SentPacket.exact_page.Goals as goal
