@@ -1,5 +1,5 @@
--- The state after the packets of a frame, `heard_here`, and at its end: `ending_steps`,
--- `follows_then`.
+-- The state after the packets of a frame, `heard_here`, and at the end of the frame:
+-- `ending_steps`, `follows_then`.
 use Rattle.std.proofs.lemmas.Bool.Decides.{nat_tests}
 use Rattle.std.proofs.Common.{◌≡◌, ℕ, zero, suc, ◌+◌, ◌<◌, Bool, ◌&&◌, ◌||◌, not, nat_le, nat_lt}
 use Rattle.std.proofs.Common.{cond, List, [], ◌∷◌, ◌++◌, length, map, take, refl, sym, ap, ◌∙◌}
@@ -30,9 +30,6 @@ use Rattle.sub_checker.proofs.FrameEndLemmas.{frame_on, first_unfinished_are, fi
 use Rattle.sub_checker.proofs.FrameEndLemmas.{active_faults_are_at}
 use Rattle.sub_checker.proofs.FrameEndLemmas.{steps_are}
 
--- ---- the packets of a frame
-
--- The steps of the packets agree with the state. For `take_next`.
 pub packets_are :
     (g : Criteria) (frames : Transmission) (n : ℕ) (last ps : List (List ℕ)) (c : CheckerValue)
     → BeforePackets g frames n last c
@@ -44,7 +41,6 @@ packets_are g frames n last ps c arrives are =
     let watched = ap (λ (t : Criteria). t.watched) arrives.has_pending.known.criteria_are in
     rw (sym watched, arrives.frame_is, sym are) refl
 
--- When the repeat bound is exceeded next, given the headers among more packets.
 pub late_core : (due before has : Bool) (late frame every f : ℕ)
     → (due && not before) ≡ nat_le late (f + 1)
     → (due && not (before || (has && nat_lt f (frame + every))))
@@ -105,7 +101,6 @@ module _ (g : Criteria) (frames : Transmission) (n : ℕ) (last ps : List (List 
         (list_any (covers g f) (take n frames)) (nat_lt 0 hears.headers) c.late_at c.frame c.every f
         (arrives.has_pending.begun.late_is f))
 
-    -- The state after the packets. For `take_next`.
     pub heard_here : (e : CheckerValue) → e ≡ record here {
       counts = record here.counts { frames = suc n };
     } → AfterPackets g frames n ps e
@@ -126,12 +121,9 @@ module _ (g : Criteria) (frames : Transmission) (n : ℕ) (last ps : List (List 
               ∙ ap (holds_beginning g.watched.keeps (kind g.watched.page)) (sym are);
         })
 
--- ---- the end of a frame
-
 module _ (g : Criteria) (frames : Transmission) (n : ℕ) (last : List (List ℕ)) (c : CheckerValue)
     (is : AfterPackets g frames n last c)
   where
-    -- A frame has a header of the page if their count has risen.
     pub header_more : (before : ℕ) → n < length frames
         → before ≡ header_count g.watched.page (packets_before frames n)
         → nat_lt before c.counts.headers
@@ -144,7 +136,6 @@ module _ (g : Criteria) (frames : Transmission) (n : ℕ) (last : List (List ℕ
         let count = is.known.count in
         grind (arith, nat_tests, header_count-append, holds-count)
 
-    -- The missing header of the first frame is reported. For `end_sent`.
     pub first_reported : (has lacks : Bool)
         → has ≡ holds_header (kind g.watched.page) (packets_of_frame frames n)
         → lacks ≡ ((c.counts.frames == 1) && not has)
@@ -164,7 +155,6 @@ module _ (g : Criteria) (frames : Transmission) (n : ℕ) (last : List (List ℕ
         go (suc k) number at holds = grind (arith, nat_tests)
 
     module _ (due : c.listener.comparison.due ≡ due_in c.programme c.frame) where
-      -- The steps at the end agree with the state. For `end_sent`.
       pub ending_steps : end_steps c ≡ steps_at_end g frames n (suc n) (frame_at frames n)
       ending_steps =
           steps_are g frames n (suc n) (frame_at frames n) last c is.known is.begun is.frame_is due
@@ -179,7 +169,6 @@ module _ (g : Criteria) (frames : Transmission) (n : ℕ) (last : List (List ℕ
           is.active_faults_is is.last_is is.first_unfinished_is (frame_on g frames n) (omega arith)
           is.latest_is
 
-      -- The reporter's step at the end. For `end_sent`.
       pub end_step : (f : ℕ) (begins none : Bool) (d : CheckerValue)
           → d ≡ after_end c
           → f ≡ d.frame
@@ -209,7 +198,6 @@ module _ (g : Criteria) (frames : Transmission) (n : ℕ) (last : List (List ℕ
           is.latest_is l
           ∙ first_unfinished_last g frames n
 
-      -- The state after the end. For `end_sent`.
       pub follows_then : AfterEnd g frames (suc n) last (after_end c)
       follows_then = record {
         known = assumption is.known;

@@ -1,7 +1,7 @@
 -- The state between two PES packets: `BetweenPesPackets-closed`, `BetweenPesPackets-open`,
--- `pending_none`,
--- `pending_some`. Whether a packet continues the last frame: `goes_on_is`. The steps of a packet of
--- another frame: `arrived`, `next_is`. The state after it: `more_keeps`, `next_keeps`.
+-- `pending_none`, `pending_some`. Whether a packet continues the last frame: `goes_on_is`. The
+-- steps of a packet of another frame: `arrived`, `next_is`. The state after a packet: `more_keeps`,
+-- `next_keeps`.
 use Rattle.std.proofs.lemmas.Bool.Decides.{nat_tests}
 use Rattle.std.proofs.Common.{◌≡◌, ℕ, suc, ◌+◌, ◌-◌, ◌<◌, ◌==◌, Bool, ◌&&◌}
 use Rattle.std.proofs.Common.{true, false, List, [], ◌∷◌, ◌++◌, length, refl, sym, ap}
@@ -29,9 +29,6 @@ use Rattle.sub_checker.proofs.AfterPacketsLemmas.{heard_here}
 use Rattle.sub_checker.proofs.MorePacketsLemmas.{opens_more}
 use Rattle.sub_checker.proofs.ReporterLemmas.{relays_begun, relays_two}
 
--- ---- the state between two PES packets
-
--- The state after the end of the last frame.
 pub BetweenPesPackets-closed : (g : Criteria) (sent : Transmission) (last : List (List ℕ))
     (c : CheckerValue)
     → c.counts.is_open ≡ false
@@ -40,7 +37,6 @@ pub BetweenPesPackets-closed : (g : Criteria) (sent : Transmission) (last : List
     → BetweenPesPackets g sent last c
 BetweenPesPackets-closed g sent last c shut each follows = grind (arith, nat_tests)
 
--- The state before the end of the last frame.
 pub BetweenPesPackets-open : (g : Criteria) (sent : Transmission) (n : ℕ) (last : List (List ℕ))
     (c : CheckerValue)
     → c.counts.is_open ≡ true
@@ -50,7 +46,6 @@ pub BetweenPesPackets-open : (g : Criteria) (sent : Transmission) (n : ℕ) (las
     → BetweenPesPackets g sent last c
 BetweenPesPackets-open g sent n last c opened within all opens = grind (arith, nat_tests)
 
--- If the last frame is closed, no end is open.
 pub pending_none : (g : Criteria) (sent : Transmission) (last : List (List ℕ)) (c : CheckerValue)
     → BetweenPesPackets g sent last c
     → c.counts.is_open ≡ false
@@ -58,7 +53,6 @@ pub pending_none : (g : Criteria) (sent : Transmission) (last : List (List ℕ))
 unfolding steps_of_pending_end
 pending_none g sent last c keeps shut = grind (arith, nat_tests)
 
--- If it is not, the open end is that of the last frame.
 pub pending_some : (g : Criteria) (sent : Transmission) (last : List (List ℕ)) (c : CheckerValue)
     → BetweenPesPackets g sent last c
     → c.counts.is_open ≡ true
@@ -66,7 +60,6 @@ pub pending_some : (g : Criteria) (sent : Transmission) (last : List (List ℕ))
 unfolding steps_of_pending_end
 pending_some g sent last c keeps opened = grind (arith, nat_tests)
 
--- Other changes of the counts do not matter.
 heard_counts : (g : Criteria) (sent : Transmission) (n : ℕ) (last : List (List ℕ))
     (c d : CheckerValue) (m : Counts)
     → d ≡ record c { counts = m }
@@ -76,7 +69,6 @@ heard_counts : (g : Criteria) (sent : Transmission) (n : ℕ) (last : List (List
     → AfterPackets g sent n last d
 heard_counts g sent n last c d m is frames headers heard = grind (arith, nat_tests)
 
--- Closing the frame changes nothing else. For `end_open`.
 pub heard_shut : (g : Criteria) (sent : Transmission) (n : ℕ) (last : List (List ℕ))
     (c d : CheckerValue)
     → d ≡ record c { counts = record c.counts { is_open = false } }
@@ -85,7 +77,6 @@ pub heard_shut : (g : Criteria) (sent : Transmission) (n : ℕ) (last : List (Li
 heard_shut g sent n last c d is heard =
     heard_counts g sent n last c d (record c.counts { is_open = false }) is refl refl heard
 
--- The state after more packets of the last frame. For `take_more`.
 pub more_keeps : (g : Criteria) (sent : Transmission) (last ps : List (List ℕ))
     (c v e : CheckerValue) (k : ℕ)
     → BetweenPesPackets g sent last c
@@ -108,9 +99,6 @@ more_keeps g sent last ps c v e k keeps opened hears is sum =
     (opens_more g sent (length sent - 1) last ps c v opens.heard all hears e k same opens.before
     opens.packets (sum ∙ ap (λ (w : CheckerValue). w.counts.packets + length ps) new))
 
--- ---- the next PES packet
-
--- The checker decides correctly whether a packet continues the last frame.
 pub goes_on_is : (g : Criteria) (sent : Transmission) (last : List (List ℕ)) (c : CheckerValue)
     (s : SentFrame) (same : Bool)
     → BetweenPesPackets g sent last c
@@ -118,7 +106,6 @@ pub goes_on_is : (g : Criteria) (sent : Transmission) (last : List (List ℕ)) (
     → goes_on_with g.within sent s ≡ same
 goes_on_is g sent last c s same keeps is = grind (arith, nat_tests)
 
--- The steps of a packet that continues the last frame.
 pub more_is : (g : Criteria) (sent : Transmission) (pes : ℕ) (s : SentFrame)
     → goes_on_with g.within sent s ≡ true
     → steps_of_sent g sent pes s ≡ AtPes pes ∷ steps_of_more g sent s.packets
@@ -132,7 +119,6 @@ pub next_is : (g : Criteria) (sent : Transmission) (pes : ℕ) (s : SentFrame)
 unfolding steps_of_sent
 next_is g sent pes s other = rw other refl
 
--- The new frame is the last one of the list.
 pub is_sent : (sent : Transmission) (s : SentFrame)
     → IsSentFrame (sent ++ s ∷ []) (length sent) s.frame s.packets
 is_sent sent s = record {
@@ -153,7 +139,6 @@ pub one_longer : (sent : Transmission) (s : SentFrame)
     → length (sent ++ s ∷ []) ≡ suc (length sent)
 one_longer sent s = length-append sent (s ∷ []) ∙ omega arith
 
--- The steps of reaching its frame, and the step there. For `take_next`.
 pub arrived : {D : Type 0} {d : _} {IsReported : D → Event → D → Type 0} {a s t : Reporter D d}
     (g : Criteria) (frames : Transmission) (n : ℕ) (last : List (List ℕ)) (c : CheckerValue)
     → BeforePackets g frames n last c
@@ -169,7 +154,6 @@ arrived {a = a} {s = s} {t = t} g frames n last c arrives reached begins =
     (sym arrives.frame_is) (sym back))
     reached (relays_begun s t c begins)
 
--- The steps of a frame that ends at once, and of one that does not. For `take_next`.
 pub next_each : (g : Criteria) (frames : Transmission) (n : ℕ) → g.within ≡ 0
     → next_steps g frames n
     ≡ steps_of_arrival g frames n ++ steps_of_packets g frames n ++ steps_of_ending g frames n
@@ -179,14 +163,11 @@ pub next_within : (g : Criteria) (frames : Transmission) (n : ℕ) → 0 < g.wit
     → next_steps g frames n ≡ steps_of_arrival g frames n ++ steps_of_packets g frames n
 next_within g frames n within = grind (arith, nat_tests, append-nil)
 
--- ---- the packets of another frame
-
 module _ (g : Criteria) (frames : Transmission) (n : ℕ) (last ps : List (List ℕ))
     (c v : CheckerValue)
     (arrives : BeforePackets g frames n last c) (there : n < length frames)
     (are : packets_of_frame frames n ≡ ps) (hears : HasHeard 0 (packets_before frames n) ps c v)
   where
-    -- The state after the packets. For `take_next`.
     pub next_heard : (e : CheckerValue)
         → e ≡ record v { counts = record v.counts { frames = v.counts.frames + 1 } }
         → AfterPackets g frames n ps e
@@ -201,7 +182,6 @@ module _ (g : Criteria) (frames : Transmission) (n : ℕ) (last ps : List (List 
         record here { counts = record here.counts { frames = k } })
         (omega (arith, arrives.has_pending.number)))
 
-    -- The state if more packets of the frame may follow.
     pub next_keeps : (e : CheckerValue) (before k : ℕ)
         → 0 < c.within
         → length frames ≡ suc n
@@ -235,20 +215,17 @@ module _ (g : Criteria) (frames : Transmission) (n : ℕ) (last ps : List (List 
               ∙ ap length (sym are);
         })
 
-    -- Both sides agree that `within` is not 0.
     pub some_is : (v.within ≡ 0 → ⊥) → 0 < c.within
     some_is not_each =
         let same = ap (λ (w : CheckerValue). w.within) hears.new_is in
         omega (arith, not_each, same)
 
-    -- Both sides agree that `within` is 0.
     pub each_is : v.within ≡ 0 → g.within ≡ 0
     each_is e =
         ap (λ (t : Criteria). t.within) arrives.has_pending.known.criteria_are
         ∙ sym (ap (λ (w : CheckerValue). w.within) hears.new_is)
         ∙ e
 
--- The last end is that of the whole list. For `end_open`.
 pub follows_all : (g : Criteria) (sent : Transmission) (last : List (List ℕ)) (c : CheckerValue)
     → 0 < length sent
     → AfterEnd g sent (suc (length sent - 1)) last c

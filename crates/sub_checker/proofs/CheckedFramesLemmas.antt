@@ -35,9 +35,6 @@ use Rattle.sub_checker.proofs.FrameEndLemmas.{first_unfinished_high, first_unfin
 use Rattle.sub_checker.proofs.FrameEndLemmas.{first_unfinished_low, active_faults_are_at}
 use Rattle.sub_checker.proofs.FrameEndLemmas.{steps_are}
 
--- ---- before the first frame
-
--- The state before the first frame. For `new`.
 pub AfterEnd-none :
     (g : Criteria) (frames : Transmission) (last : List (List ℕ)) (c : CheckerValue)
     → g ≡ criteria_kept c g.unread
@@ -71,13 +68,11 @@ BetweenPesPackets-none g last c criteria knows counts first_unfinished no_faults
       opens = λ e. absurd (true≢false (sym e ∙ shut));
     }
 
--- Moving to another frame keeps what the state remembers.
 remembers_at : (g : Criteria) (frames : Transmission) (n f : ℕ) (last : List (List ℕ))
     (c : CheckerValue)
     → Remembers g frames n last c → Remembers g frames n last (at_frame f c)
 remembers_at g frames n f last c known = grind arith
 
--- The state at the first frame. For `begin`.
 pub arrives_first :
     (g : Criteria) (frames : Transmission) (f : ℕ) (last : List (List ℕ)) (c : CheckerValue)
     → AfterEnd g frames 0 last c
@@ -86,7 +81,6 @@ pub arrives_first :
 unfolding is_gap latest active_faults_before first_unfinished_before first_unfinished_in_frames
 arrives_first g frames f last c follows is = grind (arith, nat_tests, remembers_at)
 
--- The steps before the first frame. For `begin`.
 pub first_reaching :
     (g : Criteria) (frames : Transmission) (f : ℕ) (last : List (List ℕ)) (c : CheckerValue)
     (out : Option ℕ) (reported : Bool)
@@ -99,9 +93,6 @@ unfolding order_events steps_of_gap gap_length
 first_reaching g frames f last c out reported follows is from e = grind
     (arith, nat_tests, append-nil)
 
--- ---- the frames of the day before another one
-
--- The state before the next end, if no frame of the day lies between.
 pub follows_pending :
     (g : Criteria) (frames : Transmission) (n f : ℕ) (last : List (List ℕ)) (c : CheckerValue)
     → AfterEnd g frames n last c
@@ -111,7 +102,6 @@ pub follows_pending :
 follows_pending g frames n f last c follows some l =
     grind (arith, nat_tests, end_before_low, active_faults_before_is, first_unfinished_low)
 
--- A state before the end of f is also one before any end up to f.
 pending_lower :
     (g : Criteria) (frames : Transmission) (n f e : ℕ) (last : List (List ℕ)) (c : CheckerValue)
     → BeforeEnd g frames n f last c
@@ -122,7 +112,6 @@ pending_lower :
 pending_lower g frames n f e last c has_pending some l m =
     grind (arith, nat_tests, end_before_low, active_faults_before_is, first_unfinished_low)
 
--- One more end. For `cross_gap`.
 module _ (g : Criteria) (frames : Transmission) (n f : ℕ) (last : List (List ℕ))
     (v b : CheckerValue)
     (has_pending : BeforeEnd g frames n f last v) (some : 0 < n) (later : latest frames n < f)
@@ -194,7 +183,6 @@ module _ (g : Criteria) (frames : Transmission) (n f : ℕ) (last : List (List �
       number = number_there;
     }
 
--- The steps of the ends so far, with one more end.
 pub gap_more :
     (g : Criteria) (frames : Transmission) (n f e : ℕ)
     → latest frames n < f
@@ -204,7 +192,6 @@ pub gap_more :
 unfolding steps_of_gap
 gap_more g frames n f e later is = grind (arith, nat_tests)
 
--- No steps before the first of these ends.
 pub gap_start : (g : Criteria) (frames : Transmission) (n latest_is : ℕ)
     → latest_is ≡ latest frames n
     → steps_of_gap g frames n (latest_is + 1 - (latest frames n + 1)) ≡ []
@@ -212,7 +199,6 @@ unfolding steps_of_gap
 gap_start g frames n latest_is is =
     let none : latest_is + 1 - (latest frames n + 1) ≡ 0 = omega (arith, is) in rw none refl
 
--- The state after the last of these ends. For `cross_gap`.
 pub gap_ended :
     (g : Criteria) (frames : Transmission) (n f to known : ℕ) (last : List (List ℕ))
     (c : CheckerValue)
@@ -239,7 +225,6 @@ gap_ended g frames n f to known last c has_pending some is later done upto =
           (omega (arith, is, l, done)),
     )
 
--- The state at the frame of a later PES packet. For `go_to`.
 pub arrives_next :
     (g : Criteria) (frames : Transmission) (n f : ℕ) (last : List (List ℕ)) (c : CheckerValue)
     → BeforeEnd g frames n f last c
@@ -249,7 +234,6 @@ pub arrives_next :
 unfolding latest
 arrives_next g frames n f last c has_pending is latest_is = grind (arith, nat_tests, remembers_at)
 
--- The events of its order. For `go_to`.
 pub order_are :
     (g : Criteria) (frames : Transmission) (n f last pes : ℕ) (reported : Bool)
     → 0 < n
@@ -261,8 +245,6 @@ pub order_are :
 unfolding order_events
 order_are g frames zero f last pes reported some is at number late = absurd (omega arith)
 order_are g frames (suc n) f last pes reported some is at number late = grind (arith, nat_tests)
-
--- ---- more frames of the list
 
 gap_prefix : (g : Criteria) (done more : Transmission) (f : ℕ) → 0 < length done
     → is_gap g (done ++ more) (length done) f ≡ is_gap g done (length done) f
@@ -282,7 +264,6 @@ first_unfinished_prefix g done more (suc i) l =
     ∙ unfinished_since-prefix g g.unread done more (suc i) (frame_at done i) l
     ∙ first_unfinished_last g done i
 
--- The state after some frames stays valid if more frames are sent.
 pub AfterEnd-prefix : (g : Criteria) (done more : Transmission) (last : List (List ℕ))
     (c : CheckerValue)
     → AfterEnd g done (length done) last c

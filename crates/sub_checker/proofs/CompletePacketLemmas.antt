@@ -23,7 +23,6 @@ unfolding was_due
 due_now due first f zero row column code is = is
 due_now due first f (suc n) row column code is = rw (due_now due first f n row column code is) refl
 
--- So no cell is unexpected if each cell is right.
 pub no_unexpected : (s : Listener) (due : ℕ → Rows) (first f n : ℕ)
     → s.comparison.due ≡ due f
     → wrong_kept s ≡ None
@@ -39,7 +38,6 @@ no_unexpected s due first f n is none =
     let same = ap (λ (rows : Rows). cell rows row column) is in
     grind (arith, nat_tests))
 
--- The same for the value that the code computes. For `first_unexpected`.
 pub none_unexpected : (c : CheckerValue) (o : Option (ℕ × ℕ)) (b : Bool)
     → c.listener.comparison.due ≡ due_in c.programme c.frame
     → is_some o ≡ not b
@@ -48,7 +46,6 @@ pub none_unexpected : (c : CheckerValue) (o : Option (ℕ × ℕ)) (b : Bool)
     → None ≡ unexpected_now c
 none_unexpected c o b due is none same = grind (arith, nat_tests, was-here, no_unexpected)
 
--- Few comparisons show that no fault is active. For `is_fault_free`.
 pub fault_free_has_none_active : (c : CheckerValue)
     → c.listener.comparison.due ≡ due_in c.programme c.frame
     → c.active_faults ≡ no_active_faults

@@ -32,7 +32,6 @@ due_until drawing records frame (Some e) (suc k) reports before =
     ∙ ap (due drawing records) (omega arith)
     ∙ due_until drawing records frame (Some e) k reports (grind (arith, nat_tests))
 
--- The next change stays the same until then.
 same_edge :
     (records : List SubtitleValue) (frame f : ℕ) (edge : Option ℕ)
     → ReportsNextEdge records frame edge
@@ -47,7 +46,7 @@ same_edge records frame f (Some edge) reports low before =
       least = λ e is l. reports.least e is (omega arith);
     }
 
--- `IsAtFrame` stays true until the next change of the due page. For `move_to`.
+-- `IsAtFrame` stays true until the next change of the due page.
 pub IsAtFrame-later :
     (p : ProgrammeValue) (every : ℕ) (s : Listener) (first latest last frame : ℕ)
     (edge : Option ℕ) (f : ℕ)
@@ -60,7 +59,7 @@ IsAtFrame-later p every s first latest last frame edge f small is low before =
     let k : frame + (f - frame) ≡ f = omega arith in
     grind (arith, nat_tests, due_until, same_edge)
 
--- So does `IsJudged`. For `move_to`.
+-- `IsJudged` stays true until the next change of the due page.
 pub IsJudged-later :
     (j : JudgedValue) (p : ProgrammeValue) (any_refused : Bool) (first within frame : ℕ)
     (edge : Option ℕ) (known_from f : ℕ)
@@ -70,7 +69,6 @@ pub IsJudged-later :
 IsJudged-later j p any_refused first within frame edge known_from f is low = grind
     (arith, nat_tests)
 
--- The due page in the state is the one of the new frame. For `move_to`.
 pub at_frame-stays :
     (f : ℕ) (c : CheckerValue)
     → c.listener.comparison.due ≡ due_in c.programme f

@@ -11,7 +11,6 @@ module _ {A D : Type 0} {IsReported : D → A → D → Type 0} where
       → Reports IsReported a c whole
   reported_two a b c xs ys whole is p q = rw is (Reports-trans a b c xs ys p q)
 
-  -- Equal lists of events are reported in the same steps.
   pub all_same : (a b : D) (xs whole : List A) → whole ≡ xs
       → Reports IsReported a b xs → Reports IsReported a b whole
   all_same a b xs whole is p = subst (Reports IsReported a b) (sym is) p

@@ -1,7 +1,6 @@
--- The end of a frame, from the state: its faults and steps, `steps_are`, `active_faults_are_at`,
--- `first_unfinished_are`; since which frame the page has been wrong, `gap_on`, `frame_on`; ends
--- without faults,
--- `fault_free_once`, `fault_free_within`.
+-- The end of a frame, from the state of the checker: its faults and steps, `steps_are`,
+-- `active_faults_are_at`, `first_unfinished_are`; since which frame the page has been wrong,
+-- `gap_on`, `frame_on`; ends without faults, `fault_free_once`, `fault_free_within`.
 use Rattle.std.proofs.lemmas.Bool.Decides.{nat_tests}
 use Rattle.std.proofs.Common.{◌≡◌, ℕ, zero, suc, ◌+◌, ◌-◌, ◌<◌, ◌≤◌, Bool, false, ◌||◌}
 use Rattle.std.proofs.Common.{cond, List, [], ◌∷◌, ◌++◌, map, Option, Some, None, refl, sym}
@@ -33,9 +32,6 @@ use Rattle.sub_rules.specs.declared.event.Event.{Event}
 use Rattle.sub_rules.proofs.EndRuleLemmas.{end_from_none}
 use Rattle.sub_rules.specs.declared.active_faults.ActiveFaults.{ActiveFaults}
 
--- ---- since which frame the page has been wrong
-
--- At the end of a frame of the day after the latest frame.
 pub gap_on :
     (g : Criteria) (frames : Transmission) (n f : ℕ)
     → 0 < n
@@ -45,7 +41,6 @@ pub gap_on :
 unfolding unfinished_since first_unfinished_before first_unfinished_in_gap
 gap_on g frames n f some later = grind (arith, nat_tests)
 
--- At the end of the last of the first frames.
 pub first_unfinished_last : (g : Criteria) (frames : Transmission) (n : ℕ)
     → unfinished_since g frames (suc n) (frame_at frames n) ≡ first_unfinished_in_frames g frames
     (suc n)
@@ -54,7 +49,6 @@ first_unfinished_last g frames n =
     let none : frame_at frames n - latest frames (suc n) ≡ 0 = grind (arith, nat_tests) in
     ap (first_unfinished_in_gap g frames (suc n) (first_unfinished_in_frames g frames (suc n))) none
 
--- Up to the end before it.
 before_last : (g : Criteria) (frames : Transmission) (n : ℕ)
     → first_unfinished_in_gap g frames n (first_unfinished_in_frames g frames n)
     (gap_length frames n)
@@ -73,7 +67,6 @@ pub frame_on : (g : Criteria) (frames : Transmission) (n : ℕ)
 unfolding first_unfinished_in_frames
 frame_on g frames n = grind (arith, nat_tests, first_unfinished_last, before_last)
 
--- At the end before, if no frame of the day lies between.
 pub first_unfinished_low : (g : Criteria) (frames : Transmission) (n f : ℕ)
     → f ≤ latest frames n + 1
     → first_unfinished_before g frames n f ≡ first_unfinished_in_frames g frames n
@@ -81,7 +74,6 @@ unfolding first_unfinished_before unfinished_since first_unfinished_in_gap
     first_unfinished_in_frames
 first_unfinished_low g frames n f low = grind (arith, nat_tests)
 
--- At the end before, if one does.
 pub first_unfinished_high : (g : Criteria) (frames : Transmission) (n f e : ℕ)
     → 0 < n
     → e ≡ f + 1
@@ -91,21 +83,16 @@ first_unfinished_high g frames zero f e some is = absurd (omega arith)
 first_unfinished_high g frames (suc n) f e some is =
     ap (unfinished_since g frames (suc n)) (omega (arith, is))
 
--- ---- the end before
-
--- If the frame is at most one after the latest one, the end before is that of the last PES packet.
 pub end_before_low : (frames : Transmission) (n f : ℕ) → f ≤ latest frames n + 1
     → end_before frames n f ≡ frame_at frames (n - 1)
 end_before_low frames n f l = grind (arith, nat_tests)
 
--- Otherwise it is that of the frame before.
 pub end_before_high : (frames : Transmission) (n f : ℕ) → latest frames n < f
     → end_before frames n (f + 1) ≡ f
 end_before_high frames n f l = grind (arith, nat_tests)
 
 -- ---- an end
 
--- The events at the end of a frame, from the state.
 ends_are :
     (g : Criteria) (frames : Transmission) (i n f : ℕ) (old new : ActiveFaults) (last : ℕ)
     → old ≡ active_faults_before g frames i f
@@ -116,14 +103,14 @@ unfolding active_faults_before
 ends_are g frames zero n f old new last is at now = rw (is, now) (end_from_none _ _ _ _)
 ends_are g frames (suc i) n f old new last is at now = rw (is, now, at (omega arith)) refl
 
--- After the first PES packet, the maximum distance counts from the latest frame.
+-- After the first PES packet, the maximum distance between PES packets counts from the latest
+-- frame.
 silent_at : (g : Criteria) (frames : Transmission) (n f : ℕ) → 0 < n
     → is_silent g frames n f ≡ silent_for g.pace (latest frames n) f
 unfolding is_silent
 silent_at g frames zero f some = absurd (omega arith)
 silent_at g frames (suc n) f some = refl
 
--- Whether the page is overdue, from the state.
 pub overdue_is : (g : Criteria) (c : CheckerValue) (first : ℕ) (first_unfinished : Option ℕ) (f : ℕ)
     (last : List (List ℕ)) (frames : Transmission) (n : ℕ)
     → Remembers g frames n last c
@@ -133,7 +120,6 @@ overdue_is g c first None f last frames n known = refl
 overdue_is g c first (Some s) f last frames n known =
     ap (λ (t : Criteria). is_overdue t first (Some s) f) known.criteria_are
 
--- The `GoesBack` step before a frame agrees with the state.
 pub back_are :
     (g : Criteria) (frames : Transmission) (i n f : ℕ) (last : List (List ℕ)) (c : CheckerValue)
     → Remembers g frames n last c
@@ -141,11 +127,9 @@ pub back_are :
     → back_steps c ≡ steps_before g (first_unfinished_before g frames i f)
 back_are g frames i n f last c known first_unfinished = grind (arith, nat_tests)
 
--- If `within` is 0, there is no `GoesBack` step.
 pub back_none : (c : CheckerValue) → c.within ≡ 0 → back_steps c ≡ []
 back_none c each = grind (arith, nat_tests)
 
--- Splits by whether `within` is 0.
 late_by : (w : ℕ) (a b : Bool) → (0 < w → a ≡ b) → (w == 0 || a) ≡ (w == 0 || b)
 late_by w a b same = grind (arith, nat_tests)
 
@@ -160,7 +144,6 @@ module _ (g : Criteria) (frames : Transmission) (i n f : ℕ) (last : List (List
     ≡ unfinished_from (first_unfinished_before g frames i f) (is_unfinished g frames n f) f)
     (some : 0 < n) (latest_is : c.latest ≡ latest frames n)
   where
-    -- The packets received so far.
     abbrev so_far : List (List ℕ)
     so_far = packets_before frames n
 
@@ -187,7 +170,6 @@ module _ (g : Criteria) (frames : Transmission) (i n f : ℕ) (last : List (List
     unfinished_is : is_unfinished_now c ≡ is_unfinished g frames n f
     unfinished_is = rw (wrong_is, incomplete_is) refl
 
-    -- Since which frame the page has been wrong.
     first_unfinished_is : 0 < g.within → first_unfinished_now c ≡ unfinished_since g frames n f
     first_unfinished_is l = rw (first_unfinished l, unfinished_is, at) (sym on)
 
@@ -222,7 +204,6 @@ module _ (g : Criteria) (frames : Transmission) (i n f : ℕ) (last : List (List
         (ap (λ (t : Criteria). silent_for t.pace (latest frames n) f) (sym known.criteria_are)
         ∙ sym (silent_at g frames n f some))
 
-    -- The active faults.
     pub active_faults_are_at : active_faults_of c ≡ active_faults_at g frames n f
     unfolding active_faults_at
     active_faults_are_at =
@@ -237,7 +218,6 @@ module _ (g : Criteria) (frames : Transmission) (i n f : ℕ) (last : List (List
           at,
         ) refl
 
-    -- The steps at the end.
     pub steps_are : end_steps c ≡ steps_at_end g frames i n f
     steps_are =
         ap₂ (λ (back ms : List CheckStep). back ++ ms ++ map Emits (end_events c.active_faults
@@ -267,7 +247,6 @@ module _ (g : Criteria) (frames : Transmission) (i n f : ℕ) (last : List (List
             ∙ ap (λ (w : ℕ). cond (w == 0) []
             (AtEnd f (unfinished_since g frames n f) (is_late g frames n f) ∷ [])) (sym within_is)
 
-    -- Since which frame the page has been wrong, as the new state has it.
     pub first_unfinished_are : 0 < g.within → (after_end c).first_unfinished ≡ unfinished_since g
         frames n f
     first_unfinished_are l = by c.within (rw (sym within_is) l)
@@ -280,9 +259,6 @@ module _ (g : Criteria) (frames : Transmission) (i n f : ℕ) (last : List (List
             let not_each : (suc w == 0) ≡ false = grind (arith, nat_tests) in
             rw not_each (first_unfinished_is l)
 
--- ---- the end, from the parts that the code computes
-
--- If `within` is 0.
 pub once_steps : (d c : CheckerValue) (s : ActiveFaults)
     → d ≡ c
     → c.within ≡ 0
@@ -291,7 +267,6 @@ pub once_steps : (d c : CheckerValue) (s : ActiveFaults)
     ≡ map Emits (end_events d.active_faults d.last s d.frame)
 once_steps d c s same each is = grind (arith, nat_tests, back_none)
 
--- If `within` is not 0.
 pub within_steps : (d c : CheckerValue) (s : ActiveFaults)
     (first_unfinished : Option ℕ) (late : Bool)
     → d ≡ c
@@ -305,7 +280,6 @@ pub within_steps : (d c : CheckerValue) (s : ActiveFaults)
 within_steps d c s first_unfinished late same some is first_unfinished_is late_is = grind
     (arith, nat_tests)
 
--- If no fault was active and none is, there are no events.
 none_reported : (old new : ActiveFaults) (before f : ℕ)
     → old ≡ no_active_faults
     → new ≡ no_active_faults

@@ -1,4 +1,4 @@
--- What reached the device behind a latch, `unfused`, also if it could not be flushed:
+-- Which events reached a guarded device, `unfused`, also if the device could not be flushed:
 -- `flush_stopped`.
 use Rattle.std.proofs.Common.{◌≡◌, ◌∙◌, Bool, true, false, List, [], ◌∷◌, refl, sym, subst}
 use Rattle.std.proofs.lemmas.Bool.{true≢false}
@@ -12,7 +12,8 @@ use Rattle.sub_rules.specs.declared.event.Event.{Event}
 use Rattle.sub_checker.specs.declared.fused.FusedAudience.{FusedAudience}
 
 module _ {D : Type 0} {g : _} (IsReported : D → Event → D → Type 0) where
-  -- These events were reported to the device, or a prefix, or none if it had said stop before.
+  -- The events were reported to the device, or a prefix if the device stopped the check, or none if
+  -- it had stopped the check before.
   pub record Receives (old new : FusedAudience D g) (es : List Event) : Type 0 where
     pub same : new.device.ghost_name ≡ old.device.ghost_name
     pub stays : old.stopped ≡ true → (new.device.now ≡ old.device.now) × (new.stopped ≡ true)
@@ -74,7 +75,6 @@ module _ {D : Type 0} {g : _} (IsReported : D → Event → D → Type 0) where
       → Receives old new es
   unfused old new es reported = one_by_one old new es reported.one_by_one
 
-  -- Some events were reported to the device.
   pub unfused_some : (old new : FusedAudience D g) → ReportsSome (IsFused IsReported) old new
       → (new.device.ghost_name ≡ old.device.ghost_name)
       × ReportsSome IsReported old.device.now new.device.now
@@ -82,7 +82,6 @@ module _ {D : Type 0} {g : _} (IsReported : D → Event → D → Type 0) where
       let p = unfused old new some.items some.reported in
       (p.same, record { items = take p.cut.0 _; reported = p.cut.2 })
 
--- The device has said stop exactly if it could not be flushed. For `flush_reports`.
 pub flush_stopped : {A D : Type 0} {IsReported : D → A → D → Type 0}
     {has_stopped has_pending_reports : D → Bool} {buffered : D → ℕ}
     {IsFlushed : D → Bool → D → Type 0}

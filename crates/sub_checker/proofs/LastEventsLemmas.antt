@@ -37,9 +37,6 @@ use Rattle.sub_rules.proofs.EndRuleLemmas.{nothing_at}
 use Rattle.sub_rules.proofs.TrustedLemmas.{reports_none-two}
 use Rattle.sub_checker.proofs.FrameEndLemmas.{overdue_is, first_unfinished_last}
 
--- ---- the last end
-
--- Splits by whether `within` is 0.
 pending_by : (w : ℕ) (s t : Option ℕ) (a b : Bool)
     → (0 < w → s ≡ t)
     → (0 < w → a ≡ b)
@@ -62,7 +59,8 @@ module _ (g : Criteria) (frames : Transmission) (n : ℕ) (last : List (List ℕ
     within_is : g.within ≡ c.within
     within_is = ap (λ (t : Criteria). t.within) follows.known.criteria_are
 
-    -- The page might still become right in a frame that does not come.
+    -- The page is wrong at frame e but might still become right in a later frame, which the file
+    -- does not contain.
     abbrev pends : ℕ → ℕ → ℕ → Bool
     pends w k e =
         is_some (unfinished_since g frames k e)
@@ -91,7 +89,6 @@ module _ (g : Criteria) (frames : Transmission) (n : ℕ) (last : List (List ℕ
         ∙ ap (λ (k : ℕ). pends g.within k (frame_at frames n)) (sym all)
         ∙ ap (pends g.within (length frames)) (sym end_is)
 
-    -- The events that follow it, if no bytes are left.
     pub late_are : (pes : ℕ) → late_events g frames ≡ fault_events (last_fault pes None c)
     late_are pes = by (is_short g.last_out (end_frame frames) || is_pending g frames) late_is
       where
@@ -109,7 +106,6 @@ module _ (g : Criteria) (frames : Transmission) (n : ℕ) (last : List (List ℕ
         by true is = rw (follows.number, is, last_is, end_is) refl
         by false is = rw (follows.number, is) refl
 
-    -- The active faults end there.
     pub endings_are :
         endings (active_faults_at g frames (suc n) (end_frame frames)) (end_frame frames)
         ≡ endings c.active_faults c.last
@@ -119,8 +115,6 @@ module _ (g : Criteria) (frames : Transmission) (n : ℕ) (last : List (List ℕ
         follows.active_faults_is (omega arith)
         ∙ ap (λ (k : ℕ). active_faults_at g frames (suc n) (frame_at frames k)) (omega arith) in
         rw (active_faults_of, last_is, end_is) refl
-
--- ---- the end of the file
 
 -- Two lists of events have the same effect. They may differ only in the PES packet that a fault
 -- names, since the tracker sets that itself.
@@ -136,7 +130,7 @@ same_equal es fs is =
     rw is (record { none_are = refl; reported_are = λ t. refl; kept_are = λ t. refl })
 
 module _ (k n : ℕ) (u : Unread) where
-  -- Events followed by the fault of the unread rest, as of PES packet i.
+  -- The events, followed by the fault of the unread rest at PES packet i.
   abbrev with_last : List Event → ℕ → List Event
   with_last es i = es ++ Reported (unread_fault i (Some u)) ∷ []
 
@@ -164,7 +158,6 @@ none_ended : (f : ℕ) → endings no_active_faults f ≡ []
 unfolding end_events end_rules
 none_ended f = refl
 
--- The events after the last PES packet agree with the state.
 pub closing_are :
     (g : Criteria) (list : Transmission) (pes : ℕ) (last : List (List ℕ)) (c : CheckerValue)
     (given : Option CheckFault)
@@ -212,7 +205,7 @@ closing_are g list pes last c given follows is = rw is (go (length list) refl fo
         (endings_are g list n last c all here)))
         (by n all here g.unread)
 
--- Events with the same effect are relayed in the same way.
+-- Events with the same effect on the tracker are relayed in the same way.
 pub relays_equal : {D : Type 0} {d : _} {IsReported : D → Event → D → Type 0} {a b : Reporter D d}
     (es fs : List Event) → AreSameReports es fs
     → ReporterRelays IsReported a (map Emits fs) b
@@ -229,7 +222,6 @@ relays_equal {IsReported = IsReported} {a = a} {b = b} es fs alike relays =
       kept = relays.kept ∙ sym kept;
     }
 
--- Whether the ends of faults are reported.
 reports_end : (s : ActiveFaults) (f : ℕ) → reports_none (end_events s f no_active_faults f) ≡
     has_no_active_faults s
 unfolding end_events
@@ -254,13 +246,13 @@ reports_end s f = go end_rules
         (flat_map (λ r. rule_events r (broken_at r s) f (broken_at r no_active_faults) f) rules) in
         rw (nothing_at rule) grind (arith, nat_tests)
 
--- Whether anything is reported after the end. For `reports_last`.
 pub reports_closing : (pes : ℕ) (given : Option CheckFault) (c : CheckerValue)
     → (is_some (last_fault pes given c) || not (has_no_active_faults c.active_faults))
     ≡ not (reports_none (closing_now pes given c))
 reports_closing pes given c = grind (arith, nat_tests, reports_none-two, reports_end)
 
--- Bytes are left if a fault ended reading, and then more is reported.
+-- Unread bytes follow the last frame if a fault ended reading, and then at least one more event is
+-- reported.
 pub closes_are :
     (g : Criteria) (list : Transmission) (pes : ℕ) (last : List (List ℕ)) (c : CheckerValue)
     (given : Option CheckFault) (left more : Bool)
@@ -282,7 +274,6 @@ closes_are g list pes last c given left more follows is left_is more_is =
     some None = refl
     some (Some u) = refl
 
--- The events after the last end, from the fields of the state.
 pub closing_parts : (pes : ℕ) (given reported : Option CheckFault) (v c : CheckerValue)
     (none : ActiveFaults)
     → v ≡ c

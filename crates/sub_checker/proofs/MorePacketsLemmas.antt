@@ -29,9 +29,6 @@ use Rattle.sub_rules.proofs.JoinedLemmas.{with_packets-take}
 use Rattle.sub_rules.proofs.PacketLists.{header_count-append, holds-count}
 use Rattle.sub_checker.proofs.AfterPacketsLemmas.{late_core}
 
--- ---- more packets of the last frame
-
--- The steps of the packets, from the state. For `take_more`.
 pub more_are :
     (g : Criteria) (sent : Transmission) (n : ℕ) (last ps : List (List ℕ)) (c : CheckerValue)
     → StaysOpen g sent n last c
@@ -41,14 +38,12 @@ pub more_are :
     (packets_before sent (suc n)) ps (length ps))
 more_are g sent n last ps c opens all = grind (arith, nat_tests)
 
--- Without packets no text begins.
 some_begins : (w : Watched) (ps : List (List ℕ))
     → (nat_lt 0 (length ps) && holds_beginning w.keeps (kind w.page) ps)
     ≡ holds_beginning w.keeps (kind w.page) ps
 some_begins w [] = refl
 some_begins w (p ∷ ps) = grind (arith, nat_tests)
 
--- The headers of a frame and of more packets, regrouped.
 either : (a b h l : Bool) → (a || ((b || h) && l)) ≡ ((a || (b && l)) || (h && l))
 either a b h l = grind (arith, nat_tests)
 
@@ -154,7 +149,6 @@ module _ (g : Criteria) (sent : Transmission) (n : ℕ) (last ps : List (List �
         (list_any (covers g f) (take (suc n) sent)) (nat_lt 0 hears.headers) c.late_at c.frame
         c.every f (is.begun.late_is f))
 
-    -- The state after the packets. For `take_more`.
     heard_more : (e : CheckerValue) (k : ℕ)
         → e ≡ record here { counts = record here.counts { packets = k } }
         → c.counts.packets ≡ length (packets_of_frame sent n)
@@ -188,7 +182,6 @@ module _ (g : Criteria) (sent : Transmission) (n : ℕ) (last ps : List (List �
               (packets_of_frame sent n) ps);
         })
 
-    -- The state if more packets of the frame may follow.
     pub opens_more : (e : CheckerValue) (k : ℕ)
         → e ≡ record here { counts = record here.counts { packets = k } }
         → c.counts.headers_before ≡ header_count g.watched.page (packets_before sent n)

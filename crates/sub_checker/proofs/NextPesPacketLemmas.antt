@@ -11,7 +11,6 @@ use Rattle.sub_rules.specs.declared.fault.CheckFault.{CheckFault}
 use Rattle.sub_rules.specs.declared.sending.Sending.{Sending}
 use Rattle.sub_checker.specs.NextPesPackets.{IsAgain, is_skipped, last_with}
 
--- The result is a PES packet that is sent.
 pub given_sent : {n : Option NextPesPacket} {r : NextPesPacket} {s : Sending}
     → n ≡ Some r
     → r ≡ next.Sent s
@@ -20,7 +19,6 @@ given_sent is sent =
     ap (λ n. let x : Result (Option NextPesPacket) CheckFault = Ok n in x)
     (is ∙ ap (λ (p : NextPesPacket). Some p) sent)
 
--- If the PES packet repeats the one before, its packets are those of the last frame.
 pub again_is : {old new : List UnitValue} {n : Option NextPesPacket} (r : NextPesPacket)
     (skipped : Bool)
     (last : List (List ℕ))
@@ -37,7 +35,6 @@ again_is (next.Skipped f) skipped last is here was sent same = absurd same
 again_is (next.Sent s) skipped last is here was sent same =
     was sent ∙ ap packets_of_units (sym (here s (given_sent is refl) same))
 
--- Unless the PES packet is skipped, its packets become those of the last frame.
 pub last_is : (r : NextPesPacket) (last packets : List (List ℕ)) → is_skipped r ≡ false
     → last_with last r packets ≡ packets
 last_is (next.Skipped f) last packets sent = absurd (true≢false sent)

@@ -56,15 +56,14 @@ use Rattle.ttx_pes.specs.Reader.{TakesValidPesPacket}
 use Rattle.ttx_pes.specs.Reading.{answer_at, most_packets}
 use Rattle.ttx_pes.specs.declared.fault.PesFault.{PesFault}
 
--- The steps of the first PES packets of a file.
 abbrev pub each_steps : Criteria → List PesPacket → List CheckStep
 each_steps g done = steps_of_each g [] 0 done
 
 abbrev pub frames_sent : Criteria → List PesPacket → Transmission
 frames_sent g done = joined_after g.within [] (frames_of done)
 
--- The state after the first PES packets of a file, `last` being the Teletext packets of the last
--- valid one.
+-- The state of the checker after the first PES packets of a file. `last` are the Teletext packets
+-- of the last valid PES packet.
 pub record Tracks
     (g : Criteria) (done : List PesPacket) (last : List (List ℕ)) (c : CheckerValue) (p : Relay) :
     Type
@@ -73,7 +72,6 @@ pub record Tracks
     pub keeps : BetweenPesPackets g (frames_sent g done) last c
     pub relay_is : p ≡ relay_after nothing_relayed (each_steps g done)
 
--- The state before the first PES packet.
 pub tracks_none : (g : Criteria) (last : List (List ℕ)) (c : CheckerValue) (p : Relay)
     → BetweenPesPackets g [] last c
     → p ≡ nothing_relayed
@@ -81,15 +79,11 @@ pub tracks_none : (g : Criteria) (last : List (List ℕ)) (c : CheckerValue) (p 
 unfolding steps_of_each frames_of joined_after
 tracks_none g last c p keeps none = grind (arith, nat_tests, after-none)
 
--- The events of PES packets are the relayed events of their steps.
 some_reported : (g : Criteria) (done : List PesPacket)
     → events_of_pes_packets g done ≡ relayed nothing_relayed (each_steps g done)
 unfolding events_of_pes_packets relayed
 some_reported g done = ap (all_announced no_run) (reported_is (each_steps g done))
 
--- ---- one more PES packet
-
--- The frames that are sent then.
 sent_more : (g : Criteria) (done : List PesPacket) (s : SentFrame)
     → frames_sent g (done ++ Sent s ∷ []) ≡ sent_after g.within (frames_sent g done) s
 unfolding frames_of
@@ -105,7 +99,6 @@ skipped_more g done u =
     ∙ append-nil (frames_of done))
 
 module _ (g : Criteria) (done : List PesPacket) (pes : ℕ) (count : length done ≡ pes) where
-  -- The steps of one more PES packet.
   abbrev steps_more : PesPacket → List CheckStep
   steps_more p = steps_of_each g (frames_sent g done) pes (p ∷ [])
 
@@ -113,7 +106,6 @@ module _ (g : Criteria) (done : List PesPacket) (pes : ℕ) (count : length done
       → each_steps g (done ++ p ∷ []) ≡ each_steps g done ++ steps_more p
   more_steps p = steps_of_each-append g [] 0 pes done (p ∷ []) (omega (arith, count))
 
-  -- The events of one more PES packet follow those of the packets before.
   pub more_events : (p : PesPacket) (q : Relay)
       → q ≡ relay_after nothing_relayed (each_steps g done)
       → events_of_pes_packets g (done ++ p ∷ [])
@@ -126,7 +118,6 @@ module _ (g : Criteria) (done : List PesPacket) (pes : ℕ) (count : length done
       → new ≡ relay_after nothing_relayed (each_steps g (done ++ p ∷ []))
   more_relay p q new was is = grind (arith, nat_tests, after-append, more_steps)
 
-  -- The steps of a sent PES packet, and of a skipped one.
   pub sent_steps : (s : SentFrame)
       → steps_more (Sent s) ≡ steps_of_sent g (frames_sent g done) pes s
   unfolding steps_of_each
@@ -137,7 +128,6 @@ module _ (g : Criteria) (done : List PesPacket) (pes : ℕ) (count : length done
   unfolding steps_of_each
   skipped_steps u = refl
 
-  -- The state after a sent PES packet.
   tracks_sent : (s : SentFrame) (last : List (List ℕ)) (c : CheckerValue) (q new : Relay)
       → q ≡ relay_after nothing_relayed (each_steps g done)
       → BetweenPesPackets g (sent_after g.within (frames_sent g done) s) last c
@@ -150,7 +140,6 @@ module _ (g : Criteria) (done : List PesPacket) (pes : ℕ) (count : length done
         more_relay (Sent s) q new was (is ∙ ap (relay_after q) (sym (sent_steps s)));
   }
 
-  -- The state after a skipped one.
   tracks_skipped : (u : Unread) (last : List (List ℕ)) (c : CheckerValue) (q new : Relay)
       → q ≡ relay_after nothing_relayed (each_steps g done)
       → BetweenPesPackets g (frames_sent g done) last c
@@ -163,19 +152,14 @@ module _ (g : Criteria) (done : List PesPacket) (pes : ℕ) (count : length done
         more_relay (Skipped u) q new was (is ∙ ap (relay_after q) (sym (skipped_steps u)));
   }
 
--- ---- the last events
-
 module _ (g : Criteria) (all : List PesPacket) where
   abbrev closing : List CheckStep
   closing = last_steps g (frames_sent g all) (length all)
 
-  -- All events are the relayed events of all steps, followed by the end of a run of skipped PES
-  -- packets.
   all_reported : all_of_pes_packets g all ≡ finished nothing_relayed (each_steps g all ++ closing)
   unfolding all_of_pes_packets reported_of_pes_packets relayed relay_after
   all_reported = grind (arith, nat_tests, reported_is, append_assoc)
 
-  -- So they are those of the PES packets, followed by the last events.
   whole : all_of_pes_packets g all
       ≡ events_of_pes_packets g all
       ++ finished (relay_after nothing_relayed (each_steps g all)) closing
@@ -189,8 +173,8 @@ module _ (g : Criteria) (all : List PesPacket) where
     some_reported,
   )
 
-  -- If the last events were reported, all were, and the counts are right; otherwise the device said
-  -- stop, and a prefix was reported.
+  -- If the last events were reported, all events were, and the counts are right; otherwise the
+  -- device stopped the check, and a prefix of the events was reported.
   reported_end : {D : Type 0} {IsReported : D → Event → D → Type 0} (clock : Clock) (bytes : List ℕ)
       (a b c : D) (r : Option Accepted) (p : Relay)
       → p ≡ relay_after nothing_relayed (each_steps g all)
@@ -206,7 +190,6 @@ module _ (g : Criteria) (all : List PesPacket) where
       subst (ReportsPrefix IsReported a c) (sym whole)
       (ReportsPrefix-second a b c _ _ first (rw is at second))
 
--- The events of the first PES packets are a prefix of all events.
 pub prefix_of : (g : Criteria) (all done more : List PesPacket)
     → all ≡ done ++ more
     → (rest : List Event) × (all_of_pes_packets g all ≡ events_of_pes_packets g done ++ rest)
@@ -227,9 +210,6 @@ prefix_of g all done more parts =
           ∙ append_assoc (events_of_pes_packets g done) _ _,
     )
 
--- ---- the end of the loop
-
--- If no PES packet is read and nothing is unread, no bytes are left.
 rest_none : (clock : Clock) (n : ℕ) (rest : List ℕ)
     → n ≤ most_packets
     → ReadsPesPackets clock n rest [] None
@@ -254,7 +234,6 @@ rest_none clock n rest few reads = by (answer_at n rest) refl
             let stop = pes_packets_stop clock n rest [] None f few reads is kind in
             let some = stop.1 in cc
 
--- No events before the first PES packet.
 pub none_of_pes_packets : (g : Criteria) → events_of_pes_packets g [] ≡ []
 unfolding events_of_pes_packets steps_of_each reported_after all_announced
 none_of_pes_packets g = refl
@@ -271,14 +250,12 @@ module _ (judging : JudgedValue) {options : OptionsValue} {bytes : List ℕ}
     abbrev clock : Clock
     clock = clock_of options
 
-    -- The PES packets that were read are the first ones.
     pub prefix : (pes ≤ length all) × (take pes all ≡ done)
     prefix = (
       omega (arith, ap length at.parts, length-append done at.ahead, at.count),
       ap (take pes) at.parts ∙ take_at done at.ahead pes at.count,
     )
 
-    -- A device that said stop before the next PES packet got a prefix of the events.
     pub reported_before : {D : Type 0} {IsReported : D → Event → D → Type 0} (a b : D)
         → Reports IsReported a b (events_of_pes_packets g done)
         → ReportsPrefix IsReported a b (all_of_pes_packets g all)
@@ -287,7 +264,6 @@ module _ (judging : JudgedValue) {options : OptionsValue} {bytes : List ℕ}
         subst (ReportsPrefix IsReported a b) (sym prefix.1)
         (ReportsPrefix-first a b _ _ (ReportsPrefix-whole a b _ reported))
 
-    -- So was one that said stop at that packet.
     stop_at : {D : Type 0} {IsReported : D → Event → D → Type 0} (p : PesPacket)
         (more : List PesPacket) (ms : List CheckStep) (a b d : D)
         → at.ahead ≡ p ∷ more
@@ -305,7 +281,8 @@ module _ (judging : JudgedValue) {options : OptionsValue} {bytes : List ℕ}
         (ReportsPrefix-first a d _ _ (ReportsPrefix-second a b d _ _ reported
         (subst (λ (l : List CheckStep). ReportsPrefix IsReported b d (relayed q l)) (sym of) part)))
 
-    -- The same, from the result of reading it. For `report_pes_packets`.
+    -- A device that stopped the check while PES packet `pes` was reported got a prefix of the
+    -- events.
     pub reported_stop : {D : Type 0} {IsReported : D → Event → D → Type 0} (v : PesValue)
         (r : NextPesPacket)
         (a b d : D)
@@ -331,13 +308,11 @@ module _ (judging : JudgedValue) {options : OptionsValue} {bytes : List ℕ}
       long : length all ≡ pes
       long = ap length (sym is_all) ∙ at.count
 
-      -- The last steps.
       closing_is : last_steps g (frames_sent g done) pes ≡ closing g all
       closing_is =
           ap (last_steps g (frames_sent g done)) (sym long)
           ∙ ap (λ (l : List PesPacket). last_steps g (frames_sent g l) (length all)) is_all
 
-      -- The counts are right.
       read_is : (a : Accepted) → CountsRead options.page (frames_sent g done) a
           → IsReadOn g clock bytes all a
       read_is a counts = record {
@@ -364,7 +339,8 @@ module _ (judging : JudgedValue) {options : OptionsValue} {bytes : List ℕ}
       read_some None counts = tt
       read_some (Some a) counts = read_is a counts
 
-      -- All events or a prefix were reported to the device. For `report_pes_packets`.
+      -- After the last PES packet, all events were reported to the device, or a prefix of the
+      -- events if it stopped the check.
       pub reported_whole : {D : Type 0} {IsReported : D → Event → D → Type 0} (a b d : D)
           (r : Option Accepted)
           → Reports IsReported a b (events_of_pes_packets g done)
@@ -382,7 +358,6 @@ module _ (judging : JudgedValue) {options : OptionsValue} {bytes : List ℕ}
           second)
           (read_some r counts)
 
-    -- One more PES packet was read and reported.
     pub record Steps
         {D : Type 0} (IsReported : D → Event → D → Type 0) (p : PesPacket) (after : Option (List ℕ))
         (heard : List (List ℕ)) (d : CheckerValue) (then : Relay) (a b : D)
@@ -404,7 +379,6 @@ module _ (judging : JudgedValue) {options : OptionsValue} {bytes : List ℕ}
         (Reports-trans a b d _ _ first
         (subst (λ (l : List CheckStep). Reports IsReported b d (relayed q l)) (sym of) second))
 
-    -- The step for a skipped PES packet.
     step_skipped : {D : Type 0} (IsReported : D → Event → D → Type 0) (after : Option (List ℕ))
         (u : Unread) (f : CheckFault) (e : CheckerValue) (then : Relay) (a b d : D)
         → after ≡ Some (rest_after_pes_packet at.rest)
@@ -429,7 +403,6 @@ module _ (judging : JudgedValue) {options : OptionsValue} {bytes : List ℕ}
               (subst (λ (l : List CheckStep). Reports IsReported b d (relayed q l)) same second);
         }
 
-    -- The step for a sent one.
     step_sent : {D : Type 0} (IsReported : D → Event → D → Type 0) (after : Option (List ℕ))
         (v : PesValue) (frame : ℕ) (heard : List (List ℕ)) (e : CheckerValue) (then : Relay)
         (a b d : D) (left : after ≡ Some (rest_after_pes_packet at.rest))
@@ -458,7 +431,6 @@ module _ (judging : JudgedValue) {options : OptionsValue} {bytes : List ℕ}
           reported = reported_more (Sent s) _ a b d (sent_steps g done pes at.count s) first second;
         }
 
-    -- The step from the result of reading a PES packet. For `report_pes_packets`.
     pub step : {D : Type 0} (IsReported : D → Event → D → Type 0) (after : Option (List ℕ))
         (v : PesValue) (r : NextPesPacket) (e : CheckerValue) (then : Relay) (a b d : D)
         → after ≡ Some (rest_after_pes_packet at.rest)

@@ -28,9 +28,6 @@ use Rattle.sub_rules.specs.PesFrames.{IsReadAs}
 use Rattle.sub_checker.specs.declared.accepted.Accepted.{Accepted}
 use Rattle.ttx_pes.specs.DataUnit.{IsUnit, UnitValue}
 
--- ---- frames and their packets
-
--- The Teletext packets of data units have 42 bytes.
 pub complete_units :
     (units : List UnitValue)
     → AllByRecursion IsUnit units
@@ -38,9 +35,7 @@ pub complete_units :
 complete_units [] h = tt
 complete_units (u ∷ units) h = (h.0.packet.size, complete_units units h.1)
 
--- ---- reading PES packets
-
--- The first PES packets of the file were read, and the others are left.
+-- The first PES packets of the file were read, and the others remain.
 pub record ReadsOn
     (options : OptionsValue) (bytes : List ℕ) (all : List PesPacket) (unread : Option Unread)
     (remaining : Option (List ℕ)) (pes : ℕ) (done : List PesPacket)
@@ -56,7 +51,6 @@ pub record ReadsOn
       → AreTaken (clock_of options) bytes (frames_of done) rest
   pub whole : AreComplete (frames_of done)
 
--- At the start of the file.
 pub reads_on_none : (options : OptionsValue) (all : List PesPacket) (unread : Option Unread)
     (remaining : Option (List ℕ)) (bytes : List ℕ)
     → remaining ≡ Some bytes
@@ -74,7 +68,6 @@ reads_on_none options all unread remaining bytes reported reads = record {
   whole = tt;
 }
 
--- There are at most as many frames as PES packets.
 pub frames_few : (pes_packets : List PesPacket) → length (frames_of pes_packets) ≤ length
     pes_packets
 unfolding frames_of
@@ -82,7 +75,6 @@ frames_few [] = omega arith
 frames_few (Sent s ∷ pes_packets) = let l = frames_few pes_packets in omega arith
 frames_few (Skipped u ∷ pes_packets) = let l = frames_few pes_packets in omega arith
 
--- One more PES packet is consumed.
 taken_sent : (clock : Clock) (bytes rest : List ℕ) (frames : Transmission) (v : PesValue)
     (frame : ℕ) (old new : Option (List ℕ))
     → AreTaken clock bytes frames rest
@@ -107,7 +99,6 @@ taken_sent clock bytes rest frames v frame old new taken was is takes of =
       joined = grind (arith, concat-append, append_assoc);
     }
 
--- The consumed PES packets match the grammar.
 each_packet : (values : List PesValue) (packets : List (List ℕ))
     → AllZip IsValidPesPacket values packets
     → AllByRecursion (λ b. (v : PesValue) × IsValidPesPacket v b) packets
@@ -132,14 +123,12 @@ packets_taken {clock} bytes frames rest n old new taken number was is = record {
   consumed = rw (was, is) taken.joined;
 }
 
--- Two faults that name the PES packet at which the source failed name the same one.
 pub named_pes : (f : CheckFault) (n pes : ℕ)
     → f ≡ fault.Pes n Read
     → (let r : Result (Option Accepted) CheckFault = Err f in r) ≡ Err (fault.Pes pes Read)
     → pes ≡ n
 named_pes f n pes here is = let same = sym here in cc
 
--- The Teletext packets of one more PES packet have 42 bytes.
 complete_sent : (frames : Transmission) (v : PesValue) (frame : ℕ)
     → AreComplete frames
     → IsPesValue v
@@ -148,7 +137,6 @@ complete_sent frames v frame before is =
     let whole = complete_units v.units is.each in
     grind (arith, nat_tests, Each-push, All-from_recursion)
 
--- One more PES packet, sent or skipped.
 module _ (options : OptionsValue) (bytes : List ℕ) (all : List PesPacket) (unread : Option Unread)
     (before after : Option (List ℕ)) (pes : ℕ) (done : List PesPacket)
     (at : ReadsOn options bytes all unread before pes done)

@@ -1,4 +1,5 @@
--- The events that are relayed for events, `relays_all`, and for steps in parts, `relays-trans`.
+-- The events that are relayed for a list of events, `relays_all`, and for steps in parts,
+-- `relays-trans`.
 use Rattle.std.proofs.lemmas.Bool.Decides.{nat_tests}
 use Rattle.std.proofs.Common.{arith}
 use Rattle.std.proofs.Common.{◌≡◌, List, [], ◌∷◌, ◌++◌, Bool, true, false, map}
@@ -26,8 +27,6 @@ use Rattle.sub_checker.specs.TrustTracker.{after_step, invalidated, late_first_u
 use Rattle.sub_checker.specs.TrustTracker.{reported_by, reported_with}
 use Rattle.sub_checker.specs.TrustTracker.{tracker_after, trusted_before}
 
--- ---- steps, one list after another
-
 pub after-append : (p : Relay) (xs ys : List CheckStep)
     → relay_after p (xs ++ ys) ≡ relay_after (relay_after p xs) ys
 unfolding relay_after
@@ -48,8 +47,6 @@ after-none p = refl
 pub skipped-none : (p : Relay) → relayed p [] ≡ []
 unfolding relayed reported_by all_announced
 skipped-none p = refl
-
--- ---- events, one part after another
 
 module _ {D : Type 0} {g : _} (IsReported : D → Event → D → Type 0) where
   pub relays-none : (s : Reporter D g) → ReporterRelays IsReported s [] s
@@ -76,8 +73,6 @@ module _ {D : Type 0} {g : _} (IsReported : D → Event → D → Type 0) where
         ∙ sym (after-append a.relay xs ys);
   }
 
--- ---- one step
-
 one_reported : (p : Relay) (m : CheckStep)
     → relayed p (m ∷ []) ≡ all_announced (as_run p.run) (reported_with m p.tracker)
 unfolding relayed reported_by
@@ -91,7 +86,6 @@ one_kept : (p : Relay) (m : CheckStep)
 unfolding relay_after reported_by tracker_after
 one_kept p m = grind (arith, nat_tests, append-nil)
 
--- The events of one step, relayed after a run of skipped PES packets. For `close` and `relay`.
 pub relay_one : {D : Type 0} {g : _} (IsReported : D → Event → D → Type 0) (s t : Reporter D g)
     (m : CheckStep) (es : List Event)
     → es ≡ reported_with m s.relay.tracker
@@ -106,7 +100,6 @@ relay_one IsReported s t m es is tracker reported run = grind (
   one_kept,
 )
 
--- One event after others. For `announce_both`.
 pub both_are : (run : SkippedRun) (mid : SkippedPesPackets) (xs : List Event) (e : Event)
     → mid ≡ kept_run (skipped_after_all run xs)
     → all_announced run (xs ++ e ∷ []) ≡ all_announced run xs ++ announced (as_run mid) e
@@ -121,7 +114,6 @@ both_kept run mid xs e is =
     ap (λ (r : SkippedPesPackets). kept_run (skipped_run_after (as_run r) e)) is
     ∙ sym (ap kept_run (skipped_run_after-append run xs (e ∷ [])))
 
--- The events of a `Emits` step. For `relay`.
 pub emits_with : (t u : TrustTracker) (e named : Event) (first : Option Event)
     → first_alone first ≡ trusted_before t.run t.whole t.back
     (invalidated t.last (late_first_unfinished t) e)
@@ -131,7 +123,6 @@ pub emits_with : (t u : TrustTracker) (e named : Event) (first : Option Event)
 unfolding reported_with after_step
 emits_with t u e named first before kept is = rw (before, is, kept) refl
 
--- A step without events.
 pub silent : {D : Type 0} {g : _} (IsReported : D → Event → D → Type 0) (s t : Reporter D g)
     (m : CheckStep)
     → t ≡ at_step m s
@@ -141,8 +132,6 @@ unfolding all_announced skipped_after_all
 silent IsReported s t m is none =
     let no = Reports-none {IsReported = IsFused IsReported} s.fused in
     grind (arith, nat_tests, one_reported, one_kept)
-
--- ---- what a reporter relays
 
 module _ {D : Type 0} {g : _} (IsReported : D → Event → D → Type 0) where
   one_by_one : (old new : Reporter D g) (es : List Event)
@@ -155,13 +144,10 @@ module _ {D : Type 0} {g : _} (IsReported : D → Event → D → Type 0) where
       relays-trans IsReported old mid new (Emits e ∷ []) (map Emits es) first
       (one_by_one mid new es rest)
 
-  -- Events that were passed to a reporter.
   pub relays_all : (old new : Reporter D g) (es : List Event)
       → Reports (IsRelayed IsReported) old new es
       → ReporterRelays IsReported old (map Emits es) new
   relays_all old new es reported = one_by_one old new es reported.one_by_one
-
--- ---- steps without events
 
 abbrev pub may_report : CheckStep → Bool
 may_report (Emits e) = true

@@ -33,14 +33,12 @@ module _ {D : Type 0} {g : _} {IsReported : D → Event → D → Type 0} where
   relays_two {a} {b} {c} {xs} {ys} is first second =
       rw is (relays-trans IsReported a b c xs ys first second)
 
-  -- Events that were reported to the reporter.
   pub relays_reported : {s t : Reporter D g} {es : List Event} {zs : List CheckStep}
       → zs ≡ map Emits es
       → Reports (IsRelayed IsReported) s t es
       → ReporterRelays IsReported s zs t
   relays_reported {s} {t} {es} is reported = rw is (relays_all IsReported s t es reported)
 
-  -- A step without events.
   pub relays_step : {s t : Reporter D g} {m : CheckStep} {zs : List CheckStep}
       → zs ≡ m ∷ []
       → t ≡ at_step m s
@@ -49,7 +47,6 @@ module _ {D : Type 0} {g : _} {IsReported : D → Event → D → Type 0} where
   relays_step {s} {t} {m} is at none =
       rw is (silent IsReported s t m at (silent_with m s.relay.tracker none))
 
-  -- The `GoesBack` step, if it is needed.
   pub relays_back : (s t : Reporter D g) (c : CheckerValue) {zs : List CheckStep}
       → zs ≡ back_steps c
       → t ≡ back_reporter c s
@@ -62,7 +59,6 @@ module _ {D : Type 0} {g : _} {IsReported : D → Event → D → Type 0} where
       by true at = relays_step refl at refl
       by false at = subst (ReporterRelays IsReported s []) (sym at) (relays_nothing refl)
 
-  -- The steps before a frame.
   pub relays_begun : (s t : Reporter D g) (c : CheckerValue)
       → t ≡ back_reporter c (at_step (Begins c.frame) s)
       → ReporterRelays IsReported s (Begins c.frame ∷ back_steps c) t

@@ -1,4 +1,4 @@
--- The tracker computes the trusted frames: the events of steps are those that it gives,
+-- The tracker computes the trusted frames: the events of steps are the ones that the rules define,
 -- `reported_is`; lists of steps can be joined, `reported_by-append`, `tracker_after-append`.
 use Rattle.std.proofs.lemmas.Bool.Decides.{nat_tests}
 use Rattle.std.proofs.Common.{◌≡◌, arith, List, [], ◌∷◌, ◌++◌, refl, sym, ap, ◌∙◌}
@@ -17,8 +17,6 @@ use Rattle.sub_checker.specs.TrustTracker.{new_tracker}
 use Rattle.sub_checker.specs.TrustTracker.{reported_by, reported_with, tracker_after}
 use Rattle.sub_checker.specs.declared.trust_tracker.TrustTracker.{TrustTracker}
 
--- ---- one list of steps after another
-
 pub tracker_after-append : (t : TrustTracker) (xs ys : List CheckStep)
     → tracker_after t (xs ++ ys) ≡ tracker_after (tracker_after t xs) ys
 unfolding tracker_after
@@ -32,8 +30,6 @@ reported_by-append t [] ys = refl
 reported_by-append t (x ∷ xs) ys =
     ap (λ (l : List Event). reported_with x t ++ l) (reported_by-append (after_step x t) xs ys)
     ∙ sym (append_assoc (reported_with x t) _ _)
-
--- ---- the tracker's state follows from the steps before
 
 record IsKept (past : List CheckStep) (t : TrustTracker) : Type 0 where
   pes_is : t.pes ≡ current_pes past
@@ -57,20 +53,16 @@ unfolding invalidated_by invalidated
 invalidated_now past (Reported f) = refl
 invalidated_now past e = refl
 
--- Before the first step.
 starts : IsKept [] new_tracker
 unfolding current_pes last_begun stays_fault_free first_unfinished_of late_of back_of run_of
 starts = grind (arith, nat_tests)
 
--- Each step preserves it.
 keeps : (m : CheckStep) (past : List CheckStep) (t : TrustTracker) → IsKept past t
     → IsKept (m ∷ past) (after_step m t)
 unfolding after_step current_pes last_begun stays_fault_free first_unfinished_of late_of back_of
     run_of first_correct_of
     reports_order_fault
 keeps m past t k = grind (arith, nat_tests, invalidated_now, order_fall)
-
--- ---- the events
 
 reported_same : (m : CheckStep) (past : List CheckStep) (t : TrustTracker) → IsKept past t
     → reported_at past m ≡ reported_with m t
@@ -86,6 +78,5 @@ after_same [] past t k = refl
 after_same (m ∷ ms) past t k =
     rw (reported_same m past t k, after_same ms (m ∷ past) (after_step m t) (keeps m past t k)) refl
 
--- The events that the rules define for steps are those of the tracker.
 pub reported_is : (ms : List CheckStep) → reported_after [] ms ≡ reported_by new_tracker ms
 reported_is ms = after_same ms [] new_tracker starts

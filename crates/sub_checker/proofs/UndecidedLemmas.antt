@@ -15,9 +15,7 @@ use Rattle.sub_rules.specs.Events.{was_undecided}
 use Rattle.sub_rules.specs.FrameRules.{is_due_undecided}
 use Rattle.sub_checker.specs.Checker.{IsKnownFrom, is_before}
 
--- ---- between two page changes
-
--- The due page does not change after frame f and up to frame g.
+-- No page change occurs after frame f and up to frame g.
 abbrev NoEdge : List SubtitleValue → ℕ → ℕ → Type 0
 NoEdge ts f g = (e : ℕ) → IsEdge ts e → f < e → e ≤ g → ⊥
 
@@ -43,7 +41,6 @@ from_same (t ∷ ts) (bit ∷ bits) other start f g le still none =
     let rest = from_same ts bits other t.tco f g le ends (fewer t ts f g none) in
     grind (arith, nat_tests)
 
--- For `frame_before`.
 pub undecided_same : (j : JudgedValue) (f g : ℕ)
     → f ≤ g
     → NoEdge j.programme.records f g
@@ -53,12 +50,10 @@ undecided_same j f g le none =
     from_same j.programme.records j.after_other j.is_before_other 0 f g le
     (λ low. absurd (omega (arith, low))) none
 
--- A frame before one that precedes the next change precedes it too.
 earlier : (e f : ℕ) (edge : Option ℕ) → e ≤ f → is_before f edge ≡ true → is_before e edge ≡ true
 earlier e f None le before = refl
 earlier e f (Some next) le before = grind (arith, nat_tests)
 
--- From a frame up to the next change.
 until_edge : (j : JudgedValue) (frame f : ℕ) (edge : Option ℕ)
     → ReportsNextEdge j.programme.records frame edge
     → frame ≤ f
@@ -72,10 +67,7 @@ until_edge j frame f (Some next) reports low before =
     sym (undecided_same j frame f low
     (λ e edge after until. let m = reports.least e edge after in omega (arith, l, m, until)))
 
--- ---- the last frames
-
 module _ (undecided : ℕ → Bool) (first f : ℕ) where
-  -- The due page is known at each of them.
   pub was-none : (n : ℕ)
       → undecided f ≡ false
       → ((e : ℕ) → first ≤ e → f ≤ e + n → e ≤ f → undecided e ≡ false)
@@ -84,7 +76,6 @@ module _ (undecided : ℕ → Bool) (first f : ℕ) where
   was-none zero here none = grind (arith, nat_tests)
   was-none (suc n) here none = grind (arith, nat_tests, (was-none n here))
 
-  -- It is unknown at one of them.
   pub was-some : (n e : ℕ)
       → (first ≤ e) ⊎ (e ≡ f)
       → f ≤ e + n
@@ -116,20 +107,16 @@ module _ (undecided : ℕ → Bool) (first f : ℕ) where
   unfolding was_undecided
   was-once n none = rw none refl
 
-  -- It is known at the frame itself.
   pub was-here : (n : ℕ) → was_undecided undecided first f n ≡ false → undecided f ≡ false
   unfolding was_undecided
   was-here zero none = none
   was-here (suc n) none = let rest = was-here n in grind (arith, nat_tests)
-
--- ---- from which frame on it is known
 
 none_below : (f : ℕ) → nat_lt f 0 ≡ false
 none_below f = grind (arith, nat_tests)
 
 module _ (j : JudgedValue) (first within frame : ℕ) (edge : Option ℕ)
     (reports : ReportsNextEdge j.programme.records frame edge) where
-  -- If no subtitle was refused. For `known_from`.
   pub known_none : has_refused j ≡ false
       → IsKnownFrom (is_due_undecided j) first within frame edge 0
   known_none h1 = grind (arith, nat_tests, none_below, was-none)
@@ -138,7 +125,6 @@ module _ (j : JudgedValue) (first within frame : ℕ) (edge : Option ℕ)
     any_refused_is : (e : ℕ) → is_due_undecided j e ≡ is_undecided_in j e
     any_refused_is e = ap (λ b. b && is_undecided_in j e) is
 
-    -- If it is unknown at this frame.
     pub known_not : (k : ℕ)
         → day ≤ k
         → is_undecided_in j frame ≡ true
@@ -148,7 +134,6 @@ module _ (j : JudgedValue) (first within frame : ℕ) (edge : Option ℕ)
         (omega arith) (any_refused_is f ∙ until_edge j frame f edge reports low before ∙ here) in
         rw there (grind (arith, nat_tests))
 
-    -- If it was unknown last at frame `last`.
     pub known_last : (last : ℕ)
         → first ≤ last
         → last < frame
@@ -178,7 +163,6 @@ module _ (j : JudgedValue) (first within frame : ℕ) (edge : Option ℕ)
             (any_refused_is last ∙ here))
             (grind (arith, nat_tests))
 
-    -- If it was known at each of them.
     pub known_never : (least : ℕ)
         → ((f : ℕ) → first ≤ f → frame ≤ f + within → least ≤ f)
         → is_undecided_in j frame ≡ false

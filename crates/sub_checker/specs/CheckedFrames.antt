@@ -1,5 +1,5 @@
 -- The steps of checking one frame, and the state of the checker after the first n frames. Only
--- contracts of private functions use it.
+-- contracts of private functions use these definitions.
 use Rattle.std.specs.Prelude.{◌≡◌, ℕ, suc, ◌+◌, ◌-◌, ◌<◌, ◌==◌, List, [], ◌++◌, length, map}
 use Rattle.std.specs.Prelude.{nat_le, false, true, Option, if◌then◌else◌}
 use Rattle.ttx_page.specs.PacketKind.{kind}
@@ -23,7 +23,7 @@ use Rattle.sub_checker.specs.declared.reporter.Reporter.{Reporter}
 
 -- ---- the state
 
--- The criteria that the state contains, with this end of reading.
+-- The criteria that the state of the checker contains. `unread` is the unread rest of the file.
 abbrev pub criteria_kept : CheckerValue → Option Unread → Criteria
 criteria_kept c unread =
     record (criteria_with c.programme c.listener.watched c.every c.within c.pace unread) {
@@ -31,8 +31,8 @@ criteria_kept c unread =
       undecided = is_undecided_by c;
     }
 
--- The state agrees with the packets of the first n frames, and with the packets `last` of the last
--- PES packet.
+-- The state of the checker agrees with the packets of the first n frames, and with the packets
+-- `last` of the last PES packet.
 pub record Remembers
     (g : Criteria) (frames : Transmission) (n : ℕ) (last : List (List ℕ)) (c : CheckerValue)
     : Type 0 where
@@ -40,12 +40,13 @@ pub record Remembers
   pub knows : KnowsLast (packets_before frames n) last c.listener
   pub count : c.counts.headers ≡ header_count g.watched.page (packets_before frames n)
 
--- The state from the first PES packet on: its frame, and when the repeat bound is exceeded.
+-- The state of the checker from the first PES packet on knows the first frame, and when the repeat
+-- bound is exceeded.
 pub record HasBegun (g : Criteria) (frames : Transmission) (n : ℕ) (c : CheckerValue) : Type 0 where
   pub first_is : c.first ≡ frame_at frames 0
   pub late_is : (f : ℕ) → is_gap g frames n f ≡ nat_le c.late_at (f + 1)
 
--- The state after the first n frames, at the end of the last of them.
+-- The state of the checker after the first n frames, at the end of the last one.
 pub record AfterEnd
     (g : Criteria) (frames : Transmission) (n : ℕ) (last : List (List ℕ)) (c : CheckerValue)
     : Type 0 where
@@ -60,7 +61,8 @@ pub record AfterEnd
       n
   pub number : c.counts.frames ≡ n
 
--- The state after the first n frames, if the end of frame f is the next to be checked.
+-- The state of the checker after the first n frames, if the end of frame f is the next to be
+-- checked.
 pub record BeforeEnd
     (g : Criteria) (frames : Transmission) (n f : ℕ) (last : List (List ℕ)) (c : CheckerValue)
     : Type 0 where
@@ -71,7 +73,7 @@ pub record BeforeEnd
   pub first_unfinished_is : 0 < g.within → c.first_unfinished ≡ first_unfinished_before g frames n f
   pub number : c.counts.frames ≡ n
 
--- That state at frame n of the list, before its packets.
+-- The state of the checker at frame n of the list, before its packets are received.
 pub record BeforePackets
     (g : Criteria) (frames : Transmission) (n : ℕ) (last : List (List ℕ)) (c : CheckerValue)
     : Type 0 where
@@ -79,7 +81,7 @@ pub record BeforePackets
   pub frame_is : c.frame ≡ frame_at frames n
   pub latest_is : c.latest ≡ latest frames (suc n)
 
--- The state after the packets of frame n, before its end.
+-- The state of the checker after the packets of frame n of the list, before the end of the frame.
 pub record AfterPackets
     (g : Criteria) (frames : Transmission) (n : ℕ) (last : List (List ℕ)) (c : CheckerValue)
     : Type 0 where
@@ -96,7 +98,8 @@ pub record AfterPackets
       c.listener.begun
       ≡ holds_beginning g.watched.keeps (kind g.watched.page) (packets_of_frame frames n)
 
--- That state, if more packets of the frame may follow.
+-- The state of the checker after the packets of frame n of the list, if more packets of that frame
+-- may follow.
 pub record StaysOpen
     (g : Criteria) (frames : Transmission) (n : ℕ) (last : List (List ℕ)) (c : CheckerValue)
     : Type 0 where
@@ -104,8 +107,8 @@ pub record StaysOpen
   pub before : c.counts.headers_before ≡ header_count g.watched.page (packets_before frames n)
   pub packets : c.counts.packets ≡ length (packets_of_frame frames n)
 
--- The state between two PES packets: after the end of the last frame, or, if `within` is not 0,
--- before it.
+-- The state of the checker between two PES packets: after the end of the last frame, or, if
+-- `within` is not 0, before that end.
 pub record BetweenPesPackets (g : Criteria) (sent : Transmission) (last : List (List ℕ))
     (c : CheckerValue) : Type 0
   where
@@ -117,22 +120,24 @@ pub record BetweenPesPackets (g : Criteria) (sent : Transmission) (last : List (
 
 -- ---- the steps
 
--- The steps before frame i of the list begins.
+-- The checker's steps before frame i of the list begins: the order of frames, and the ends of the
+-- frames of the day between.
 abbrev pub reaching_steps : Criteria → Transmission → ℕ → List CheckStep
 reaching_steps g frames i =
     map Emits (order_events g frames i) ++ steps_of_gap g frames i (gap_length frames i)
 
--- The steps of frame i of the list, without its end if that comes later.
+-- The checker's steps at frame i of the list. They include the end of the frame only if `within` is
+-- 0.
 abbrev pub next_steps : Criteria → Transmission → ℕ → List CheckStep
 next_steps g frames i =
     steps_of_arrival g frames i
     ++ steps_of_packets g frames i
     ++ (if g.within == 0 then steps_of_ending g frames i else [])
 
--- The steps after the last of `pes` PES packets.
+-- The checker's steps after the last of `pes` PES packets.
 abbrev pub last_steps : Criteria → Transmission → ℕ → List CheckStep
 last_steps g list pes = steps_of_pending_end g list ++ steps_of_closing g list pes (length list)
 
--- Says since which frame the page has been wrong, if that is needed.
+-- The reporter after the `GoesBack` step, if the step is needed.
 unfoldable pub back_reporter : {D : Type 0} {g : _} → CheckerValue → Reporter D g → Reporter D g
 back_reporter c s = if goes_back_now c then at_step (GoesBack c.first_unfinished) s else s

@@ -1,4 +1,4 @@
--- The state of the checker. Only contracts of private functions use it.
+-- The state of the checker. Only contracts of private functions use these definitions.
 use Rattle.std.specs.Prelude.{◌≡◌, ℕ, ◌+◌, ◌-◌, ◌*◌, ◌<◌, ◌≤◌, ◌&&◌, ◌||◌, ◌==◌, List, [], ◌∷◌}
 use Rattle.std.specs.Prelude.{◌++◌}
 use Rattle.std.specs.Prelude.{Option, Some, None, max, map, nat_le, nat_lt, is_some, not}
@@ -25,16 +25,17 @@ use Rattle.sub_plan.specs.Schedule.{due_in}
 
 -- ---- counts
 
--- No PES packet yet.
+-- The counts before the first PES packet.
 abbrev pub nothing_counted : Counts
 nothing_counted =
     record { frames = 0; headers = 0; headers_before = 0; packets = 0; is_open = false }
 
--- Adds headers of the page.
+-- The counts with `headers` more headers of the page.
 abbrev pub with_headers : ℕ → Counts → Counts
 with_headers headers n = record n { headers = n.headers + headers }
 
--- Leaves the last frame open: it has this many headers of the page and packets so far.
+-- The counts with the last frame left open, which has `headers` headers of the page and `packets`
+-- packets so far.
 abbrev pub left_open : ℕ → ℕ → Counts → Counts
 left_open headers packets n =
     record n { headers_before = n.headers - headers; packets = packets; is_open = true }
@@ -45,7 +46,7 @@ pub record AreFew (pes : ℕ) (n : Counts) : Type 0 where
   pub headers : n.headers ≤ 255 * pes
   pub packets : n.packets ≤ 255 * pes
 
--- The frame that a PES packet with these data units carries.
+-- The frame that a valid PES packet with these data units carries.
 abbrev pub sent_as : Sending → List UnitValue → SentFrame
 sent_as sending units = record { frame = sending.frame; packets = packets_of_units units }
 
@@ -53,19 +54,19 @@ sent_as sending units = record { frame = sending.frame; packets = packets_of_uni
 
 -- The state of the checker:
 --
---   programme      the subtitles, with `judging` also those around refused ones
---   any_refused    subtitles of the file were refused
---   every          repeat bound: at most so many frames from one header of the page to the next
---   within         the page has to be right within so many frames
---   pace           maximum distance of PES packets in frames, if `--pace` is given
---   listener       what the packets received so far leave on the page
---   first, latest  the frame of the first PES packet, and the greatest frame so far
---   frame          the current frame; `listener` compares with the page that is due there
---   last           the frame whose end was checked last
---   standing       the faults that were active at that end
---   since          the first frame from which on the page has been wrong without a break
---   late_at        one more than the first frame at whose end the repeat bound is exceeded
---   counts         counts of what was read
+--    programme         the subtitles, with `judging` also those around refused ones
+--    any_refused       subtitles of the file were refused
+--    every             repeat bound: at most so many frames from one header of the page to the next
+--    within            the page has to be right within so many frames
+--    pace              maximum distance of PES packets in frames, if `--pace` is given
+--    listener          what the packets received so far leave on the page
+--    first, latest     the frame of the first PES packet, and the greatest frame so far
+--    frame             the current frame; `listener` compares with the page that is due there
+--    last              the frame whose end was checked last
+--    active_faults     the faults that were active at that end
+--    first_unfinished  the first frame from which on the page has been wrong without a break
+--    late_at           one more than the first frame at whose end the repeat bound is exceeded
+--    counts            counts of the PES packets received so far
 pub record CheckerValue : Type 0 where
   pub programme : ProgrammeValue
   pub judging : JudgedValue
@@ -83,7 +84,7 @@ pub record CheckerValue : Type 0 where
   pub late_at : ℕ
   pub counts : Counts
 
--- Moves the checker to frame f, and draws the page that is due there.
+-- The state of the checker moved to frame f, with the page that is due at f.
 abbrev pub at_frame : ℕ → CheckerValue → CheckerValue
 at_frame f c = record c {
   frame = f;
@@ -92,24 +93,25 @@ at_frame f c = record c {
   };
 }
 
--- Moves the checker to the frame of the first PES packet.
+-- The state of the checker moved to the frame of the first PES packet, f.
 abbrev pub at_first : ℕ → CheckerValue → CheckerValue
 at_first f c = record (at_frame f c) { first = f; latest = f; late_at = f + c.every }
 
--- Moves the checker to the frame of a later PES packet.
+-- The state of the checker moved to the frame of a later PES packet, f.
 abbrev pub at_next : ℕ → CheckerValue → CheckerValue
 at_next f c = record (at_frame f c) { latest = max c.latest f }
 
--- The frame comes before the next change of the due page, if there is one.
+-- The frame comes before the next change of the due page, if the page changes again.
 abbrev pub is_before : ℕ → Option ℕ → Bool
 is_before frame None = true
 is_before frame (Some edge) = nat_lt frame edge
 
--- When the repeat bound is exceeded next. `found`: the frame has a header.
+-- One more than the first frame at whose end the repeat bound is exceeded. `found`: the current
+-- frame has a header of the page; `before`: the value before this frame.
 abbrev pub later_by : Bool → ℕ → ℕ → ℕ → ℕ
 later_by found frame every before = if found then max before (frame + every + 1) else before
 
--- Counts headers of the page in the current frame.
+-- The state of the checker after `headers` headers of the page in the current frame.
 abbrev pub after_headers : ℕ → CheckerValue → CheckerValue
 after_headers headers c = record c {
   counts = with_headers headers c.counts;
@@ -132,42 +134,43 @@ pub record HasHeard
 
 -- ---- the end of the current frame
 
--- The page should have been right by the end of frame f, given the frame since which it is wrong.
+-- The page should have been right by the end of frame f. `first_unfinished` is the frame from which
+-- on it has been wrong.
 abbrev pub is_overdue_at : ProgrammeValue → ℕ → ℕ → Option ℕ → ℕ → Bool
 is_overdue_at programme within first None f = false
 is_overdue_at programme within first (Some first_unfinished) f =
     nat_le (first_unfinished + within) f || is_missed (tci_of_ending programme.records (f + 1))
     first first_unfinished
 
--- The due page is unknown at this frame, because a subtitle was refused.
+-- The due page is unknown at `frame`, because a subtitle was refused.
 abbrev pub is_undecided_by : CheckerValue → ℕ → Bool
 is_undecided_by c frame = is_due_undecided c.judging frame
 
--- The first wrong cell. `None` if the due page is unknown.
+-- The first cell that differs from the due page. `None` if the due page is unknown.
 abbrev pub differs_now : CheckerValue → Option (ℕ × ℕ)
 differs_now c = if is_undecided_by c c.frame then None else wrong_kept c.listener
 
--- The due page is unknown at one of the last `within` frames.
+-- The due page is unknown at the current frame or at one of the last `within` frames.
 abbrev pub undecided_now : CheckerValue → Bool
 undecided_now c = was_undecided (is_undecided_by c) c.first c.frame c.within
 
 -- The first cell whose code was due at none of the last `within` frames. `None` if the due page is
--- unknown at one of them.
+-- unknown at one of these frames.
 abbrev pub unexpected_now : CheckerValue → Option (ℕ × ℕ)
 unexpected_now c =
     if undecided_now c
     then None
     else unexpected_kept c.listener (due_in c.programme) c.first c.frame c.within
 
--- The page is wrong or incomplete.
+-- The page is wrong or incomplete at the current frame.
 abbrev pub is_unfinished_now : CheckerValue → Bool
 is_unfinished_now c = is_some (differs_now c) || is_incomplete_kept c.listener
 
--- The frame since which it is.
+-- The first frame from which on the page has been wrong or incomplete up to the current frame.
 abbrev pub first_unfinished_now : CheckerValue → Option ℕ
 first_unfinished_now c = unfinished_from c.first_unfinished (is_unfinished_now c) c.frame
 
--- The page has to be right by now: `within` is 0, or that many frames have passed.
+-- The page has to be right by now: `within` is 0, or the page is overdue.
 abbrev pub late_now : CheckerValue → Bool
 late_now c = c.within == 0 || is_overdue_at c.programme c.within c.first (first_unfinished_now c)
     c.frame
@@ -187,18 +190,18 @@ active_faults_of c = record {
 abbrev pub goes_back_now : CheckerValue → Bool
 goes_back_now c = c.any_refused && not (c.within == 0)
 
--- That step, if it is needed.
+-- The `GoesBack` step, if subtitles were refused and `within` is not 0.
 abbrev pub back_steps : CheckerValue → List CheckStep
 back_steps c = if goes_back_now c then GoesBack c.first_unfinished ∷ [] else []
 
--- The steps at the end of the current frame.
+-- The checker's steps at the end of the current frame.
 abbrev pub end_steps : CheckerValue → List CheckStep
 end_steps c =
     back_steps c
     ++ (if c.within == 0 then [] else AtEnd c.frame (first_unfinished_now c) (late_now c) ∷ [])
     ++ map Emits (end_events c.active_faults c.last (active_faults_of c) c.frame)
 
--- The state after that end.
+-- The state of the checker after the end of the current frame.
 abbrev pub after_end : CheckerValue → CheckerValue
 after_end c = record c {
   active_faults = active_faults_of c;
@@ -206,7 +209,7 @@ after_end c = record c {
   first_unfinished = if c.within == 0 then c.first_unfinished else first_unfinished_now c;
 }
 
--- No fault is active at this end, and none was at the end before.
+-- No fault is active at the end of the current frame, and no fault was at the end before.
 pub record IsFaultFreeEnd (c : CheckerValue) : Type 0 where
   pub no_faults_before : c.active_faults ≡ no_active_faults
   pub no_faults_now : active_faults_of c ≡ no_active_faults
@@ -219,10 +222,10 @@ is_pending_now c =
     && is_some c.first_unfinished
     && not (is_overdue_at c.programme c.within c.first c.first_unfinished c.last)
 
--- ---- the invariant
+-- ---- the invariant of the checker
 
 -- Until the due page changes next, the frames with an unknown due page within the last `within`
--- frames are exactly those below `known_from`. So one number answers the question for each frame.
+-- frames are exactly those below `known_from`. So one number is enough for all these frames.
 abbrev pub IsKnownFrom : (ℕ → Bool) → ℕ → ℕ → ℕ → Option ℕ → ℕ → Type 0
 IsKnownFrom undecided first within frame edge known_from =
     (f : ℕ)
@@ -231,7 +234,7 @@ IsKnownFrom undecided first within frame edge known_from =
     → is_before f edge ≡ true
     → nat_lt f known_from ≡ was_undecided undecided first f within
 
--- The state agrees with `judging` until the due page changes next.
+-- The subtitles and the number `known_from` agree with `judging` until the due page changes next.
 pub record IsJudged
     (judging : JudgedValue) (programme : ProgrammeValue) (any_refused : Bool)
     (first within frame : ℕ) (edge : Option ℕ) (known_from : ℕ)
@@ -240,7 +243,7 @@ pub record IsJudged
   pub any_refused_is : any_refused ≡ has_refused judging
   pub known_is : IsKnownFrom (is_due_undecided judging) first within frame edge known_from
 
--- The due page and its next change are those of `frame`, and no number can overflow.
+-- The due page and its next change are those of `frame`, and no frame number can overflow.
 pub record IsAtFrame
     (programme : ProgrammeValue) (every : ℕ) (listener : Listener) (first latest last frame : ℕ)
     (edge : Option ℕ)

@@ -1,4 +1,5 @@
--- The events after the last frame, and the counts. Only contracts of private functions use it.
+-- The events after the last frame, and the counts. Only contracts of private functions use these
+-- definitions.
 use Rattle.std.specs.Prelude.{◌≡◌, ℕ, zero, suc, ◌+◌, ◌<◌, ◌||◌, Bool, List, [], ◌∷◌, ◌++◌}
 use Rattle.std.specs.Prelude.{Option, Some, None, if◌then◌else◌}
 use Rattle.stl_rows.specs.Programme.{last_out}
@@ -12,44 +13,44 @@ use Rattle.sub_rules.specs.FrameRules.{Unread}
 use Rattle.sub_rules.specs.declared.fault.CheckFault.{CheckFault}
 use Rattle.sub_rules.specs.declared.fault.CheckFault.TheVariants as fault
 
--- The fault that is reported last: the one that ended reading; otherwise that the file has no PES
--- packet, or that it ends too early (`late`: a subtitle ends after the last frame, or the page is
--- not right there yet).
+-- The fault that is reported last: the fault that ended reading; otherwise that the file has no PES
+-- packet, or that the file ends too early (`late`: a subtitle ends after the last frame, or the
+-- page is not right yet at the last frame).
 abbrev pub last_fault_after : Option CheckFault → ℕ → ℕ → Bool → ℕ → Option CheckFault
 last_fault_after (Some f) frames pes late frame = Some f
 last_fault_after None zero zero late frame = Some fault.Empty
 last_fault_after None zero (suc pes) late frame = None
 last_fault_after None (suc n) pes late frame = if late then Some (fault.Late frame) else None
 
--- That fault, from the state of the checker.
+-- The fault that is reported last, from the state of the checker.
 abbrev pub last_fault : ℕ → Option CheckFault → CheckerValue → Option CheckFault
 last_fault pes given c =
     last_fault_after given c.counts.frames pes
     (is_short (last_out c.programme.records) c.last || is_pending_now c) c.last
 
--- The events of an optional fault.
+-- The events that report an optional fault.
 abbrev pub fault_events : Option CheckFault → List Event
 fault_events None = []
 fault_events (Some f) = Reported f ∷ []
 
--- The events after the last end, from the state of the checker: the active faults end there, and
--- then the last fault follows.
+-- The events after the last end, from the state of the checker: the ends of the active faults, and
+-- then the last fault.
 abbrev pub closing_now : ℕ → Option CheckFault → CheckerValue → List Event
 closing_now pes given c = endings c.active_faults c.last ++ fault_events (last_fault pes given c)
 
--- The fault that ended reading, from the unread rest.
+-- The fault that ended reading, from the unread rest of the file.
 abbrev pub ending_fault : ℕ → Option Unread → Option CheckFault
 ending_fault pes None = None
 ending_fault pes (Some u) = Some (unread_fault pes (Some u))
 
--- The returned counts agree with the state.
+-- The returned counts agree with the state of the checker.
 pub record AreCounted (c : CheckerValue) (a : Accepted) : Type 0 where
   pub none : c.counts.frames ≡ 0 → a.frames ≡ 0
   pub frames_are : 0 < c.counts.frames → a.frames + c.first ≡ c.latest + 1
   pub transmissions_are : a.transmissions ≡ c.counts.headers
 
--- All of these were reported to the device and the counts are returned, or it said stop and a
--- prefix was reported.
+-- All events were reported to the device and the counts are returned, or the device stopped the
+-- check and a prefix of the events was reported.
 abbrev pub FinishesReporting : {A D : Type 0}
     → (D → A → D → Type 0) → D → D → List A → Option Accepted → Type 0
 FinishesReporting IsReported old new items (Some a) = Reports IsReported old new items

@@ -1,4 +1,5 @@
--- The steps and the state after a PES packet was read. Only contracts of private functions use it.
+-- The steps and the state of the checker after a PES packet was read. Only contracts of private
+-- functions use these definitions.
 use Rattle.std.specs.Prelude.{◌≡◌, ℕ, Bool, true, false, List, [], ◌∷◌}
 use Rattle.sub_rules.specs.FrameRules.{Criteria}
 use Rattle.sub_rules.specs.PesPacketEvents.{steps_of_sent}
@@ -11,12 +12,12 @@ use Rattle.sub_rules.specs.declared.pes_packet.NextPesPacket.{NextPesPacket}
 use Rattle.sub_rules.specs.declared.pes_packet.NextPesPacket.TheVariants as next
 use Rattle.sub_rules.specs.declared.sending.Sending.{Sending}
 
--- The PES packet is skipped.
+-- The PES packet that was read is skipped.
 abbrev pub is_skipped : NextPesPacket → Bool
 is_skipped (next.Skipped f) = true
 is_skipped (next.Sent s) = false
 
--- The PES packet is sent, and its packets are those of the packet before.
+-- The PES packet that was read is valid, and its Teletext packets are those of the packet before.
 abbrev pub IsAgain : NextPesPacket → Type 0
 IsAgain (next.Skipped f) = ⊥
 IsAgain (next.Sent s) = s.again ≡ true
@@ -25,18 +26,18 @@ IsAgain (next.Sent s) = s.again ≡ true
 abbrev pub frame_with : Sending → List (List ℕ) → SentFrame
 frame_with s packets = record { frame = s.frame; packets = packets }
 
--- The steps of PES packet `pes`, after these frames.
+-- The checker's steps for PES packet `pes`, after the frames `sent`.
 abbrev pub steps_of_read : Criteria → Transmission → ℕ → NextPesPacket → List (List ℕ) → List
     CheckStep
 steps_of_read g sent pes (next.Skipped f) packets = AtPes pes ∷ Emits (Reported f) ∷ []
 steps_of_read g sent pes (next.Sent s) packets = steps_of_sent g sent pes (frame_with s packets)
 
--- The frames after it.
+-- The frames sent after one more PES packet was read.
 abbrev pub sent_with : Criteria → Transmission → NextPesPacket → List (List ℕ) → Transmission
 sent_with g sent (next.Skipped f) packets = sent
 sent_with g sent (next.Sent s) packets = sent_after g.within sent (frame_with s packets)
 
--- The packets of the last valid PES packet.
+-- The Teletext packets of the last valid PES packet, after one more PES packet was read.
 abbrev pub last_with : List (List ℕ) → NextPesPacket → List (List ℕ) → List (List ℕ)
 last_with last (next.Skipped f) packets = last
 last_with last (next.Sent s) packets = packets

@@ -34,8 +34,8 @@ pub record IsReadOn
   pub whole : AreComplete (frames_of pes_packets)
   pub counts : CountsRead g.watched.page (sent_by_pes_packets g pes_packets) a
 
--- The events for these PES packets of the bytes. If the source failed, the events of the packets
--- before.
+-- The events for the PES packets of a file were reported. If the source failed, the events of the
+-- packets before the failure were.
 abbrev pub ReportsPesPackets : {D : Type 0} → Criteria → Clock → List ℕ → List PesPacket
     → (D → Event → D → Type 0) → D → D → Result (Option Accepted) CheckFault → Type 0
 ReportsPesPackets g clock bytes pes_packets IsReported old new (Ok (Some a)) =
@@ -49,7 +49,8 @@ ReportsPesPackets g clock bytes pes_packets IsReported old new (Err f) =
     × (f ≡ fault.Pes n Read)
     × Reports IsReported old new (events_of_pes_packets g (take n pes_packets))
 
--- The same for any reading of the bytes, with the criteria that belong to its unread rest.
+-- The events for the PES packets of a file were reported, however its bytes are read. The criteria
+-- depend on the unread rest.
 abbrev pub ReportsFile : {D : Type 0} → (Option Unread → Criteria) → Clock → List ℕ
     → (D → Event → D → Type 0) → D → D → Result (Option Accepted) CheckFault → Type 0
 ReportsFile criteria clock bytes IsReported old new result =
@@ -57,8 +58,8 @@ ReportsFile criteria clock bytes IsReported old new result =
     → ReadsPesPackets clock 0 bytes pes_packets unread
     → ReportsPesPackets (criteria unread) clock bytes pes_packets IsReported old new result
 
--- The source failed within this PES packet: those before it were consumed. If none of them was
--- skipped, they match the grammar.
+-- The source failed within PES packet `pes`, and the packets before it were consumed. If none of
+-- these was skipped, they match the grammar.
 abbrev pub FailsReadingOn : Clock → ℕ → Option (List ℕ) → Option (List ℕ) → Type 0
 FailsReadingOn clock pes known left =
     FailsAtPesPacket pes known left
@@ -68,7 +69,7 @@ FailsReadingOn clock pes known left =
     → length (frames_of (take pes pes_packets)) ≡ pes
     → FailsAtPacket pes known left))
 
--- The events of steps, and then the end of a run of skipped PES packets. Only contracts of private
--- functions use it.
+-- The events of a list of steps, followed by the end of a run of skipped PES packets. Only
+-- contracts of private functions use this definition.
 abbrev pub finished : Relay → List CheckStep → List Event
 finished p steps = relayed p steps ++ ended_run (as_run (relay_after p steps).run)

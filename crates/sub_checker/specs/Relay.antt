@@ -1,5 +1,5 @@
 -- The events that are relayed to a device for a list of steps, with trusted frames and the ends of
--- runs of skipped PES packets. Only contracts of private functions use it.
+-- runs of skipped PES packets. Only contracts of private functions use these definitions.
 use Rattle.std.specs.Prelude.{◌≡◌, List, [], ◌∷◌}
 use Rattle.sub_io.specs.Reporting.{Reports}
 use Rattle.sub_rules.specs.PesPacketEvents.{all_announced, no_run, skipped_after_all}
@@ -12,27 +12,27 @@ use Rattle.sub_checker.specs.declared.reporter.Relay.{Relay}
 use Rattle.sub_checker.specs.declared.reporter.Reporter.{Reporter}
 use Rattle.sub_checker.specs.TrustTracker.{after_step, new_tracker, reported_by, tracker_after}
 
--- The state before the first step.
+-- The state of the reporter before the first step.
 abbrev pub nothing_relayed : Relay
 nothing_relayed = record { tracker = new_tracker; run = kept_run no_run }
 
--- The events of a list of steps.
+-- The events that the reporter relays for a list of steps.
 unfoldable pub relayed : Relay → List CheckStep → List Event
 relayed p ms = all_announced (as_run p.run) (reported_by p.tracker ms)
 
--- The state after them.
+-- The state of the reporter after a list of steps.
 unfoldable pub relay_after : Relay → List CheckStep → Relay
 relay_after p ms = record {
   tracker = tracker_after p.tracker ms;
   run = kept_run (skipped_after_all (as_run p.run) (reported_by p.tracker ms));
 }
 
--- The state after a step without events.
+-- The reporter after a step without events.
 abbrev pub at_step : {D : Type 0} {g : _} → CheckStep → Reporter D g → Reporter D g
 at_step m s = record s { relay = record s.relay { tracker = after_step m s.relay.tracker } }
 
--- The reporter relayed the events of these steps to the latch before its device, and has the state
--- after them.
+-- The reporter relayed the events of a list of steps to its guarded device, and has the state after
+-- these steps.
 pub record ReporterRelays
     {D : Type 0} {g : _} (IsReported : D → Event → D → Type 0)
     (old : Reporter D g) (steps : List CheckStep) (new : Reporter D g)
@@ -40,7 +40,7 @@ pub record ReporterRelays
   pub reported : Reports (IsFused IsReported) old.fused new.fused (relayed old.relay steps)
   pub kept : new.relay ≡ relay_after old.relay steps
 
--- The reporter relayed one event.
+-- The reporter relayed one event to its device.
 abbrev pub IsRelayed : {D : Type 0} {g : _}
     → (D → Event → D → Type 0) → Reporter D g → Event → Reporter D g → Type 0
 IsRelayed IsReported old e new = ReporterRelays IsReported old (Emits e ∷ []) new

@@ -24,8 +24,8 @@ use sub_rules::{Event, Sending};
 use ttx_pes::SentUnits;
 
 impl<'a> Checker<'a> {
-    /// Checks PES packet number `pes`. If `within` is 0, its frame ends at once; otherwise when a
-    /// PES packet of another frame, or the end of the file, follows.
+    /// Checks PES packet number `pes`. If `within` is 0, the frame of the packet ends at once;
+    /// otherwise it ends when a PES packet of another frame, or the end of the file, follows.
     pub fn go_on<A: Audience<Event>>(
         &mut self,
         pes: u32,
@@ -56,7 +56,7 @@ impl<'a> Checker<'a> {
         self.take_next(pes, sending, units, reporter);
     }
 
-    // Returns whether a PES packet of `frame` belongs to the last frame.
+    // Returns whether a PES packet of `frame` belongs to the last frame, whose end is still open.
     #[inline(always)]
     fn goes_on(&self, frame: u32) -> bool
         ensures { result ≡ (self.now.counts.is_open && frame == self.now.frame) }
@@ -64,7 +64,7 @@ impl<'a> Checker<'a> {
         self.counts.is_open && frame == self.frame
     }
 
-    // Checks a PES packet of another frame than the packet before it.
+    // Checks a PES packet whose frame differs from that of the packet before it.
     fn take_next<A: Audience<Event>>(
         &mut self,
         pes: u32,
@@ -97,7 +97,7 @@ impl<'a> Checker<'a> {
         self.counts.leave_open(headers, units.len() as u32);
     }
 
-    // Receives more packets of the current frame.
+    // Receives the packets of another PES packet of the current frame.
     #[inline(never)]
     fn take_more<A: Audience<Event>>(
         &mut self,
@@ -125,8 +125,8 @@ impl<'a> Checker<'a> {
         self.counts.packets += units.len() as u32;
     }
 
-    // Receives packets of the current frame, and returns how many of them are headers of the page.
-    // The first of them is number `from` of its frame.
+    // Receives packets of the current frame, and returns how many of the packets are headers of the
+    // page. The first of the packets is number `from` of its frame.
     #[inline(always)]
     fn hear<A: Audience<Event>>(
         &mut self,

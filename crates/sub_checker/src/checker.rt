@@ -1,4 +1,4 @@
-//! The state of the check: the packets received so far, and the page that is due.
+//! The state of the checker: the packets received so far, and the page that is due.
 ghost use Rattle.std.specs.Prelude.{◌≡◌, ℕ, ◌+◌, ◌<◌, ◌≤◌, List, [], Option, max};
 ghost use Rattle.stl_file.specs.TimeCode.{day};
 ghost use Rattle.sub_checker.specs.Checker.{is_before};
@@ -17,35 +17,38 @@ use sub_packets::Listener;
 use sub_plan::Options;
 use sub_rules::{ActiveFaults, Event, Watched};
 
-/// The state of the check.
+/// The state of the checker.
 #[derive(Drop)]
 pub(crate) struct Checker<'a> {
     pub judging: &'a Judging<'a>,
     pub programme: &'a Programme,
-    // Subtitles of the file were refused.
+    // Whether subtitles of the file were refused.
     pub has_refused: bool,
     // The repeat bound in frames.
     pub every: u32,
-    // The page has to be right within so many frames.
+    // The number of frames within which the page has to become right; 0 if it has to be right at
+    // each frame.
     pub within: u32,
-    // The maximum distance of PES packets in frames, if `--pace` is given.
+    // The maximum distance between PES packets in frames, if `--pace` is given.
     pub pace: Option<u32>,
     pub listener: Listener,
     // The frame of the first PES packet.
     pub first: u32,
     // The greatest frame of a PES packet so far.
     pub latest: u32,
-    // The current frame of the day; `listener` compares with the page that is due there.
+    // The current frame of the day; `listener` compares the received page with the page that is due
+    // at this frame.
     pub frame: u32,
     // The next frame at which the due page may change.
     pub edge: Option<u32>,
-    // The number of a subtitle near that frame: where the search for the next page starts.
-    // Contracts don't see it.
+    // The number of a subtitle near `frame`: where the search for the next due page starts.
+    // Contracts don't see this hint.
     pub near: usize,
-    // The first frame, up to the next change of the due page, at which that page and those of the
-    // last `within` frames are known.
+    // The first frame, up to the next change of the due page, at which the due page is known and
+    // was known for the last `within` frames.
     pub known_from: u64,
-    // The frame whose end was checked last, and the faults that were active there.
+    // The frame whose end was checked last; `active_faults` holds the faults that were active at
+    // that end.
     pub last: u32,
     pub active_faults: ActiveFaults,
     // The first frame from which on the page has been wrong without a break; used if `within` is
@@ -92,7 +95,7 @@ impl<'a> Checker<'a> {
     ghost use Rattle.sub_rules.specs.Trusted.CheckStep.{Begins};
     ghost use Rattle.sub_checker.specs.LastEvents.{AreCounted};
 
-    /// Returns the state before the first PES packet.
+    /// Returns the state of the checker before the first PES packet.
     pub fn new(judging: &'a Judging<'a>, options: &Options) -> Self
         ensures none { AreFew 0 result.counts }
         ensures keeps { (last : List (List ℕ)) (unread : Option Unread)
@@ -132,8 +135,8 @@ impl<'a> Checker<'a> {
         }
     }
 
-    /// Moves to another frame. Draws the due page again if a subtitle begins or ends on the way,
-    /// and if the frame is an earlier one.
+    /// Moves to frame `f`. Draws the due page again if `f` is an earlier frame, or if a subtitle
+    /// begins or ends on the way.
     pub fn move_to(&mut self, f: u32)
         requires day { f < day }
         ensures { self.new ≡ at_frame f self.old }
@@ -145,8 +148,8 @@ impl<'a> Checker<'a> {
         }
     }
 
-    // Draws the page that is due at a frame. Kept out of `move_to`, which would otherwise reserve
-    // stack for a page at each frame.
+    // Draws the page that is due at frame `f`. Not inlined into `move_to`, which would otherwise
+    // reserve stack for a page at each frame.
     #[inline(never)]
     fn draw(&mut self, f: u32)
         requires day { f < day }
@@ -191,8 +194,9 @@ impl<'a> Checker<'a> {
         self.go_back(reporter);
     }
 
-    /// Notifies the reporter since which frame the page has been wrong, up to the frame before.
-    /// Needed only if subtitles were refused and `within` is not 0.
+    /// Passes to the reporter the first of the frames, up to the frame before, in which the page has
+    /// been wrong without a break. This is only needed if subtitles were refused and `within` is
+    /// not 0.
     #[inline(always)]
     #[tactic(auto, unfolding(crate::specs::CheckedFrames::back_reporter))]
     pub fn go_back<A: Audience<Event>>(&self, reporter: &mut Reporter<'_, A>)
@@ -203,7 +207,7 @@ impl<'a> Checker<'a> {
         }
     }
 
-    /// Counts the headers of the page in a PES packet of the current frame.
+    /// Adds the headers of the page in a PES packet of the current frame to the counts.
     pub fn count(&mut self, headers: u8)
         requires room { self.old.counts.headers < 0xFFFF_FFFF_FF00 }
         ensures { self.new ≡ after_headers headers self.old }
@@ -214,7 +218,7 @@ impl<'a> Checker<'a> {
         }
     }
 
-    /// Returns the counts of what was read.
+    /// Returns the counts for the PES packets read so far.
     pub fn read(&self) -> Accepted
         ensures { AreCounted self.now result }
     {
@@ -225,7 +229,8 @@ impl<'a> Checker<'a> {
     }
 }
 
-// Returns the number of frames from that of the first PES packet to the greatest one.
+// Returns the number of frames from the frame of the first PES packet, `first`, to the greatest
+// one, `latest`; 0 without a PES packet.
 fn frame_count(frames: u32, first: u32, latest: u32) -> u64
     requires { first ≤ latest }
     ensures none { frames ≡ 0 → result ≡ 0 }
@@ -238,7 +243,7 @@ fn frame_count(frames: u32, first: u32, latest: u32) -> u64
     }
 }
 
-// Returns whether a frame comes before the next change of the due page.
+// Returns whether a frame comes before the next change of the due page, if the page changes again.
 fn is_before(frame: u32, edge: Option<u32>) -> bool
     ensures { result ≡ is_before frame edge }
 {

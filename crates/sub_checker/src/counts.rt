@@ -2,7 +2,8 @@
 ghost use Rattle.std.specs.Prelude.{◌≡◌, ◌≤◌};
 ghost use Rattle.sub_checker.specs.Checker.{left_open, nothing_counted};
 
-/// Counts of the PES packets received so far, and of the frame of the last of them.
+/// Counts of the PES packets received so far, and of the packets in the frame of the last PES
+/// packet.
 #[derive(Clone, Copy)]
 pub(crate) struct Counts {
     /// The number of frames; consecutive PES packets of one frame count once.
@@ -11,14 +12,14 @@ pub(crate) struct Counts {
     pub headers: u64,
     /// The number of headers of the page before the last frame.
     pub headers_before: u64,
-    /// The number of packets of the last frame, while `is_open`.
+    /// The number of Teletext packets in the last frame, while `is_open`.
     pub packets: u32,
-    /// The end of the last frame has not been checked yet.
+    /// Whether the end of the last frame is still to be checked.
     pub is_open: bool,
 }
 
 impl Counts {
-    /// Returns the counts before the first PES packet.
+    /// Returns the counts before the first PES packet: all are 0.
     pub fn new() -> Self
         ensures { result ≡ nothing_counted }
     {
@@ -31,9 +32,9 @@ impl Counts {
         }
     }
 
-    /// Leaves the end of the last frame open: it has this many headers of the page and packets so
-    /// far. Kept out of the code that runs for each frame, which would otherwise keep both counts
-    /// of headers.
+    /// Leaves the end of the last frame open, which has `headers` headers of the page and `packets`
+    /// packets so far. Not inlined into the code that runs for each frame, which would otherwise
+    /// keep both counts of headers.
     #[inline(never)]
     pub fn leave_open(&mut self, headers: u8, packets: u32)
         requires { headers ≤ self.old.headers }

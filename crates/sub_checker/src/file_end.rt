@@ -1,4 +1,4 @@
-//! Reports what follows the last PES packet of a file.
+//! Reports the events at the end of a PES file, after its last PES packet.
 ghost use Rattle.std.specs.Prelude.{◌≡◌, ℕ, IfSome, List, is_none, length, not};
 ghost use Rattle.std.specs.Prelude.{◌||◌};
 ghost use Rattle.sub_io.specs.Reporting.{ReportsSome};
@@ -20,8 +20,8 @@ use sub_io::Audience;
 use sub_rules::{CheckFault, Event};
 
 /// Checks the end of the last frame if it is still open, reports the events at the end of the file,
-/// and returns the counts; `None` if the audience stops it. `fault` is what ended reading, if
-/// anything did.
+/// and returns the counts; `None` if the audience stops the check. `fault` is the fault that ended
+/// reading, if any.
 pub(crate) fn finish<A: Audience<Event>>(
     checker: &mut Checker<'_>,
     pes: u32,
@@ -54,8 +54,8 @@ pub(crate) fn finish<A: Audience<Event>>(
     Some(read)
 }
 
-// Reports the end of the last frame and of the file after `pes` PES packets. `fault` is what ended
-// reading, if anything did.
+// Reports the end of the last frame and of the file after `pes` PES packets. `fault` is the fault
+// that ended reading, if any.
 fn end_and_close<A: Audience<Event>>(
     checker: &mut Checker<'_>,
     pes: u32,
@@ -74,7 +74,8 @@ fn end_and_close<A: Audience<Event>>(
     close(checker, pes, fault, reporter);
 }
 
-// Reports what follows the end of the last frame.
+// Reports the events after the end of the last frame: the last run of trusted frames, and the last
+// faults.
 fn close<A: Audience<Event>>(
     checker: &Checker<'_>,
     pes: u32,
@@ -95,7 +96,7 @@ fn close<A: Audience<Event>>(
 }
 
 // Returns whether the trusted frames of the last run have to be reported even if nothing was
-// reported before: subtitles were refused, or something is reported at the end of the file.
+// reported before: if subtitles were refused, or something is reported at the end of the file.
 fn reports_trusted(checker: &Checker<'_>, pes: u32, fault: Option<CheckFault>) -> bool
     ensures { result
         ≡ (checker.now.any_refused || not (reports_none (closing_now pes fault checker.now))) }

@@ -1,4 +1,4 @@
-//! Flushes pending reports before a PES packet is read, since that read may block.
+//! Flushes pending reports before a PES packet is read, since the read may block.
 ghost use Rattle.std.specs.Prelude.{◌≡◌, OnOk, false, is_err};
 ghost use Rattle.sub_io.specs.Flushing.{BuffersOnlyWhilePending, KeepsReported};
 ghost use Rattle.ttx_pes.specs.BorrowedPacket.{NothingIsPending};
@@ -8,7 +8,7 @@ use sub_io::{LiveAudience, Stopped};
 use sub_rules::Event;
 use ttx_pes::{PesPackets, flush_first};
 
-/// Flushes the audience if reading the next PES packet may ask a device.
+/// Flushes the audience if reading the next PES packet may block on a device.
 ///
 /// # Errors
 ///

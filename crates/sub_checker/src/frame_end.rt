@@ -1,13 +1,13 @@
-//! The end of a frame: which faults are active there, and which changes are reported.
+//! The end of a frame: which faults are active at the end, and which changes are reported.
 //!
 //! ```text
-//! end_pending_frame    the last frame, if its end is still open
-//!   end_open
-//!     end_sent   a frame of PES packets: does the first one have a header?
-//! end_of_frame   any frame of the day; `end_sent` calls it too
-//!   end_without_faults  no fault was active, and none is
-//!   end_otherwise
-//!     end_at_once, end_within   depending on whether `within` is 0
+//!  end_pending_frame    the last frame, if its end is still open
+//!    end_open
+//!      end_sent   a frame of PES packets: does the first one have a header?
+//!  end_of_frame   any frame of the day; `end_sent` calls it too
+//!    end_without_faults  no fault was active, and none is
+//!    end_otherwise
+//!      end_at_once, end_within   depending on whether `within` is 0
 //! ```
 ghost use Rattle.std.specs.Prelude.{◌≡◌, ◌==◌, ◌&&◌, ℕ, suc, ◌+◌, ◌<◌, List, IsTrue, None};
 ghost use Rattle.std.specs.Prelude.{false, is_err, length, nat_le, not, true};
@@ -35,20 +35,20 @@ use sub_io::Audience;
 use sub_packets::report_if;
 use sub_rules::{ActiveFaults, CheckFault, Event};
 
-/// The state at an end, if `within` is not 0.
+/// The state at the end of a frame, if `within` is not 0.
 #[derive(Drop)]
 pub(crate) struct EndWithin {
-    /// The active faults.
+    /// The faults that are active at the end of the frame.
     pub active_faults: ActiveFaults,
-    /// The first frame from which on the page has been wrong up to this end.
+    /// The first frame from which on the page has been wrong up to the end of this frame.
     pub first_unfinished: Option<u32>,
-    /// The page has to be right by now.
+    /// Whether the page is overdue: it has to be right by now.
     pub is_late: bool,
 }
 
 impl<'a> Checker<'a> {
-    // Returns `true` if a few comparisons show that no fault was active at the last end and that
-    // none is at the current frame, which is the usual case.
+    // Returns `true` if a few comparisons show that no fault was active at the last end and that no
+    // fault is active at the current frame, which is the usual case.
     #[inline(always)]
     #[tactic(auto, using(crate::proofs::CompletePacketLemmas::fault_free_has_none_active))]
     fn is_fault_free(&self) -> bool
@@ -66,7 +66,7 @@ impl<'a> Checker<'a> {
             && !self.is_silent()
     }
 
-    // Returns the active faults at the current frame, if `within` is 0.
+    // Returns the faults that are active at the current frame, if `within` is 0.
     fn active_faults_now(&self) -> ActiveFaults
         requires each { self.now.within ≡ 0 }
         ensures { result ≡ active_faults_of self.now }
@@ -101,7 +101,8 @@ impl<'a> Checker<'a> {
         self.has_refused && self.judging.is_undecided(self.frame)
     }
 
-    // Returns the first wrong cell, or `None` if the due page is unknown.
+    // Returns the row (1 to 24) and column (0 to 39) of the first wrong cell, or `None` if the due
+    // page is unknown.
     fn first_wrong(&self, is_undecided: bool) -> Option<(u8, u8)>
         requires { is_undecided ≡ is_undecided_by self.now self.now.frame }
         ensures { result ≡ differs_now self.now }
@@ -120,7 +121,7 @@ impl<'a> Checker<'a> {
         self.late_at <= self.frame + 1
     }
 
-    // Returns whether the latest PES packet, whatever it contains, is longer ago than `--pace`
+    // Returns whether the last PES packet, whatever it contains, is longer ago than `--pace`
     // allows.
     #[inline(always)]
     fn is_silent(&self) -> bool
@@ -132,8 +133,8 @@ impl<'a> Checker<'a> {
         }
     }
 
-    // Returns the state at the end of the current frame if `within` is not 0: until the page is
-    // overdue, a cell may still have a code that was due within these frames.
+    // Returns the state at the end of the current frame if `within` is not 0. Until the page is
+    // overdue, a cell may still have a code that was due within the last `within` frames.
     fn end_now(&self) -> EndWithin
         requires within { 0 < self.now.within }
         ensures active_faults { result.active_faults ≡ active_faults_of self.now }
@@ -171,8 +172,7 @@ impl<'a> Checker<'a> {
     }
 
     // Returns the first cell with a code that was due at none of the last `within` frames; `None`
-    // if one of these pages is unknown. If no cell differs from the current due page, there is
-    // none.
+    // if one of these due pages is unknown, or if no cell differs from the page that is due now.
     fn first_unexpected(&self, differing: Option<(u8, u8)>) -> Option<(u8, u8)>
         ensures { differing ≡ differs_now self.now → result ≡ unexpected_now self.now }
     {
@@ -187,8 +187,8 @@ impl<'a> Checker<'a> {
             .first_unexpected(self.programme, self.first, frame, self.within)
     }
 
-    /// Returns whether the page should have been right by the end of `frame`, given the frame
-    /// `first_unfinished` which it is wrong.
+    /// Returns whether the page should have been right by the end of `frame`. `first_unfinished` is
+    /// the first frame from which on it has been wrong.
     pub fn is_overdue(&self, first_unfinished: Option<u32>, frame: u32) -> bool
         requires day { frame < day }
         ensures { result
@@ -204,7 +204,7 @@ impl<'a> Checker<'a> {
         )
     }
 
-    // Ends the current frame if no fault was active and none is.
+    // Ends the current frame if no fault was active at the last end and no fault is active now.
     #[inline(always)]
     fn end_without_faults<A: Audience<Event>>(&mut self, reporter: &mut Reporter<'_, A>)
         requires fault_free { IsFaultFreeEnd self.old }
@@ -274,7 +274,8 @@ impl<'a> Checker<'a> {
             reporter.new }
         ensures ended { self.new ≡ after_end self.old }
     {
-        // Most ends are without faults, and the work for `within` would cost each of them time.
+        // Most ends are without faults, and the work for `within` would make each of these ends
+        // slower.
         if self.within == 0 && self.is_fault_free() {
             self.end_without_faults(reporter);
             return;
@@ -282,8 +283,8 @@ impl<'a> Checker<'a> {
         self.end_otherwise(reporter);
     }
 
-    // Ends a frame at which a fault is active or changes, and any frame if `within` is not 0. Kept
-    // out of `end_of_frame`, which is in each loop over frames.
+    // Ends a frame at which a fault is active or changes, or any frame if `within` is not 0. Not
+    // inlined into `end_of_frame`, which is inlined into each loop over frames.
     #[inline(never)]
     fn end_otherwise<A: Audience<Event>>(&mut self, reporter: &mut Reporter<'_, A>)
         ensures reported { ReporterRelays A.is_reported reporter.old (end_steps self.old)
@@ -323,7 +324,7 @@ impl<'a> Checker<'a> {
         );
     }
 
-    /// Ends the last frame if its end is still open.
+    /// Ends the last frame, if its end is still to be checked.
     #[inline(always)]
     pub fn end_pending_frame<A: Audience<Event>>(&mut self, reporter: &mut Reporter<'_, A>)
         ensures closed { self.new.counts.is_open ≡ false }
@@ -339,7 +340,7 @@ impl<'a> Checker<'a> {
         self.end_open(reporter);
     }
 
-    // Ends the last frame, whose end is still open.
+    // Ends the last frame, whose end is still to be checked.
     #[inline(never)]
     fn end_open<A: Audience<Event>>(&mut self, reporter: &mut Reporter<'_, A>)
         requires opened { self.old.counts.is_open ≡ true }
@@ -356,7 +357,7 @@ impl<'a> Checker<'a> {
     }
 }
 
-// Returns whether this is the first frame and has no header of the page.
+// Returns whether the frame is the first one and has no header of the page.
 fn lacks_first(frames: u32, has_header: bool) -> bool
     ensures { result ≡ (frames == 1 && not has_header) }
 {

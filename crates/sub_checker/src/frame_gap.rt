@@ -1,4 +1,5 @@
-//! Moves to the frame of a PES packet: checks the order, and ends the frames of the day before it.
+//! Moves to the frame of a PES packet: checks that frames rise, and ends the frames of the day
+//! before the new frame.
 ghost use Rattle.std.specs.Prelude.{◌≡◌, ℕ, ◌<◌, List};
 ghost use Rattle.stl_file.specs.TimeCode.{day};
 ghost use Rattle.sub_rules.specs.Events.{gap_length, is_early};
@@ -16,7 +17,7 @@ use sub_packets::report_if;
 use sub_rules::{CheckFault, Event};
 
 impl<'a> Checker<'a> {
-    /// Moves to the frame of a PES packet, which is not the frame of the packet before it.
+    /// Moves to the frame of a PES packet, which differs from the frame of the packet before it.
     pub fn reach<A: Audience<Event>>(&mut self, frame: u32, reporter: &mut Reporter<'_, A>)
         requires day { frame < day }
         ensures counts { self.new.counts ≡ self.old.counts }
@@ -73,7 +74,7 @@ impl<'a> Checker<'a> {
         self.arrive(frame);
     }
 
-    // Ends the frames of the day between the latest one and that of a PES packet.
+    // Ends the frames of the day after the latest frame and before the frame `to` of a PES packet.
     fn cross_gap<A: Audience<Event>>(&mut self, to: u32, reporter: &mut Reporter<'_, A>)
         requires day { to < day }
         ensures counts { self.new.counts ≡ self.old.counts }
@@ -92,7 +93,7 @@ impl<'a> Checker<'a> {
     }
 }
 
-// Returns whether a subtitle is due before the frame.
+// Returns whether a subtitle is due before `frame`, the frame of the first PES packet.
 fn is_early(first_in: Option<u32>, frame: u32) -> bool
     ensures { result ≡ is_early first_in frame }
 {

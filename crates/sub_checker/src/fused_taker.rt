@@ -1,4 +1,4 @@
-//! Passes events to the device behind a latch.
+//! Passes events on to the device of a `FusedAudience`.
 ghost use Rattle.sub_checker.specs.FusedAudience.{IsFused};
 
 use crate::fused::FusedAudience;
@@ -9,7 +9,7 @@ use sub_rules::Event;
 impl<A: Audience<Event>> Taker for FusedAudience<'_, A> {
     ghost is_reported = { IsFused A.is_reported };
 
-    /// Tells the device, unless it said stop.
+    /// Reports the event to the device, unless the device has stopped the check.
     fn report(&mut self, event: Event) {
         if self.stopped {
             return;

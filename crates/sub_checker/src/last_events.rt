@@ -1,4 +1,4 @@
-//! Events after the last frame.
+//! The events after the end of the last frame.
 ghost use Rattle.std.specs.Prelude.{◌≡◌, not};
 ghost use Rattle.sub_io.specs.Reporting.{Reports};
 ghost use Rattle.sub_rules.specs.Events.{is_short};
@@ -12,8 +12,8 @@ use sub_packets::Taker;
 use sub_rules::{ActiveFaults, CheckFault, Event};
 
 impl<'a> Checker<'a> {
-    /// Reports what follows the end of the last frame and `pes` PES packets: the ends of the active
-    /// faults, and then the last fault. `fault` is what ended reading, if anything did.
+    /// Reports the events after the end of the last frame and `pes` PES packets: the ends of the
+    /// active faults, and then the last fault. `fault` is the fault that ended reading, if any.
     pub fn close<A: Taker>(&self, pes: u32, fault: Option<CheckFault>, taker: &mut A)
         ensures { Reports A.is_reported taker.old taker.new
             (closing_now pes fault self.now) }
@@ -51,8 +51,8 @@ impl<'a> Checker<'a> {
         }
     }
 
-    // Returns whether the page was wrong at the last end, but still had time to become right in a
-    // frame that does not come.
+    // Returns whether the page was wrong at the end of the last frame, but still had time to become
+    // right in a frame that the file does not contain.
     fn is_pending(&self) -> bool
         ensures { result ≡ is_pending_now self.now }
     {
@@ -72,7 +72,7 @@ fn report_fault<A: Taker>(fault: Option<CheckFault>, taker: &mut A)
     }
 }
 
-// Returns whether a subtitle ends after the frame.
+// Returns whether a subtitle ends after `frame`, the last frame of the file.
 fn is_short(last_out: Option<u32>, frame: u32) -> bool
     ensures { result ≡ is_short last_out frame }
 {

@@ -1,4 +1,4 @@
-//! Since when the page has been wrong, and whether it should have been right by now.
+//! Since which frame the page has been wrong, and whether the page is overdue.
 ghost use Rattle.std.specs.Prelude.{◌≡◌, ◌<◌};
 ghost use Rattle.stl_file.specs.TimeCode.{day};
 ghost use Rattle.sub_rules.specs.Events.{is_missed, unfinished_from};
@@ -22,8 +22,8 @@ pub(crate) fn unfinished_from(
     }
 }
 
-/// Returns whether the page should have been right by the end of a frame, given the frame
-/// `first_unfinished` which it is wrong: `within` frames have passed, or a subtitle has ended that
+/// Returns whether the page should have been right by the end of `frame`: `within` frames have
+/// passed since `first_unfinished`, from which on it has been wrong, or a subtitle has ended that
 /// was never shown right.
 pub(crate) fn is_overdue(
     programme: &Programme,
@@ -42,8 +42,8 @@ pub(crate) fn is_overdue(
         || is_missed(programme.tci_of_ending(frame + 1), first, first_unfinished)
 }
 
-// Returns whether the page was wrong at the end of each frame of the subtitle that ends, given its
-// TCI.
+// Returns whether the page was wrong at the end of each frame of the subtitle that ends, whose TCI
+// is `tci`.
 fn is_missed(tci: Option<u32>, first: u32, first_unfinished: u32) -> bool
     ensures { result ≡ is_missed tci first first_unfinished }
 {

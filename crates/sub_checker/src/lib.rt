@@ -1,12 +1,12 @@
 //! The exact checker: reports everything that is broken in a PES file, one PES packet at a time.
 //!
-//! `sub_rules` defines the rules, and `sub_packets` reports the rules that packets break and keeps
-//! the page that they transmit. `sub_check` says what the events mean for acceptance and for
-//! receivers.
+//! `sub_rules` defines the rules. `sub_packets` reports the rules that packets break, and stores
+//! the page that the packets transmit. `sub_check` defines what the events mean for acceptance and
+//! for receivers.
 //!
 //! ```text
-//! report_pes_packets(&Judging::known(&programme), &mut source, &options, &mut audience)?;
-//! // Accepted { frames: 51, .. }
+//!  report_pes_packets(&Judging::known(&programme), &mut source, &options, &mut audience)?;
+//!  // Accepted { frames: 51, .. }
 //! ```
 #![tactic(auto)]
 

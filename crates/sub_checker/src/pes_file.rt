@@ -35,17 +35,17 @@ use sub_rules::{CheckFault, Event, NextPesPacket, Sending, next_pes_packet, unit
 use ttx_pes::{ComparingReader, PesFault, PesPackets};
 
 /// Reports everything that is broken in a PES file to `audience`, one PES packet at a time, and
-/// returns the counts of what was read. Returns `None` if the audience stops it.
+/// returns the counts. Returns `None` if the audience stops the check.
 ///
 /// Reading continues after a skipped packet. If subtitles were refused, the transmission is checked
-/// against the others.
+/// against the other subtitles.
 ///
 /// `check_all` of `sub_check` calls this function and documents its events and counts.
 ///
 /// # Errors
 ///
-/// Returns `Pes` with `Read` if the source fails. The events of all packets before that have been
-/// reported.
+/// Returns `Pes` with `Read` if the source fails. The events of all packets before the failure have
+/// been reported.
 pub fn report_pes_packets<P: PesPackets, A: LiveAudience<Event>>(
     judging: &Judging<'_>,
     source: &mut P,
@@ -114,8 +114,8 @@ pub fn report_pes_packets<P: PesPackets, A: LiveAudience<Event>>(
     }
 }
 
-// Reports one PES packet, and returns whether it was skipped. `skipped`: the packet before it was
-// skipped.
+// Reports one PES packet, and returns whether the packet was skipped. `skipped`: the packet before
+// was skipped.
 fn report_pes_packet<A: Audience<Event>>(
     pes_packet: NextPesPacket,
     pes: u32,
@@ -154,7 +154,8 @@ fn report_pes_packet<A: Audience<Event>>(
     }
 }
 
-// Clears `again` after a skipped packet, since the last valid packet is not the one before.
+// Clears `again` after a skipped packet, since the last valid packet is not the packet before this
+// one.
 fn after_pes_packet(skipped: bool, sending: Sending) -> Sending
     ensures frame { result.frame ≡ sending.frame }
     ensures again { result.again ≡ true → (sending.again ≡ true) × (skipped ≡ false) }
@@ -165,7 +166,7 @@ fn after_pes_packet(skipped: bool, sending: Sending) -> Sending
     }
 }
 
-// Reports the fault of a skipped packet.
+// Reports the fault of a skipped PES packet.
 fn report_skipped<A: Audience<Event>>(pes: u32, fault: CheckFault, reporter: &mut Reporter<'_, A>)
     ensures { ReporterRelays A.is_reported reporter.old (AtPes pes ∷ Emits (Event.Reported fault) ∷
         [])

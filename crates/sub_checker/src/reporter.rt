@@ -1,5 +1,6 @@
-//! Relays the checker's events to a device. Adds which frames are trusted, and reports of a run of
-//! skipped PES packets only the first and up to which one it goes.
+//! Relays the checker's events to a device, and adds events for the trusted frames. For a run of
+//! skipped PES packets, relays only the fault of the first packet and up to which packet the run
+//! goes.
 ghost use Rattle.std.specs.Prelude.{◌≡◌, [], ◌∷◌, ◌++◌};
 ghost use Rattle.sub_io.specs.Reporting.{Reports, first_alone};
 ghost use Rattle.sub_rules.specs.PesPacketEvents.{all_announced, announced, skipped_run_after};
@@ -16,10 +17,10 @@ use sub_io::Audience;
 use sub_packets::Taker;
 use sub_rules::Event;
 
-/// The state from one step to the next.
+/// The state of the reporter between two steps of the checker.
 #[derive(Clone, Copy)]
 pub(crate) struct Relay {
-    /// The frames that may be trusted.
+    /// Tracks the frames that may be trusted.
     pub tracker: TrustTracker,
     /// The current run of skipped PES packets.
     pub run: SkippedPesPackets,
@@ -28,14 +29,14 @@ pub(crate) struct Relay {
 /// Relays the checker's events to a device.
 #[derive(Drop)]
 pub(crate) struct Reporter<'a, A: Audience<Event>> {
-    /// The device, which may have said stop.
+    /// The device, guarded against events after it has stopped the check.
     pub fused: FusedAudience<'a, A>,
-    /// The state.
+    /// The trusted frames and the run of skipped PES packets so far.
     pub relay: Relay,
 }
 
 impl Relay {
-    /// Returns the state before the first step.
+    /// Returns the state of the reporter before the first step.
     pub fn new() -> Self
         ensures { result ≡ nothing_relayed }
     {
@@ -47,37 +48,38 @@ impl Relay {
 }
 
 impl<A: Audience<Event>> Reporter<'_, A> {
-    /// Names the PES packet that the next events belong to.
+    /// Sets the number of the PES packet to which the next events belong.
     pub fn go_to(&mut self, pes: u32)
         ensures { self.new ≡ at_step (AtPes pes) self.old }
     {
         self.relay.tracker.go_to(pes);
     }
 
-    /// Says that the packets of a frame follow.
+    /// Notes that the packets of a frame follow.
     pub fn begin_frame(&mut self, frame: u32)
         ensures { self.new ≡ at_step (Begins frame) self.old }
     {
         self.relay.tracker.begin_frame(frame);
     }
 
-    /// Sets the frame since which the page has been wrong, up to the frame before.
+    /// Sets the first of the frames, up to the frame before, in which the page has been wrong
+    /// without a break.
     pub fn go_back(&mut self, first_unfinished: Option<u32>)
         ensures { self.new ≡ at_step (GoesBack first_unfinished) self.old }
     {
         self.relay.tracker.go_back(first_unfinished);
     }
 
-    /// Says that the next events belong to the end of a frame: since when the page is wrong, and
-    /// whether it is overdue.
+    /// Notes that the next events belong to the end of a frame. `first_unfinished` is the frame
+    /// from which on the page has been wrong; `is_late`: the page is overdue.
     pub fn at_end(&mut self, frame: u32, first_unfinished: Option<u32>, is_late: bool)
         ensures { self.new ≡ at_step (AtEnd frame first_unfinished is_late) self.old }
     {
         self.relay.tracker.at_end(frame, first_unfinished, is_late);
     }
 
-    /// Ends a frame of PES packets. `has_beginning`: it has a header of the page that can begin a
-    /// run. `none_active`: no fault is active.
+    /// Ends a frame of PES packets. `has_beginning`: the frame has a header of the page with which
+    /// a run of trusted frames can begin. `none_active`: no fault is active.
     pub fn end_frame(&mut self, frame: u32, has_beginning: bool, none_active: bool)
         ensures { self.new ≡ at_step (Ends frame has_beginning none_active) self.old }
     {
@@ -87,7 +89,7 @@ impl<A: Audience<Event>> Reporter<'_, A> {
     }
 
     /// Reports the trusted frames of the last run, if anything was or will be reported. The last
-    /// frame is not trusted if bytes are left after it.
+    /// frame is not trusted if unread bytes follow it.
     pub fn close(&mut self, are_left: bool, reports_more: bool)
         ensures { ReporterRelays A.is_reported self.old (Closes are_left reports_more ∷ [])
             self.new }
@@ -96,7 +98,8 @@ impl<A: Audience<Event>> Reporter<'_, A> {
         announce_some(last, &mut self.relay.run, &mut self.fused);
     }
 
-    /// Passes on an event. Before it, reports the trusted frames of the run that it ends.
+    /// Relays an event to the device. If the event ends a run of trusted frames, reports these
+    /// frames first.
     pub fn relay(&mut self, event: Event)
         ensures { ReporterRelays A.is_reported self.old (Emits event ∷ []) self.new }
     {
@@ -110,13 +113,14 @@ impl<A: Audience<Event>> Reporter<'_, A> {
 impl<A: Audience<Event>> Taker for Reporter<'_, A> {
     ghost is_reported = { IsRelayed A.is_reported };
 
-    /// Relays the event; a run of skipped packets is shortened.
+    /// Relays the event. Only the first and the last packet of a run of skipped packets are
+    /// reported.
     fn report(&mut self, event: Event) {
         self.relay(event);
     }
 }
 
-// Passes on an event, if there is one.
+// Relays an event, if it is not `None`, to `taker`.
 #[rattlefmt::skip]
 #[tactic(auto, unfolding(
     sub_rules::specs::PesPacketEvents::all_announced,
@@ -132,8 +136,8 @@ fn announce_some<T: Taker>(event: Option<Event>, run: &mut SkippedPesPackets, ta
     }
 }
 
-// Passes on an event. If it ends a run of skipped PES packets, reports first up to which one the
-// run goes.
+// Relays an event to `taker`. If the event ends a run of skipped PES packets, reports first up to
+// which packet the run goes.
 #[tactic(auto, unfolding(sub_rules::specs::PesPacketEvents::announced))]
 fn announce<T: Taker>(event: Event, run: &mut SkippedPesPackets, taker: &mut T)
     ensures reported { Reports T.is_reported taker.old taker.new (announced (as_run run.old)
@@ -148,7 +152,7 @@ fn announce<T: Taker>(event: Event, run: &mut SkippedPesPackets, taker: &mut T)
     report_after(before.ended(), event, taker);
 }
 
-// Passes on two events, the first of which is optional.
+// Relays two events, the first of which is optional.
 #[tactic(auto, using(sub_io::proofs::ReportingLemmas::tellings))]
 fn report_after<T: Taker>(first: Option<Event>, event: Event, taker: &mut T)
     ensures { Reports T.is_reported taker.old taker.new (first_alone first ++ event ∷ []) }
@@ -157,7 +161,7 @@ fn report_after<T: Taker>(first: Option<Event>, event: Event, taker: &mut T)
     taker.report(event);
 }
 
-/// Passes on an event, if there is one.
+/// Reports an event, if it is not `None`.
 #[tactic(auto, using(sub_io::proofs::ReportingLemmas::tellings))]
 pub(crate) fn report_some<T: Taker>(event: Option<Event>, taker: &mut T)
     ensures { Reports T.is_reported taker.old taker.new (first_alone event) }

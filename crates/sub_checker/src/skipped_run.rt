@@ -1,4 +1,4 @@
-//! Runs of consecutive PES packets that are skipped for faults with the same number.
+//! Runs of consecutive skipped PES packets whose faults have the same number.
 ghost use Rattle.std.specs.Prelude.{◌≡◌};
 ghost use Rattle.sub_io.specs.Reporting.{first_alone};
 ghost use Rattle.sub_rules.specs.PesPacketEvents.{ended_run, goes_on, goes_on_after, is_after};
@@ -11,14 +11,15 @@ use sub_rules::{CheckFault, Event, FaultPlace};
 /// The current run of consecutive skipped PES packets whose faults have the same number.
 #[derive(Clone, Copy)]
 pub(crate) struct SkippedPesPackets {
-    /// The fault of the last of them; `None` if there is no run, or if another event came after it.
+    /// The fault of the last packet of the run; `None` if there is no run, or if another event came
+    /// after its last packet.
     pub last: Option<CheckFault>,
-    /// The run has more than one packet.
+    /// Whether the run has more than one packet.
     pub many: bool,
 }
 
 impl SkippedPesPackets {
-    /// Returns the state before the first PES packet.
+    /// Returns the state before the first PES packet, without a run.
     pub fn new() -> Self
         ensures { result ≡ kept_run no_run }
     {
@@ -28,7 +29,7 @@ impl SkippedPesPackets {
         }
     }
 
-    /// Returns whether the event continues the run.
+    /// Returns whether the event continues the run of skipped PES packets.
     #[tactic(auto, unfolding(sub_rules::specs::PesPacketEvents::joins))]
     pub fn joins(&self, event: &Event) -> bool
         ensures { result ≡ joins (as_run self.now) event.now }
@@ -39,7 +40,7 @@ impl SkippedPesPackets {
         }
     }
 
-    /// Returns the run after the event.
+    /// Returns the run of skipped PES packets after the event.
     #[tactic(auto, unfolding(sub_rules::specs::PesPacketEvents::skipped_run_after))]
     pub fn after(&self, event: &Event) -> SkippedPesPackets
         ensures { result ≡ kept_run (skipped_run_after (as_run self.now) event.now) }
@@ -57,7 +58,8 @@ impl SkippedPesPackets {
         }
     }
 
-    /// Returns the event that says up to which PES packet the run goes, if it has more than one.
+    /// Returns the event that reports up to which PES packet the run goes, if the run has more than
+    /// one packet.
     pub fn ended(&self) -> Option<Event>
         ensures { first_alone result ≡ ended_run (as_run self.now) }
     {
@@ -68,8 +70,8 @@ impl SkippedPesPackets {
     }
 }
 
-// Returns whether the fault is that of a PES packet which is skipped directly after the last one,
-// with the same number.
+// Returns whether `fault` reports a skipped PES packet directly after the packet of `last`, with
+// the same fault number; `false` if there was no such packet.
 fn follows(last: &Option<CheckFault>, fault: &CheckFault) -> bool
     ensures { result ≡ goes_on_after last.now fault.now }
 {
@@ -79,7 +81,7 @@ fn follows(last: &Option<CheckFault>, fault: &CheckFault) -> bool
     }
 }
 
-// Returns whether the fault continues the run that ends with `last`.
+// Returns whether `fault` continues the run of skipped PES packets that ends with `last`.
 #[tactic(auto, unfolding(sub_rules::specs::PesPacketEvents::goes_on))]
 fn goes_on(last: &CheckFault, fault: &CheckFault) -> bool
     ensures { result ≡ goes_on last.now fault.now }

@@ -1,4 +1,4 @@
-//! Tracks the frames that may be trusted to be right on air, from one step to the next.
+//! Tracks, step by step, the frames that may be trusted to be right on air.
 ghost use Rattle.std.specs.Prelude.{◌≡◌, ◌≤◌, ◌&&◌, is_some};
 ghost use Rattle.sub_io.specs.Reporting.{first_alone};
 ghost use Rattle.sub_rules.specs.Trusted.{at_pes, trusted};
@@ -10,35 +10,37 @@ ghost use Rattle.sub_checker.specs.TrustTracker.{trusted_before};
 
 use sub_rules::{CheckFault, Event};
 
-/// The frames that may be trusted.
+/// The frames that may be trusted to be right on air.
 #[derive(Clone, Copy)]
 pub(crate) struct TrustTracker {
-    /// The PES packet that is being reported; the checker itself counts only valid ones.
+    /// The number of the current PES packet of the file; the checker itself counts only valid
+    /// packets.
     pub pes: u32,
     /// The frame of the header of the page with which the current run of clean frames began.
     pub run: Option<u32>,
-    /// The first frame of the run at whose end the page was right.
+    /// The first frame of the current run at whose end the page was right.
     pub whole: Option<u32>,
-    /// The frame of the last PES packet; 0 before the first one.
+    /// The frame of the last PES packet; 0 before the first packet.
     pub last: u32,
-    /// The frames have been in rising order so far.
+    /// Whether the frames of the PES packets have been in rising order so far.
     pub rises: bool,
-    /// As `rises`, and no packet of this frame broke a rule that receivers depend on.
+    /// Whether the frames have been in rising order, and no packet of the current frame broke a
+    /// rule that receivers depend on.
     pub is_clean: bool,
     /// The first frame from which on the page has been wrong up to the last end, if `within` is not
     /// 0.
     pub first_unfinished: Option<u32>,
-    /// The page is overdue at the last end.
+    /// Whether the page is overdue at the last end.
     pub is_late: bool,
-    /// The first frame of those up to the frame before with a wrong page, if such frames are not
-    /// trusted however a run ends.
+    /// The first of the frames, up to the frame before, in which the page has been wrong, if these
+    /// frames are never trusted, however the run ends.
     pub back: Option<u32>,
-    /// Something was reported.
+    /// Whether anything was reported.
     pub reported: bool,
 }
 
 impl TrustTracker {
-    /// Returns the state before the first PES packet.
+    /// Returns the state of the tracker before the first PES packet.
     pub fn new() -> Self
         ensures { result ≡ new_tracker }
     {
@@ -56,7 +58,7 @@ impl TrustTracker {
         }
     }
 
-    /// Names the PES packet that the next events belong to.
+    /// Sets the number of the PES packet to which the next events belong.
     #[inline(always)]
     #[tactic(auto, unfolding(crate::specs::TrustTracker::after_step))]
     pub fn go_to(&mut self, pes: u32)
@@ -65,7 +67,7 @@ impl TrustTracker {
         self.pes = pes;
     }
 
-    /// Says that the packets of a frame follow.
+    /// Notes that the packets of a frame follow.
     #[inline(always)]
     #[tactic(auto, unfolding(crate::specs::TrustTracker::after_step))]
     pub fn begin_frame(&mut self, frame: u32)
@@ -75,7 +77,8 @@ impl TrustTracker {
         self.is_clean = self.rises;
     }
 
-    /// Sets the frame since which the page has been wrong, up to the frame before.
+    /// Sets the first of the frames, up to the frame before, in which the page has been wrong
+    /// without a break.
     #[tactic(auto, unfolding(crate::specs::TrustTracker::after_step))]
     pub fn go_back(&mut self, first_unfinished: Option<u32>)
         ensures { self.new ≡ after_step (GoesBack first_unfinished) self.old }
@@ -83,8 +86,8 @@ impl TrustTracker {
         self.back = first_unfinished;
     }
 
-    /// Says that the next events belong to the end of a frame: since when the page is wrong, and
-    /// whether it is overdue.
+    /// Notes that the next events belong to the end of a frame. `first_unfinished` is the frame
+    /// from which on the page has been wrong; `is_late`: the page is overdue.
     #[tactic(auto, unfolding(crate::specs::TrustTracker::after_step))]
     pub fn at_end(&mut self, frame: u32, first_unfinished: Option<u32>, is_late: bool)
         ensures { self.new ≡ after_step (AtEnd frame first_unfinished is_late) self.old }
@@ -96,8 +99,8 @@ impl TrustTracker {
         }
     }
 
-    /// Ends a frame of PES packets. `has_beginning`: it has a header of the page that can begin a
-    /// run. `none_active`: no fault is active.
+    /// Ends a frame of PES packets. `has_beginning`: the frame has a header of the page with which
+    /// a run of trusted frames can begin. `none_active`: no fault is active.
     #[inline(always)]
     #[tactic(auto, unfolding(crate::specs::TrustTracker::after_step))]
     pub fn end_frame(&mut self, frame: u32, has_beginning: bool, none_active: bool)
@@ -109,8 +112,8 @@ impl TrustTracker {
         self.end_another(frame, has_beginning, none_active);
     }
 
-    // Returns whether the run continues with a right page, and no packet of this frame broke a rule
-    // that receivers depend on.
+    // Returns whether the run of trusted frames continues with a right page, and no packet of the
+    // current frame broke a rule that receivers depend on.
     #[inline(always)]
     fn stays_correct(&self) -> bool
         ensures { result
@@ -119,7 +122,7 @@ impl TrustTracker {
         self.run.is_some() && self.whole.is_some() && self.is_clean
     }
 
-    // Ends a frame after which the state may change.
+    // Ends a frame after which the state of the tracker may change.
     #[inline(never)]
     #[tactic(auto, unfolding(crate::specs::TrustTracker::after_step))]
     fn end_another(&mut self, frame: u32, has_beginning: bool, none_active: bool)
@@ -134,8 +137,8 @@ impl TrustTracker {
         }
     }
 
-    /// Takes an event, and returns the trusted frames of the run that it ends, to be reported
-    /// before it.
+    /// Takes an event, and returns the trusted frames of the run that the event ends, which have to
+    /// be reported before the event.
     #[tactic(auto, unfolding(crate::specs::TrustTracker::after_step))]
     pub fn say(&mut self, event: &Event) -> Option<Event>
         ensures before { first_alone result
@@ -165,7 +168,7 @@ impl TrustTracker {
     }
 
     /// Ends the file, and returns the trusted frames of the last run, if anything was or will be
-    /// reported. The last frame is not trusted if bytes are left after it, nor are the last frames
+    /// reported. The last frame is not trusted if unread bytes follow it, nor are the last frames
     /// if the page is wrong at their ends.
     #[tactic(auto, unfolding(crate::specs::TrustTracker::after_step))]
     pub fn close(&mut self, are_left: bool, reports_more: bool) -> Option<Event>
@@ -199,7 +202,8 @@ impl TrustTracker {
         }
     }
 
-    /// Moves an event of a frame to the PES packet that transmits the frame.
+    /// Returns the event with the number of the current PES packet of the file in place of the
+    /// checker's count.
     #[tactic(auto, unfolding(sub_rules::specs::Trusted::at_pes))]
     pub fn at_pes(&self, event: Event) -> Event
         ensures { result ≡ at_pes self.now.pes event }
@@ -225,7 +229,8 @@ fn first_correct(whole: Option<u32>, first_unfinished: Option<u32>, frame: u32) 
     }
 }
 
-// Returns the trusted frames of the run before `frame`, if there are any.
+// Returns the event for the trusted frames of the run before `frame`; `None` if no frame is
+// trusted.
 fn trusted(run: Option<u32>, whole: Option<u32>, frame: u64) -> Option<Event>
     requires { frame ≤ 0x1_0000_0000 }
     ensures { first_alone result ≡ trusted run whole frame }
@@ -241,7 +246,7 @@ fn trusted(run: Option<u32>, whole: Option<u32>, frame: u64) -> Option<Event>
 }
 
 // Returns the first frame that is no longer trusted once the event is reported. `last` is the frame
-// of the last PES packet; `late` is the frame since which an overdue page is wrong.
+// of the last PES packet; `late` is the frame from which on an overdue page has been wrong.
 #[tactic(auto, unfolding(crate::specs::TrustTracker::invalidated))]
 fn invalidated(last: u32, late: Option<u32>, event: &Event) -> Option<u32>
     ensures { result ≡ invalidated last late event.now }
@@ -252,7 +257,7 @@ fn invalidated(last: u32, late: Option<u32>, event: &Event) -> Option<u32>
     }
 }
 
-// Returns whether the event reports that the frames do not rise.
+// Returns whether the event reports that the frames are not in rising order.
 #[tactic(auto, unfolding(crate::specs::TrustTracker::is_order))]
 fn is_order(event: &Event) -> bool
     ensures { result ≡ is_order event.now }

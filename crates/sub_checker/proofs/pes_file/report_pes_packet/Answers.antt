@@ -1,4 +1,4 @@
--- A valid PES packet is reported with the packets that the reader has.
+-- The steps of a valid PES packet are reported with the Teletext packets that the reader lends.
 use Rattle.std.proofs.Common.{◌∙◌, ap, subst, sym}
 use Rattle.sub_rules.specs.PacketRules.{packets_of_units}
 use Rattle.sub_checker.specs.NextPesPackets.{IsAgain}

@@ -1,4 +1,4 @@
--- Each exit shows that the events are those of the whole file.
+-- Each exit of the loop over PES packets shows that the events reported are those of the file.
 use Rattle.std.proofs.Common.{◌≡◌, ◌∙◌, ◌∷◌, [], ap, refl, rules, sym, subst, arith, List}
 use Rattle.std.proofs.Common.{Ok, Option, Result, Some, ℕ, length, take}
 use Rattle.sub_checker.specs.LastEvents.{ending_fault}
@@ -141,7 +141,8 @@ returns-in_default-clause-exact g c = λ bytes reported pes_packets unread reads
     (c.finish-in_default.ensures.counts criteria (frames_sent criteria i.0) i.2 i.3.keeps) in
     search rules
 
--- The audience stopped at this PES packet.
+-- If the audience stops the check while a PES packet is reported, a prefix of the events was
+-- reported.
 pub returns-then-reporter-clause-exact : goal.returns-then-reporter-clause-exact
 returns-then-reporter-clause-exact g c = λ bytes reported pes_packets unread reads.
     let inv = c.pes_packets.invariant in
@@ -162,7 +163,7 @@ returns-then-reporter-clause-exact g c = λ bytes reported pes_packets unread re
     so_far received.cut in
     search rules
 
--- Some events were reported for a PES packet, whatever the packets are.
+-- The events reported for a PES packet are a list of events, even if the file's bytes are unknown.
 pub returns-then-reporter-clause-some : goal.returns-then-reporter-clause-some
 returns-then-reporter-clause-some g c =
     let inv = c.pes_packets.invariant in
@@ -258,7 +259,7 @@ pes_packets-preserved g c =
           );
     }
 
--- The audience stopped before the next PES packet.
+-- If the audience stops the check before the next PES packet, a prefix of the events was reported.
 pub returns-then-is_err-clause-exact : goal.returns-then-is_err-clause-exact
 returns-then-is_err-clause-exact g c = λ bytes reported pes_packets unread reads.
     let i = c.pes_packets.invariant.reported pes_packets unread bytes reported reads in
@@ -267,8 +268,6 @@ returns-then-is_err-clause-exact g c = λ bytes reported pes_packets unread read
     reported_before c.args.judging.now i.1 i.3 _ _
     (c.flush_reports.ensures.reported.kept c.args.audience.now _ c.requires.still i.5) in
     search rules
-
--- ---- some events were reported
 
 pub returns-in-Err-clause-some : goal.returns-in-Err-clause-some
 returns-in-Err-clause-some g c =
@@ -297,8 +296,6 @@ returns-in_default-clause-some g c =
     c.flush_reports.ensures.reported)
     (c.finish-in_default.ensures.some _ k.0 k.1 k.2) in
     search rules
-
--- ---- flushed reports if the source failed
 
 pub returns-then-is_source_failure-clause-requested :
     goal.returns-then-is_source_failure-clause-requested

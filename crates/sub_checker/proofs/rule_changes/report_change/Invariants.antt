@@ -1,4 +1,5 @@
--- The events of the remaining rules are those still to be reported.
+-- The events reported so far, followed by those of the remaining rules, are all changes at the end
+-- of the frame.
 use Rattle.std.proofs.Common.{List, drop, flat_map}
 use Rattle.sub_io.specs.Reporting.{Reports}
 use Rattle.sub_rules.specs.Events.{broken_at, end_rules, rule_events}

@@ -1,11 +1,10 @@
--- The due page does not change in between: undecided_same.
+-- Between two page changes, whether the due page is known stays the same: undecided_same.
 use Rattle.std.proofs.Common.{◌≡◌, ℕ, arith, subst, sym}
 use Rattle.stl_rows.specs.DuePage.{IsEdge}
 use Rattle.stl_rows.specs.Programme.{ProgrammeValue}
 use Rattle.sub_checker.proofs.UndecidedLemmas.{undecided_same}
 use Rattle.sub_checker.proofs.undecided.frame_before.Goals as goal
 
--- Equal programmes have the same page changes.
 of_other : (p q : ProgrammeValue) (e : ℕ) → p ≡ q → IsEdge q.records e → IsEdge p.records e
 of_other p q e same edge = subst (λ (r : ProgrammeValue). IsEdge r.records e) (sym same) edge
 

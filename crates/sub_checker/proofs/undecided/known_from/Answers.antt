@@ -1,4 +1,5 @@
--- Whether the due page is known at the frame, and was at the frames before.
+-- The frame from which on the due page is known: no subtitle was refused, the due page is unknown
+-- now, was unknown before, or was always known.
 use Rattle.std.proofs.Common.{◌∙◌, sym, arith}
 use Rattle.sub_checker.proofs.UndecidedLemmas.{known_last, known_never, known_none, known_not}
 use Rattle.sub_checker.proofs.undecided.known_from.Goals as goal

@@ -1,4 +1,5 @@
--- The first frame is reached, in time or too late.
+-- The checker moves to the first frame, and reports a fault if a subtitle was due before this
+-- frame.
 use Rattle.std.proofs.Common.{sym, subst}
 use Rattle.sub_checker.specs.CheckedFrames.{AfterEnd, BeforePackets}
 use Rattle.sub_checker.proofs.CheckedFramesLemmas.{arrives_first, first_reaching}

@@ -1,4 +1,4 @@
--- The steps of the ends so far, and the state after them.
+-- The reporter relayed the steps of all frame ends so far, and the state agrees with these ends.
 use Rattle.std.proofs.Common.{◌≡◌, ℕ, ◌+◌, ◌-◌, ◌<◌, ◌≤◌, List}
 use Rattle.sub_rules.specs.Events.{latest}
 use Rattle.sub_rules.specs.PesPacketEvents.{steps_of_gap}

@@ -1,4 +1,5 @@
--- The steps that go back and end the frame, and the changes of the active faults.
+-- If `within` is not 0, the end of a frame consists of its GoesBack and AtEnd steps and the
+-- changes of the active faults.
 use Rattle.std.proofs.Common.{ap, refl}
 use Rattle.sub_checker.specs.Checker.{back_steps}
 use Rattle.sub_checker.proofs.FrameEndLemmas.{within_steps}

@@ -1,4 +1,5 @@
--- Nothing is reported; if `within` is not 0, there are the steps that go back and end the frame.
+-- A frame without faults reports no event; if `within` is not 0, its end has GoesBack and AtEnd
+-- steps.
 use Rattle.std.proofs.Common.{arith, refl}
 use Rattle.sub_checker.proofs.FrameEndLemmas.{fault_free_once, fault_free_within}
 use Rattle.sub_checker.proofs.ReporterLemmas.{relays_back, relays_nothing, relays_step, relays_two}

@@ -1,11 +1,10 @@
--- The first PES packet, or a later one.
+-- The checker moves to the frame of the first PES packet, or of a later one.
 use Rattle.std.proofs.Common.{◌≡◌, ◌∙◌, ◌<◌, ℕ, ap, arith, sym, subst}
 use Rattle.sub_checker.specs.CheckedFrames.{AfterEnd, BeforePackets, reaching_steps}
 use Rattle.sub_checker.specs.Relay.{ReporterRelays}
 use Rattle.sub_rules.specs.FrameRules.{frame_at}
 use Rattle.sub_checker.proofs.checker.Checker.reach.Goals as goal
 
--- A number that equals one other than 0 is not 0.
 some : {n m : ℕ} → m ≡ n → (m ≡ 0 → ⊥) → 0 < n
 some same h = omega (arith, same, h)
 
