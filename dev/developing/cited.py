@@ -17,7 +17,7 @@ from .proved import parsed
 
 # The documents, and the beginning of the lines that are checked.
 DOCUMENTS = {"docs/HEADLINE.md": "", "docs/ASSURANCE.md": "", "docs/CLAUSES.md": "",
-             "docs/WRONG-PROGRAMS.md": "", "docs/DECISIONS.md": "", "docs/GLOSSARY.md": "",
+             "docs/DECISIONS.md": "", "docs/GLOSSARY.md": "",
              "docs/ARCHITECTURE.md": "|"}
 # A row of the table of lines to be read: the promise, its name, and the counts.
 ROW = re.compile(r"^\| (.*) \| `(\S+)` \| (\d+) \| (\d+) \|$", re.M)

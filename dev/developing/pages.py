@@ -1,7 +1,7 @@
 """Generate man pages, completion, the table of options in qc's chapter, and the schema.
 
 Sources are, for the program, the usage text of ./subttx and the table of options in
-docs/manual/all-commands.md; for tools, their --help; for qc, the tables of its options and of JSON
+docs/manual/reference.md; for tools, their --help; for qc, the tables of its options and of JSON
 results.
 
 Generated parts are between a line `made: NAME` and a line `end`, both comments; the rest is written
@@ -25,7 +25,7 @@ from subtitles.results.files import COLUMNS, FILES as FILE_COLUMNS
 from subtitles.results.schema import CUE, LISTED_CAUSE, REQUEST, VERDICT, schema
 from .cited import rows_of_numbers
 
-TABLE = os.path.join("docs", "manual", "all-commands.md")
+TABLE = os.path.join("docs", "manual", "reference.md")
 PROGRAM_PAGE, QC_PAGE = os.path.join("docs", "subttx.1"), os.path.join("docs", "subttx-qc.1")
 AIR_PAGE = os.path.join("docs", "subttx-air.1")
 SCHEMA = os.path.join("docs", "verdict.schema.json")

@@ -22,7 +22,7 @@ from .bench import Case, script
 
 # The documents: links lead to files and headings that are there, and quoted sources are sources.
 
-NAMES = ["*.md", "docs/*.md", "docs/manual/*.md", "examples/*.md", "tools/*.md", "dev/*.md"]
+NAMES = ["*.md", "docs/*.md", "docs/manual/*.md", "examples/*.md"]
 LINK = re.compile(r"\]\(([^)\s]*)\)")
 HEADING = re.compile(r"^#+ (.*)$", re.M)
 ANCHOR = re.compile(r'<a id="([^"]+)"></a>')
@@ -214,9 +214,10 @@ class Parts(unittest.TestCase):
 
 # The lists of tools and modules: each has its row, and each row is of one that is there.
 
-# The READMEs, each with its folder, and the folder of packages in there; whether it has a row for
-# each of these.
-FOLDERS = [("tools", "subtitles", True), ("dev", "developing", False)]
+# The folders whose scripts a section of CONTRIBUTING lists, the folder of packages that it lists
+# too, and the section's heading.
+FOLDERS = [("tools", "subtitles", "Tools"),
+           ("dev", None, "For developers of this repository")]
 PACKAGES = [*(os.path.join("tools", "subtitles", name)
               for name in ("common", "formats", "request", "stream", "clock", "recording",
                            "judging", "results", "report", "cli", "air")),
@@ -234,17 +235,18 @@ def entries(folder: str) -> list[str]:
 
 
 class Lists(Case):
-    """The lists of the READMEs and of the packages."""
+    """The lists of CONTRIBUTING and of the packages."""
 
     def test_are_whole(self) -> None:
-        """The README of a folder lists its scripts, that of tools/ the packages too."""
-        for name, package, is_listed in FOLDERS:
+        """CONTRIBUTING lists the scripts of tools/ and dev/, and the packages of tools/."""
+        contributing = read(os.path.join(TOP, "CONTRIBUTING.md")) or ""
+        for name, package, heading in FOLDERS:
             folder = os.path.join(TOP, name)
-            text = read(os.path.join(folder, "README.md")) or ""
-            rows = re.findall(r"`(.+?)`", " ".join(ROW.findall(text)))
-            inside = entries(os.path.join(folder, package)) if is_listed else []
-            wanted = [one for one in [*entries(folder), *inside]
-                      if one not in ("README.md", package + "/")]
+            rows = re.findall(r"`(.+?)`", " ".join(ROW.findall(
+                contributing.partition(f"## {heading}\n")[2].partition("\n## ")[0])))
+            inside = entries(os.path.join(folder, package)) if package else []
+            wanted = [entry for entry in [*entries(folder), *inside]
+                      if entry not in ("subtitles/", "developing/")]
             self.must(name, sorted(rows) == sorted(wanted), set(rows) ^ set(wanted))
 
     def test_are_whole_of_packages(self) -> None:

@@ -175,7 +175,7 @@ OPTIONS: tuple[Option, ...] = (
     Option("--origin", "T", "take T as the PTS of 00:00:00:00", MEASURED_PAIRS, "estimated",
            field="origin", read=origin_word, in_profile=True, shape=Maybe(PTS), note=IN_PART),
     Option("--complete", None, "require [closing headers]"
-           "(transmissions.md#closing-headers---complete)", PAIRS, "they are required",
+           "(streams.md#closing-headers---complete)", PAIRS, "they are required",
            field="is_complete", default=True, of_check=False, in_profile=True, shape=Flag()),
     Option("--no-complete", None, "require no closing headers", PAIRS, "they are required",
            field="is_complete", default=True, sets=False, in_profile=True),
@@ -190,14 +190,14 @@ OPTIONS: tuple[Option, ...] = (
     Option("--severity", "FILE", "read from FILE which faults are only warnings, in lines `NUMBER "
            "warning`, `NUMBER error` and `others warning`", JUDGED, "all are errors",
            field="severity", in_profile=True, shape=Maybe(Text())),
-    Option("--breaks", "N", "expect N [breaks](recording.md#programmes-with-breaks) in the "
+    Option("--breaks", "N", "expect N [breaks](#programmes-with-breaks) in the "
            "programme, each part with its own clock", PAIRS, "0", field="breaks", default=0,
            read=breaks_word, shape=COUNT),
     Option("--pes", "I-J", "judge only PES packets I to J, if the programme is in the recording "
            "twice", MEASURED_PAIRS, "all", field="pes", read=range_word, write=range_text,
            shape=Maybe(Listed(COUNT, 2, 2))),
     Option("--start", "TIME|tcp", "take TIME as the time code of the recording's [first picture]"
-           "(recording.md#the-clock-by-the-first-picture); `tcp`: that of the GSI block",
+           "(#the-clock-by-the-first-picture); `tcp`: that of the GSI block",
            MEASURED_PAIRS, "estimated", field="start", read=start_word, in_profile=True,
            shape=Maybe(Text())),
     Option("--relative", None, "give [`relative`](#verdicts-and-exit-status) status 0: a delay of "
