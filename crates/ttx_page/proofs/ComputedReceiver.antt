@@ -1,6 +1,6 @@
--- A computable receiver, for examples that are decided by computation: the model receiver that
--- keeps the cells of bytes with even parity. It follows the receiver relation: `heard_so`. And a
--- test of near packets: `packets_tested`.
+-- A receiver that can be computed, for examples that are decided by computation: the model receiver
+-- that keeps the cells of bytes with even parity. It follows the receiver relation: `heard_so`. A
+-- test decides whether packets are near: `packets_tested`.
 use Rattle.std.proofs.Common.{◌≡◌, ℕ, ◌-◌, Bool, true, false, ◌&&◌, List, [], ◌∷◌, map, get_or}
 use Rattle.std.proofs.Common.{refl, ap, ◌∙◌, arith, inl, inr}
 use Rattle.std.specs.Prelude.{◌==◌, if◌then◌else◌}
@@ -22,9 +22,6 @@ use Rattle.ttx_page.specs.Page.{Rows, blank, cell, IsCell}
 use Rattle.ttx_page.specs.PacketKind.{kind}
 use Rattle.ttx_page.specs.Receiver.{State, StepAt, Hears, StoresRow}
 
--- ---- near packets
-
--- The bytes are near, place by place.
 abbrev near_bytes : List ℕ → List ℕ → Bool
 near_bytes [] [] = true
 near_bytes [] (g ∷ got) = false
@@ -35,7 +32,6 @@ bytes_tested : (sent got : List ℕ) → near_bytes sent got ≡ true → AreNea
 bytes_tested [] got e = grind (arith, nat_tests)
 bytes_tested (s ∷ sent) y e = grind (arith, nat_tests, and_parts, near_from_test, bytes_tested sent)
 
--- The packets are near.
 abbrev pub near_packets : List (List ℕ) → List (List ℕ) → Bool
 near_packets [] [] = true
 near_packets [] (g ∷ got) = false
@@ -48,25 +44,20 @@ packets_tested [] got e = grind (arith, nat_tests)
 packets_tested (s ∷ sent) got e =
     grind (arith, nat_tests, and_parts, bytes_tested, packets_tested sent)
 
--- ---- a receiver that keeps the cells of even bytes
-
--- The page with these codes in its cells.
 abbrev pub page_of_cells : (ℕ → ℕ → ℕ) → Rows
 page_of_cells code =
     map (λ row. map (λ column. code row column) (range_with_len 0 40)) (range_with_len 1 24)
 
--- The code of a cell after row y was stored.
 abbrev pub code_stored : List ℕ → ℕ → Rows → ℕ → ℕ → ℕ
 code_stored packet y page row column =
     if row == y
     then code_after KeepsCell (text_byte packet column) (cell page row column)
     else cell page row column
 
--- The page after row y was stored.
 abbrev pub row_stored : List ℕ → ℕ → Rows → Rows
 row_stored packet y page = page_of_cells (code_stored packet y page)
 
--- The state after a packet of each kind.
+-- The state of the computed receiver after a packet of each kind.
 abbrev pub state_at : PacketKind → List ℕ → State → State
 state_at (ThisPage h) packet old =
     record { heard = true; is_open = true; page = if c4 h then blank else old.page }
@@ -75,7 +66,6 @@ state_at (Row y) packet old =
     if old.is_open then record old { page = row_stored packet y old.page } else old
 state_at Other packet old = old
 
--- The state after a list of packets.
 abbrev pub state_after : PageIdValue → State → List (List ℕ) → State
 state_after w old [] = old
 state_after w old (packet ∷ packets) =
@@ -91,13 +81,13 @@ cell-page_of_cells code row column named =
     ∙ get_or-map-range_with_len (λ column. code row column) 0 40 column column 0 named.2
     (omega arith)
 
--- Storing a row agrees with the relation.
+-- Storing a row as computed agrees with the relation `StoresRow`.
 row_is_stored :
     (packet : List ℕ) (y : ℕ) (page : Rows) → StoresRow packet y page (row_stored packet y page)
 row_is_stored packet y page row column named =
     grind (arith, nat_tests, cell-page_of_cells (code_stored packet y page) row column named)
 
--- Each step agrees with the relation.
+-- Each step of the computed receiver is a step of the receiver relation.
 stepped : (k : PacketKind) (packet : List ℕ) (old : State)
     → StepAt k packet old (state_at k packet old)
 stepped (ThisPage h) packet old = refl

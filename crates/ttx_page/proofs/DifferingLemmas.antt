@@ -1,4 +1,5 @@
--- The number of differing cells: `rows-set`, how replacing a row changes it, and `cells_same`.
+-- The number of differing cells of two pages: `rows-set` states how replacing a row changes it; if
+-- it is 0, the pages are equal, `cells_same`.
 use Rattle.std.proofs.Common.{◌≡◌, ℕ, zero, suc, ◌+◌, ◌*◌, ◌<◌, ◌≤◌, cond, ◌==◌, List, [], length}
 use Rattle.std.proofs.Common.{get_or, set, refl, arith, get_or-set_same, get_or-set_other, add-one}
 use Rattle.std.proofs.lemmas.Bool.Decides.{nat_tests}
@@ -6,45 +7,38 @@ use Rattle.ttx_page.specs.Differing.{columns_differing, row_differing, rows_diff
 use Rattle.std.proofs.lemmas.List.{get_or-replicate}
 use Rattle.ttx_page.specs.Page.{blank, blank_row, cell, IsCell}
 
--- At most as many columns differ as are counted.
 pub columns_le : (n : ℕ) (xs ys : List ℕ) → columns_differing n xs ys ≤ n
 unfolding columns_differing
 columns_le zero xs ys = omega arith
 columns_le (suc n) xs ys = let before = columns_le n xs ys in grind (arith, nat_tests)
 
--- The start of the loop of `differing_columns`.
 pub columns_none : (xs ys : List ℕ) → columns_differing 0 xs ys ≡ 0
 unfolding columns_differing
 columns_none xs ys = refl
 
--- One more column.
 pub columns_more : (n : ℕ) (xs ys : List ℕ)
     → columns_differing (n + 1) xs ys
     ≡ columns_differing n xs ys + cond (get_or xs n 0 == get_or ys n 0) 0 1
 unfolding columns_differing
 columns_more n xs ys = rw add-one refl
 
--- No column of equal rows differs. For `cells_not_blank`, which skips blank rows.
 pub columns_same : (n : ℕ) (xs ys : List ℕ) → xs ≡ ys → columns_differing n xs ys ≡ 0
 unfolding columns_differing
 columns_same zero xs ys e = refl
 columns_same (suc n) xs ys e =
     let before = columns_same n xs ys e in grind (arith, nat_tests)
 
--- One more row, compared with the blank page. For `cells_not_blank`.
 pub blank-more : (n : ℕ) (ys : List (List ℕ)) → n < 24
     → rows_differing (n + 1) blank ys
     ≡ rows_differing n blank ys + row_differing blank_row (get_or ys n [])
 unfolding rows_differing blank
 blank-more n ys l = rw (add-one, get_or-replicate 24 n blank_row [] l) refl
 
--- At most 40 cells of each row differ.
 pub rows_le : (n : ℕ) (xs ys : List (List ℕ)) → rows_differing n xs ys ≤ 40 * n
 unfolding rows_differing
 rows_le zero xs ys = omega arith
 rows_le (suc n) xs ys = grind (arith, nat_tests, columns_le, rows_le n xs ys)
 
--- Replacing a row that is not counted does not change the count.
 rows-set_above : (n : ℕ) (xs ys : List (List ℕ)) (i : ℕ) (row : List ℕ)
     → n ≤ i
     → rows_differing n (set xs i row) ys ≡ rows_differing n xs ys
@@ -53,8 +47,8 @@ rows-set_above zero xs ys i row h = refl
 rows-set_above (suc n) xs ys i row h =
     grind (arith, nat_tests, get_or-set_other, rows-set_above n xs ys i row)
 
--- Replacing a row changes the count by the change of that row's count. For a checker that stores
--- rows.
+-- Replacing a row of a page changes the number of differing cells by the change of that row's
+-- number.
 pub rows-set : (n : ℕ) (xs ys : List (List ℕ)) (i : ℕ) (row : List ℕ)
     → i < n
     → i < length xs
@@ -69,7 +63,6 @@ rows-set (suc n) xs ys i row h l =
     let other = get_or-set_other xs i n row [] in
     grind arith
 
--- The count of a row is at most that of the page.
 pub row_le : (n : ℕ) (xs ys : List (List ℕ)) (i : ℕ)
     → i < n
     → row_differing (get_or xs i []) (get_or ys i []) ≤ rows_differing n xs ys
@@ -77,7 +70,6 @@ unfolding rows_differing
 row_le zero xs ys i h = absurd (omega arith)
 row_le (suc n) xs ys i h = let before = row_le n xs ys i in grind arith
 
--- If the count is 0, the codes are equal.
 pub columns_zero : (n : ℕ) (xs ys : List ℕ)
     → columns_differing n xs ys ≡ 0
     → (k : ℕ)
@@ -87,7 +79,6 @@ unfolding columns_differing
 columns_zero zero xs ys e k l = absurd (omega arith)
 columns_zero (suc n) xs ys e k l = grind (arith, nat_tests, columns_zero n xs ys)
 
--- If no cell differs, the cells of both pages are equal.
 pub cells_same : (xs ys : List (List ℕ))
     → differing xs ys ≡ 0
     → (row column : ℕ)

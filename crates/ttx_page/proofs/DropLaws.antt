@@ -1,4 +1,5 @@
--- A receiver that drops rows receives the other packets: `law_of_dropping`.
+-- A receiver that drops rows has the state of a receiver that receives only the other packets:
+-- `law_of_dropping`.
 use Rattle.std.proofs.Common.{◌≡◌, ◌↔◌, ℕ, Bool, true, false, not, List, [], ◌∷◌, filter, inl, inr}
 use Rattle.std.proofs.Common.{refl, arith}
 use Rattle.std.proofs.lemmas.Bool.{cases_Bool}
@@ -9,7 +10,8 @@ use Rattle.ttx_page.specs.Receiver.{RunsBy, Step, StepBy, is_dropped}
 use Rattle.ttx_page.specs.Receiver.ReceiverClass.{Dropping}
 use Rattle.ttx_page.specs.Screen.{Display, ShowsAt}
 
--- A run of steps that ignore dropped packets is a run of other steps without these packets.
+-- If the steps at dropped packets change nothing, a run over all packets is a run over the packets
+-- that are not dropped.
 module _
     {S : Type 0} (StepsBy PassesBy : S → List ℕ → S → Type 0) (dropped : List ℕ → Bool)
     (over : (old : S) (packet : List ℕ) (new : S)
@@ -40,7 +42,6 @@ module _
           )
     ]
 
--- A dropped row changes neither the page nor the screen.
 shows_over : (w : PageIdValue) (old : Display) (packet : List ℕ) (new : Display)
     → is_dropped w packet ≡ true
     → StepBy Dropping w old.held packet new.held × ShowsAt w old packet new ↔ (new ≡ old)

@@ -1,5 +1,6 @@
--- Receivers that keep their page, without wrong bits: each cell has the code of `kept`,
--- `law_of_kept`; if repeats must not keep, the code that is shown: `law_of_fault_free`.
+-- Without wrong bits, each cell of a receiver that keeps its page has the code of `kept`,
+-- `law_of_kept`; if repeats must not keep earlier text, the code that is shown:
+-- `law_of_fault_free`.
 use Rattle.std.proofs.Common.{◌≡◌, ℕ, ◌⊎◌, inl, inr, Bool, true, false, not, ◌&&◌, ◌||◌, cond, List}
 use Rattle.std.proofs.Common.{[], ◌∷◌, ◌++◌, Option, Contains, option_map}
 use Rattle.std.proofs.Common.{unwrap_or, IsFalse, refl, sym, ap, ◌∙◌, subst, arith}
@@ -53,10 +54,8 @@ at_packet : (keeps : Bool) (w : PageIdValue) (row column : ℕ) (packet : List �
 at_packet keeps w row column packet old new named erases step =
     let blanks = cell-blank row column named in grind (arith, nat_tests)
 
--- ---- a run
-
 module _ (keeps : Bool) (w : PageIdValue) (row column code : ℕ) where
-  -- Each packet of the row in the long span is odd, and has the code at the column.
+  -- Each packet of the row in the long span has odd parity, and the code at the column.
   abbrev AreTargets : List (List ℕ) → Type 0
   AreTargets packets =
       (packet : List ℕ)
@@ -64,34 +63,31 @@ module _ (keeps : Bool) (w : PageIdValue) (row column code : ℕ) where
       → kind w packet ≡ Row row
       → HasOddText packet × (code_of (text_byte packet column) ≡ code)
 
-  -- A new text started with these packets, or the cell was a space and the page not open.
+  -- Either the packets started a new text, or the cell was a space and the page was not open.
   abbrev IsFreshCell : State → List (List ℕ) → Type 0
   IsFreshCell start packets =
       (holds_beginning keeps (kind w) packets ≡ true)
       ⊎ ((start.is_open ≡ false) × (cell start.page row column ≡ space))
 
-  -- The packet is of the row.
   abbrev test : List ℕ → Bool
   test p = is_row row (kind w p)
 
-  -- The state of a receiver after these packets.
+  -- The state of a receiver that keeps its page after these packets.
   record Holds (start : State) (packets : List (List ℕ)) (now : State) : Type 0 where
     is_open : (holds_header (kind w) packets || not start.is_open) ≡ true
         → now.is_open ≡ is_open_after (kind w) packets
-    -- The cell has the code, or a space if the long span has no packet of the row.
+    -- The cell has the code, or it is a space and the long span has no packet of the row.
     cell_is : IsFreshCell start packets
         → AreTargets packets
         → (cell now.page row column ≡ code)
         ⊎ ((cell now.page row column ≡ space)
         × (list_any test (text_span keeps (kind w) packets) ≡ false))
 
-  -- One more packet.
   module _ (start : State) (packets : List (List ℕ)) (packet : List ℕ) (old new : State)
       (at : AtPacket keeps w row column packet old new) (was : Holds start packets old) where
     abbrev spanned : List (List ℕ)
     spanned = text_span keeps (kind w) packets
 
-    -- How the long span changes, unless a new text starts here.
     pushed : (P : List (List ℕ) → Type 0)
         → begins_text keeps (kind w packet) ≡ false
         → (is_open_after (kind w) packets ≡ true → P (spanned ++ packet ∷ []))
@@ -126,7 +122,6 @@ module _ (keeps : Bool) (w : PageIdValue) (row column code : ℕ) where
     fresh_before no_begin fresh =
         let more = beginning-push (kind w) keeps packets packet in grind (arith, nat_tests)
 
-    -- The receiver's page is open exactly if it is after the packets.
     opened : IsFreshCell start packets → old.is_open ≡ is_open_after (kind w) packets
     opened fresh =
         let is = was.is_open in
@@ -144,7 +139,6 @@ module _ (keeps : Bool) (w : PageIdValue) (row column code : ℕ) where
         list_any-append test spanned (packet ∷ []) ∙ rw (none, other) refl)
         none
 
-    -- The packet is in the long span, if the page is open and it is a packet of the row.
     among : kind w packet ≡ Row row
         → is_open_after (kind w) packets ≡ true
         → Contains (text_span keeps (kind w) (packets ++ packet ∷ [])) packet
@@ -153,7 +147,6 @@ module _ (keeps : Bool) (w : PageIdValue) (row column code : ℕ) where
         let last = Contains-push spanned packet in
         rw (in_text, is, up) last
 
-    -- The cell, at a packet that starts no new text.
     cell_goes_on : begins_text keeps (kind w packet) ≡ false
         → IsFreshCell start (packets ++ packet ∷ [])
         → AreTargets (packets ++ packet ∷ [])
@@ -194,7 +187,7 @@ module _ (keeps : Bool) (w : PageIdValue) (row column code : ℕ) where
           ];
         }
 
-  -- By induction from the front, after any packets.
+  -- The state after a run, by induction over the packets that are still to be received.
   run : (start : State) (packets sent : List (List ℕ)) (old new : State)
       → IsCell row column
       → AllByRecursion (λ packet. IsFalse keeps → ErasesPage w packet) sent
@@ -214,9 +207,6 @@ module _ (keeps : Bool) (w : PageIdValue) (row column code : ℕ) where
     cell_is = λ fresh targets. grind (arith, nat_tests);
   }
 
--- ---- the laws
-
--- Without wrong bits a receiver that keeps its page has the codes of `kept`.
 pub law_of_kept : LawOfKept
 law_of_kept keeps w sent old new sends hears fresh row column named =
     elim (end.cell_is fresh_cell targets) [
@@ -252,7 +242,6 @@ law_of_kept keeps w sent old new sends hears fresh row column named =
           named.2,
     )
 
--- If repeats must not keep, it has the codes that are shown.
 pub law_of_fault_free : LawOfFaultFree
 law_of_fault_free w sent old new sound unheard shut hears heard row column named =
     let ends =

@@ -1,5 +1,6 @@
--- Comparing rows in blocks: mask_compared, mask_of_block, column_of_test; and counting differing
--- cells of a block: ones_compared, columns_in_chunk.
+-- Comparing rows in blocks gives the first differing column: mask_compared, mask_of_block,
+-- column_of_test; counting the ones of the mask gives the number of differing cells: ones_compared,
+-- columns_in_chunk.
 use Rattle.std.proofs.Common.{◌≡◌, ◌≢◌, ℕ, zero, suc, ◌+◌, ◌-◌, ◌^◌, ◌%◌, ◌<◌, ◌≤◌, cond, false}
 use Rattle.std.proofs.Common.{List, map, length, get_or, take, take_all, sym, ap, ap₂, ◌∙◌, arith}
 use Rattle.std.proofs.Common.{add-one, w8}
@@ -16,7 +17,6 @@ use Rattle.ttx_page.specs.Lanes.{differ, differing_mask}
 use Rattle.ttx_page.specs.Differing.{columns_differing}
 use Rattle.ttx_page.proofs.DifferingLemmas.{columns_none, columns_more}
 
--- The mask computed by comparing the lanes. For `differing`.
 pub mask_compared : (a b : List ℕ) (n : ℕ)
     → length a ≡ n
     → length b ≡ n
@@ -27,7 +27,6 @@ mask_compared a b n p q l =
     let size : length (zip2 differ a b) ≤ 64 = grind (arith, nat_tests, length-zip2) in
     ap (λ m. mask_l m % 2 ^ 64) (tops_compared w8 differ a b) ∙ mask_l-mod _ 64 size
 
--- As many of the first k tests are true as there are differing cells.
 tests_counted : (a b : List ℕ) (k : ℕ)
     → k ≤ length a
     → length a ≡ length b
@@ -41,7 +40,6 @@ tests_counted a b (suc k) l e =
     let more = columns_more k a b in
     rw (← add-one) (grind (arith, nat_tests))
 
--- The mask has as many ones as there are differing cells. For `differing_of_16`.
 pub ones_compared : (a b : List ℕ) (n : ℕ)
     → length a ≡ n
     → length b ≡ n
@@ -57,8 +55,8 @@ ones_compared a b n p q l =
     ∙ ap (count_by (λ x. x)) (sym (take_all n ms (omega (arith, size))))
     ∙ tests_counted a b n (omega (arith, p)) (p ∙ sym q)
 
--- The differing columns of two rows are those up to a place plus those in the block from there. For
--- `differing_columns`.
+-- The number of differing columns up to a place inside a block is the number before the block plus
+-- the number in the first part of the block.
 pub columns_in_chunk : (xs ys : List ℕ) (a n k : ℕ)
     → k ≤ n
     → columns_differing (a + k) xs ys
@@ -74,7 +72,6 @@ columns_in_chunk xs ys a n (suc k) l =
     let next : a + suc k ≡ a + k + 1 = omega arith in
     rw (next, ← add-one) (grind (arith, nat_tests))
 
--- The tests of two blocks are those of the rows at this place.
 tests_of_block : (xs ys : List ℕ) (a : ℕ)
     → length xs ≡ length ys
     → a + 16 ≤ length xs
@@ -95,7 +92,6 @@ tests_of_block xs ys a same room =
     (get_or-chunk a 16 (zip2 differ xs ys) k false (omega (arith, size))
     ∙ get_or-zip2 differ xs ys (a + k) 0 0 false (omega (arith, size)) (omega (arith, size))))
 
--- So the mask of two blocks is that of these tests. For `first_column`.
 pub mask_of_block : (xs ys : List ℕ) (a : ℕ)
     → length xs ≡ length ys
     → a + 16 ≤ length xs
@@ -103,7 +99,7 @@ pub mask_of_block : (xs ys : List ℕ) (a : ℕ)
     ≡ mask_l (map (λ x. x) (chunk a 16 (zip2 differ xs ys)))
 mask_of_block xs ys a same room = ap mask_l (tests_of_block xs ys a same room ∙ sym (map-id _))
 
--- The first true test is the first column in which two rows differ.
+-- If a test for a column is the first true test, the column is the first in which the rows differ.
 pub column_of_test : (xs ys : List ℕ) (column : ℕ)
     → length xs ≡ 40
     → length ys ≡ 40
@@ -116,7 +112,6 @@ column_of_test xs ys column long long-2 within first =
     let test = λ (k : ℕ). get_or-zip2 differ xs ys k 0 0 false in
     grind (arith, nat_tests, get_or-zip2)
 
--- If no test is true, the rows are equal.
 pub rows_of_tests : (xs ys : List ℕ)
     → length xs ≡ length ys
     → ((k : ℕ) → k < length xs → get_or (zip2 differ xs ys) k false ≡ false)

@@ -1,5 +1,5 @@
--- A receiver that starts late: packets before a header of the page do not matter, `sends-later` and
--- `shown-later`.
+-- A receiver that starts late: packets before a header of the page have no effect, `sends-later`
+-- and `shown-later`.
 use Rattle.std.proofs.Common.{◌≡◌, ℕ, Bool, true, List, [], ◌∷◌, ◌++◌}
 use Rattle.std.proofs.Common.{unwrap_or, All, subst, arith}
 use Rattle.std.proofs.lemmas.Bool.Decides.{nat_tests}
@@ -14,21 +14,19 @@ use Rattle.ttx_page.specs.Span.{holds_header, is_open_after, is_unended, span, t
 use Rattle.ttx_page.proofs.SpanLists.{after-append, holds-append_right}
 use Rattle.ttx_page.proofs.TextSpan.{text_span-later}
 
--- A property of all elements of two joined lists holds for the second.
 All-later : {A : Type 0} (P : A → Type 0) (xs ys : List A)
     → All P (xs ++ ys)
     → All P ys
 All-later P [] ys all = all
 All-later P (x ∷ xs) ys all = All-later P xs ys (All-tail P x (xs ++ ys) all)
 
--- Equal packets have the same codes.
 pub codes_of_same : (w : PageIdValue) (packets : List (List ℕ))
     → All (λ first. All (IsSameRow w first) packets) packets
     → All (λ first. All (HasSameCodes w first) packets) packets
 codes_of_same w packets same i d l j e m row column one two below = grind (arith, nat_tests)
 
 module _ (w : PageIdValue) (before heard : List (List ℕ)) where
-  -- If all packets send a text, so do those that were received.
+  -- If all packets of a list send a text, so do the later packets that were received.
   pub sends-later : (keeps : Bool) (text : ℕ → ℕ → ℕ)
       → SendsText keeps w (before ++ heard) text
       → SendsText keeps w heard text
@@ -45,25 +43,24 @@ module _ (w : PageIdValue) (before heard : List (List ℕ)) where
         codes = of_text (HasCodes w text) sends.codes;
       }
 
-  -- If the packets received contain a header of the page, their span is that of all packets.
   pub span-later : holds_header (kind w) heard ≡ true
       → span (kind w) (before ++ heard) ≡ span (kind w) heard
   span-later holds = grind (arith, nat_tests, after-append)
 
-  -- If the packets received contain a header of the page, they show the same as all packets.
+  -- If the packets received contain a header of the page, they show the same codes as all packets.
   pub shown-later : holds_header (kind w) heard ≡ true
       → (row column : ℕ)
       → shown w (before ++ heard) row column ≡ shown w heard row column
   shown-later holds row column = grind (arith, nat_tests, unwrap_or, after-append)
 
-  -- If the packets received contain a header of the page, their span is ended exactly if that of
-  -- all packets is.
+  -- If the packets received contain a header of the page, their span is ended exactly if the span
+  -- of all packets is.
   pub unended-later : holds_header (kind w) heard ≡ true
       → is_unended (kind w) (before ++ heard) ≡ is_unended (kind w) heard
   unended-later holds = grind (arith, nat_tests, after-append)
 
-  -- If the page is open after the packets received, it is open after all packets, and the spans are
-  -- the same.
+  -- If the page is open after the packets received, it is open after all packets, and both lists
+  -- have the same span.
   pub open-later : is_open_after (kind w) heard ≡ true
       → (is_open_after (kind w) (before ++ heard) ≡ true)
       × (span (kind w) (before ++ heard) ≡ span (kind w) heard)

@@ -4,7 +4,8 @@ use Rattle.ttx_page.specs.declared.memory.EvenByte.{EvenByte}
 use Rattle.ttx_page.specs.Page.{AreCodes}
 use Rattle.ttx_page.specs.Memory.{code_after}
 
--- Columns to the left of `column` are stored, the others are not yet. For the loop of `stored`.
+-- While a row is stored, the columns to the left of `column` have their new codes, and the others
+-- still have their old codes.
 pub record IsStoredTo (even : EvenByte) (packet was : List ℕ) (column : ℕ) (codes : List ℕ)
     : Type 0 where
   pub size : length codes ≡ 40

@@ -1,5 +1,5 @@
--- The laws of noise and of lost rows: the law of repeats without keeping, `cell_shown`, gives
--- `law_of_recovery` and `law_of_lost_rows`; the others follow.
+-- The laws of noise and of lost rows follow from the law of repeats without keeping: `cell_shown`
+-- gives `law_of_recovery` and `law_of_lost_rows`, and from these the others follow.
 use Rattle.std.proofs.Common.{rules, ◌≡◌, ℕ, ◌<◌, ◌⊎◌, inl, inr, Bool, true, false}
 use Rattle.std.proofs.Common.{List, [], ◌∷◌, map, zip, find, Option, Some, None, option_map}
 use Rattle.std.proofs.Common.{All, unwrap_or, Contains, IsTrue, refl, ◌∙◌, arith}
@@ -31,8 +31,7 @@ use Rattle.ttx_page.proofs.NoiseSteps.{kind_of_item, row_from_test}
 use Rattle.ttx_page.proofs.RepeatLaws.{law_of_forgetting, law_of_repeats}
 use Rattle.ttx_page.proofs.TextSpan.{beginning-none_keeps, text_span-none_keeps}
 
--- If packets of the same row have the same codes, each has the code of the first of its row. For a
--- checker's laws.
+-- If all packets of a row have the same codes, each has the codes of the first packet of the row.
 pub first_code : (w : PageIdValue) (spanned : List (List ℕ)) (row column : ℕ) (packet : List ℕ)
     → All (λ first. All (HasSameCodes w first) spanned) spanned
     → Contains spanned packet
@@ -56,7 +55,7 @@ first_code w spanned row column packet same within is below = go (find test span
         grind (arith, nat_tests, none_pass, test, list_any_at)
     go (Some first) e = search (rules, find_is, test, All-contains, row_from_test)
 
--- Each packet of a row in the span has the code that is shown. Also for `LateStart`.
+-- Each packet of a row in the span has the codes that are shown.
 pub shown_is : (w : PageIdValue) (sent : List (List ℕ)) (row column : ℕ) (packet : List ℕ)
     → IsSound w sent
     → Contains (span (kind w) sent) packet
@@ -66,9 +65,7 @@ pub shown_is : (w : PageIdValue) (sent : List (List ℕ)) (row column : ℕ) (pa
 shown_is w sent row column packet sound within is below =
     first_code w (span (kind w) sent) row column packet sound.same within is below
 
--- ---- the laws
-
--- Sound packets send the text that they show, if repeats must not keep. For a checker's laws.
+-- Sound packets send the text that they show, if repeats must not keep earlier text.
 pub sends_shown : (w : PageIdValue) (sent : List (List ℕ))
     → IsSound w sent
     → SendsText false w sent (shown w sent)
@@ -88,17 +85,15 @@ module _ (class : ReceiverClass) (w : PageIdValue) (sent : List (List ℕ)) (arr
     (may : AllZip LosesNoHeader sent arrived)
     (near : AllZip AreNear (items_where_true arrived sent) got)
     (hears : HearsBy class w old got new) where
-  -- What excuses a space.
   abbrev Excused : ℕ → ℕ → Type 0
   Excused = ExcusedBy class (IsHitOrLost w sent (arrivals_of arrived got))
 
-  -- The final state of a receiver.
   ends_as : EndsForgetting false false w sent (shown w sent) Excused old new
   ends_as =
       law_of_repeats false false class w sent arrived got (shown w sent) old new
       (sends_shown w sent sound) may near (law_of_forgetting class w got old new hears)
 
-  -- Each cell, after a header of the page.
+  -- After a header of the page, each cell has the code that is shown, or an excused space.
   cell_shown : holds_header (kind w) sent ≡ true
       → (row column : ℕ)
       → IsCell row column
@@ -134,9 +129,6 @@ law_of_lost_rows class w sent arrived got old new sound may near unheard shut he
           (rw heard_only at now);
     }
 
--- ---- without loss
-
--- If all packets arrive, all are kept.
 items-all_true : (sent : List (List ℕ)) (arrived : List Bool)
     → AllByRecursion IsTrue arrived
     → AllZip LosesNoHeader sent arrived
@@ -145,7 +137,6 @@ items-all_true [] [] all may = refl
 items-all_true [] (m ∷ arrived) all may = elim may [ ]
 items-all_true (p ∷ sent) arrived all may = grind (arith, nat_tests, items-all_true sent)
 
--- If all packets arrive, nothing that was received is missing.
 arrivals_of-all_true : (sent got : List (List ℕ)) (arrived : List Bool)
     → AllByRecursion IsTrue arrived
     → AllZip LosesNoHeader sent arrived
@@ -157,14 +148,14 @@ arrivals_of-all_true [] [] (m ∷ arrived) all may near = elim may [ ]
 arrivals_of-all_true (p ∷ sent) got arrived all may near =
     grind (arith, nat_tests, arrivals_of-all_true sent)
 
--- The span of the items if all packets arrive: that of the pairs.
 span-zip_map_Some : (w : PageIdValue) (sent got : List (List ℕ))
     → span (kind_of_item w) (zip sent (map Some got))
     ≡ map (λ pair. (pair.0, Some pair.1))
     (span (λ (pair : List ℕ × List ℕ). kind w pair.0) (zip sent got))
 span-zip_map_Some w sent got = grind (arith, nat_tests, kind_of_item, zip-map, span-map)
 
--- If nothing is lost, the law of lost rows is the law of noise.
+-- If no packet is lost, the packets received and the cells hit in the law of lost rows are those of
+-- the law of noise.
 pub law_of_nothing_lost : LawOfNothingLost
 law_of_nothing_lost w sent arrived all may = record {
   kept = items-all_true sent arrived (recursion_from_All IsTrue arrived all) may;
@@ -175,16 +166,13 @@ law_of_nothing_lost w sent arrived all may = record {
       );
 }
 
--- A list of flags by which each packet arrived.
 abbrev pub all_kept : List (List ℕ) → List Bool
 all_kept sent = map (λ p. true) sent
 
--- All these flags are true.
 pub all_true : (sent : List (List ℕ)) → All IsTrue (all_kept sent)
 all_true [] = All-nil _
 all_true (p ∷ sent) = All-cons IsTrue true (all_kept sent) refl (all_true sent)
 
--- They lose no page header.
 pub may_all : (sent : List (List ℕ)) → AllZip LosesNoHeader sent (all_kept sent)
 may_all [] = tt
 may_all (p ∷ sent) = (λ h a is. let e : true ≡ false = h in absurd (cc), may_all sent)
@@ -205,14 +193,10 @@ law_of_noise w sent got old new sound near unheard shut hears =
       ];
     }
 
--- ---- without wrong bits: for `FaultFreeLaws`
-
--- A packet is near itself.
 AreNear-itself : (packet : List ℕ) → AreNear packet packet
 AreNear-itself [] = tt
 AreNear-itself (b ∷ bs) = (inl refl, AreNear-itself bs)
 
--- Packets are near themselves.
 pub AreNear-themselves : (packets : List (List ℕ)) → AllZip AreNear packets packets
 AreNear-themselves [] = tt
 AreNear-themselves (p ∷ ps) = (AreNear-itself p, AreNear-themselves ps)

@@ -1,5 +1,5 @@
--- The state of a receiver after packets with wrong bits or losses: for one packet, `at_lost` and
--- `at_got`, and for a run over many, `over`.
+-- The state of a receiver after packets with wrong bits or losses: after one packet, `at_lost` and
+-- `at_got`, and after a run over many packets, `over`.
 use Rattle.std.proofs.Common.{◌≡◌, ℕ, ◌<◌, ◌⊎◌, inl, inr, true, false, not, ◌&&◌, ◌||◌, List}
 use Rattle.std.proofs.Common.{[], ◌∷◌, ◌++◌, zip, Option, Some, None, Bool, is_some, Contains, refl}
 use Rattle.std.proofs.Common.{IsFalse, ap, arith, cond, subst, sym, ◌∙◌}
@@ -32,26 +32,24 @@ use Rattle.ttx_page.proofs.SpanPush.{holds-push, span-push, open-this, open-othe
 use Rattle.ttx_page.proofs.TextSpan.{begins_is_header, beginning_is_header, beginning-push}
 use Rattle.ttx_page.proofs.TextSpan.{text_span-push}
 
--- A packet that passes the test for a row is of that row. For the rules of a checker.
 pub row_from_test : (row : ℕ) (k : PacketKind) → is_row row k ≡ true → k ≡ Row row
 row_from_test row k passes = grind (arith, nat_tests)
 
--- A packet that is sent, and the bytes received (`None` if it was lost).
 abbrev pub Item : Type 0
 Item = List ℕ × Option (List ℕ)
 
--- The kind of an item is that of the packet sent.
 abbrev pub kind_of_item : PageIdValue → Item → PacketKind
 kind_of_item w item = kind w item.0
 
--- A packet that may be lost is no page header.
+-- A packet that may be lost is no page header, so its loss neither opens nor ends the page.
 pub lost_is_no_header : (w : PageIdValue) (packet : List ℕ)
     → MayBeLost packet
     → (is_this_page (kind w packet) ≡ false) × (ends_page (kind w packet) ≡ false)
 unfolding kind
 lost_is_no_header w packet may = grind (arith, nat_tests)
 
--- One wrong bit in each byte does not change the kind of a packet of code words.
+-- One wrong bit in each byte does not change the kind of a packet whose address and header are code
+-- words.
 pub kind-near : (w : PageIdValue) (sent got : List ℕ)
     → HasExactWords sent
     → AreNear sent got
@@ -59,16 +57,12 @@ pub kind-near : (w : PageIdValue) (sent got : List ℕ)
 unfolding kind
 kind-near w sent got exact near = grind (arith, nat_tests, address-near, header-near)
 
--- ---- what excuses a space
-
--- A hit in a cell excuses a space in it.
 excused_here : (class : ReceiverClass) (P : ℕ → ℕ → Type 0) (row column : ℕ)
     → column < 40
     → P row column
     → ExcusedBy class P row column
 excused_here class P row column below here = grind (arith, nat_tests)
 
--- An excuse can be weakened cell by cell. Also for `NoiseLaws`.
 pub excused_as : (class : ReceiverClass) (P Q : ℕ → ℕ → Type 0) (row column : ℕ)
     → ((other : ℕ) → P row other → Q row other)
     → ExcusedBy class P row column
@@ -76,11 +70,10 @@ pub excused_as : (class : ReceiverClass) (P Q : ℕ → ℕ → Type 0) (row col
 excused_as Storing P Q row column gives excused = gives column excused
 excused_as Dropping P Q row column gives excused = grind (arith, nat_tests)
 
--- The byte of a cell is lost, given what was received.
 abbrev pub Loses : List ℕ → Option (List ℕ) → ℕ → ℕ → Type 0
 Loses sent arrival row column = LosesByte sent arrival column
 
--- A dropped row has an even byte.
+-- A dropped row has a byte of even parity.
 even_byte_of : (packet : List ℕ)
     → is_some (first_even_byte packet) ≡ true
     → (column : ℕ) × (column < 40) × (is_odd (text_byte packet column) ≡ false)
@@ -96,17 +89,15 @@ even_byte_of packet some = go (first_even_byte packet) refl some
         let found = first_below_is 40 (λ column. not (is_odd (text_byte packet column))) column e in
         (column, found.0, grind (arith, nat_tests))
 
--- A dropped row that was sent with odd parity has lost a byte.
+-- If a row was sent with odd parity and is dropped, one of its bytes was hit.
 dropped_loses : (w : PageIdValue) (sent got : List ℕ) (row column : ℕ)
     → HasOddText sent
     → is_dropped w got ≡ true
     → ExcusedBy Dropping (Loses sent (Some got)) row column
 dropped_loses w sent got row column odd drop = grind (arith, nat_tests, even_byte_of)
 
--- ---- one step
-
--- A cell takes the code that was sent; or the packet loses its byte, and the cell keeps its code or
--- becomes a space.
+-- A cell takes the code that was sent; or the packet loses the cell's byte, and the cell keeps its
+-- code or becomes a space.
 abbrev TakesCode :
     ReceiverClass → ℕ → ℕ → List ℕ → Option (List ℕ) → State → State → Type 0
 TakesCode class row column sent arrival old new =
@@ -115,7 +106,7 @@ TakesCode class row column sent arrival old new =
     × ((cell new.page row column ≡ cell old.page row column)
     ⊎ (cell new.page row column ≡ space)))
 
--- How an item changes a receiver, and one cell of its page.
+-- How a received or lost packet changes the receiver and one cell of its page.
 record AtItem
     (keeps anew : Bool) (class : ReceiverClass) (w : PageIdValue) (row column : ℕ) (sent : List ℕ)
     (arrival : Option (List ℕ)) (old new : State)
@@ -123,32 +114,30 @@ record AtItem
   heard : new.heard ≡ (is_this_page (kind w sent) || old.heard)
   is_open : new.is_open
       ≡ (is_this_page (kind w sent) || (old.is_open && not (ends_page (kind w sent))))
-  -- A header that starts a new text blanks the cell. So does each header in a receiver that starts
-  -- from a blank page.
+  -- A header that starts a new text blanks the cell. In a receiver that starts from a blank page,
+  -- each header of the page does.
   erased : (begins_text keeps (kind w sent) || (anew && is_this_page (kind w sent))) ≡ true
       → cell new.page row column ≡ space
-  -- At another header the cell keeps its code or becomes a space.
+  -- At a header of the page that does not start a new text, the cell keeps its code or becomes a
+  -- space.
   repeated : is_this_page (kind w sent) ≡ true
       → (cell new.page row column ≡ cell old.page row column)
       ⊎ (cell new.page row column ≡ space)
-  -- Other packets than headers of the page, and packets of its row while the page is open, do not
-  -- change the cell.
+  -- The cell changes only at headers of the page, and at packets of its row while the page is open.
   stays : is_this_page (kind w sent) ≡ false
       → (old.is_open && is_row row (kind w sent)) ≡ false
       → cell new.page row column ≡ cell old.page row column
-  -- A packet of its row while the page is open stores the code that was sent.
+  -- A packet of the cell's row while the page is open stores the code that was sent.
   stores : kind w sent ≡ Row row
       → old.is_open ≡ true
       → HasOddText sent
       → TakesCode class row column sent arrival old new
 
--- Each cell of the blank page is a space.
 pub cell-blank : (row column : ℕ) → IsCell row column → cell blank row column ≡ space
 unfolding blank blank_row
 cell-blank row column named =
     grind (arith, nat_tests, get_or-replicate, get_or-replicate 40 column space 0 named.2)
 
--- `AtItem` holds for a packet that is received and not dropped.
 at_step : (keeps anew : Bool) (w : PageIdValue) (row column : ℕ) (sent got : List ℕ)
     (old new : State)
     → IsCell row column
@@ -162,7 +151,6 @@ at_step keeps anew w row column sent got old new named exact erases near step be
     let blanks = cell-blank row column named in
     grind (arith, nat_tests, kind-near, near_at, even_from_changed)
 
--- `AtItem` holds for a packet that is lost.
 at_lost : (keeps anew : Bool) (class : ReceiverClass) (w : PageIdValue) (row column : ℕ)
     (sent : List ℕ) (old : State)
     → IsCell row column
@@ -173,7 +161,6 @@ at_lost keeps anew class w row column sent old named may =
     let header = begins_is_header keeps (kind w sent) in
     grind (arith, nat_tests, excused_here)
 
--- `AtItem` holds for a packet that is received.
 at_got : (keeps anew : Bool) (class : ReceiverClass) (w : PageIdValue) (row column : ℕ)
     (sent got : List ℕ) (old new : State)
     → IsCell row column
@@ -207,19 +194,17 @@ at_got keeps anew Dropping w row column sent got old new named exact erases near
           }
     ]
 
--- ---- a run
-
--- Both tests of a conjunction pass.
 pub both_left : (x y : Bool) → (x && y) ≡ true → x ≡ true
 both_left x y e = grind (arith, nat_tests)
 
 pub both_right : (x y : Bool) → (x && y) ≡ true → y ≡ true
 both_right x y e = grind (arith, nat_tests)
 
--- One cell of the page, the code that it should show, and what excuses a space instead.
+-- The lemmas of this module are about one cell of the page, the code that the cell should show, and
+-- what excuses a space instead.
 module _ (keeps anew : Bool) (class : ReceiverClass) (w : PageIdValue) (row column code : ℕ)
     (Excuse : Type 0) where
-  -- Each packet of the row in the long span is odd, and has the code at the column.
+  -- Each packet of the row in the long span has odd parity, and the code at the column.
   abbrev pub AreTargets : List Item → Type 0
   AreTargets items =
       (item : Item)
@@ -227,7 +212,7 @@ module _ (keeps anew : Bool) (class : ReceiverClass) (w : PageIdValue) (row colu
       → kind w item.0 ≡ Row row
       → HasOddText item.0 × (code_of (text_byte item.0 column) ≡ code)
 
-  -- Each packet of the row in the span that loses its byte is an excuse.
+  -- Each packet of the row in the span that loses the cell's byte is an excuse.
   abbrev pub GiveExcuses : List Item → Type 0
   GiveExcuses items =
       (item : Item)
@@ -236,29 +221,32 @@ module _ (keeps anew : Bool) (class : ReceiverClass) (w : PageIdValue) (row colu
       → ExcusedBy class (Loses item.0 item.1) row column
       → Excuse
 
-  -- The page was not open, and the cell a space.
+  -- The page was not open, and the cell was a space.
   abbrev pub WasBlank : State → Type 0
   WasBlank start = (start.is_open ≡ false) × (cell start.page row column ≡ space)
 
-  -- The earlier code of the cell no longer matters.
+  -- The earlier code of the cell no longer matters: the receiver starts from a blank page at each
+  -- header, or a new text started, or the cell was a space and the page not open.
   abbrev pub IsFreshCell : State → List Item → Type 0
   IsFreshCell start items =
       (anew ≡ true)
       ⊎ ((holds_beginning keeps (kind_of_item w) items ≡ true) ⊎ WasBlank start)
 
-  -- The state of a receiver after these items.
+  -- The state of a receiver after these received or lost packets.
   pub record Becomes (start : State) (items : List Item) (now : State) : Type 0 where
     pub heard : now.heard ≡ (holds_header (kind_of_item w) items || start.heard)
     pub is_open : (holds_header (kind_of_item w) items || not start.is_open) ≡ true
         → now.is_open ≡ is_open_after (kind_of_item w) items
-    -- Before a header of the page, a page that is blank and not open stays so.
+    -- As long as no header of the page arrives, a page that is blank and not open stays blank and
+    -- not open.
     pub waits : holds_header (kind_of_item w) items ≡ false → WasBlank start → WasBlank now
-    -- After a header, the cell has the code or a space.
+    -- After a header of the page, the cell has the code that it should show, or is a space.
     pub code_or_space : holds_header (kind_of_item w) items ≡ true
         → IsFreshCell start items
         → AreTargets items
         → (cell now.page row column ≡ code) ⊎ (cell now.page row column ≡ space)
-    -- It has the code, or is excused, or the span has no packet of the row.
+    -- After a header of the page, the cell has the code that it should show, or a space is excused,
+    -- or the span has no packet of the row.
     pub cell_is : holds_header (kind_of_item w) items ≡ true
         → IsFreshCell start items
         → AreTargets items
@@ -268,7 +256,6 @@ module _ (keeps anew : Bool) (class : ReceiverClass) (w : PageIdValue) (row colu
         ⊎ (list_any (λ (item : Item). is_row row (kind w item.0)) (span (kind_of_item w) items)
         ≡ false))
 
-  -- One more item.
   module _ (start : State) (items : List Item) (sent : List ℕ) (arrival : Option (List ℕ))
       (old new : State) (at : AtItem keeps anew class w row column sent arrival old new)
       (was : Becomes start items old) where
@@ -284,7 +271,8 @@ module _ (keeps anew : Bool) (class : ReceiverClass) (w : PageIdValue) (row colu
     abbrev old_text : List Item
     old_text = text_span keeps K items
 
-    -- If all items have the code, so do those before the last, unless that starts a new text.
+    -- If all packets have the cell's code, so do those before the last packet, unless the last
+    -- packet starts a new text.
     targets_before : begins_text keeps (kind w sent) ≡ false
         → AreTargets (items ++ item ∷ [])
         → AreTargets items
@@ -293,7 +281,6 @@ module _ (keeps anew : Bool) (class : ReceiverClass) (w : PageIdValue) (row colu
         let more = Contains-append_left old_text (item ∷ []) x within in
         targets x (grind (arith, nat_tests))
 
-    -- If all items give excuses, so do those before the last, unless that is a header.
     excuses_before : is_this_page (kind w sent) ≡ false
         → GiveExcuses (items ++ item ∷ [])
         → GiveExcuses items
@@ -302,7 +289,6 @@ module _ (keeps anew : Bool) (class : ReceiverClass) (w : PageIdValue) (row colu
         let more = Contains-append_left old_span (item ∷ []) x within in
         gives x (grind (arith, nat_tests))
 
-    -- The item is in both spans, if the page is open and the item is a packet of the row.
     among : kind w sent ≡ Row row
         → is_open_after K items ≡ true
         → Contains (text_span keeps K (items ++ item ∷ [])) item
@@ -315,14 +301,14 @@ module _ (keeps anew : Bool) (class : ReceiverClass) (w : PageIdValue) (row colu
         let k : K item ≡ Row row = is in
         (rw (in_text, k, up) last_text, rw (in_span, k, up) last_span)
 
-    -- If the cell is fresh after all items, it was before the last, unless that starts a new text.
+    -- If the earlier code of the cell no longer matters after all packets, it did not matter before
+    -- the last packet either, unless the last packet starts a new text.
     fresh_before : begins_text keeps (kind w sent) ≡ false
         → IsFreshCell start (items ++ item ∷ [])
         → IsFreshCell start items
     fresh_before no_begin fresh = let more = beginning-push K keeps items item in
         grind (arith, nat_tests)
 
-    -- At a header the cell becomes a space or keeps its code.
     coarse_at_header : is_this_page (kind w sent) ≡ true
         → IsFreshCell start (items ++ item ∷ [])
         → AreTargets (items ++ item ∷ [])
@@ -348,7 +334,6 @@ module _ (keeps anew : Bool) (class : ReceiverClass) (w : PageIdValue) (row colu
               ]
         ]
 
-    -- At a packet of the row.
     coarse_at_packet : is_this_page (kind w sent) ≡ false
         → holds_header K items ≡ true
         → IsFreshCell start (items ++ item ∷ [])
@@ -365,11 +350,9 @@ module _ (keeps anew : Bool) (class : ReceiverClass) (w : PageIdValue) (row colu
         let row_is = row_from_test row (kind w sent) in
         grind (arith, nat_tests)
 
-    -- The packet is of the row.
     abbrev row_test : Item → Bool
     row_test x = is_row row (kind w x.0)
 
-    -- If the span had no packet of the row, it has none after a packet of another row.
     rows_stay : (is_open_after K items && is_row row (kind w sent)) ≡ false
         → list_any row_test old_span ≡ false
         → list_any row_test (span K (items ++ item ∷ [])) ≡ false
@@ -450,7 +433,6 @@ module _ (keeps anew : Bool) (class : ReceiverClass) (w : PageIdValue) (row colu
           ];
         }
 
-  -- No items change nothing.
   pub starts : (start : State) → Becomes start [] start
   starts start = record {
     heard = refl;
@@ -460,7 +442,7 @@ module _ (keeps anew : Bool) (class : ReceiverClass) (w : PageIdValue) (row colu
     cell_is = λ holds. grind arith;
   }
 
-  -- A run over more items, each received or lost: by induction from the front, after any items.
+  -- The state after a run, by induction over the packets that are still to be received or lost.
   pub over : (start : State) (items : List Item) (sent : List (List ℕ)) (arrived : List Bool)
       (got : List (List ℕ)) (old new : State)
       → IsCell row column

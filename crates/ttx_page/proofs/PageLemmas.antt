@@ -1,4 +1,4 @@
--- Properties of pages: `is_page_blank`, and that pages with equal rows are equal.
+-- The blank page has 24 rows of 40 codes, `is_page_blank`, and pages with equal rows are equal.
 use Rattle.std.proofs.Common.{rules, List, true, nat_lt, ltb-true, ◌≡◌, ℕ, ◌<◌, [], get_or}
 use Rattle.std.proofs.Common.{replicate, arith, sym, ◌∙◌}
 use Rattle.std.proofs.lemmas.Bool.Decides.{nat_tests}
@@ -8,16 +8,13 @@ use Rattle.std.specs.List.{list_all}
 use Rattle.std.proofs.lemmas.List.Sums.{AllPass-from_list_all}
 use Rattle.ttx_page.specs.Page.{Rows, blank, blank_row, AreCodes, IsPage, space}
 
--- Each code of rows of spaces is below 128. For `is_page_blank`.
 codes_of_rows : (n m r c : ℕ) → get_or (get_or (replicate n (replicate m space)) r []) c 0 < 128
 codes_of_rows n m r c = grind (arith, nat_tests, get_or-replicate, get_or_past, length-replicate)
 
--- The blank page has the shape of a page. For `Page::blank`.
 pub is_page_blank : IsPage blank
 unfolding blank blank_row
 is_page_blank = search (rules, length-replicate, get_or-replicate, codes_of_rows)
 
--- Pages with equal rows are equal; `x` and `y` are their fields. For `first_difference`.
 pub same_pages : (a b x y : Rows)
     → x ≡ a
     → y ≡ b
@@ -28,7 +25,6 @@ pub same_pages : (a b x y : Rows)
 same_pages a b x y e f p q h =
     sym e ∙ ext_get_or [] x y (p.rows ∙ sym q.rows) (λ k below. h k (omega (arith, p.rows))) ∙ f
 
--- Literal codes are below 128, by computation. For literals, as in tests.
 pub codes_from_test : (codes : List ℕ)
     → list_all (λ c. nat_lt c 128) codes ≡ true
     → AreCodes codes

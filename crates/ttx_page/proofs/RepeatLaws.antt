@@ -1,5 +1,5 @@
--- The law of repeats, `law_of_repeats`, from a run over items; and that receivers that keep their
--- page are among those that may forget, `law_of_forgetting`.
+-- The law of repeats, `law_of_repeats`, follows from a run over packets that are received or lost;
+-- receivers that keep their page are among those that may forget, `law_of_forgetting`.
 use Rattle.std.proofs.Common.{◌≡◌, ℕ, suc, ◌⊎◌, inl, inr, Bool, true, false}
 use Rattle.std.proofs.Common.{List, [], ◌∷◌, find, length, map, option_map, unwrap_or, zip, Option}
 use Rattle.std.proofs.Common.{Contains, refl, ap, ◌∙◌, arith}
@@ -30,7 +30,6 @@ use Rattle.ttx_page.proofs.TextSpan.{text_span-map, text_span-none_keeps}
 use Rattle.ttx_page.proofs.NoiseSteps.{AreTargets, Becomes, IsFreshCell, Item, excused_as}
 use Rattle.ttx_page.proofs.NoiseSteps.{kind_of_item, over, starts}
 
--- There is an arrival for each packet.
 length-arrivals_of :
     (arrived : List Bool) (got : List (List ℕ)) → length (arrivals_of arrived got) ≡ length arrived
 length-arrivals_of [] got = refl
@@ -38,7 +37,7 @@ length-arrivals_of (false ∷ ms) got = ap suc (length-arrivals_of ms got)
 length-arrivals_of (true ∷ ms) [] = ap suc (length-arrivals_of ms [])
 length-arrivals_of (true ∷ ms) (g ∷ gs) = ap suc (length-arrivals_of ms gs)
 
--- The packets sent, with what was received of each.
+-- Pairs each packet that was sent with the bytes received for it.
 module _ (class : ReceiverClass) (w : PageIdValue) (sent : List (List ℕ)) (arrived : List Bool)
     (got : List (List ℕ)) (may : AllZip LosesNoHeader sent arrived)
     (near : AllZip AreNear (items_where_true arrived sent) got) where
@@ -51,15 +50,12 @@ module _ (class : ReceiverClass) (w : PageIdValue) (sent : List (List ℕ)) (arr
   abbrev sent_of : Item → List ℕ
   sent_of item = item.0
 
-  -- The packets of the items are those that were sent.
   sent-items : sent ≡ map sent_of items
   sent-items = grind (arith, nat_tests, firsts-zip, length-arrivals_of, AllZip-long)
 
-  -- The packets of the items' span are the span of the packets.
   span-items : span (kind w) sent ≡ map sent_of (span (kind_of_item w) items)
   span-items = ap (span (kind w)) sent-items ∙ span-map (kind w) sent_of items
 
-  -- The same for the long span.
   text-items : (keeps : Bool)
       → text_span keeps (kind w) sent ≡ map sent_of (text_span keeps (kind_of_item w) items)
   text-items keeps =
@@ -70,20 +66,16 @@ module _ (class : ReceiverClass) (w : PageIdValue) (sent : List (List ℕ)) (arr
       → Contains (text_span keeps (kind w) sent) item.0
   sent-in_text keeps item within = grind (arith, nat_tests, text-items, length-map, get_or-map)
 
-  -- The items start a new text exactly if the packets do.
   beginning-items : (keeps : Bool)
       → holds_beginning keeps (kind w) sent ≡ holds_beginning keeps (kind_of_item w) items
   beginning-items keeps = grind (arith, nat_tests, sent-items, list_any-map)
 
-  -- They contain a header of the page exactly if the packets do.
   holds-items : holds_header (kind w) sent ≡ holds_header (kind_of_item w) items
   holds-items = grind (arith, nat_tests, sent-items, list_any-map)
 
-  -- Their span is ended exactly if that of the packets is.
   is_unended-items : is_unended (kind w) sent ≡ is_unended (kind_of_item w) items
   is_unended-items = grind (arith, nat_tests, sent-items, after-map, list_any-map, kind_of_item)
 
-  -- Their span has a packet of a row exactly if that of the packets has one.
   row-items : (row : ℕ)
       → list_any (λ p. is_row row (kind w p)) (span (kind w) sent)
       ≡ list_any (λ (item : Item). is_row row (kind w item.0)) (span (kind_of_item w) items)
@@ -91,11 +83,9 @@ module _ (class : ReceiverClass) (w : PageIdValue) (sent : List (List ℕ)) (arr
 
   module _ (keeps anew : Bool) (text : ℕ → ℕ → ℕ) (old new : State)
       (sends : SendsText keeps w sent text) (hears : HearsForgetting class anew w old got new) where
-    -- What excuses a space.
     abbrev Excused : ℕ → ℕ → Type 0
     Excused = ExcusedBy class (IsHitOrLost w sent arrivals)
 
-    -- The state of a receiver and of one cell.
     becomes : (row column : ℕ)
         → IsCell row column
         → Becomes keeps anew class w row column (text row column) (Excused row column) old items new
@@ -105,7 +95,8 @@ module _ (class : ReceiverClass) (w : PageIdValue) (sent : List (List ℕ)) (arr
         (recursion_from_All _ sent (λ k d l none. sends.erases none k d l)) may near hears
         (starts keeps anew class w row column (text row column) (Excused row column) old)
 
-    -- Each cell, after a header of the page, once the earlier contents no longer matter.
+    -- After a header of the page, once the earlier contents of the page no longer matter, each cell
+    -- has the code of the text or an excused space.
     cell_kept :
         holds_header (kind w) sent ≡ true
         → IsFresh keeps anew w sent old
@@ -140,7 +131,6 @@ module _ (class : ReceiverClass) (w : PageIdValue) (sent : List (List ℕ)) (arr
         let rows = row-items row in
         grind (arith, nat_tests)
 
-    -- The final state of a receiver.
     pub ends : EndsForgetting keeps anew w sent text Excused old new
     ends =
         let end = becomes 1 0 (omega arith, omega arith, omega arith) in
@@ -158,7 +148,6 @@ pub law_of_repeats : LawOfRepeats
 law_of_repeats keeps anew class w sent arrived got text old new sends may near hears =
     ends class w sent arrived got may near keeps anew text old new sends hears
 
--- If repeats must not keep, the codes of `kept` are those shown. For a checker's laws.
 pub kept_shown : (w : PageIdValue) (packets : List (List ℕ)) (row column : ℕ)
     → kept false w packets row column ≡ shown w packets row column
 kept_shown w packets row column =
@@ -167,9 +156,6 @@ kept_shown w packets row column =
     (option_map (λ p. code_of (text_byte p column)) (find (λ p. is_row row (kind w p)) ps)) space)
     (text_span-none_keeps (kind w) packets)
 
--- ---- receivers that keep their page
-
--- A step of such a receiver is a step of one that may forget.
 pub forgets : (class : ReceiverClass) (w : PageIdValue) (old : State) (packet : List ℕ)
     (new : State)
     → StepBy class w old packet new
@@ -177,7 +163,6 @@ pub forgets : (class : ReceiverClass) (w : PageIdValue) (old : State) (packet : 
 forgets Storing w old packet new step = grind (arith, nat_tests)
 forgets Dropping w old packet new step = grind (arith, nat_tests)
 
--- A receiver that keeps its page is one of those that may forget.
 pub law_of_forgetting : LawOfForgetting
 law_of_forgetting class w packets old new hears =
     RunsBy-as (StepBy class w) (StepForgetting class false w) (λ s. s) packets old new

@@ -1,10 +1,10 @@
--- Joined runs, `RunsBy-append`; a run with one more packet, `run_more`; and runs whose steps are
--- also steps of another kind: `RunsBy-as`.
+-- Runs of receivers: two runs can be joined, `RunsBy-append`; a run can be extended by one packet,
+-- `run_more`; and a run is also a run of other steps if each of its steps is one of the other
+-- steps: `RunsBy-as`.
 use Rattle.std.proofs.Common.{◌≡◌, ℕ, ◌+◌, ◌<◌, List, [], ◌∷◌, ◌++◌, length, take, get_or, refl, ap}
 use Rattle.std.proofs.lemmas.List.{take_more}
 use Rattle.ttx_page.specs.Receiver.{RunsBy}
 
--- Two runs, one after the other. For runs over a file.
 pub RunsBy-append :
     {S : Type 0} (StepsBy : S → List ℕ → S → Type 0) (first more : List (List ℕ)) (old mid new : S)
     → RunsBy StepsBy old first mid
@@ -14,8 +14,6 @@ RunsBy-append StepsBy [] more old mid new run next = rw run at next
 RunsBy-append StepsBy (p ∷ ps) more old mid new run next =
     (run.0, run.1, RunsBy-append StepsBy ps more run.0 mid new run.2 next)
 
--- A loop over packets extends its run by one packet. For `hear_all`, of receivers and of `DropRow`,
--- and `show_all`.
 pub run_more : {S : Type 0} (StepsBy : S → List ℕ → S → Type 0) (packets : List (List ℕ)) (i : ℕ)
     (packet : List ℕ) (old mid new : S)
     → i < length packets
@@ -27,7 +25,6 @@ run_more StepsBy packets i packet old mid new below is run step =
     rw (take_more packets i packet below, ← is)
     (RunsBy-append StepsBy (take i packets) (packet ∷ []) old mid new run (new, step, refl))
 
--- A run is also a run of other steps, on a view of its states, if each step is one of those.
 pub RunsBy-as :
     {S T : Type 0} (StepsBy : S → List ℕ → S → Type 0) (GoesBy : T → List ℕ → T → Type 0)
     (seen : S → T) (packets : List (List ℕ)) (old new : S)

@@ -1,4 +1,4 @@
--- The law of receivers with a screen, `law_of_screen`.
+-- After a header of the page, a page that is not open is on the screen, `law_of_screen`.
 use Rattle.std.proofs.Common.{◌≡◌, ℕ, Bool, false, List, [], ◌∷◌, Some, IsFalse, refl, arith}
 use Rattle.std.proofs.lemmas.Bool.Decides.{nat_tests}
 use Rattle.ttx_packet.specs.PageId.{PageIdValue}
@@ -11,13 +11,10 @@ use Rattle.ttx_page.specs.Screen.{Display, ShowsBy, LawOfScreen}
 use Rattle.ttx_page.proofs.RepeatLaws.{forgets}
 use Rattle.ttx_page.proofs.RunLemmas.{RunsBy-as}
 
--- ---- a run
-
--- If the page is not open, it is on the screen.
 abbrev IsSettled : Display → Type 0
 IsSettled d = IsFalse d.held.is_open → d.screen ≡ Some d.held.page
 
--- A header of the page settles the screen, and it stays settled.
+-- After a header of the page, the decoded page is on the screen whenever the page is not open.
 settles :
     (class : ReceiverClass) (anew : Bool) (w : PageIdValue) (packets : List (List ℕ))
     (old new : Display)
@@ -32,7 +29,6 @@ pub law_of_forgetting_screen : LawOfForgettingScreen
 law_of_forgetting_screen class anew w packets old new run holds shut =
     grind (arith, nat_tests, settles)
 
--- A receiver that keeps its page is one of these. Also for a checker's laws.
 pub shows_forgetting :
     (class : ReceiverClass) (w : PageIdValue) (packets : List (List ℕ)) (old new : Display)
     → ShowsBy class w old packets new
@@ -47,9 +43,6 @@ law_of_screen class w packets old new run holds shut =
     law_of_forgetting_screen class false w packets old new
     (shows_forgetting class w packets old new run) holds shut
 
--- ---- for a checker's laws
-
--- The receiver's state follows the relation of receivers that may forget.
 pub held_forgetting :
     (class : ReceiverClass) (anew : Bool) (w : PageIdValue) (packets : List (List ℕ))
     (old new : Display)

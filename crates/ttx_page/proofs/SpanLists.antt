@@ -1,4 +1,5 @@
--- Lists, searches, and the span of a mapped list: `span-map`.
+-- Lists and the span: searches for an element, the span of a mapped list, `span-map`, and of joined
+-- lists.
 use Rattle.std.proofs.Common.{◌≡◌, zero, suc, inl, inr, Bool, true, false, ◌||◌, cond, List, []}
 use Rattle.std.proofs.Common.{◌∷◌, ◌++◌, Some, None, map, zip, find, Any, Contains, refl, ap, ◌∙◌}
 use Rattle.std.proofs.Common.{arith}
@@ -11,7 +12,6 @@ use Rattle.ttx_page.specs.declared.packet_kind.PacketKind.{PacketKind}
 use Rattle.ttx_page.specs.PacketKind.{is_this_page}
 use Rattle.ttx_page.specs.Span.{holds_header, after_last_header, before_end, span}
 
--- If some element of a mapped list has a property, the original element has it through the map.
 pub Any-map : {A B : Type 0} (P : B → Type 0) (f : A → B) (xs : List A)
     → Any P (map f xs)
     → Any (λ x. P (f x)) xs
@@ -20,22 +20,17 @@ Any-map P f (x ∷ xs) (zero, y, l, e, p) = (0, x, omega arith, refl, rw e p)
 Any-map P f (x ∷ xs) (suc k, y, l, e, p) =
     let r = Any-map P f xs (k, y, omega arith, e, p) in (suc r.0, r.1, omega (arith, r.2), r.3, r.4)
 
--- If some element has a property through the map, the mapped element has it.
 pub map-Any : {A B : Type 0} (P : B → Type 0) (f : A → B) (xs : List A)
     → Any (λ x. P (f x)) xs
     → Any P (map f xs)
 map-Any P f xs (k, x, l, e, p) =
     (k, f x, simp length-map l, get_or-map f xs k x (f x) l ∙ ap f e, p)
 
--- Zipping with a mapped list.
 pub zip-map : {A B C : Type 0} (f : B → C) (xs : List A) (ys : List B)
     → zip xs (map f ys) ≡ map (λ (pair : A × B). (pair.0, f pair.1)) (zip xs ys)
 zip-map f [] ys = refl
 zip-map f (x ∷ xs) ys = grind (arith, nat_tests, zip-map f xs)
 
--- ---- searches
-
--- The result of `find` passes the test, and is an element.
 pub find_is : {X : Type 0} (test : X → Bool) (xs : List X) (z : X)
     → find test xs ≡ Some z
     → (test z ≡ true) × Contains xs z
@@ -47,79 +42,65 @@ find_is test (x ∷ xs) z e = elim (cases_Bool (test x)) [
       (rest.0, (suc rest.1.0, omega (arith, rest.1.1), rest.1.2))
 ]
 
--- If no element passes, `find` returns nothing.
 pub find_none :
     {X : Type 0} (test : X → Bool) (xs : List X) → list_any test xs ≡ false → find test xs ≡ None
 find_none test [] e = refl
 find_none test (x ∷ xs) e = let rest = find_none test xs in grind (arith, nat_tests)
 
--- If `find` returns nothing, no element passes.
 pub none_pass :
     {X : Type 0} (test : X → Bool) (xs : List X) → find test xs ≡ None → list_any test xs ≡ false
 none_pass test [] e = refl
 none_pass test (x ∷ xs) e = let rest = none_pass test xs in grind (arith, nat_tests)
 
--- ---- the span of a mapped list
-
--- Some element of a mapped list passes.
 pub list_any-map : {A B : Type 0} (f : A → B) (test : B → Bool) (xs : List A)
     → list_any test (map f xs) ≡ list_any (λ x. test (f x)) xs
 list_any-map f test [] = refl
 list_any-map f test (x ∷ xs) = ap (λ b. test (f x) || b) (list_any-map f test xs)
 
--- A choice between mapped lists.
 pub map-cond : {A B : Type 0} (f : A → B) (b : Bool) (xs ys : List A)
     → map f (cond b xs ys) ≡ cond b (map f xs) (map f ys)
 map-cond f b xs ys = grind (arith, nat_tests)
 
 module _ {A B : Type 0} (kind_of : B → PacketKind) (f : A → B) where
-  -- The items after the last header of a mapped list.
   pub after-map : (xs : List A)
       → after_last_header kind_of (map f xs) ≡ map f (after_last_header (λ x. kind_of (f x)) xs)
   after-map [] = refl
   after-map (x ∷ xs) = grind (arith, nat_tests, list_any-map, map-cond, after-map xs)
 
-  -- The items before the end of a mapped list.
   before-map :
       (xs : List A) → before_end kind_of (map f xs) ≡ map f (before_end (λ x. kind_of (f x)) xs)
   before-map [] = refl
   before-map (x ∷ xs) = rw (before-map xs) (simp map-cond)
 
-  -- The span of a mapped list is the mapped span. So one definition serves packets and pairs.
+  -- The span of a mapped list is the mapped span. So one definition of the span serves packets and
+  -- pairs of packets.
   pub span-map : (xs : List A) → span kind_of (map f xs) ≡ map f (span (λ x. kind_of (f x)) xs)
   span-map xs = grind (arith, nat_tests, after-map, before-map)
 
--- ---- after the last header, with one more packet
-
--- A header of the page in front, if none follows.
 pub after-here : {A : Type 0} (kind_of : A → PacketKind) (x : A) (xs : List A)
     → holds_header kind_of xs ≡ false
     → is_this_page (kind_of x) ≡ true
     → after_last_header kind_of (x ∷ xs) ≡ xs
 after-here kind_of x xs e h = rw (e, h)
 
--- Without a header of the page, no item is after the last one.
 pub after-none : {A : Type 0} (kind_of : A → PacketKind) (xs : List A)
     → holds_header kind_of xs ≡ false
     → after_last_header kind_of xs ≡ []
 after-none kind_of [] e = refl
 after-none kind_of (x ∷ xs) e = grind (arith, nat_tests)
 
--- ---- headers in joined lists
-
--- Joined lists contain a header of the page if the second does.
 pub holds-append_right : {A : Type 0} (kind_of : A → PacketKind) (xs ys : List A)
     → holds_header kind_of ys ≡ true
     → holds_header kind_of (xs ++ ys) ≡ true
 holds-append_right kind_of xs ys e = rw (list_any-append, e) (or_right _ _ refl)
 
--- Joined lists contain a header of the page if the first does.
 pub holds-append_left : {A : Type 0} (kind_of : A → PacketKind) (xs ys : List A)
     → holds_header kind_of xs ≡ true
     → holds_header kind_of (xs ++ ys) ≡ true
 holds-append_left kind_of xs ys e = rw (list_any-append, e)
 
--- Items before a list that contains a header of the page do not matter.
+-- If a list contains a header of the page, items before the list do not change the items after its
+-- last header.
 pub after-append : {A : Type 0} (kind_of : A → PacketKind) (xs ys : List A)
     → holds_header kind_of ys ≡ true
     → after_last_header kind_of (xs ++ ys) ≡ after_last_header kind_of ys

@@ -15,14 +15,12 @@ use Rattle.ttx_page.specs.Span.{holds_header, after_last_header, before_end, spa
 use Rattle.ttx_page.specs.Span.{LawOfSpan}
 use Rattle.ttx_page.proofs.SpanLists.{after-none}
 
--- If no element passes a test, each fails.
 all_fail : {A : Type 0} (test : A → Bool) (xs : List A)
     → list_any test xs ≡ false
     → All (λ x. test x ≡ false) xs
 all_fail test xs none k d below = grind (arith, nat_tests, list_any_at)
 
 module _ {A : Type 0} (kind_of : A → PacketKind) where
-  -- The items before the end of the page, by its place.
   before-is : (xs : List A)
       → before_end kind_of xs ≡ take (position_or_len (λ x. ends_page (kind_of x)) xs) xs
   before-is [] = refl
@@ -31,7 +29,7 @@ module _ {A : Type 0} (kind_of : A → PacketKind) where
       let more = take_while-cons (λ y. not (ends_page (kind_of y))) x xs in
       grind (arith, nat_tests)
 
-  -- Place h is that of the last header of the page.
+  -- The last header of the page is at place h of the list.
   abbrev IsLast : List A → ℕ → Type 0
   IsLast xs h =
       (h < length xs)
@@ -39,7 +37,6 @@ module _ {A : Type 0} (kind_of : A → PacketKind) where
       × (holds_header kind_of (drop (suc h) xs) ≡ false)
       × (after_last_header kind_of xs ≡ drop (suc h) xs)
 
-  -- If there is a header of the page, there is a last one.
   last_header : (xs : List A) → holds_header kind_of xs ≡ true → (h : ℕ) × IsLast xs h
   last_header [] e = grind arith
   last_header (x ∷ xs) e = elim (cases_Bool (holds_header kind_of xs)) [
@@ -49,7 +46,6 @@ module _ {A : Type 0} (kind_of : A → PacketKind) where
     | inr none ↦ grind (arith, nat_tests)
   ]
 
-  -- The span after the last header, by its bounds.
   span-after : (xs : List A) (h : ℕ)
       → IsLast xs h
       → (from to : ℕ) × IsSpan kind_of xs from to × (span kind_of xs ≡ slice_range xs from to)

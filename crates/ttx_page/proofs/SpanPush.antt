@@ -1,4 +1,4 @@
--- Lists that grow at their end: how one more packet changes the span, `span-push`.
+-- How one more packet at the end of a list changes the span, `span-push`.
 use Rattle.std.proofs.Common.{◌≡◌, Bool, true, false, not, ◌&&◌, ◌||◌, cond, List, [], ◌∷◌, ◌++◌}
 use Rattle.std.proofs.Common.{refl, arith}
 use Rattle.std.specs.List.{list_any}
@@ -10,18 +10,14 @@ use Rattle.ttx_page.specs.PacketKind.{is_this_page, ends_page}
 use Rattle.ttx_page.specs.Span.{holds_header, after_last_header, before_end, is_open_after, span}
 
 module _ {A : Type 0} (kind_of : A → PacketKind) where
-  -- Some item passes a test, with one more item.
   pub list_any-push : (test : A → Bool) (xs : List A) (x : A)
       → list_any test (xs ++ x ∷ []) ≡ (list_any test xs || test x)
   list_any-push test xs x = grind (arith, nat_tests, list_any-append)
 
-  -- The list contains a header of the page, with one more item.
   pub holds-push : (xs : List A) (x : A)
       → holds_header kind_of (xs ++ x ∷ []) ≡ (is_this_page (kind_of x) || holds_header kind_of xs)
   holds-push xs x = grind (arith, nat_tests, list_any-push)
 
-  -- The items after the last header: none after a header of the page; otherwise, if there was a
-  -- header, one more item.
   after-push : (xs : List A) (x : A)
       → after_last_header kind_of (xs ++ x ∷ [])
       ≡ cond (is_this_page (kind_of x)) []
@@ -29,7 +25,6 @@ module _ {A : Type 0} (kind_of : A → PacketKind) where
   after-push [] x = refl
   after-push (y ∷ ys) x = grind (arith, nat_tests, holds-push, after-push ys x)
 
-  -- The items before the end: one more item, unless the page has ended.
   before-push : (xs : List A) (x : A)
       → before_end kind_of (xs ++ x ∷ [])
       ≡ cond (list_any (λ y. ends_page (kind_of y)) xs || ends_page (kind_of x))
@@ -37,8 +32,8 @@ module _ {A : Type 0} (kind_of : A → PacketKind) where
   before-push [] x = refl
   before-push (y ∷ ys) x = let rest = before-push ys x in grind (arith, nat_tests)
 
-  -- The span: empty after a header of the page; otherwise one more item, if the page is open and
-  -- the item does not end it.
+  -- The span is empty after a header of the page. Any other item is added to the span if the page
+  -- is open and the item does not end it.
   pub span-push : (xs : List A) (x : A)
       → span kind_of (xs ++ x ∷ [])
       ≡ cond (is_this_page (kind_of x)) []
@@ -46,13 +41,11 @@ module _ {A : Type 0} (kind_of : A → PacketKind) where
       (span kind_of xs ++ x ∷ []) (span kind_of xs))
   span-push xs x = grind (arith, nat_tests, after-push, before-push, after-none)
 
-  -- The page is open after a header of it.
   pub open-this : (xs : List A) (x : A)
       → is_this_page (kind_of x) ≡ true
       → is_open_after kind_of (xs ++ x ∷ []) ≡ true
   open-this xs x e = grind (arith, nat_tests, holds-push, after-push)
 
-  -- After another item the page is open if it was before, and the item does not end it.
   pub open-other : (xs : List A) (x : A)
       → is_this_page (kind_of x) ≡ false
       → is_open_after kind_of (xs ++ x ∷ [])

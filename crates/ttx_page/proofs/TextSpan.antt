@@ -1,6 +1,6 @@
--- The long span: how one more packet changes it, `text_span-push`; it is the span if each header
--- starts a new text, `text_span-same`; items before it only add to its front, `text_span-later`;
--- and for a mapped list, `text_span-map`.
+-- The long span: one more packet changes it as `text_span-push` states; it is the span if each
+-- header starts a new text, `text_span-same`; packets before a list only add to its front,
+-- `text_span-later`; and for a mapped list, `text_span-map`.
 use Rattle.std.proofs.Common.{◌≡◌, Bool, true, false, not, ◌&&◌, ◌||◌, cond, List, [], ◌∷◌, ◌++◌}
 use Rattle.std.proofs.Common.{refl, sym, ap, ◌∙◌, map, arith, append_assoc}
 use Rattle.std.specs.List.{AllByRecursion, list_any}
@@ -13,24 +13,21 @@ use Rattle.ttx_page.specs.PacketKind.{begins_text, is_this_page, ends_page}
 use Rattle.ttx_page.specs.Span.{holds_header, before_end, is_open_after, span}
 use Rattle.ttx_page.specs.Span.{from_beginning, holds_beginning, is_unended, text_span, while_open}
 
--- A header that starts a new text is a header of the page.
 pub begins_is_header : (keeps : Bool) (k : PacketKind)
     → begins_text keeps k ≡ true
     → is_this_page k ≡ true
 begins_is_header keeps k e = grind (arith, nat_tests)
 
--- If repeats must not keep, each header starts a new text.
 pub begins_at_each : (k : PacketKind) → begins_text false k ≡ is_this_page k
 begins_at_each k = grind (arith, nat_tests)
 
 module _ {A : Type 0} (kind_of : A → PacketKind) where
-  -- The page is open after the items. `is_open`: it is open before them.
+  -- Whether the page is open after the items, given whether it is open before them (`is_open`).
   abbrev open_from : Bool → List A → Bool
   open_from is_open [] = is_open
   open_from is_open (x ∷ xs) =
       open_from (is_this_page (kind_of x) || (is_open && not (ends_page (kind_of x)))) xs
 
-  -- The same, by the headers among the items.
   open_from-is : (is_open : Bool) (xs : List A)
       → open_from is_open xs
       ≡ cond (holds_header kind_of xs) (is_unended kind_of xs)
@@ -41,7 +38,6 @@ module _ {A : Type 0} (kind_of : A → PacketKind) where
       open_from-is (is_this_page (kind_of x) || (is_open && not (ends_page (kind_of x)))) xs in
       grind (arith, nat_tests)
 
-  -- The items received while the page is open, with one more item.
   while_open-push : (is_open : Bool) (xs : List A) (x : A)
       → while_open kind_of is_open (xs ++ x ∷ [])
       ≡ cond
@@ -54,13 +50,11 @@ module _ {A : Type 0} (kind_of : A → PacketKind) where
       grind (arith, nat_tests)
 
   module _ (keeps : Bool) where
-    -- A new text starts, with one more item.
     pub beginning-push : (xs : List A) (x : A)
         → holds_beginning keeps kind_of (xs ++ x ∷ [])
         ≡ (begins_text keeps (kind_of x) || holds_beginning keeps kind_of xs)
     beginning-push xs x = grind (arith, nat_tests, list_any-push)
 
-    -- If a new text starts, there is a header of the page.
     pub beginning_is_header : (xs : List A)
         → holds_beginning keeps kind_of xs ≡ true
         → holds_header kind_of xs ≡ true
@@ -70,14 +64,12 @@ module _ {A : Type 0} (kind_of : A → PacketKind) where
         let here = begins_is_header keeps (kind_of x) in
         grind (arith, nat_tests)
 
-    -- The items from the last start of a text, with one more item.
     from-push : (xs : List A) (x : A)
         → from_beginning keeps kind_of (xs ++ x ∷ [])
         ≡ cond (begins_text keeps (kind_of x)) (x ∷ []) (from_beginning keeps kind_of xs ++ x ∷ [])
     from-push [] x = grind (arith, nat_tests)
     from-push (y ∷ ys) x = grind (arith, nat_tests, beginning-push, from-push ys x)
 
-    -- The page is open after them exactly if it is after all items.
     from-open : (xs : List A)
         → is_open_after kind_of (from_beginning keeps kind_of xs) ≡ is_open_after kind_of xs
     from-open [] = refl
@@ -86,7 +78,6 @@ module _ {A : Type 0} (kind_of : A → PacketKind) where
         let header = beginning_is_header xs in
         grind (arith, nat_tests)
 
-    -- So it is after these items alone.
     from-open_from : (xs : List A)
         → open_from false (from_beginning keeps kind_of xs) ≡ is_open_after kind_of xs
     from-open_from xs =
@@ -94,8 +85,9 @@ module _ {A : Type 0} (kind_of : A → PacketKind) where
         let opened = from-open xs in
         grind (arith, nat_tests)
 
-    -- The long span: empty after a header that starts a new text; otherwise one more item, if the
-    -- page is open and the item is no header of it and does not end it.
+    -- The long span is empty after a header that starts a new text. Any other item is added to the
+    -- long span if the page is open and the item is no header of the page and does not end the
+    -- page.
     pub text_span-push : (xs : List A) (x : A)
         → text_span keeps kind_of (xs ++ x ∷ [])
         ≡ cond (begins_text keeps (kind_of x)) []
@@ -110,15 +102,11 @@ module _ {A : Type 0} (kind_of : A → PacketKind) where
         let header = begins_is_header keeps (kind_of x) in
         grind (arith, nat_tests)
 
-    -- ---- if each header starts a new text
-
-    -- Each header of the page starts a new text.
     abbrev pub EachBegins : List A → Type 0
     EachBegins xs =
         AllByRecursion
         (λ x. is_this_page (kind_of x) ≡ true → begins_text keeps (kind_of x) ≡ true) xs
 
-    -- Then a new text starts exactly if there is a header of the page.
     pub beginning-same : (xs : List A)
         → EachBegins xs
         → holds_beginning keeps kind_of xs ≡ holds_header kind_of xs
@@ -129,7 +117,6 @@ module _ {A : Type 0} (kind_of : A → PacketKind) where
         let header = begins_is_header keeps (kind_of x) in
         grind (arith, nat_tests)
 
-    -- The items received while the page is open, without headers of it.
     while_open-before : (is_open : Bool) (xs : List A)
         → holds_header kind_of xs ≡ false
         → while_open kind_of is_open xs ≡ cond is_open (before_end kind_of xs) []
@@ -139,7 +126,6 @@ module _ {A : Type 0} (kind_of : A → PacketKind) where
         let off = while_open-before false xs in
         grind (arith, nat_tests)
 
-    -- And the long span is the span.
     pub text_span-same : (xs : List A)
         → EachBegins xs
         → text_span keeps kind_of xs ≡ span kind_of xs
@@ -152,13 +138,11 @@ module _ {A : Type 0} (kind_of : A → PacketKind) where
         let none = after-none kind_of xs in
         grind (arith, nat_tests)
 
-  -- If repeats must not keep, each header starts a new text.
   each_begins : (xs : List A) → EachBegins false xs
   each_begins [] = tt
   each_begins (x ∷ xs) =
       (λ this. begins_at_each (kind_of x) ∙ this, each_begins xs)
 
-  -- So in that case the long span is the span, and a new text starts with each header.
   pub text_span-none_keeps : (xs : List A) → text_span false kind_of xs ≡ span kind_of xs
   text_span-none_keeps xs = text_span-same false xs (each_begins xs)
 
@@ -166,10 +150,7 @@ module _ {A : Type 0} (kind_of : A → PacketKind) where
       → holds_beginning false kind_of xs ≡ holds_header kind_of xs
   beginning-none_keeps xs = beginning-same false xs (each_begins xs)
 
--- ---- receivers that start late
-
 module _ {A : Type 0} (kind_of : A → PacketKind) where
-  -- The items received while the page is open, for two joined lists.
   while_open-append : (is_open : Bool) (xs ys : List A)
       → while_open kind_of is_open (xs ++ ys)
       ≡ while_open kind_of is_open xs ++ while_open kind_of (open_from kind_of is_open xs) ys
@@ -179,7 +160,6 @@ module _ {A : Type 0} (kind_of : A → PacketKind) where
       let off = while_open-append false xs ys in
       grind (arith, nat_tests)
 
-  -- If the page was open before, there may be more of them in front.
   while_open-more : (is_open : Bool) (xs : List A)
       → (more : List A)
       × (while_open kind_of is_open xs ≡ more ++ while_open kind_of false xs)
@@ -204,7 +184,6 @@ module _ {A : Type 0} (kind_of : A → PacketKind) where
       go false false rest = (x ∷ rest.0, ap (λ zs. x ∷ zs) rest.1)
 
   module _ (keeps : Bool) where
-    -- If no new text starts, all items belong to the current one.
     from-none : (xs : List A)
         → holds_beginning keeps kind_of xs ≡ false
         → from_beginning keeps kind_of xs ≡ xs
@@ -222,7 +201,7 @@ module _ {A : Type 0} (kind_of : A → PacketKind) where
         let both = list_any-append (λ y. begins_text keeps (kind_of y)) xs ys in
         grind (arith, nat_tests)
 
-    -- The long span with items before it is the same, with possibly more items in front.
+    -- Packets before a list leave its long span as it is, except for packets added at its front.
     pub text_span-later : (xs ys : List A)
         → (more : List A)
         × (text_span keeps kind_of (xs ++ ys) ≡ more ++ text_span keeps kind_of ys)
@@ -252,8 +231,6 @@ module _ {A : Type 0} (kind_of : A → PacketKind) where
                   ++ while_open kind_of false zs) (sym none),
             )
 
--- ---- for a mapped list
-
 module _ {A B : Type 0} (kind_of : B → PacketKind) (f : A → B) where
   while_open-map : (is_open : Bool) (xs : List A)
       → while_open kind_of is_open (map f xs)
@@ -271,7 +248,6 @@ module _ {A B : Type 0} (kind_of : B → PacketKind) (f : A → B) where
   from_beginning-map keeps (x ∷ xs) =
       let rest = from_beginning-map keeps xs in grind (arith, nat_tests, list_any-map, map-cond)
 
-  -- The long span of a mapped list is the mapped long span.
   pub text_span-map : (keeps : Bool) (xs : List A)
       → text_span keeps kind_of (map f xs) ≡ map f (text_span keeps (λ x. kind_of (f x)) xs)
   text_span-map keeps xs = grind (arith, nat_tests, while_open-map, from_beginning-map)

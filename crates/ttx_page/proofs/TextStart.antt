@@ -1,6 +1,6 @@
--- Packets that may follow others, and receivers that start late among them: the packets received
--- send the text that is kept of all, `sends-joined`; if repeats must not keep, that means they are
--- sound: `sends_of_sound`, `sound_of_sends`.
+-- Receivers that start late: if each packet may follow the packets before it, the packets received
+-- send the text that is kept of all packets, `sends-joined`; if repeats must not keep earlier text,
+-- that means they are sound: `sends_of_sound`, `sound_of_sends`.
 use Rattle.std.proofs.Common.{◌≡◌, ℕ, suc, ◌<◌, inl, inr, Bool, true, false, not, ◌&&◌, cond, List}
 use Rattle.std.proofs.Common.{[], ◌∷◌, ◌++◌, length, take, slice_index_or, find, Option, Some, None}
 use Rattle.std.proofs.Common.{Contains, option_map, unwrap_or, All, refl, sym, ap}
@@ -28,37 +28,30 @@ use Rattle.ttx_page.proofs.RepeatLaws.{kept_shown}
 use Rattle.ttx_page.proofs.SpanLists.{after-none, none_pass}
 use Rattle.ttx_page.proofs.TextSpan.{text_span-later, text_span-none_keeps, text_span-push}
 
--- ---- one more packet
-
--- The code of the first packet of a row, if there is one.
 abbrev code_in : ℕ → Option (List ℕ) → ℕ
 code_in column found = unwrap_or (option_map (λ p. code_of (text_byte p column)) found) space
 
--- The packets received, and one more that may follow all of them.
 module _ (keeps : Bool) (w : PageIdValue) (before heard : List (List ℕ)) (packet : List ℕ) where
-  -- All packets sent.
   abbrev all : List (List ℕ)
   all = before ++ heard
 
-  -- Their long span, and that of the packets received.
   abbrev all_spanned : List (List ℕ)
   all_spanned = text_span keeps (kind w) all
 
   abbrev spanned : List (List ℕ)
   spanned = text_span keeps (kind w) heard
 
-  -- A packet of the row.
   abbrev test : ℕ → List ℕ → Bool
   test row p = is_row row (kind w p)
 
-  -- A packet in the long span of those received is in that of all.
   within_all : (q : List ℕ) → Contains spanned q → Contains all_spanned q
   within_all q within =
       let later = text_span-later (kind w) keeps before heard in
       subst (λ (ps : List (List ℕ)). Contains ps q) (sym later.1)
       (Contains-append_right later.0 spanned q within)
 
-  -- If a row has a packet in the long span, the first one stays the first.
+  -- If a row has a packet in the long span, one more packet does not change which packet of the row
+  -- is the first.
   first_stays : (row : ℕ) (q : List ℕ)
       → begins_text keeps (kind w packet) ≡ false
       → Contains all_spanned q
@@ -94,7 +87,6 @@ module _ (keeps : Bool) (w : PageIdValue) (before heard : List (List ℕ)) (pack
 
   module _ (sends : SendsText keeps w heard (kept keeps w all))
       (follows : MayFollow keeps w all packet) where
-    -- How the long span of the packets received changes.
     of_pushed : (P : List (List ℕ) → Type 0)
         → P []
         → (begins_text keeps (kind w packet) ≡ false → P spanned)
@@ -117,7 +109,7 @@ module _ (keeps : Bool) (w : PageIdValue) (before heard : List (List ℕ)) (pack
         go false true true e p q = was p
         go false false t e p q = was p
 
-    -- The codes of the packets received stay those of the text.
+    -- One more packet does not change the codes that the packets received have in the text.
     codes_stay : begins_text keeps (kind w packet) ≡ false
         → All (HasCodes w (kept keeps w (all ++ packet ∷ []))) spanned
     codes_stay no_begin k d l row column is below =
@@ -126,7 +118,6 @@ module _ (keeps : Bool) (w : PageIdValue) (before heard : List (List ℕ)) (pack
         sends.codes k d l row column is below
         ∙ ap (code_in column) (sym (first_stays row q no_begin within is))
 
-    -- The packet has the codes of the text.
     codes_here : is_open_after (kind w) heard ≡ true
         → begins_text keeps (kind w packet) ≡ false
         → HasCodes w (kept keeps w (all ++ packet ∷ [])) packet
@@ -143,7 +134,6 @@ module _ (keeps : Bool) (w : PageIdValue) (before heard : List (List ℕ)) (pack
         passes : test row packet ≡ true
         passes = grind (arith, nat_tests)
 
-        -- The first packet of the row, including this one.
         first_is : (o : Option (List ℕ))
             → find (test row) all_spanned ≡ o
             → find (test row) (text_span keeps (kind w) (all ++ packet ∷ []))
@@ -176,7 +166,6 @@ module _ (keeps : Bool) (w : PageIdValue) (before heard : List (List ℕ)) (pack
             ap (code_in column) here in
             sym (follows.same opened row column first is e below) ∙ sym code
 
-    -- The packets received still send the text of all.
     sends-push : SendsText keeps w (heard ++ packet ∷ []) (kept keeps w (all ++ packet ∷ []))
     sends-push = record {
       exact = All-push HasExactWords heard packet sends.exact follows.exact;
@@ -192,8 +181,8 @@ module _ (keeps : Bool) (w : PageIdValue) (before heard : List (List ℕ)) (pack
           (codes_stay no_begin) (codes_here up no_begin));
     }
 
--- Packets that may each follow those before them send, together with those received before, the
--- text that is kept of all.
+-- If each of `more` may follow the packets before it, the packets received and `more` together send
+-- the text that is kept of all packets.
 pub sends-joined : (keeps : Bool) (w : PageIdValue) (before heard more : List (List ℕ))
     → SendsText keeps w heard (kept keeps w (before ++ heard))
     → ((k : ℕ)
@@ -230,9 +219,6 @@ sends-joined keeps w before heard (p ∷ more) sends each =
     ∙ append_assoc (before ++ heard) (p ∷ []) more)
     rest)
 
--- ---- if repeats must not keep
-
--- Sound packets send the text that all packets show.
 pub sends_of_sound : (w : PageIdValue) (before heard : List (List ℕ))
     → IsSound w heard
     → SendsText false w heard (kept false w (before ++ heard))
@@ -255,7 +241,6 @@ sends_of_sound w before heard sound =
           ];
     }
 
--- Packets that send a text are sound. For a checker's laws.
 pub sound_of_sends : (w : PageIdValue) (sent : List (List ℕ)) (text : ℕ → ℕ → ℕ)
     → SendsText false w sent text
     → IsSound w sent

@@ -1,4 +1,5 @@
--- The law of noise with loss of any packets but page headers, and for receivers that drop rows.
+-- The law of noise if packets are lost, and for receivers that drop rows. Any packets but page
+-- headers may be lost.
 use Rattle.std.specs.Prelude.{◌≡◌, ◌≢◌, ◌↔◌, ℕ, Bool, true, false, List, [], ◌∷◌, zip, All, Any}
 use Rattle.std.specs.Prelude.{Option, Some, None, IsTrue, IsFalse, ⊤}
 use Rattle.std.specs.List.{AllZip, items_where_true}
@@ -14,29 +15,29 @@ use Rattle.ttx_page.specs.Receiver.{HearsBy, ReceiverClass, State}
 use Rattle.ttx_page.specs.Shown.{IsHit}
 use Rattle.ttx_page.specs.Span.{span}
 
--- The packet is no page header: its packet number is not 0.
+-- The packet is no page header, so it may be lost: its packet number is not 0.
 abbrev pub MayBeLost : List ℕ → Type 0
 MayBeLost packet = (a : PacketAddress) → address packet ≡ Some a → a.packet_number ≢ 0
 
--- `arrives` says whether the packet arrived. Page headers always do.
+-- A packet that did not arrive is no page header. `arrives` says whether the packet arrived.
 abbrev pub LosesNoHeader : List ℕ → Bool → Type 0
 LosesNoHeader sent arrives = IsFalse arrives → MayBeLost sent
 
--- For each packet the bytes received, `None` if it was lost. `got` has those of the packets that
--- arrived.
+-- The bytes received for each packet, `None` if the packet was lost. `got` has the bytes of the
+-- packets that arrived.
 abbrev pub arrivals_of : List Bool → List (List ℕ) → List (Option (List ℕ))
 arrivals_of [] got = []
 arrivals_of (false ∷ arrived) got = None ∷ arrivals_of arrived got
 arrivals_of (true ∷ arrived) [] = None ∷ arrivals_of arrived []
 arrivals_of (true ∷ arrived) (first ∷ got) = Some first ∷ arrivals_of arrived got
 
--- The packet was lost, or received with a different byte at the column.
+-- The packet was lost, or its byte at the column was received with another value.
 abbrev pub LosesByte : List ℕ → Option (List ℕ) → ℕ → Type 0
 LosesByte sent None column = ⊤
 LosesByte sent (Some got) column = text_byte got column ≢ text_byte sent column
 
--- The byte of a cell was hit: a packet of its row in the span was lost, or received with a
--- different byte at the column.
+-- The byte of a cell was hit: a packet of the cell's row in the span was lost, or was received with
+-- another byte at the column.
 abbrev pub IsHitOrLost :
     PageIdValue → List (List ℕ) → List (Option (List ℕ)) → ℕ → ℕ → Type 0
 IsHitOrLost w sent arrivals row column =
@@ -45,8 +46,8 @@ IsHitOrLost w sent arrivals row column =
 
 -- The law of noise if any packets but page headers are lost, and the others are received with at
 -- most one wrong bit in each byte. A cell of a lost row counts as hit. For receivers that drop
--- rows, a cell counts as hit if any byte of a packet of its row was hit. So in this case too, noise
--- never puts a wrong character on the screen.
+-- rows, a cell counts as hit if any byte of a packet of its row was hit. So noise never puts a
+-- wrong character on the screen, even if packets are lost.
 abbrev pub LawOfLostRows : Type 0
 LawOfLostRows =
     (class : ReceiverClass) (w : PageIdValue) (sent : List (List ℕ)) (arrived : List Bool)
@@ -61,7 +62,7 @@ LawOfLostRows =
 
 -- ---- without loss
 
--- If every packet arrives, the packets and the hits are those of the law of noise.
+-- If every packet arrives, the packets received and the cells hit are those of the law of noise.
 pub record LosesNothing (w : PageIdValue) (sent : List (List ℕ)) (arrived : List Bool)
     : Type 0 where
   pub kept : items_where_true arrived sent ≡ sent
@@ -72,7 +73,7 @@ pub record LosesNothing (w : PageIdValue) (sent : List (List ℕ)) (arrived : Li
       → IsHitOrLost w sent (arrivals_of arrived got) row column
       ↔ IsHit w sent got row column
 
--- So the law of noise is the law of lost rows without loss.
+-- The law of noise is the law of lost rows for the case that every packet arrives.
 abbrev pub LawOfNothingLost : Type 0
 LawOfNothingLost =
     (w : PageIdValue) (sent : List (List ℕ)) (arrived : List Bool)

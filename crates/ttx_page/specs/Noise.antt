@@ -15,20 +15,20 @@ use Rattle.ttx_page.specs.Receiver.{State, Hears}
 use Rattle.ttx_page.specs.Shown.{shown, IsHit}
 use Rattle.ttx_page.specs.Span.{holds_header, is_open_after, span}
 
--- A header of the page erases it: C4 is set.
+-- If the packet is a header of page w, the header erases the page: C4 is set.
 abbrev pub ErasesPage : PageIdValue → List ℕ → Type 0
 ErasesPage w packet = (h : Header) → kind w packet ≡ ThisPage h → IsTrue (c4 h)
 
--- A row of the page has 40 bytes of odd parity.
+-- If the packet is a row of page w, its 40 data bytes have odd parity.
 abbrev pub IsOddRow : PageIdValue → List ℕ → Type 0
 IsOddRow w packet = (row : ℕ) → kind w packet ≡ Row row → HasOddText packet
 
--- Two packets of one row are equal.
+-- If both packets are the same row of page w, the packets are equal.
 abbrev pub IsSameRow : PageIdValue → List ℕ → List ℕ → Type 0
 IsSameRow w first second =
     (row : ℕ) → kind w first ≡ Row row → kind w second ≡ Row row → first ≡ second
 
--- Two packets of one row have the same codes.
+-- If both packets are the same row of page w, they have the same codes.
 abbrev pub HasSameCodes : PageIdValue → List ℕ → List ℕ → Type 0
 HasSameCodes w first second =
     (row column : ℕ)
@@ -37,26 +37,28 @@ HasSameCodes w first second =
     → column < 40
     → code_of (text_byte first column) ≡ code_of (text_byte second column)
 
--- The requirements on the packets that are sent.
+-- The packets that are sent are sound, which the law of noise requires of them.
 pub record IsSound (w : PageIdValue) (sent : List (List ℕ)) : Type 0 where
-  -- Addresses and headers are code words, without a wrong bit.
+  -- Addresses and page headers are code words, without a wrong bit.
   pub exact : All HasExactWords sent
-  -- Each header of the page erases it.
+  -- Each header of the page erases the page.
   pub erases : All (ErasesPage w) sent
-  -- In the span each row has 40 bytes of odd parity.
+  -- In the span, each row has 40 bytes of odd parity.
   pub odd : All (IsOddRow w) (span (kind w) sent)
-  -- In the span two packets of one row have the same codes.
+  -- In the span, two packets of the same row have the same codes.
   pub same : All (λ first. All (HasSameCodes w first) (span (kind w) sent)) (span (kind w) sent)
 
--- The final state of a receiver that had not received the page, and whose page was not open.
+-- The final state of a receiver that had not received the page before, and whose page was not open.
 pub record EndsAs
     (w : PageIdValue) (sent : List (List ℕ)) (IsExcused : ℕ → ℕ → Type 0) (new : State)
     : Type 0 where
-  -- It has received the page exactly if the packets contain a header of it.
+  -- The receiver has received the page exactly if the packets contain a header of the page.
   pub heard : new.heard ≡ holds_header (kind w) sent
-  -- The page is open exactly if it was received, and no later header ended the span.
+  -- The page is open exactly if the packets contain a header of the page, and no later header ended
+  -- the span.
   pub is_open : new.is_open ≡ is_open_after (kind w) sent
-  -- If it was received, each cell has the code that is shown, or an excused space.
+  -- If the receiver has received the page, each cell has the code that is shown, or an excused
+  -- space.
   pub cells :
       IsTrue new.heard
       → (row column : ℕ)
@@ -64,9 +66,9 @@ pub record EndsAs
       → (cell new.page row column ≡ shown w sent row column)
       ⊎ ((cell new.page row column ≡ space) × IsExcused row column)
 
--- With at most one wrong bit in each byte, every receiver receives the page if a header of it was
--- sent. Each cell then has the code that was sent, or a space if its byte was hit. So noise never
--- puts a wrong character on the screen.
+-- With at most one wrong bit in each byte, every receiver receives the page if a header of the page
+-- was sent. Each cell then has the code that was sent, or a space if its byte was hit. So noise
+-- never puts a wrong character on the screen.
 abbrev pub LawOfNoise : Type 0
 LawOfNoise =
     (w : PageIdValue) (sent got : List (List ℕ)) (old new : State)
@@ -77,8 +79,8 @@ LawOfNoise =
     → Hears w old got new
     → EndsAs w sent (IsHit w sent got) new
 
--- Without wrong bits each cell has the code that is shown, whatever the old page and the receiver's
--- choices.
+-- Without wrong bits, each cell of a receiver has the code that is shown, whatever the page showed
+-- before and whatever the receiver does at bytes of even parity.
 abbrev pub LawOfFaultFree : Type 0
 LawOfFaultFree =
     (w : PageIdValue) (sent : List (List ℕ)) (old new : State)

@@ -1,8 +1,8 @@
 -- The meaning of a packet for a receiver of one page (EN 300 706, page header and packets X/1 to
 -- X/24).
 --
--- All other definitions (the receiver's steps, the span, the codes shown, the hits) depend on a
--- packet's header only through its kind.
+-- The other definitions (the receiver's steps, the span, the codes shown, the hits) depend on a
+-- packet's header only through the packet's kind.
 use Rattle.std.specs.Prelude.{ℕ, ◌&&◌, ◌||◌, not, Bool, true, false, List, Option, Some, None}
 use Rattle.std.specs.Prelude.{◌==◌, nat_le, if◌then◌else◌}
 use Rattle.ttx_packet.specs.declared.header.Header.{Header}
@@ -13,9 +13,9 @@ use Rattle.ttx_page.specs.declared.packet_kind.PacketKind.{PacketKind}
 use Rattle.ttx_page.specs.declared.packet_kind.PacketKind.TheVariants.{ThisPage, EndsPage, Row}
 use Rattle.ttx_page.specs.declared.packet_kind.PacketKind.TheVariants.{Other}
 
--- A packet X/0. Without a header it has no effect. In the page's magazine it is a header of the
--- page, or ends the page. In another magazine it ends the page in serial mode, C11 set, and has no
--- effect in parallel mode, C11 clear.
+-- The kind of a packet X/0. If its header cannot be decoded, the packet has no effect. In the
+-- page's magazine, the packet is a header of the page, or ends the page. In another magazine, the
+-- packet ends the page in serial mode, C11 set, and has no effect in parallel mode, C11 clear.
 abbrev pub kind_of_header : PageIdValue → ℕ → Option Header → PacketKind
 kind_of_header w magazine None = Other
 kind_of_header w magazine (Some h) =
@@ -24,7 +24,7 @@ kind_of_header w magazine (Some h) =
     else (if c11 h then EndsPage else Other)
 
 -- The kind of a packet, by its address and its header. Packets X/1 to X/24 of the page's magazine
--- are its rows.
+-- are rows of the page.
 abbrev pub kind_at : PageIdValue → Option PacketAddress → Option Header → PacketKind
 kind_at w None h = Other
 kind_at w (Some a) h =
@@ -34,32 +34,33 @@ kind_at w (Some a) h =
     then Row a.packet_number
     else Other)
 
--- The kind of a packet for a receiver of the page.
+-- The kind of a packet for a receiver of page w.
 unfoldable pub kind : PageIdValue → List ℕ → PacketKind
 kind w packet = kind_at w (address packet) (header packet)
 
--- A header of the page.
+-- The packet is a header of the page.
 abbrev pub is_this_page : PacketKind → Bool
 is_this_page (ThisPage h) = true
 is_this_page _ = false
 
--- A header that starts a new text of the page: one that erases it, C4 set. If repeats must not keep
--- earlier text, each header of the page does.
+-- The packet is a header that starts a new text of the page. If repeats may keep earlier text
+-- (`keeps`), only headers that erase the page, C4 set, start a new text; otherwise every header of
+-- the page does.
 abbrev pub begins_text : Bool → PacketKind → Bool
 begins_text keeps (ThisPage h) = c4 h || not keeps
 begins_text keeps _ = false
 
--- A header that ends the page.
+-- The packet is a header that ends the page.
 abbrev pub ends_page : PacketKind → Bool
 ends_page EndsPage = true
 ends_page _ = false
 
--- A packet of this row.
+-- The packet is this row of the page.
 abbrev pub is_row : ℕ → PacketKind → Bool
 is_row row (Row y) = y == row
 is_row row _ = false
 
--- A packet of some row.
+-- The packet is some row of the page.
 abbrev pub is_some_row : PacketKind → Bool
 is_some_row (Row y) = true
 is_some_row _ = false

@@ -1,4 +1,5 @@
--- A page: rows 1 to 24 (EN 300 706, packets X/1 to X/24), columns 0 to 39, a code in each cell.
+-- A Teletext page: rows 1 to 24 (EN 300 706, packets X/1 to X/24), columns 0 to 39, and a code in
+-- each cell.
 use Rattle.std.specs.Prelude.{◌≡◌, ◌≢◌, ℕ, ◌-◌, ◌<◌, ◌≤◌, List, [], length, slice_index}
 use Rattle.std.specs.Prelude.{slice_index_or, replicate}
 
@@ -18,7 +19,7 @@ blank_row = replicate 40 space
 unfoldable pub blank : Rows
 blank = replicate 24 blank_row
 
--- The codes of a row, 1 to 24.
+-- The 40 codes of a row, 1 to 24.
 abbrev pub row_at : Rows → ℕ → List ℕ
 row_at page row = slice_index_or page (row - 1) []
 
@@ -26,30 +27,30 @@ row_at page row = slice_index_or page (row - 1) []
 abbrev pub cell : Rows → ℕ → ℕ → ℕ
 cell page row column = slice_index (row_at page row) column
 
--- The number is that of a row of a page.
+-- The number is that of a row of a page, 1 to 24.
 abbrev pub IsRow : ℕ → Type 0
 IsRow row = (1 ≤ row) × (row ≤ 24)
 
--- The two numbers are those of a cell of a page.
+-- The numbers are those of a cell of a page: row 1 to 24, and column 0 to 39.
 abbrev pub IsCell : ℕ → ℕ → Type 0
 IsCell row column = (1 ≤ row) × (row ≤ 24) × (column < 40)
 
--- A character or spacing attribute has 7 bits.
+-- The code of a character or spacing attribute has 7 bits.
 abbrev pub IsCode : ℕ → Type 0
 IsCode code = code < 128
 
--- Each number of a list is a code.
+-- Each number of the list is a code of 7 bits.
 abbrev pub AreCodes : List ℕ → Type 0
 AreCodes codes = (column : ℕ) → IsCode (slice_index codes column)
 
--- 24 rows of 40 codes below 128.
+-- A page has 24 rows of 40 codes below 128.
 pub record IsPage (page : Rows) : Type 0 where
   pub rows : length page ≡ 24
   pub columns : (i : ℕ) → i < 24 → length (slice_index_or page i []) ≡ 40
   pub codes : (i : ℕ) → AreCodes (slice_index_or page i [])
 
--- Two pages differ in this cell, but in no row above it and in no cell to the left of it in the
--- same row.
+-- Two pages differ in the cell at `row` and `column`, but in no row above and in no cell to the
+-- left in the same row.
 pub record DiffersFirst (a b : Rows) (row column : ℕ) : Type 0 where
   pub is_cell : IsCell row column
   pub differ : cell a row column ≢ cell b row column

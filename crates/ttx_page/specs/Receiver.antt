@@ -1,5 +1,6 @@
--- The model receiver of one page: its possible steps for each packet. It restates level 1 of EN 300
--- 706; the choice at a byte of even parity is (own). Receivers that drop rows are defined here too.
+-- The model receiver of one page: the steps that a receiver may make for each packet. The steps
+-- restate level 1 of EN 300 706; what happens to a cell at a byte of even parity is (own).
+-- Receivers that drop rows are defined here too.
 use Rattle.std.specs.Prelude.{◌≡◌, ◌≢◌, ℕ, ◌⊎◌, Bool, true, false, List, [], ◌∷◌, MatchBool}
 use Rattle.std.specs.Prelude.{if◌then◌else◌, ◌&&◌, is_some, IsTrue, IsFalse}
 use Rattle.ttx_packet.specs.Parity.{code_of, is_odd}
@@ -12,8 +13,8 @@ use Rattle.ttx_page.specs.declared.packet_kind.PacketKind.TheVariants.{Other}
 use Rattle.ttx_page.specs.Page.{Rows, space, blank, cell, IsCell}
 use Rattle.ttx_page.specs.PacketKind.{kind, is_some_row}
 
--- The state of a receiver: it has received a header of its page or not, the page is open for rows
--- or not, and the page's contents.
+-- The state of a receiver: whether it has received a header of its page, whether the page is open
+-- for rows, and the page's contents.
 pub record State : Type 0 where
   pub heard : Bool
   pub is_open : Bool
@@ -24,14 +25,14 @@ pub record Tuned : Type 0 where
   pub watched : PageIdValue
   pub state : State
 
--- A cell takes the code of an odd byte. At a byte of even parity it keeps its code or becomes a
--- space; the receiver may choose for each cell.
+-- A cell takes the code of a byte with odd parity. At a byte of even parity the cell keeps its code
+-- or becomes a space; the receiver may choose for each cell.
 abbrev pub StoresByte : ℕ → ℕ → ℕ → Type 0
 StoresByte byte old new =
     (IsTrue (is_odd byte) → new ≡ code_of byte)
     × (IsFalse (is_odd byte) → (new ≡ old) ⊎ (new ≡ space))
 
--- Row y takes the text of the packet, cell by cell; the other rows do not change.
+-- Row y of the page takes the text of the packet, cell by cell; the other rows do not change.
 abbrev pub StoresRow : List ℕ → ℕ → Rows → Rows → Type 0
 StoresRow packet y old new =
     (row column : ℕ)
@@ -39,9 +40,9 @@ StoresRow packet y old new =
     → (row ≡ y → StoresByte (text_byte packet column) (cell old row column) (cell new row column))
     × (row ≢ y → cell new row column ≡ cell old row column)
 
--- The possible steps for a packet of each kind.
+-- The steps that a receiver may make for a packet of each kind.
 abbrev pub StepAt : PacketKind → List ℕ → State → State → Type 0
--- A header of its page opens the page, and blanks it if erase page, C4, is set.
+-- A header of the receiver's page opens the page, and blanks it if C4, erase page, is set.
 StepAt (ThisPage h) packet old new =
     new ≡ record { heard = true; is_open = true; page = if c4 h then blank else old.page }
 -- A header that ends the page closes it.
@@ -51,20 +52,22 @@ StepAt (Row y) packet old new =
     MatchBool old.is_open
     ((new.heard ≡ old.heard) × (new.is_open ≡ old.is_open) × StoresRow packet y old.page new.page)
     (new ≡ old)
--- Every other packet changes nothing.
+-- A packet of any other kind changes nothing.
 StepAt Other packet old new = new ≡ old
 
--- A receiver of page w may make this step when it receives the packet.
+-- The step from `old` to `new` is one that a receiver of page w may make when it receives the
+-- packet.
 abbrev pub Step : PageIdValue → State → List ℕ → State → Type 0
 Step w old packet new = StepAt (kind w packet) packet old new
 
--- A run: one step for each packet, from the old state to the new one.
+-- A run of a receiver: one step for each packet, from the state `old` to the state `new`.
 abbrev pub RunsBy : {S : Type 0} → (S → List ℕ → S → Type 0) → S → List (List ℕ) → S → Type 0
 RunsBy StepsBy old [] new = new ≡ old
 RunsBy {S} StepsBy old (packet ∷ packets) new =
     (mid : S) × StepsBy old packet mid × RunsBy StepsBy mid packets new
 
--- A receiver of page w may go from one state to the other when it receives these packets.
+-- A receiver of page w may go from the state `old` to the state `new` when it receives these
+-- packets.
 abbrev pub Hears : PageIdValue → State → List (List ℕ) → State → Type 0
 Hears w old packets new = RunsBy (Step w) old packets new
 
@@ -80,24 +83,24 @@ AtEvenBytes Becomes w old packet new =
     → IsFalse (is_odd (text_byte packet column))
     → Becomes (cell old.page row column) (cell new.page row column)
 
--- A receiver with a fixed choice: in each cell whose byte has even parity it leaves this code,
--- given the old one. A receiver that keeps cells leaves the old code, one that blanks them leaves a
+-- A receiver with a fixed choice at bytes of even parity: it stores `leaves` of the cell's old
+-- code. A receiver that keeps cells stores the old code, and a receiver that blanks cells stores a
 -- space.
 abbrev pub LeavesCells : (ℕ → ℕ) → PageIdValue → State → List ℕ → State → Type 0
 LeavesCells leaves w old packet new = AtEvenBytes (λ was is. is ≡ leaves was) w old packet new
 
--- A step of the relation with a fixed choice at each byte of even parity.
+-- A step of a receiver with a fixed choice at bytes of even parity.
 abbrev pub StepLeaving : (ℕ → ℕ) → PageIdValue → State → List ℕ → State → Type 0
 StepLeaving leaves w old packet new = Step w old packet new × LeavesCells leaves w old packet new
 
--- A run with a fixed choice.
+-- A run of a receiver with a fixed choice at bytes of even parity.
 abbrev pub HearsLeaving : (ℕ → ℕ) → PageIdValue → State → List (List ℕ) → State → Type 0
 HearsLeaving leaves w old packets new = RunsBy (StepLeaving leaves w) old packets new
 
 -- ---- two classes of receivers
 
--- The laws cover receivers of two classes: those that store the odd bytes of each row, whatever its
--- other bytes, and those that drop a row with a byte of even parity.
+-- The two classes of receivers that the laws cover: those that store the odd bytes of each row,
+-- whatever its other bytes, and those that drop a row with a byte of even parity.
 pub data ReceiverClass : Type 0 where
   Storing : ReceiverClass
   Dropping : ReceiverClass
@@ -106,16 +109,16 @@ pub data ReceiverClass : Type 0 where
 abbrev pub is_dropped : PageIdValue → List ℕ → Bool
 is_dropped w packet = is_some_row (kind w packet) && is_some (first_even_byte packet)
 
--- A receiver of page w and of the class drops the packet.
+-- A receiver of page w and of this class drops the packet.
 abbrev pub drops : ReceiverClass → PageIdValue → List ℕ → Bool
 drops Storing w packet = false
 drops Dropping w packet = is_dropped w packet
 
--- A step of a receiver of the class: it ignores a packet that it drops, and makes a step of the
--- receiver relation at every other packet.
+-- A step of a receiver of a class: the receiver ignores a packet that it drops, and makes a step of
+-- the receiver relation `Step` at every other packet.
 abbrev pub StepBy : ReceiverClass → PageIdValue → State → List ℕ → State → Type 0
 StepBy class w old packet new = MatchBool (drops class w packet) (new ≡ old) (Step w old packet new)
 
--- A run of a receiver of the class.
+-- A run of a receiver of a class.
 abbrev pub HearsBy : ReceiverClass → PageIdValue → State → List (List ℕ) → State → Type 0
 HearsBy class w old packets new = RunsBy (StepBy class w) old packets new

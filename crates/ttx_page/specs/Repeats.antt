@@ -1,5 +1,5 @@
--- Receivers of a page that is repeated without erasing it: at a header with C4, erase page, clear,
--- receivers in the field may keep the page's contents or start from a blank page.
+-- Receivers of a page that is repeated without being erased: at a header with C4, erase page,
+-- clear, receivers in the field may keep the page's contents or start from a blank page.
 use Rattle.std.specs.Prelude.{◌≡◌, ℕ, ◌<◌, ◌⊎◌, ◌||◌, Bool, true, false, not, List, All}
 use Rattle.std.specs.Prelude.{MatchBool, Some, find, IsTrue, IsFalse}
 use Rattle.std.specs.List.{AllZip, items_where_true, list_any}
@@ -20,17 +20,17 @@ use Rattle.ttx_page.specs.Shown.{kept}
 use Rattle.ttx_page.specs.Screen.{Display, ShowsAt}
 use Rattle.ttx_page.specs.Span.{holds_beginning, holds_header, is_open_after, span, text_span}
 
--- ---- receivers
+-- ---- receivers that may forget
 
--- Each cell keeps its code or becomes a space; the receiver may choose for each cell.
+-- Each cell of a page keeps its code or becomes a space; the receiver may choose for each cell.
 abbrev pub KeepsOrBlanks : Rows → Rows → Type 0
 KeepsOrBlanks old new =
     (row column : ℕ)
     → IsCell row column
     → (cell new row column ≡ cell old row column) ⊎ (cell new row column ≡ space)
 
--- The possible steps of a receiver that may forget: like `StepAt`, but at a header of its page with
--- C4 clear each cell keeps its code or becomes a space.
+-- The steps of a receiver that may forget: those of `StepAt`, but at a header of its page with C4
+-- clear, each cell keeps its code or becomes a space.
 abbrev pub ForgetsAt : PacketKind → List ℕ → State → State → Type 0
 ForgetsAt (ThisPage h) packet old new =
     (new.heard ≡ true)
@@ -42,25 +42,25 @@ ForgetsAt k packet old new = StepAt k packet old new
 abbrev pub IsBlank : Rows → Type 0
 IsBlank page = (row column : ℕ) → IsCell row column → cell page row column ≡ space
 
--- If `anew` is set, the receiver has a blank page after each header of it.
+-- If `anew` is set, the receiver has a blank page after each header of its page.
 abbrev pub BeginsAnew : Bool → PageIdValue → List ℕ → State → Type 0
 BeginsAnew anew w packet new =
     IsTrue anew → IsTrue (is_this_page (kind w packet)) → IsBlank new.page
 
--- A step of a receiver of the class that may forget; if `anew` is set, it starts from a blank page
--- at each header.
+-- A step of a receiver that may forget, for a class of receivers; if `anew` is set, the receiver
+-- starts from a blank page at each header of its page.
 abbrev pub StepForgetting :
     ReceiverClass → Bool → PageIdValue → State → List ℕ → State → Type 0
 StepForgetting class anew w old packet new =
     MatchBool (drops class w packet) (new ≡ old)
     (ForgetsAt (kind w packet) packet old new × BeginsAnew anew w packet new)
 
--- A run of such a receiver.
+-- A run of a receiver that may forget.
 abbrev pub HearsForgetting :
     ReceiverClass → Bool → PageIdValue → State → List (List ℕ) → State → Type 0
 HearsForgetting class anew w old packets new = RunsBy (StepForgetting class anew w) old packets new
 
--- A run of such a receiver with a screen.
+-- A run of a receiver that may forget, with a screen.
 abbrev pub ShowsForgetting :
     ReceiverClass → Bool → PageIdValue → Display → List (List ℕ) → Display → Type 0
 ShowsForgetting class anew w old packets new =
@@ -69,15 +69,15 @@ ShowsForgetting class anew w old packets new =
     × ShowsAt w before packet after)
     old packets new
 
--- A receiver that keeps its page is one of those that may forget.
+-- A receiver that keeps its page is one of the receivers that may forget.
 abbrev pub LawOfForgetting : Type 0
 LawOfForgetting =
     (class : ReceiverClass) (w : PageIdValue) (packets : List (List ℕ)) (old new : State)
     → HearsBy class w old packets new
     → HearsForgetting class false w old packets new
 
--- From any state of such a receiver: if it has received a header of its page, and the page is not
--- open, the decoded page is on the screen.
+-- From any state of a receiver that may forget: if it has received a header of its page, and the
+-- page is not open, the decoded page is on the screen.
 abbrev pub LawOfForgettingScreen : Type 0
 LawOfForgettingScreen =
     (class : ReceiverClass) (anew : Bool) (w : PageIdValue) (packets : List (List ℕ))
@@ -89,7 +89,7 @@ LawOfForgettingScreen =
 
 -- ---- the law of repeats
 
--- A row has the codes of the text.
+-- The packet, if it is a row of page w, has the codes of the text.
 abbrev pub HasCodes : PageIdValue → (ℕ → ℕ → ℕ) → List ℕ → Type 0
 HasCodes w text packet =
     (row column : ℕ)
@@ -97,20 +97,20 @@ HasCodes w text packet =
     → column < 40
     → code_of (text_byte packet column) ≡ text row column
 
--- The requirements on the packets that send a text.
+-- The packets send a text, which the law of repeats requires of them.
 pub record SendsText
     (keeps : Bool) (w : PageIdValue) (sent : List (List ℕ)) (text : ℕ → ℕ → ℕ)
     : Type 0 where
-  -- Addresses and headers are code words, without a wrong bit.
+  -- Addresses and page headers are code words, without a wrong bit.
   pub exact : All HasExactWords sent
-  -- If repeats must not keep earlier text, each header of the page erases it.
+  -- If repeats must not keep earlier text, each header of the page erases the page.
   pub erases : IsFalse keeps → All (ErasesPage w) sent
-  -- In the long span each row has 40 bytes of odd parity, and the codes of the text.
+  -- In the long span, each row has 40 bytes of odd parity, and the codes of the text.
   pub odd : All (IsOddRow w) (text_span keeps (kind w) sent)
   pub codes : All (HasCodes w text) (text_span keeps (kind w) sent)
 
--- The requirements on the next packet: a row that is sent while the page is open is odd, and has
--- the codes of the first packet of its row in the long span.
+-- The packet may follow the packets before it: if it is a row that is sent while the page is open,
+-- its bytes are odd, and it has the codes of the first packet of its row in the long span.
 pub record MayFollow
     (keeps : Bool) (w : PageIdValue) (before : List (List ℕ)) (packet : List ℕ)
     : Type 0 where
@@ -133,7 +133,7 @@ IsFresh keeps anew w sent old =
     ⊎ (IsTrue (holds_beginning keeps (kind w) sent)
     ⊎ (IsFalse old.is_open × IsBlank old.page))
 
--- The span has no packet of the row.
+-- The span contains no packet of the row.
 abbrev pub HasNoRow : PageIdValue → List (List ℕ) → ℕ → Type 0
 HasNoRow w sent row =
     IsFalse (list_any (λ packet. is_row row (kind w packet)) (span (kind w) sent))
@@ -143,15 +143,16 @@ pub record EndsForgetting
     (keeps anew : Bool) (w : PageIdValue) (sent : List (List ℕ)) (text : ℕ → ℕ → ℕ)
     (IsExcused : ℕ → ℕ → Type 0) (old new : State)
     : Type 0 where
-  -- It has received the page exactly if it had before, or a header of it was sent.
+  -- The receiver has received the page exactly if it had received the page before, or a header of
+  -- the page was sent.
   pub heard : new.heard ≡ (old.heard || holds_header (kind w) sent)
-  -- If a header was sent, or the page was not open, the page is open exactly if a header was sent
-  -- and no later header ended the span.
+  -- If a header of the page was sent, or the page was not open, the page is open exactly if a
+  -- header of the page was sent and no later header ended the span.
   pub is_open :
       IsTrue (holds_header (kind w) sent || not old.is_open)
       → new.is_open ≡ is_open_after (kind w) sent
-  -- If the earlier contents no longer matter, each cell has the code of the text, or a space that
-  -- is excused or in a row without a packet in the span.
+  -- If the earlier contents of the page no longer matter, each cell has the code of the text, or a
+  -- space that is excused or in a row without a packet in the span.
   pub cells :
       IsTrue (holds_header (kind w) sent)
       → IsFresh keeps anew w sent old
@@ -160,9 +161,10 @@ pub record EndsForgetting
       → (cell new.page row column ≡ text row column)
       ⊎ ((cell new.page row column ≡ space) × (IsExcused row column ⊎ HasNoRow w sent row))
 
--- This holds for every receiver that may forget, from any state, if any packets but page headers
--- are lost, and the others are received with at most one wrong bit in each byte. So a repeat
--- without erasing repairs cells that noise has hit, and puts no wrong character on the screen.
+-- The law of repeats: every receiver that may forget, from any state, ends as `EndsForgetting`
+-- states, if any packets but page headers are lost, and the others are received with at most one
+-- wrong bit in each byte. So a repeat without erasing repairs cells that noise has hit, and puts no
+-- wrong character on the screen.
 abbrev pub LawOfRepeats : Type 0
 LawOfRepeats =
     (keeps anew : Bool) (class : ReceiverClass) (w : PageIdValue) (sent : List (List ℕ))
@@ -174,8 +176,8 @@ LawOfRepeats =
     → EndsForgetting keeps anew w sent text
     (ExcusedBy class (IsHitOrLost w sent (arrivals_of arrived got))) old new
 
--- Without wrong bits a receiver that keeps its page has the codes of `kept`, once the earlier
--- contents no longer matter.
+-- Without wrong bits, a receiver that keeps its page has the codes of `kept`, once the earlier
+-- contents of the page no longer matter.
 abbrev pub LawOfKept : Type 0
 LawOfKept =
     (keeps : Bool) (w : PageIdValue) (sent : List (List ℕ)) (old new : State)

@@ -52,8 +52,8 @@ impl Receiver for Blank {
         &self.memory.page
     }
 
-    /// Makes one step of the receiver relation. Each cell whose byte has even parity becomes a
-    /// space.
+    /// Receives a packet by one step of the receiver relation. Each cell whose byte has even parity
+    /// becomes a space.
     fn hear(&mut self, packet: &Packet) {
         self.memory.hear(packet, EvenByte::BlanksCell);
     }

@@ -10,10 +10,10 @@ use std::marker::Model;
 use ttx_packet::{Packet, PageId};
 
 /// A receiver that ignores a whole row if one of its 40 data bytes has even parity; the row on the
-/// page does not change. For all other packets it behaves like `Keep`.
+/// page does not change. For all other packets `DropRow` behaves like `Keep`.
 ///
-/// Some decoders in the field do this. It does not implement `Receiver`, because that relation
-/// stores the odd bytes of a damaged row. Its own relation is also in `specs/Receiver`.
+/// Some decoders in the field drop rows. `DropRow` does not implement `Receiver`, because a
+/// `Receiver` stores the odd bytes of a damaged row. `specs/Receiver` defines the relation of both.
 #[derive(Debug, Drop)]
 pub struct DropRow {
     memory: Memory,
@@ -31,7 +31,7 @@ impl Model for DropRow {
 
 impl DropRow {
     /// Creates a receiver of `page_id` that has received nothing. Its page is not open and has the
-    /// contents of `page`, which may be anything it showed before.
+    /// contents of `page`, which may be anything that the page showed before.
     pub fn tune(page_id: PageId, page: Page) -> DropRow
         ensures tuned { result.watched ≡ page_id }
         ensures state { result.state
@@ -71,7 +71,7 @@ impl DropRow {
         &self.memory.page
     }
 
-    /// Receives a packet: one step of the relation for receivers that drop rows.
+    /// Receives a packet by one step of the relation for receivers that drop rows.
     pub fn hear(&mut self, packet: &Packet)
         ensures step { StepBy Dropping self.old.watched self.old.state packet.now self.new.state }
         ensures tuned { self.new.watched ≡ self.old.watched }
@@ -81,7 +81,7 @@ impl DropRow {
         }
     }
 
-    /// Receives packets in order.
+    /// Receives a list of packets in order.
     #[tactic(auto, using(crate::proofs::RunLemmas::run_more))]
     pub fn hear_all(&mut self, packets: &[Packet])
         ensures run { HearsBy Dropping self.old.watched self.old.state packets.now self.new.state }

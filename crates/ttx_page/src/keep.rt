@@ -50,8 +50,8 @@ impl Receiver for Keep {
         &self.memory.page
     }
 
-    /// Makes one step of the receiver relation. Each cell whose byte has even parity keeps its
-    /// code.
+    /// Receives a packet by one step of the receiver relation. Each cell whose byte has even parity
+    /// keeps its code.
     fn hear(&mut self, packet: &Packet) {
         self.memory.hear(packet, EvenByte::KeepsCell);
     }

@@ -28,7 +28,7 @@ impl PacketKind {
 
     /// Returns the meaning of a packet for a receiver of the page `watched`.
     ///
-    /// It is inlined, since a receiver uses only C4 of a header.
+    /// The function is inlined, since a receiver uses only C4 of a header.
     #[inline(always)]
     pub fn of(watched: PageId, packet: &Packet) -> PacketKind
         ensures value { result ≡ kind watched packet.now }
@@ -37,8 +37,9 @@ impl PacketKind {
         PacketKind::with_header(watched, packet).0
     }
 
-    /// Returns the meaning of a packet and its page header, of whatever page (`None` if it has
-    /// none), for callers that inspect every header.
+    /// Returns the meaning of a packet for a receiver of the page `watched`, and the page header of
+    /// the packet, of whatever page (`None` if the packet has no header). For callers that inspect
+    /// every header.
     ///
     /// Reads the address only once, and the coded bytes only in a packet X/0.
     #[inline(always)]
@@ -74,7 +75,8 @@ impl PacketKind {
     }
 }
 
-// C11, magazine serial: a header in one magazine ends pages of all magazines.
+// Returns whether a page header has C11, magazine serial, set: the header then ends pages of all
+// magazines.
 fn is_serial(header: &Header) -> bool
     ensures { result ≡ c11 header.now }
 {

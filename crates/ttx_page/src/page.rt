@@ -1,4 +1,4 @@
-//! Pages: the 24 rows under the page header, with 40 codes each.
+//! Teletext pages: the 24 rows under the page header, with 40 codes each.
 ghost use Rattle.std.specs.Prelude.{◌≡◌, ◌≢◌, ℕ, ◌-◌, ◌<◌, ◌≤◌, slice_index, slice_set};
 ghost use Rattle.std.specs.Prelude.{IsTrue, MatchOption};
 ghost use Rattle.ttx_page.specs.Differing.{differing};
@@ -15,10 +15,10 @@ use std::marker::Model;
 /// Rows 1 to 24 of a page (EN 300 706, packets X/1 to X/24), columns 0 to 39.
 ///
 /// A cell has the 7 bits of a character or spacing attribute, without its parity bit. Row 0, the
-/// page header, is not included. The model is the list of rows.
+/// page header, is not included. The model of a page is the list of its rows.
 #[derive(Clone, Copy, PartialEq, Eq, Debug)]
 pub struct Page {
-    // Row 1 comes first.
+    // The codes of the 24 rows, row 1 first.
     rows: [[u8; 40]; 24],
 }
 
@@ -36,7 +36,7 @@ impl Model for Page {
 }
 
 impl Page {
-    /// Returns the page of spaces, code 20, that erase page, C4, leaves.
+    /// Returns the page of spaces, code 20, that results from C4, erase page.
     #[tactic(auto, unfolding(crate::specs::Page::blank, crate::specs::Page::blank_row))]
     pub fn blank() -> Page
         ensures { result ≡ blank }
@@ -79,7 +79,7 @@ impl Page {
     /// Returns the row and column of the first cell in which two pages differ: the least row, then
     /// the least column.
     ///
-    /// Returns `None` if they are equal.
+    /// Returns `None` if the pages are equal.
     pub fn first_difference(&self, other: &Page) -> Option<(u8, u8)>
         ensures { MatchOption result (self.now ≡ other.now)
             (λ at. DiffersFirst self.now other.now at.0 at.1) }
@@ -92,7 +92,7 @@ impl Page {
         None
     }
 
-    /// Returns how many of the 960 cells differ from a space, and so from the blank page.
+    /// Returns how many of the 960 cells of the page differ from a space.
     #[tactic(auto, unfolding(crate::specs::Differing::rows_differing))]
     pub fn cells_not_blank(&self) -> u16
         ensures value { result ≡ differing blank self.now }
@@ -109,7 +109,7 @@ impl Page {
     }
 }
 
-// Returns a row of spaces.
+// Returns a row of 40 spaces.
 #[inline(always)]
 #[tactic(auto, unfolding(crate::specs::Page::blank_row))]
 fn spaces() -> [u8; 40]
@@ -127,12 +127,12 @@ fn are_equal(a: &[u8; 40], b: &[u8; 40]) -> bool
     let (b_blocks, _) = b.as_chunks::<16>();
     let prefix = differing(&a_blocks[0], &b_blocks[0]);
     let middle = differing(&a_blocks[1], &b_blocks[1]);
-    // The last block overlaps the one before it, so that no column is left over.
+    // The last block overlaps the block before it, so that no column is left over.
     let last = differing(a.last_chunk().unwrap(), b.last_chunk().unwrap());
     (prefix == 0) & (middle == 0) & (last == 0)
 }
 
-// Returns the least column in which two rows differ.
+// Returns the least column in which two rows differ, or `None` if the rows are equal.
 fn first_column(a: &[u8; 40], b: &[u8; 40]) -> Option<u8>
     ensures { MatchOption result (a.now ≡ b.now) (λ c. (c < 40)
         × (slice_index a.now c ≢ slice_index b.now c)
@@ -146,7 +146,7 @@ fn first_column(a: &[u8; 40], b: &[u8; 40]) -> Option<u8>
             return Some((16 * i + mask.trailing_zeros() as usize) as u8);
         }
     }
-    // The last block overlaps the one before it, so that no column is left over.
+    // The last block overlaps the block before it, so that no column is left over.
     let last = differing(a.last_chunk().unwrap(), b.last_chunk().unwrap());
     if last != 0 {
         return Some((24 + last.trailing_zeros() as usize) as u8);

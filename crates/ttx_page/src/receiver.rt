@@ -1,4 +1,4 @@
-//! Receivers of one page: the trait, and the effect of a list of packets.
+//! Receivers of one page: their trait, and the effect of a list of packets.
 ghost use Rattle.std.specs.Prelude.{◌≡◌, ℕ, true, false};
 ghost use Rattle.ttx_packet.specs.PageId.{PageIdValue};
 ghost use Rattle.ttx_page.specs.Receiver.{Hears, HearsLeaving, LeavesCells, State, Step};
@@ -8,22 +8,23 @@ use ttx_packet::{Packet, PageId};
 
 /// A level 1 receiver of one page (EN 300 706), which receives packets and decodes the page.
 ///
-/// Its law is the clause `step` of `hear`: each packet is one step of the receiver relation in
-/// `specs/Receiver`. That relation does not specify the code of a cell whose byte has even parity;
-/// a receiver specifies it in `leaves`. `Keep` and `Blank` are the two extremes. `DropRow` is not a
-/// `Receiver`, since it drops whole rows.
+/// The law of a receiver is the clause `step` of `hear`: each packet is one step of the receiver
+/// relation in `specs/Receiver`. The relation leaves the code of a cell open if its byte has even
+/// parity; a receiver specifies that code in `leaves`. `Keep` and `Blank` are the two extremes.
+/// `DropRow` is not a `Receiver`, since it drops whole rows.
 pub trait Receiver: Sized {
     /// The page to which the receiver is tuned.
     ghost tuned_to: { Self → PageIdValue };
 
-    /// Whether it has received the page, whether the page is open, and the page's contents.
+    /// Whether the receiver has received the page, whether the page is open, and the page's
+    /// contents.
     ghost state: { Self → State };
 
-    /// The new code of a cell whose byte has even parity, given its old code.
+    /// The new code of a cell whose byte has even parity, given the cell's old code.
     ghost leaves: { ℕ → ℕ };
 
     /// Creates a receiver of `page_id` that has received nothing. Its page is not open and has the
-    /// contents of `page`, which may be anything it showed before.
+    /// contents of `page`, which may be anything that the page showed before.
     fn tune(page_id: PageId, page: Page) -> Self
         ensures tuned { tuned_to result ≡ page_id }
         ensures state { state result ≡ record { heard = false; is_open = false; page = page } };
@@ -45,7 +46,7 @@ pub trait Receiver: Sized {
     fn page(&self) -> &Page
         ensures { result.now ≡ (state self.now).page };
 
-    /// Receives a packet: one step of the receiver relation for its page, with its choice at each
+    /// Receives a packet by one step of the receiver relation, with the receiver's choice at each
     /// byte of even parity.
     fn hear(&mut self, packet: &Packet)
         ensures step { Step (tuned_to self.old) (state self.old) packet.now (state self.new) }
@@ -54,7 +55,7 @@ pub trait Receiver: Sized {
         ensures tuned { tuned_to self.new ≡ tuned_to self.old };
 }
 
-/// Receives packets in order, with the receiver's choice at each byte of even parity.
+/// Receives a list of packets in order, with the receiver's choice at each byte of even parity.
 #[tactic(auto, using(crate::proofs::RunLemmas::run_more))]
 pub fn hear_all<R: Receiver>(receiver: &mut R, packets: &[Packet])
     ensures run { Hears (R.tuned_to receiver.old) (R.state receiver.old) packets.now

@@ -7,10 +7,10 @@ use crate::page::Page;
 use crate::receiver::Receiver;
 use ttx_packet::Packet;
 
-/// Receives a packet. If it ends the open page, the decoded page is shown on the screen.
+/// Receives a packet. If the packet ends the open page, the decoded page is shown on the screen.
 ///
-/// `None` is a screen that shows nothing yet. A header of the page itself does not change the
-/// screen: a page is shown when a header of another page ends it, as in libzvbi.
+/// The screen `None` shows nothing yet. A header of the page itself does not change the screen: a
+/// page is shown when a header of another page ends it, as in libzvbi.
 pub fn show<R: Receiver>(receiver: &mut R, screen: &mut Option<Page>, packet: &Packet)
     ensures step { Step (R.tuned_to receiver.old) (R.state receiver.old) packet.now
         (R.state receiver.new) }
@@ -40,7 +40,7 @@ fn put_on(screen: &mut Option<Page>, page: &Page)
     }
 }
 
-/// Receives packets in order, with a screen that behaves as in `show`.
+/// Receives a list of packets in order, with a screen that behaves as in `show`.
 #[tactic(auto, using(crate::proofs::RunLemmas::run_more))]
 pub fn show_all<R: Receiver>(receiver: &mut R, screen: &mut Option<Page>, packets: &[Packet])
     ensures run { Shows (R.tuned_to receiver.old)

@@ -1,4 +1,4 @@
-//! The number of differing cells in two blocks of a row, one cell per lane of a vector.
+//! The number of cells in which two blocks of a row differ, one cell per lane of a vector.
 //!
 //! The comparison gives one bit per cell, and the result is the number of ones.
 ghost use Rattle.std.specs.Prelude.{◌≡◌, ◌≤◌};
@@ -6,7 +6,7 @@ ghost use Rattle.ttx_page.specs.Differing.{columns_differing};
 
 use std::simd::prelude::*;
 
-// Returns how many of 16 cells differ.
+// Returns how many of the 16 cells of two blocks differ.
 #[inline(always)]
 pub(super) fn differing_of_16(a: &[u8; 16], b: &[u8; 16]) -> u16
     ensures value { result ≡ columns_differing 16 a.now b.now }
@@ -18,7 +18,7 @@ pub(super) fn differing_of_16(a: &[u8; 16], b: &[u8; 16]) -> u16
     mask.count_ones() as u16
 }
 
-// Returns how many of 8 cells differ.
+// Returns how many of the 8 cells of two blocks differ.
 #[inline(always)]
 pub(super) fn differing_of_8(a: &[u8; 8], b: &[u8; 8]) -> u16
     ensures value { result ≡ columns_differing 8 a.now b.now }

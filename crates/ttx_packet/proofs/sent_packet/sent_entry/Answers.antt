@@ -1,4 +1,4 @@
--- The entry of a byte in `SENT_WORDS` is the number of its code word, or 256 if it is no code word:
+-- The table entry of a byte is the number of its code word, or 256 if the byte is no code word:
 -- SentWordLemmas.
 use Rattle.std.proofs.Common.{arith}
 use Rattle.ttx_packet.proofs.SentWordLemmas.{entry_small, no_word_from_sent, word_from_sent}

@@ -1,4 +1,5 @@
--- One more block, and the last one: columns_in_chunk.
+-- Each block of a row adds its differing columns to the count of `differing_columns`:
+-- columns_in_chunk.
 use Rattle.std.proofs.Common.{◌≡◌, ◌+◌, ◌*◌, drop, arith, rules, sym, ap₂, ◌∙◌}
 use Rattle.std.proofs.lemmas.Bool.Decides.{nat_tests}
 use lib.Lanes.{chunk}

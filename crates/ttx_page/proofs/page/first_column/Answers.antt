@@ -1,4 +1,5 @@
--- The masks of the blocks give the first column: none_so_far, first_so_far.
+-- The masks of the blocks of 16 columns give the first column in which two rows differ:
+-- none_so_far, first_so_far.
 use Rattle.std.proofs.Common.{◌≡◌, ◌*◌, false, drop, ap₂, ◌∙◌, arith, rules}
 use Rattle.std.proofs.lemmas.Simd.{length-zip2}
 use lib.Lanes.{zip2}

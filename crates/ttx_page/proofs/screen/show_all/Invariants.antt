@@ -1,4 +1,5 @@
--- The packets so far are a run, with a screen that waits.
+-- After each iteration of `show_all`, the packets so far are a run of the receiver with a screen
+-- that waits.
 use Rattle.std.proofs.Common.{◌≡◌, take}
 use Rattle.ttx_page.specs.Screen.{Shows, ShowsWaiting, display}
 use Rattle.ttx_page.proofs.screen.show_all.Given as goal

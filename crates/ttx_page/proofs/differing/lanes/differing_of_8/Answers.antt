@@ -1,4 +1,5 @@
--- The number of ones of the mask: ones_compared.
+-- The number of ones of the mask is the number of differing cells of two blocks of 8:
+-- ones_compared.
 use Rattle.std.proofs.Common.{arith}
 use Rattle.std.proofs.lemmas.Bool.Decides.{nat_tests}
 use Rattle.ttx_page.proofs.DifferingLemmas.{columns_le}
