@@ -36,9 +36,6 @@ use Rattle.sub_rules.proofs.EndRuleLemmas.{nothing_at}
 use Rattle.sub_laws.specs.BrokenPlaces.{IsKept, AreActiveFaults, WrongFirst}
 use Rattle.sub_laws.proofs.FrameByFrame.{IsFaultFree}
 
--- ---- the first cell
-
--- The cell passes a test, and none before it does.
 pub record IsFirstCell (test : ℕ → ℕ → Bool) (row column : ℕ) : Type 0 where
   pub is_cell : IsCell row column
   pub passes : test row column ≡ true
@@ -46,15 +43,12 @@ pub record IsFirstCell (test : ℕ → ℕ → Bool) (row column : ℕ) : Type 0
   pub before : (c : ℕ) → c < column → test row c ≡ false
 
 module _ (test : ℕ → ℕ → Bool) where
-  -- A row has a cell that passes.
   abbrev row_test : ℕ → Bool
   row_test above = is_some (first_below 40 (test (above + 1)))
 
-  -- Its first cell.
   abbrev in_row : ℕ → Option (ℕ × ℕ)
   in_row above = option_map (λ column. (above + 1, column)) (first_below 40 (test (above + 1)))
 
-  -- A row without such a cell.
   row_none : (above : ℕ) → row_test above ≡ false → (c : ℕ) → c < 40
       → test (above + 1) c ≡ false
   row_none above e = go (first_below 40 (test (above + 1))) refl e
@@ -64,11 +58,9 @@ module _ (test : ℕ → ℕ → Bool) where
       go None is e = below_none 40 (test (above + 1)) is
       go (Some k) is e = grind arith
 
-  -- A property of a cell, by its row counted from 0.
   by_row : (P : ℕ → Type 0) (r : ℕ) → 1 ≤ r → P (r - 1 + 1) → P r
   by_row P r l p = let e : r - 1 + 1 ≡ r = omega arith in subst P e p
 
-  -- The first cell of a row that has one, if no row above has one.
   at_row : (above : ℕ) → above < 24 → row_test above ≡ true
       → ((k : ℕ) → k < above → row_test k ≡ false)
       → (o : Option ℕ) → first_below 40 (test (above + 1)) ≡ o
@@ -87,7 +79,6 @@ module _ (test : ℕ → ℕ → Bool) where
         before = below_before 40 (test (above + 1)) column is;
       })
 
-  -- What `first_cell` finds.
   pub cell_found : (x : ℕ × ℕ) → first_cell test ≡ Some x → IsFirstCell test x.0 x.1
   unfolding first_cell
   cell_found x e = go (first_below 24 row_test) refl e
@@ -102,7 +93,6 @@ module _ (test : ℕ → ℕ → Bool) where
           at_row above first.0 first.1 (below_before 24 row_test above is)
           (first_below 40 (test (above + 1))) refl x e
 
-  -- If it finds none, no cell passes.
   pub cell_none : first_cell test ≡ None → (r c : ℕ) → IsCell r c → test r c ≡ false
   unfolding first_cell
   cell_none e r c is_cell =
@@ -124,7 +114,6 @@ module _ (test : ℕ → ℕ → Bool) where
           some_in None t n = grind arith
           some_in (Some k) t n = grind arith
 
-  -- If no cell passes, it finds none.
   pub no_cell : ((r c : ℕ) → IsCell r c → test r c ≡ false) → first_cell test ≡ None
   no_cell none = go (first_cell test) refl
     where
@@ -134,9 +123,6 @@ module _ (test : ℕ → ℕ → Bool) where
           let found = cell_found x e in
           absurd (true≢false (sym found.passes ∙ none x.0 x.1 found.is_cell))
 
--- ---- the active faults at an end
-
--- If the due page is known at each frame, it is known at the last ones.
 pub all_known : (undecided : ℕ → Bool) → ((frame : ℕ) → undecided frame ≡ false)
     → (first f m : ℕ) → was_undecided undecided first f m ≡ false
 unfolding was_undecided
@@ -144,18 +130,15 @@ all_known undecided each first f zero = grind (arith, nat_tests)
 all_known undecided each first f (suc m) =
     grind (arith, nat_tests, (all_known undecided each first f m))
 
--- So it is if no subtitle was refused.
 pub always_known : (first f m : ℕ) → was_undecided (λ frame. false) first f m ≡ false
 always_known = all_known (λ frame. false) (λ frame. refl)
 
--- The kept code is the due one, and unless that is a space the row came again.
 right_test : (kept due blank : ℕ) (again : Bool)
     → Decides (not (not (kept == due && (due == blank || again))))
     ((kept ≡ due) × (due ≢ blank → again ≡ true))
 right_test kept due blank again = grind (arith, nat_tests)
 
 module _ (g : Criteria) (frames : Transmission) (n f : ℕ) where
-  -- A cell is not right.
   abbrev is_wrong : ℕ → ℕ → Bool
   is_wrong row column =
       not (is_right g.watched.keeps g.watched.page (packets_before frames n) (g.due f) row column)
@@ -164,20 +147,16 @@ module _ (g : Criteria) (frames : Transmission) (n f : ℕ) where
   abbrev other_cell : Option (ℕ × ℕ)
   other_cell = wrong_after g.watched.keeps g.watched.page (packets_before frames n) (g.due f)
 
-  -- The test decides whether a cell is wrong.
   wrong_decided : (row column : ℕ)
       → Decides (not (is_wrong row column)) (ShowsDue g frames n f row column)
   wrong_decided row column = grind (arith, nat_tests, right_test)
 
-  -- If the due page is known, it is the first wrong cell.
   wrong_is : g.undecided f ≡ false → wrong_cell g frames n f ≡ other_cell
   wrong_is known = rw known refl
 
-  -- If a cell is reported as wrong, the due page is known.
   wrong_known : (x : ℕ × ℕ) → wrong_cell g frames n f ≡ Some x → g.undecided f ≡ false
   wrong_known x e = grind (arith, nat_tests, none-some)
 
-  -- No cell is wrong.
   pub none_wrong : wrong_cell g frames n f ≡ None → g.undecided f ≡ false
       → (row column : ℕ) → IsCell row column
       → ShowsDue g frames n f row column
@@ -186,12 +165,10 @@ module _ (g : Criteria) (frames : Transmission) (n f : ℕ) where
       (wrong_decided row column).0
       (ap not (cell_none is_wrong (sym (wrong_is known) ∙ e) row column is))
 
-  -- The first wrong cell.
   pub first_wrong : (x : ℕ × ℕ) → wrong_cell g frames n f ≡ Some x → WrongFirst g frames n f x.0 x.1
   unfolding wrong_after
   first_wrong x e = grind (arith, nat_tests, cell_found, wrong_is, wrong_known, wrong_decided)
 
-  -- If all cells are right, none is wrong.
   pub no_wrong : ((row column : ℕ) → IsCell row column → ShowsDue g frames n f row column)
       → wrong_cell g frames n f ≡ None
   no_wrong shows = go (wrong_cell g frames n f) refl
@@ -201,12 +178,10 @@ module _ (g : Criteria) (frames : Transmission) (n f : ℕ) where
       go (Some x) e =
           let w = first_wrong x e in absurd (w.broken (shows x.0 x.1 w.is_cell))
 
-  -- One of the first m frames of the list has a header of the page that is recent enough.
   abbrev IsHeaderNear : ℕ → Type 0
   IsHeaderNear m =
       (j : ℕ) × (j < m) × (f < frame_at frames j + g.every) × HasHeader g frames j
 
-  -- Whether frame i of the list has one.
   covers_at : (i : ℕ) (d : SentFrame) → i < length frames
       → Decides (covers g f (get_or frames i d))
       (HasHeader g frames i × (f < frame_at frames i + g.every))
@@ -228,12 +203,11 @@ module _ (g : Criteria) (frames : Transmission) (n f : ℕ) where
       (λ h. grind (arith, nat_tests, cases_lt))
       (Decides-or _ _ (near_decided m (omega arith)) (covers_at m d (omega arith))))
 
-  -- Whether the repeat bound is exceeded.
   pub gap_decided : n ≤ length frames → Decides (not (is_gap g frames n f)) (IsCovered g frames n f)
   unfolding is_gap
   gap_decided l = let near = near_decided n l in grind (arith, nat_tests)
 
-  -- One of the first m frames of the list is less than so many frames before f, or after it.
+  -- One of the first m frames of the list is after f, or fewer than `pace` frames before it.
   abbrev IsNear : ℕ → ℕ → Type 0
   IsNear pace m = (j : ℕ) × (j < m) × (f < frame_at frames j + pace)
 
@@ -253,7 +227,6 @@ module _ (g : Criteria) (frames : Transmission) (n f : ℕ) where
         let here = ap (frame_at frames) same in grind (arith, nat_tests)
   ]
 
-  -- Whether the last PES packet is too long ago.
   pub silent_decided : Decides (not (is_silent g frames n f)) (IsPaced g frames n f)
   unfolding is_silent
   silent_decided = by n g.pace refl
@@ -279,7 +252,7 @@ module _ (g : Criteria) (frames : Transmission) (n f : ℕ) where
             λ h. let near = near_latest pace (suc m) (h pace is) in grind (arith, nat_tests),
           )
 
-  -- If the due page is known at frame f and the last ones before it, it is known at each of them.
+  -- If the due page is known at the last m frames up to f, it is known at each of them.
   pub known_back : (first m : ℕ) → was_undecided g.undecided first f m ≡ false
       → (k : ℕ) → k ≤ f → f ≤ k + m → (first ≤ k) ⊎ (k ≡ f)
       → g.undecided k ≡ false
@@ -292,7 +265,6 @@ module _ (g : Criteria) (frames : Transmission) (n f : ℕ) where
   known_at e =
       known_back (frame_at frames 0) g.within e f (le_refl f) (omega arith) (inr refl)
 
-  -- Then the kept code of a cell has to be one that was due.
   pub unexpected_is : undecided_within g frames f ≡ false
       → unexpected_cell g frames n f
       ≡ unexpected_after g.watched.keeps g.watched.page (packets_before frames n) g.due
@@ -303,7 +275,6 @@ module _ (g : Criteria) (frames : Transmission) (n f : ℕ) where
   unfolding is_incomplete
   incomplete_decided = grind (arith, nat_tests)
 
-  -- No fault is active exactly if no rule is broken.
   pub fault_free_parts : IsFaultFree g frames n f
       ↔ ((broken_cell g frames n f ≡ None)
       × (is_gap g frames n f ≡ false)
@@ -313,34 +284,26 @@ module _ (g : Criteria) (frames : Transmission) (n f : ℕ) where
   unfolding active_faults_at
   fault_free_parts = grind (arith, nat_tests)
 
-  -- ---- if `within` is 0
-
   module _ (at_once : g.within ≡ 0) where
-    -- Each unfinished end is late.
     pub always_late : is_late g frames n f ≡ true
     unfolding is_late
     always_late = grind (arith, nat_tests)
 
-    -- So each cell has to be right,
     pub broken_is : broken_cell g frames n f ≡ wrong_cell g frames n f
     broken_is = rw always_late refl
 
-    -- the page has to have ended,
     pub ended_is : (is_late g frames n f && is_incomplete g frames n) ≡ is_incomplete g frames n
     ended_is = rw always_late refl
 
-    -- and the due page has to be known.
     unknown_is : undecided_within g frames f ≡ g.undecided f
     unfolding was_undecided
     unknown_is = rw at_once refl
 
-    -- If all cells are right, and the due page is known, none is wrong.
     right_cells : IsKept end.Content g frames n f → (b : Bool) → g.undecided f ≡ b
         → wrong_cell g frames n f ≡ None
     right_cells kept true is = rw is refl
     right_cells kept false is = no_wrong (kept is)
 
-    -- A rule is broken exactly if it is not kept.
     kept_is : n ≤ length frames → (rule : EndRule)
         → (broken_at rule (active_faults_at g frames n f) ≡ None) ↔ IsKept rule g frames n f
     unfolding active_faults_at
@@ -353,13 +316,11 @@ module _ (g : Criteria) (frames : Transmission) (n f : ℕ) where
     kept_is l end.Undecided = let is = unknown_is in grind (arith, nat_tests)
     kept_is l end.Silent = grind (arith, nat_tests, silent_decided)
 
-    -- So all are kept if no fault is active.
     pub all_kept : n ≤ length frames → IsFaultFree g frames n f → (rule : EndRule)
         → IsKept rule g frames n f
     all_kept l fault_free rule = (kept_is l rule).0 (ap (broken_at rule) fault_free ∙ nothing_at
         rule)
 
-    -- For `law_of_broken_places`.
     pub active_faults_exact : n ≤ length frames → AreActiveFaults g frames n f
     unfolding active_faults_at
     active_faults_exact l =

@@ -34,12 +34,10 @@ use Rattle.sub_laws.proofs.ActiveFaultsLemmas.{incomplete_decided, no_wrong}
 module _ (programme : ProgrammeValue) (options : OptionsValue) (unread : Option Unread)
     (t : Transmission) (some_frames : 0 < options.every)
     (h : AllOk (criteria_of programme options unread) t) (at_once : options.within ≡ 0) where
-  -- At each end all rules are kept.
   kept_at : (n f : ℕ) → IsEnd t n f → (rule : EndRule)
       → IsKept rule (criteria_of programme options unread) t n f
   kept_at n f h1 rule = grind (arith, nat_tests, all_kept, fault_free_at)
 
-  -- Each cell is right.
   right_at : (f row column : ℕ) → first_frame t ≤ f → f ≤ last_frame t → IsCell row column
       → IsRight options.keeps options.page (on_air_until t f) (due_in programme f) row column
   right_at f row column low high is =
@@ -47,7 +45,6 @@ module _ (programme : ProgrammeValue) (options : OptionsValue) (unread : Option 
       subst (λ xs. IsRight options.keeps options.page xs (due_in programme f) row column)
       (sym on) (kept_at n f end Content refl row column is)
 
-  -- The transmission is good if no repeat may keep the page.
   pub Good-from_holds : options.keeps ≡ false
       → EachPacket (λ packet. length packet ≡ 42) t
       → Good programme t options
@@ -63,16 +60,12 @@ module _ (programme : ProgrammeValue) (options : OptionsValue) (unread : Option 
         (right_at f row column low high is));
   }
 
-  -- Its pages are complete if that is required.
   pub Complete-from_holds : IsTrue options.asks_complete → Complete t options
   Complete-from_holds asks f low high holds =
       let (n, end, on, from) = end_of programme options unread t some_frames h f low high in
       let ended = kept_at n f end Incomplete asks in
       grind (arith, nat_tests)
 
--- ---- the converse
-
--- If `within` is 0, no page still has time at the last end.
 pub none_pending : (g : Criteria) (frames : Transmission) → g.within ≡ 0 → is_pending g frames
     ≡ false
 unfolding is_pending
@@ -93,7 +86,6 @@ module _ (programme : ProgrammeValue) (options : OptionsValue) (t : Transmission
   to : (n f : ℕ) → IsEnd t n f → f ≤ last_frame t
   to n f end = omega (arith, last-same t, end_low t in_order n f end)
 
-  -- No cell is wrong.
   right : (n f : ℕ) → IsEnd t n f → broken_cell g t n f ≡ None
   right n f end =
       broken_is g t n f at_once
@@ -106,7 +98,6 @@ module _ (programme : ProgrammeValue) (options : OptionsValue) (t : Transmission
       (sym (end_is_on_air t in_order n f end))
       ∙ good.content f row column (from n f end) (to n f end) is)))
 
-  -- The page is not open if complete pages are required.
   ended : (n f : ℕ) → IsEnd t n f → IsFalse (is_late g t n f && is_incomplete g t n)
   ended n f end =
       let on = end_is_on_air t in_order n f end in
@@ -116,7 +107,6 @@ module _ (programme : ProgrammeValue) (options : OptionsValue) (t : Transmission
       let decided = (incomplete_decided g t n f).1 shut in
       grind (arith, nat_tests)
 
-  -- A good transmission meets all requirements.
   pub holds-from_good : AllOk g t
   holds-from_good =
       holds-from_rules programme options t

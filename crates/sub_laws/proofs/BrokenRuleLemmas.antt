@@ -52,8 +52,6 @@ use Rattle.sub_rules.proofs.PacketLists.{Each-find, Each-join, Each-map, Each-no
 use Rattle.sub_rules.proofs.PacketLists.{no_row}
 use Rattle.sub_rules.proofs.CodeWordLemmas.{address_decided, header_decided}
 
--- ---- each rule
-
 -- A test that fails exactly if a property holds.
 abbrev pub Refutes : Bool → Type 0 → Type 0
 Refutes b P = Decides (not b) P
@@ -61,16 +59,13 @@ Refutes b P = Decides (not b) P
 pub refuted : {P : Type 0} (b : Bool) → Refutes b P → (b ≡ false) ↔ P
 refuted b h1 = grind (arith, nat_tests, true≢false)
 
--- The coded bytes of a packet X/0.
 pub coded : (o : Option PacketAddress) (b : Bool) (P : Type 0) → Decides b P
     → Refutes (is_of_header o && not b) ((a : PacketAddress) → o ≡ Some a → a.packet_number ≡ 0 → P)
 coded o b P d = grind (arith, nat_tests)
 
--- Without a second header there is no other mode.
 mode-none : (o : Option Bool) → is_other_mode o None ≡ false
 mode-none o = grind (arith, nat_tests)
 
--- All headers in one mode.
 pub one_mode : (this first : Option Header)
     → Refutes
     (is_other_mode (option_map (λ (h : Header). c11 h) first)
@@ -78,33 +73,27 @@ pub one_mode : (this first : Option Header)
     ((h f : Header) → this ≡ Some h → first ≡ Some f → c11 h ≡ c11 f)
 one_mode this first = grind (arith, nat_tests, mode-none)
 
--- The control bits, whatever C4 is.
 subtitle_bits : (national : National) (h : Header)
     → Decides (has_subtitle_bits national h) (HasSubtitleBits national h)
 subtitle_bits national h = grind (arith, nat_tests, holds, fails, same_option)
 
--- The subcode of the header before.
 same_subcode : (last : Option Header) (h : Header)
     → Decides (is_same_subcode last h)
     ((before : Header) → last ≡ Some before → h.subcode ≡ before.subcode)
 same_subcode last h = grind (arith, nat_tests, none-some, same_Some)
 
--- If one thing is required, another must not hold.
 shut_where : (asks opened : Bool) → Decides (not (asks && opened)) (IsTrue asks → IsFalse opened)
 shut_where asks opened = grind (arith, nat_tests, true≢false)
 
--- A header of the page that repeats it.
 repeat_decided : (complete : Bool) (page : PageIdValue) (before : List (List ℕ)) (h : Header)
     → Decides (repeats_page complete page before h) (IsRepeat complete page before h)
 repeat_decided complete page before h = grind (arith, nat_tests, same_subcode, shut_where)
 
--- A header erases the page, or repeats it if repeats may keep the page.
 may_come_by : (keeps erases repeats : Bool) (P : Type 0) → Decides repeats P
     → Decides (erases || (keeps && repeats))
     ((IsFalse keeps → IsTrue erases) × (IsTrue erases ⊎ P))
 may_come_by keeps erases repeats P h1 = grind (arith, nat_tests)
 
--- The header of a subtitle.
 subtitle_header : (w : Watched) (before : List (List ℕ)) (h : Header)
     → Decides (is_subtitle_header w before h)
     (((IsFalse w.keeps → IsTrue (c4 h))
@@ -122,7 +111,6 @@ same_header h k e = grind arith
 twice : (b : Bool) → not (not b) ≡ b
 twice b = grind (arith, nat_tests)
 
--- The rule for a packet that may be a header of the page.
 pub controlled : (w : Watched) (before : List (List ℕ)) (p : List ℕ) (k : PacketKind)
     → kind w.page p ≡ k
     → Refutes (is_wrong_header w before k) (IsControlledBy w before p)
@@ -145,7 +133,6 @@ controlled w before p k is = (
   λ rule. refl,
 )
 
--- The parity of the text.
 pub odd_text : (p : List ℕ) → Refutes (is_some (first_even_byte p)) (HasOddText p)
 unfolding first_even_byte
 odd_text p = go (first_below 40 (λ column. not (is_odd (text_byte p column)))) refl
@@ -165,30 +152,23 @@ odd_text p = go (first_below 40 (λ column. not (is_odd (text_byte p column)))) 
           grind (arith, nat_tests),
     )
 
--- The parity of a row.
 pub odd_row : (p : List ℕ) (k : PacketKind)
     → Refutes (is_some_row k && is_some (first_even_byte p))
     ((row : ℕ) → k ≡ Row row → HasOddText p)
 odd_row p k = grind (arith, nat_tests, odd_text)
 
--- A packet that no level 1 page has.
 pub no_enhancement : (page : PageIdValue) (p : List ℕ) (o : Option PacketAddress) → address p ≡ o
     → Refutes (is_of_enhancement page o) (IsEnhancement page p → ⊥)
 no_enhancement page p o h1 = grind (arith, nat_tests, none-some, same_Some)
 
--- ---- rows
-
--- A row differs from itself in no column.
 columns_same : (n : ℕ) (xs : List ℕ) → columns_differing n xs xs ≡ 0
 unfolding columns_differing
 columns_same zero xs = refl
 columns_same (suc n) xs = let before = columns_same n xs in grind (arith, nat_tests)
 
--- A packet has 40 codes.
 codes_length : (p : List ℕ) → length p ≡ 42 → length (codes_of p) ≡ 40
 codes_length p l = grind (arith, length-map, length-drop 2 p)
 
--- Two packets that differ in no column have equal codes.
 same_codes : (p q : List ℕ) → length p ≡ 42 → length q ≡ 42
     → row_differing (codes_of p) (codes_of q) ≡ 0 → codes_of p ≡ codes_of q
 same_codes p q lp lq e =
@@ -200,12 +180,12 @@ same_codes p q lp lq e =
     ∙ columns_zero 40 (codes_of p) (codes_of q) e k (omega (arith, one))
     ∙ get_or_default (codes_of q) k 0 d (omega (arith, one, other)))
 
--- The packets since the text began are a clean span of 42-byte packets with exact addresses.
+-- The packets since the text began are a clean span of 42-byte packets whose address bytes are code
+-- words.
 pub record IsSoundSpan (w : Watched) (packets : List (List ℕ)) : Type 0 where
   pub clean : IsCleanSpan w.page packets
   pub whole : AllByRecursion (λ q. IsPacket q × HasExactAddress q) packets
 
--- The same for one of them.
 abbrev IsSoundPacket : Watched → List (List ℕ) → List ℕ → Type 0
 IsSoundPacket w packets q =
     (IsPacket q × HasExactAddress q) × IsOddRow w.page q × All (IsSameRow w.page q) packets
@@ -218,27 +198,22 @@ each_sound w packets s =
     (λ q a b. (a, b.0, b.1)) packets s.whole
     (grind (arith, nat_tests, Each-join, recursion_from_All))
 
--- The packet of a row has an address of the magazine with the row's number.
 address-row : (w : Watched) (p : List ℕ) (row : ℕ) → kind w.page p ≡ Row row
     → address p ≡ Some (record { magazine = w.page.magazine; packet_number = row })
 unfolding kind
 address-row w p row e = grind (arith, nat_tests)
 
--- A row after such packets, itself 42 bytes with an exact address and odd text.
 module _ (w : Watched) (packets : List (List ℕ)) (s : IsSoundSpan w packets) (p : List ℕ) (row : ℕ)
     (is_row_of : kind w.page p ≡ Row row) (whole : IsPacket p) (exact : HasExactAddress p)
     (odd : HasOddText p) where
-  -- Each packet of its row equals it.
   abbrev EachSame : Type 0
   EachSame = AllByRecursion (λ q. kind w.page q ≡ Row row → q ≡ p) packets
 
-  -- If the first packet of the row has its codes.
   found : (q : List ℕ) → kind w.page q ≡ Row row → IsSoundPacket w packets q
       → Refutes (is_other_text (Some q) (codes_of p)) (q ≡ p)
   found q k sound =
       grind (arith, nat_tests, Decides-eqb, same_packet, address-row, same_codes, columns_same)
 
-  -- The test of the row.
   pub row_decided : Refutes (is_other_text (first_of_row w.page packets row) (codes_of p)) EachSame
   row_decided = elim (cases_Bool (list_any (λ q. is_row row (kind w.page q)) packets)) [
     | inl e ↦
@@ -263,9 +238,7 @@ module _ (w : Watched) (packets : List (List ℕ)) (s : IsSoundSpan w packets) (
         )
   ]
 
--- ---- packets that keep all rules
-
--- A property of each packet holds for the packets since the text began, after the first n.
+-- A property of each packet holds for the packets since the text began, of the first n packets.
 Each-span : (keeps : Bool) (page : PageIdValue) (P : List ℕ → Type 0) (xs : List (List ℕ))
     → ((k : ℕ) → k < length xs → P (get_or xs k [])) → (n : ℕ) → n ≤ length xs
     → AllByRecursion P (text_span keeps (kind page) (take n xs))
@@ -288,7 +261,6 @@ Each-span keeps page P xs each (suc n) l =
     go h false true = grind (arith, nat_tests, Each-push)
     go h false false = h
 
--- Packets that keep all rules leave such a span.
 sound_span : (w : Watched) (packets : List (List ℕ)) → AreClean w packets
     → IsSoundSpan w (text_span w.keeps (kind w.page) packets)
 sound_span w packets clean =
@@ -299,10 +271,7 @@ sound_span w packets clean =
           (λ k l. let is = clean k l in (is.0, is.1 rule.Address)) (length packets) (omega arith);
     })
 
--- ---- a packet after these
-
 module _ (w : Watched) (before : List (List ℕ)) (p : List ℕ) where
-  -- A rule that applies while the page is open.
   opened : (b c : Bool) (P : Type 0) → (IsTrue b → Refutes c P) → Refutes (b && c) (IsTrue b → P)
   opened b c P h1 = grind (arith, nat_tests, true≢false)
 
@@ -314,7 +283,6 @@ module _ (w : Watched) (before : List (List ℕ)) (p : List ℕ) where
       (text_span w.keeps (kind w.page) before))
   same_row k e is is_open = grind (arith, nat_tests, sound_span, row_decided)
 
-  -- Each rule.
   pub rule_decided : (r : PacketRule) → (r ≡ rule.RowChanged → IsComparable w before p)
       → Refutes (breaks r w before p) (KeepsRule r w before p)
   unfolding breaks
@@ -332,7 +300,6 @@ module _ (w : Watched) (before : List (List ℕ)) (p : List ℕ) where
   rule_decided rule.RowChanged comparable = grind (arith, nat_tests, opened, same_row)
   rule_decided rule.Enhancement comparable = grind (arith, nat_tests, opened, no_enhancement)
 
-  -- After packets that keep all rules, a packet keeps all exactly if it breaks none.
   pub clean_decided : AreClean w before → IsPacket p
       → ((r : PacketRule) → breaks r w before p ≡ false) ↔ KeepsAllRules w before p
   clean_decided clean whole = (

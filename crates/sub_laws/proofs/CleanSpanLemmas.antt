@@ -1,5 +1,5 @@
--- For reports and trusted frames. The packets since the text began are a clean span if each packet
--- may follow: `clean_cuts`, `last_clean`.
+-- The packets since the text began are a clean span if each packet may follow: `clean_cuts`,
+-- `last_clean`. For reports and trusted frames.
 use Rattle.std.proofs.lemmas.Bool.Decides.{nat_tests}
 use Rattle.std.proofs.Common.{◌≡◌, ℕ, zero, suc, ◌<◌, inl, inr, Bool, true, false, not, ◌&&◌, cond}
 use Rattle.std.proofs.Common.{List, [], ◌∷◌, ◌++◌, length, take, slice_index_or, All, refl, sym, ap}
@@ -15,13 +15,12 @@ use Rattle.ttx_page.specs.Span.{is_open_after, text_span}
 use Rattle.ttx_page.proofs.TextSpan.{text_span-push}
 use Rattle.sub_rules.specs.Good.{IsEnhancement, IsCleanSpan}
 
--- A packet may follow a clean span.
 pub record MayFollow (page : PageIdValue) (packets : List (List ℕ)) (packet : List ℕ) : Type 0 where
   pub odd : IsOddRow page packet
   pub same : All (λ earlier. IsSameRow page earlier packet) packets
   pub plain : IsEnhancement page packet → ⊥
 
--- Each packet while the page is open, other than a header that opens it again or ends it, may
+-- While the page is open, each packet other than a header that opens the page again or ends it may
 -- follow the packets since the text began.
 abbrev pub EachMayFollow : Bool → PageIdValue → List (List ℕ) → Type 0
 EachMayFollow keeps page packets =
@@ -32,9 +31,6 @@ EachMayFollow keeps page packets =
     → IsFalse (ends_page (kind page (slice_index_or packets i d)))
     → MayFollow page (text_span keeps (kind page) (take i packets)) (slice_index_or packets i d)
 
--- ---- one more packet
-
--- A clean span stays clean after a packet that may follow.
 push_clean :
     (page : PageIdValue) (packets : List (List ℕ)) (packet : List ℕ)
     → IsCleanSpan page packets
@@ -50,7 +46,6 @@ push_clean page packets packet clean follows = record {
   plain = All-push (λ p. IsEnhancement page p → ⊥) packets packet clean.plain follows.plain;
 }
 
--- The last packet of a clean span may follow those before it.
 pub last_clean :
     (page : PageIdValue) (packets : List (List ℕ)) (packet : List ℕ)
     → IsCleanSpan page (packets ++ packet ∷ [])
@@ -74,13 +69,9 @@ last_clean page packets packet clean =
       plain = subst (λ p. IsEnhancement page p → ⊥) (at []) (clean.plain n [] within);
     }
 
--- ---- a list, cut anywhere
-
--- No packets are a clean span.
 clean_nil : (page : PageIdValue) → IsCleanSpan page []
 clean_nil page = record { odd = All-nil _; same = All-nil _; plain = All-nil _ }
 
--- The packets since the text began, after one more packet, by cases.
 pushed :
     (keeps : Bool) (page : PageIdValue) (packets : List (List ℕ)) (packet : List ℕ)
     → IsCleanSpan page (text_span keeps (kind page) packets)
@@ -110,7 +101,8 @@ pushed keeps page packets packet clean follows =
     go false true true e p q r = clean
     go false false t e p q r = clean
 
--- If each packet may follow, every beginning of the list is clean: by induction on its length.
+-- If each packet may follow those before it, every beginning of the list is clean, by induction on
+-- its length.
 pub clean_cuts :
     (keeps : Bool) (page : PageIdValue) (packets : List (List ℕ))
     → EachMayFollow keeps page packets

@@ -46,16 +46,12 @@ use Rattle.sub_rules.specs.Good.{IsCleanSpan}
 use Rattle.ttx_page.proofs.SpanLists.{holds-append_left}
 use Rattle.sub_rules.specs.declared.packet_rule.PacketRule.TheVariants as rule
 
--- ---- packets that keep the rules
-
 module _ (w : Watched) (frames : Transmission) (n : ℕ) (fits : n ≤ length frames)
     (clean : (i k : ℕ) → i < n → k < length (packets_of_frame frames i)
     → KeepsAllRules w (before frames i k) (packet_at frames i k)) where
-  -- Each packet keeps all rules after those before it.
   each : EachAfter (KeepsAllRules w) (packets_before frames n)
   each = each_after (KeepsAllRules w) frames n fits clean
 
-  -- The packets since the text began are a clean span.
   clean_span : IsCleanSpan w.page (text_span w.keeps (kind w.page) (packets_before frames n))
   clean_span =
       let sent : List (List ℕ) = packets_before frames n in
@@ -63,7 +59,6 @@ module _ (w : Watched) (frames : Transmission) (n : ℕ) (fits : n ≤ length fr
       (take_all (length sent) sent (omega arith))
       (clean_spans w sent each (length sent))
 
-  -- So they transmit the kept text.
   sends :
       SendsText w.keeps w.page (packets_before frames n)
       (kept w.keeps w.page (packets_before frames n))
@@ -77,7 +72,6 @@ module _ (w : Watched) (frames : Transmission) (n : ℕ) (fits : n ≤ length fr
     codes = codes_of_clean w.keeps w.page (packets_before frames n) clean_span;
   }
 
-  -- A receiver that keeps its page has that text, if its old contents are gone.
   all_hold :
       (old new : State)
       → Hears w.page old (packets_before frames n) new
@@ -88,7 +82,6 @@ module _ (w : Watched) (frames : Transmission) (n : ℕ) (fits : n ≤ length fr
   all_hold old new hears fresh row column is =
       law_of_kept w.keeps w.page (packets_before frames n) old new sends hears fresh row column is
 
--- A header in the first frame is one in the first n frames.
 first_header-packets_before :
     (w : Watched) (frames : Transmission) (n : ℕ)
     → 0 < n
@@ -98,26 +91,22 @@ first_header-packets_before :
 first_header-packets_before w frames n some fits head =
     grind (arith, nat_tests, holds-append_left)
 
--- ---- the first n frames
-
 module _ (frames : Transmission) (n f : ℕ) (some : 0 < n) (fits : n ≤ length frames)
     (rising : RiseTo frames n) (up_to : frame_at frames (n - 1) ≤ f) where
-  -- All their packets are on air up to frame f.
   on_air_read : on_air_until (take n frames) f ≡ packets_before frames n
   on_air_read =
       grind (arith, nat_tests, length-take-le, frame_at-take, take-take, on_air_is, take_rises)
 
 module _ (programme : ProgrammeValue) (options : OptionsValue) (unread : Option Unread)
     (frames : Transmission) where
-  -- The criteria of the check.
   abbrev g : Criteria
   g = criteria_of programme options unread
 
-  -- The kept code of cell x after the first n frames.
   abbrev code_at : ℕ → ℕ × ℕ → ℕ
   code_at n x = kept options.keeps options.page (packets_before frames n) x.0 x.1
 
-  -- The cell is wrong; and if the end is not late, its code was not due within the last frames.
+  -- The cell x is wrong at the end of frame f; and if that end is not late, the code of x was not
+  -- due within the last frames.
   record IsBroken (n f : ℕ) (x : ℕ × ℕ) : Type 0 where
     pub is_cell : IsCell x.0 x.1
     pub wrong : ShowsDue g frames n f x.0 x.1 → ⊥
@@ -127,7 +116,6 @@ module _ (programme : ProgrammeValue) (options : OptionsValue) (unread : Option 
         options.within x.0 x.1
         → ⊥
 
-  -- The cell that is reported is wrong in this sense.
   broken_is : (n f : ℕ) (x : ℕ × ℕ) → broken_cell g frames n f ≡ Some x → IsBroken n f x
   broken_is n f x e = go (is_late g frames n f) refl
     where
@@ -165,11 +153,9 @@ module _ (programme : ProgrammeValue) (options : OptionsValue) (unread : Option 
     are_read : AreReadUpTo frames f read
     are_read = grind (arith, nat_tests, take_last, take_rising)
 
-    -- The packets on air up to frame f are those that were read.
     read_air : on_air_until read f ≡ packets_before frames n
     read_air = on_air_read frames n f r.some r.fits r.rises r.up_to
 
-    -- What a receiver has there, if its old contents are gone.
     holds_there : (old new : State)
         → Hears options.page old (on_air_until read f) new
         → IsFresh options.keeps false options.page (packets_before frames n) old
@@ -179,7 +165,6 @@ module _ (programme : ProgrammeValue) (options : OptionsValue) (unread : Option 
         (subst (λ (ps : List (List ℕ)). Hears options.page old ps new) read_air hears) fresh x.0 x.1
         cell_is.is_cell
 
-    -- Whether the end is late depends only on these frames.
     late_same : is_late (criteria_of programme options None) read (length read) f
         ≡ is_late g frames n f
     late_same =
@@ -195,7 +180,6 @@ module _ (programme : ProgrammeValue) (options : OptionsValue) (unread : Option 
         options.within x.0 x.1
     may_of h1 = grind (arith, nat_tests, first-same, frame_at-take)
 
-    -- The first n frames are read and keep the rules, and a cell is reported.
     pub different_everywhere : IsDifferentEverywhere programme options frames f x.0 x.1
     different_everywhere = record {
       read = read;
@@ -221,16 +205,12 @@ module _ (programme : ProgrammeValue) (options : OptionsValue) (unread : Option 
           read_air due));
     }
 
--- ---- if no repeat may keep the page
-
 module _ (programme : ProgrammeValue) (options : OptionsValue) (frames : Transmission)
     (f row column : ℕ) (none : options.keeps ≡ false)
     (different : IsDifferentEverywhere programme options frames f row column) where
-  -- The packets on air up to there.
   abbrev sent : List (List ℕ)
   sent = on_air_until different.read f
 
-  -- A receiver's old contents are gone after the first header.
   fresh : (old : State) → IsFresh options.keeps false options.page sent old
   fresh old =
       inr
@@ -239,7 +219,6 @@ module _ (programme : ProgrammeValue) (options : OptionsValue) (frames : Transmi
       ∙ beginning-none_keeps (kind options.page) sent
       ∙ different.header))
 
-  -- A cell that shows the due code is right.
   right : kept options.keeps options.page sent row column ≡ cell (due_in programme f) row column
       → IsRight options.keeps options.page sent (due_in programme f) row column
   right same =
@@ -249,7 +228,6 @@ module _ (programme : ProgrammeValue) (options : OptionsValue) (frames : Transmi
       ∙ ap (λ k. kept k options.page sent row column) (sym none)
       ∙ same))
 
-  -- So every receiver shows another code there.
   pub wrong_everywhere : IsWrongEverywhere programme options frames f row column
   wrong_everywhere = record {
     read = different.read;

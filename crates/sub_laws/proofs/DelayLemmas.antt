@@ -35,9 +35,6 @@ use Rattle.sub_laws.specs.Repeats.{LawOfRepeatedStretch, RecoversForgetting, Sho
 use Rattle.sub_laws.proofs.SoundStretchLemmas.{ended, forgetting, got_as, span_so_far}
 use Rattle.sub_laws.proofs.SoundStretchLemmas.{window}
 
--- ---- a cell that is right
-
--- If repeats may not keep the page, a cell is right exactly if it shows the due code.
 pub law_of_right_cells : LawOfRightCells
 law_of_right_cells page packets due row column = (
   λ right. sym same ∙ right.kept_is,
@@ -60,13 +57,10 @@ law_of_right_cells page packets due row column = (
     same : kept false page packets row column ≡ shown page packets row column
     same = kept_shown page packets row column
 
--- ---- a stretch whose codes are due
-
 module _ (keeps anew : Bool) (class : ReceiverClass) (programme : ProgrammeValue)
     (transmission : Transmission) (options : OptionsValue) (a b : ℕ)
     (stretch : IsRepeatedStretch keeps transmission options a b)
     (codes : KeepsDueCodes keeps programme transmission options a b) where
-  -- Receivers that may forget the page recover in it.
   pub recovers_forgetting :
       RecoversForgetting keeps anew class programme transmission options a b
   recovers_forgetting g j f arrived got old new is hears =
@@ -98,7 +92,6 @@ module _ (keeps anew : Bool) (class : ReceiverClass) (programme : ProgrammeValue
             ];
       }
     where
-      -- If the row was not sent again, the due code is a space.
       due_space :
           (row column : ℕ)
           → IsRight keeps options.page (on_air_until transmission f) (due_in programme f) row column
@@ -112,7 +105,6 @@ module _ (keeps anew : Bool) (class : ReceiverClass) (programme : ProgrammeValue
             | inr other ↦ absurd (true≢false (sym (right.again other) ∙ none))
           ]
 
-  -- The due page is on their screens if each cell is right and the page has ended.
   pub shown_forgetting : ShownForgetting keeps anew class programme transmission options a b
   shown_forgetting g j f arrived got old new is run holds fresh whole shut =
       let held =
@@ -127,19 +119,15 @@ module _ (keeps anew : Bool) (class : ReceiverClass) (programme : ProgrammeValue
         held.cells holds fresh whole,
       )
 
--- ---- a stretch whose cells are right at each end
-
 module _ (keeps anew : Bool) (class : ReceiverClass) (programme : ProgrammeValue)
     (transmission : Transmission) (options : OptionsValue) (a b : ℕ)
     (whole : (f : ℕ) → a ≤ f → f ≤ b → IsCorrectPage keeps programme options.page transmission f)
     (recovers : RecoversForgetting keeps anew class programme transmission options a b) where
-  -- Receivers that recover have the due page.
   holds_at_once : HoldsForgetting keeps anew class programme transmission options a b
   holds_at_once g j f arrived got old new is hears holds fresh =
       (recovers g j f arrived got old new is hears).cells holds fresh
       (whole f (le_trans is.listening.from is.listening.in_order) is.listening.to)
 
--- If `within` is 0, each frame of a stretch is finished.
 pub finished_at_once :
     (keeps : Bool) (programme : ProgrammeValue) (transmission : Transmission)
     (options : OptionsValue) (a b : ℕ)
@@ -180,9 +168,6 @@ law_of_repeated_stretch keeps programme transmission options a b stretch codes =
     shown anew class =
         shown_forgetting keeps anew class programme transmission options a b stretch codes
 
--- ---- if no repeat may keep the page
-
--- Complete pages have ended at the end of each frame.
 pub ended_of_complete :
     (transmission : Transmission) (options : OptionsValue) (a b f : ℕ)
     → CompleteWithin transmission options a b
@@ -195,14 +180,12 @@ module _ (programme : ProgrammeValue) (transmission : Transmission) (options : O
     (a b : ℕ)
     (whole : (f : ℕ) → a ≤ f → f ≤ b → IsCorrectPage false programme options.page transmission f)
     (class : ReceiverClass) where
-  -- A receiver's old contents are gone after each header.
   fresh_at :
       (sent : List (List ℕ)) (old : State)
       → holds_header (kind options.page) sent ≡ true
       → IsFresh false false options.page sent old
   fresh_at sent old holds = inr (inl (beginning-none_keeps (kind options.page) sent ∙ holds))
 
-  -- So receivers that keep the page recover if those recover that may forget it.
   pub recovers_at_once :
       RecoversForgetting false false class programme transmission options a b
       → RecoversWithin class programme transmission options a b
@@ -220,7 +203,6 @@ module _ (programme : ProgrammeValue) (transmission : Transmission) (options : O
         is_open = λ holds. grind (arith, nat_tests);
       }
 
-  -- If pages are complete, the due page is on their screens.
   pub shown_at_once :
       ShownForgetting false false class programme transmission options a b
       → CompleteWithin transmission options a b
@@ -232,7 +214,7 @@ module _ (programme : ProgrammeValue) (transmission : Transmission) (options : O
       (fresh_at (on_air transmission g j f) old.held holds) (whole f low is.listening.to)
       (ended_of_complete transmission options a b f complete low is.listening.to)
 
--- So with `within` 0 the two kinds of trust are the same.
+-- If `within` is 0, the promises of `MayBeTrustedBy` include those of `MayBeTrusted`.
 pub law_of_trust_without_delay : LawOfTrustWithoutDelay
 law_of_trust_without_delay programme transmission options a b none trusted = record {
   recovers = λ class.

@@ -31,7 +31,6 @@ clock_longer zero (suc more) origin pts frame low longer is =
 clock_longer (suc within) zero origin pts frame low longer is = absurd (omega arith)
 clock_longer (suc within) (suc more) origin pts frame low longer is = is
 
--- So do PES packets.
 read_longer :
     (within more origin : ℕ)
     → origin < 2 ^ 33
@@ -67,7 +66,8 @@ joined_equal within more sent (s ∷ frames) =
     joined_equal within more (sent_after (suc within) sent s) frames
     ∙ ap (λ (x : Transmission). joined_after (suc more) x frames) (sent_equal within more sent s)
 
--- Rising frames stay the same with a greater `within`.
+-- Rising frames stay the same with a greater `within`, since no two PES packets have the same
+-- frame.
 joined_longer :
     (within more : ℕ) (sendings frames : Transmission)
     → within ≤ more

@@ -21,10 +21,9 @@ use Rattle.stl_rows.specs.declared.layout.Drawing.{Drawing}
 use Rattle.sub_rules.specs.Events.{unexpected_after, was_due}
 use Rattle.sub_laws.proofs.ActiveFaultsLemmas.{cell_found, cell_none, no_cell}
 
--- ---- a code
-
 module _ (due : ℕ → Rows) (first f row column code : ℕ) where
-  -- It was due at frame f, or at one of the n frames before it from the first on.
+  -- The code was due in the cell at frame f, or at one of the n frames before f, but not before
+  -- `first`.
   abbrev pub WasDue : ℕ → Type 0
   WasDue n =
       (e : ℕ)
@@ -33,7 +32,6 @@ module _ (due : ℕ → Rows) (first f row column code : ℕ) where
       × (f ≤ e + n)
       × (code ≡ cell (due e) row column)
 
-  -- It was due n frames before f.
   at_oldest : (n : ℕ)
       → (nat_le (first + n) f && (cell (due (f - n)) row column == code)) ≡ true
       → (first + n ≤ f) × (code ≡ cell (due (f - n)) row column)
@@ -65,20 +63,17 @@ module _ (due : ℕ → Rows) (first f row column code : ℕ) where
       old (inl after) far = omega arith
       old (inr own) far = absurd (omega arith)
 
--- ---- the first cell with an unexpected code
-
 module _ (keeps : Bool) (page : PageIdValue) (packets : List (List ℕ)) (due : ℕ → Rows)
     (first f n : ℕ) where
-  -- The kept code of a cell.
   abbrev code_at : ℕ → ℕ → ℕ
   code_at row column = kept keeps page packets row column
 
-  -- It is a space, or a code that was due.
+  -- The kept code of a cell is a space, or a code that was due.
   abbrev pub MayShow : ℕ → ℕ → Type 0
   MayShow row column =
       (code_at row column ≡ space) ⊎ WasDue due first f row column (code_at row column) n
 
-  -- It is neither.
+  -- The kept code of a cell is neither a space nor a code that was due.
   abbrev is_unexpected : ℕ → ℕ → Bool
   is_unexpected row column =
       not (code_at row column == space)
@@ -107,14 +102,11 @@ module _ (keeps : Bool) (page : PageIdValue) (packets : List (List ℕ)) (due : 
   unfolding unexpected_after
   unexpected_found x e = grind (arith, nat_tests, cell_found, not_unexpected)
 
--- ---- the subtitle that ends at a frame
-
 module _ (drawing : Drawing) (records : List SubtitleValue) (is : IsProgramme drawing records)
   where
     other_end : (f : ℕ) (t : SubtitleValue) → t.tco ≢ f → ends_at f t ≡ false
     other_end f t h = grind (arith, nat_tests)
 
-    -- A subtitle is found by its TCO.
     pub ending_is : (t : SubtitleValue) → Contains records t
         → tci_of_ending records t.tco ≡ Some t.tci
     unfolding tci_of_ending
@@ -131,7 +123,6 @@ module _ (drawing : Drawing) (records : List SubtitleValue) (is : IsProgramme dr
         (rw member.2 own)
         ∙ ap Some member.2)
 
-    -- What is found is the TCI of a subtitle.
     pub ending_at : (f tci : ℕ) → tci_of_ending records f ≡ Some tci
         → (t : SubtitleValue) × Contains records t × (t.tco ≡ f) × (t.tci ≡ tci)
     unfolding tci_of_ending

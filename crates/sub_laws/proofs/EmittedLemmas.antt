@@ -25,8 +25,6 @@ use Rattle.sub_laws.proofs.PesPacketWalkLemmas.{EachSkipped, Sends, Steps, each_
 use Rattle.sub_rules.specs.Trusted.{CheckStep}
 use Rattle.sub_rules.proofs.FrameEvents.{events, events_of_first, frame_events, gap_events}
 
--- ---- the events in steps
-
 abbrev pub emitted : List CheckStep → List Event
 emitted [] = []
 emitted (Emits e ∷ ms) = e ∷ emitted ms
@@ -42,8 +40,6 @@ emitted-emits [] = refl
 emitted-emits (e ∷ es) = ap (λ (xs : List Event). e ∷ xs) (emitted-emits es)
 
 module _ (g : Criteria) where
-  -- ---- one frame
-
   emitted_end : (frames : Transmission) (i n f : ℕ)
       → emitted (steps_at_end g frames i n f) ≡ events_at_end g frames i n f
   emitted_end frames i n f = grind (arith, nat_tests, emitted-emits)
@@ -68,7 +64,6 @@ module _ (g : Criteria) where
     emitted_gap,
   )
 
-  -- The events at its end.
   abbrev ending : Transmission → ℕ → List Event
   ending frames i =
       first_header_events g frames i ++ events_at_end g frames i (suc i) (frame_at frames i)
@@ -84,15 +79,12 @@ module _ (g : Criteria) where
     emitted_end,
   )
 
-  -- ---- how many frames are sent
-
   few_sent : (pes_packets : List PesPacket) → length (frames_of pes_packets) ≤ length pes_packets
   unfolding frames_of
   few_sent [] = omega arith
   few_sent (Sent s ∷ pes_packets) = let rest = few_sent pes_packets in omega arith
   few_sent (Skipped u ∷ pes_packets) = let rest = few_sent pes_packets in omega arith
 
-  -- After a PES packet is sent there is a frame.
   sent_some : (sent : Transmission) (s : SentFrame) → 0 < length (sent_after g.within sent s)
   sent_some sent s = grind (arith, nat_tests, goes_on_some, with_packets-length, length-append)
 
@@ -113,37 +105,34 @@ module _ (g : Criteria) where
   closing_all (Sent s ∷ pes_packets) all = grind (arith, nat_tests, some_joined, sent_some)
   closing_all (Skipped u ∷ pes_packets) all = grind (arith, nat_tests, few_sent)
 
--- ---- so far
-
 module _ (g : Criteria) (frames : Transmission) where
-  -- The events of the first n frames and before the packets of the next one.
+  -- The events of the first n frames of the list, and of frame n before its packets.
   abbrev arrived : ℕ → List Event
   arrived n =
       events_of_first g frames n
       ++ (order_events g frames n ++ gap_events g frames n (gap_length frames n))
 
-  -- The same with these packets of it.
+  -- The events of the first n frames of the list, and of frame n with some of its packets.
   abbrev begun : ℕ → List (List ℕ) → List Event
   begun n packets =
       arrived n
       ++ packet_events g.watched (frame_at frames n) (packets_before frames n) packets
       (length packets)
 
-  -- The events so far are those, or those of the first n frames.
+  -- The events so far are those of the first n frames of the list.
   abbrev Ended : ℕ → List Event → Type 0
   Ended n so_far = so_far ≡ events_of_first g frames n
 
   abbrev Begun : ℕ → List (List ℕ) → List Event → Type 0
   Begun n packets so_far = so_far ≡ begun n packets
 
-  -- A property of the events so far holds with those of more steps.
+  -- The property S of the events so far still holds with the events of more steps.
   abbrev EmitsOn : (List Event → Type 0) → List Event → List CheckStep → Type 0
   EmitsOn S so_far ms = S (so_far ++ emitted ms)
 
   abbrev same : ℕ → List Event → List Event
   same pes so_far = so_far
 
-  -- No PES packet is skipped.
   abbrev NoneSkipped : Transmission → Type 0
   NoneSkipped sent = ⊥
 
@@ -190,7 +179,6 @@ module _ (g : Criteria) (frames : Transmission) where
   none_skipped sent (Skipped u ∷ pes_packets) all =
       let few = few_sent g pes_packets in absurd (omega (arith, all))
 
-  -- The events before the file ends.
   before_emitted : (pes_packets : List PesPacket) → length (frames_of pes_packets) ≡ length
       pes_packets
       → sent_by_pes_packets g pes_packets ≡ frames
@@ -208,10 +196,7 @@ module _ (g : Criteria) (frames : Transmission) where
       waits (List Event) same g frames EmitsOn Ended Begun NoneSkipped emits-nil
       (λ S so_far pes ms so. so) emits-append steps frames [] so_far (sym (append-nil frames)) so)
 
--- ---- PES packets
-
 module _ (g : Criteria) where
-  -- If each PES packet is sent, the events in the steps are those of the frames.
   pub pes_packets_emitted : (pes_packets : List PesPacket) → length (frames_of pes_packets) ≡ length
       pes_packets
       → emitted (steps_of_pes_packets g pes_packets) ≡ events g (sent_by_pes_packets g pes_packets)

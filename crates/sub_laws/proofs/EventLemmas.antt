@@ -42,18 +42,14 @@ use Rattle.sub_laws.proofs.RisingEndLemmas.{latest_at}
 use Rattle.sub_rules.proofs.FrameEvents.{events, events_of_first, frame_events, gap_events}
 use Rattle.sub_rules.specs.declared.active_faults.ActiveFaults.{ActiveFaults}
 
--- ---- the first event
-
--- Any event is searched for.
 abbrev pub any_event : Event → Option Event
 any_event event = Some event
 
--- The event is a fault with this property.
 abbrev pub IsNamed : (CheckFault → Type 0) → Event → Type 0
 IsNamed Named event = (f : CheckFault) × (event ≡ Reported f) × Named f
 
--- There are no events in the list exactly if `Holds`; the first event is a fault with this
--- property.
+-- The list has no events exactly if `Holds`, and its first event is a fault with the property
+-- `Named`.
 abbrev pub FirstOf : (CheckFault → Type 0) → Type 0 → List Event → Type 0
 FirstOf Named Holds reported = Finds any_event (IsNamed Named) Holds Holds reported
 
@@ -65,44 +61,36 @@ module _ {Named : CheckFault → Type 0} where
       empty [] e = refl
       empty (x ∷ xs) e = absurd (none-some x (sym e))
 
-  -- A fault is reported.
   rule_reported : {A : Type 0} {rest : List Event} (f : CheckFault) → Named f → (A → ⊥)
       → FirstOf Named A (Reported f ∷ rest)
   rule_reported f is broken = grind (arith, nat_tests, same_Some)
 
-  -- A fault is reported if a test succeeds.
   reported_if : {A : Type 0} (b : Bool) (f : CheckFault) → Named f → Decides (not b) A
       → FirstOf Named A (if b then Reported f ∷ [] else [])
   reported_if true f named decided = rule_reported f named (λ a. let no = decided.1 a in cc)
   reported_if false f named decided = Finds-none (decided.0 refl)
 
-  -- A fault is reported if a test fails.
   reported_unless : {A : Type 0} (b : Bool) (f : CheckFault) → Named f → Decides b A
       → FirstOf Named A (if b then [] else Reported f ∷ [])
   reported_unless true f named decided = Finds-none (decided.0 refl)
   reported_unless false f named decided = rule_reported f named (λ a. let no = decided.1 a in cc)
 
--- ---- a transmission
-
--- The fault is neither one of a PES packet or the subtitle file nor a wrong cell.
+-- The fault is neither a fault of a PES packet or the subtitle file nor a wrong cell.
 abbrev pub is_plain : CheckFault → Bool
 is_plain (fault.Subtitles f) = false
 is_plain (fault.Pes pes f) = false
 is_plain (fault.Content frame row column) = false
 is_plain f = true
 
--- The property of each fault: of a plain one; of the unread rest; and of a wrong cell, if the
--- frames up to there were read.
+-- Assume that plain faults, the fault of the unread rest, and wrong cells in frames that were read
+-- have the property `Named`.
 module _ (g : Criteria) (frames : Transmission) (Named : CheckFault → Type 0)
     (plain : (f : CheckFault) → is_plain f ≡ true → Named f)
     (unread : (u : Unread) → g.unread ≡ Some u → Named (unread_fault (length frames) (Some u)))
     (wrong : (n f : ℕ) (x : ℕ × ℕ) → IsReadTo g frames n f → broken_cell g frames n f ≡ Some x
     → Named (fault.Content f x.0 x.1)) where
-  -- The events.
   abbrev Reports : Type 0 → List Event → Type 0
   Reports Holds xs = FirstOf Named Holds xs
-
-  -- ---- the number of a frame
 
   start_reported : Reports ((first : ℕ) → g.first_in ≡ Some first → frame_at frames 0 ≤ first)
       (order_events g frames 0)
@@ -119,22 +107,17 @@ module _ (g : Criteria) (frames : Transmission) (Named : CheckFault → Type 0)
   order_reported (suc i) =
       grind (arith, nat_tests, Finds-like, rise_reported i)
 
-  -- ---- an end
-
-  -- A rule that was not broken at the end before.
   rule_at_end : (rule : EndRule) (o : Option (ℕ × ℕ)) (prior f : ℕ)
       → ((x : ℕ × ℕ) → o ≡ Some x → Named (end_fault rule f x))
       → Reports (o ≡ None) (rule_events rule None prior o f)
   rule_at_end rule o prior f h1 = grind (arith, nat_tests, rule_reported, none-some)
 
-  -- The property of each fault at an end.
   end_named : (n f : ℕ) → IsReadTo g frames n f → (rule : EndRule) (x : ℕ × ℕ)
       → broken_at rule (active_faults_at g frames n f) ≡ Some x
       → Named (end_fault rule f x)
   unfolding active_faults_at
   end_named n f h1 rule x h2 = grind (arith, nat_tests)
 
-  -- If no fault was active at the end before.
   fault_free_reported : (n f prior : ℕ) → IsReadTo g frames n f
       → Reports (IsFaultFree g frames n f)
       (end_events no_active_faults prior (active_faults_at g frames n f) f)
@@ -146,22 +129,17 @@ module _ (g : Criteria) (frames : Transmission) (Named : CheckFault → Type 0)
       (λ rule. rw (nothing_at rule)
       (rule_at_end rule (broken_at rule now) prior f (end_named n f read rule))))
 
-  -- ---- the frames of the day before a frame
-
   module _ (n : ℕ) (past : AreOk g frames n) (there : n < length frames) (some : 0 < n)
       (order : OrderOk g frames n) where
-    -- The frame before: the greatest so far.
     abbrev last : ℕ
     last = latest frames n
 
     last_is : last ≡ frame_at frames (n - 1)
     last_is = latest_at frames n (λ i a b. (past i b).order.rises a) some
 
-    -- No fault is active at its end.
     fault_free_first : IsFaultFree g frames n last
     fault_free_first = let is = last_is in grind (arith, nat_tests)
 
-    -- Nor at the ends of the m frames of the day after it.
     abbrev FaultFreeFor : ℕ → Type 0
     FaultFreeFor m = (d : ℕ) → d < m → IsFaultFree g frames n (last + suc d)
 
@@ -170,13 +148,11 @@ module _ (g : Criteria) (frames : Transmission) (Named : CheckFault → Type 0)
         let e : last ≡ last + 0 = omega arith in subst (IsFaultFree g frames n) e fault_free_first
     fault_free_at fault_free (suc d) l = fault_free d (omega arith)
 
-    -- No fault was active at the end before one of them.
     nothing_before : (f d : ℕ) → end_before frames n f ≡ d → IsFaultFree g frames n d
         → active_faults_before g frames n f ≡ no_active_faults
     nothing_before f d at fault_free =
         active_faults_before_is g frames n f some ∙ ap (active_faults_at g frames n) at ∙ fault_free
 
-    -- One more frame of the day.
     gap_next : (m : ℕ) → suc m ≤ gap_length frames n → FaultFreeFor m
         → Reports (IsFaultFree g frames n (last + suc m)) (events_at_end g frames n n
         (last + suc m))
@@ -198,7 +174,6 @@ module _ (g : Criteria) (frames : Transmission) (Named : CheckFault → Type 0)
           header = (past 0 some).header refl;
         }))
 
-    -- One end after another.
     gap_reported : (m : ℕ) → m ≤ gap_length frames n → Reports (FaultFreeFor m)
         (gap_events g frames n m)
     unfolding gap_events
@@ -207,7 +182,6 @@ module _ (g : Criteria) (frames : Transmission) (Named : CheckFault → Type 0)
         (λ d. IsFaultFree g frames n (last + suc d)) m refl (λ d. refl)
         (λ d below. gap_next d (omega arith))
 
-    -- All of them.
     abbrev GapOk : Type 0
     GapOk = (f : ℕ) → IsInGap frames n f → IsFaultFree g frames n f
 
@@ -224,7 +198,6 @@ module _ (g : Criteria) (frames : Transmission) (Named : CheckFault → Type 0)
         subst (IsFaultFree g frames n) e (fault_free (f - (last + 1)) (omega (arith, gap.2))))
         (gap_reported (gap_length frames n) (omega arith))
 
-    -- No fault was active at the end before the frame's own.
     pub none_active_before : GapOk → active_faults_before g frames n (frame_at frames n) ≡
         no_active_faults
     none_active_before fault_free =
@@ -251,8 +224,6 @@ module _ (g : Criteria) (frames : Transmission) (Named : CheckFault → Type 0)
   unfolding active_faults_before
   active_before n h1 h2 h3 h4 = grind (arith, nat_tests, none_active_before)
 
-  -- ---- its packets
-
   rule_named : (r : PacketRule) (frame k : ℕ) (x : Event)
       → any_event (Reported (packet_fault r frame k)) ≡ Some x
       → IsNamed Named x
@@ -260,11 +231,9 @@ module _ (g : Criteria) (frames : Transmission) (Named : CheckFault → Type 0)
 
   module _ (whole : EachPacket IsPacket frames) (n : ℕ) (past : AreOk g frames n)
       (there : n < length frames) where
-    -- The packets of the frame.
     abbrev ps : List (List ℕ)
     ps = packets_of_frame frames n
 
-    -- The packets before one of them keep all rules.
     clean_before : (k : ℕ) → k ≤ length ps → PacketsOk g frames n k
         → AreClean g.watched (before frames n k)
     clean_before zero l ok =
@@ -283,7 +252,6 @@ module _ (g : Criteria) (frames : Transmission) (Named : CheckFault → Type 0)
         (clean_before k (omega arith) (λ j m. ok j (omega arith)))
         (each_at IsPacket frames n k whole there (omega arith), ok k (omega arith))))
 
-    -- One packet.
     packet_reported : (k : ℕ) → k < length ps → PacketsOk g frames n k
         → Reports (KeepsAllRules g.watched (before frames n k) (packet_at frames n k))
         (rules_reported g.watched (frame_at frames n) k (before frames n k) (packet_at frames n k))
@@ -299,7 +267,6 @@ module _ (g : Criteria) (frames : Transmission) (Named : CheckFault → Type 0)
         fails : {reported : Event} (b : Bool) → (b ≡ true → any_event reported ≡ None) → b ≡ false
         fails b silent = grind (arith, nat_tests, none-some)
 
-    -- All packets.
     all_packets_reported : (k : ℕ) → k ≤ length ps
         → Reports (PacketsOk g frames n k)
         (packet_events g.watched (frame_at frames n) (packets_before frames n) ps k)
@@ -312,8 +279,6 @@ module _ (g : Criteria) (frames : Transmission) (Named : CheckFault → Type 0)
         (λ j. let from : 0 + j ≡ j = omega arith in rw from refl)
         (λ j below. packet_reported j (omega arith))
 
-  -- ---- its header, its end, and all of it
-
   first_header_reported : Reports (HasHeader g frames 0) (first_header_events g frames 0)
   unfolding first_header_events
   first_header_reported = reported_unless _ _ (plain _ refl) (λ e. e, λ e. e)
@@ -324,7 +289,6 @@ module _ (g : Criteria) (frames : Transmission) (Named : CheckFault → Type 0)
   header_reported zero = Finds-like (λ h. h refl) (λ h z. h) first_header_reported
   header_reported (suc i) = Finds-none (λ z. absurd (omega arith))
 
-  -- The end of a frame, if its other requirements are met.
   end_reported : (n : ℕ) → AreOk g frames n → n < length frames → OrderOk g frames n
       → ((f : ℕ) → IsInGap frames n f → IsFaultFree g frames n f)
       → PacketsOk g frames n (length (packets_of_frame frames n))
@@ -367,7 +331,6 @@ module _ (g : Criteria) (frames : Transmission) (Named : CheckFault → Type 0)
       first_has (inr none) = header (omega arith)
 
   module _ (whole : EachPacket IsPacket frames) where
-    -- A frame.
     frame_reported : (n : ℕ) → AreOk g frames n → n < length frames
         → Reports (FrameOk g frames n) (frame_events g frames n)
     unfolding frame_events
@@ -383,15 +346,12 @@ module _ (g : Criteria) (frames : Transmission) (Named : CheckFault → Type 0)
         (λ ok. ok.gap))
         (λ ok. ok.order))
 
-    -- The first frames of the list.
     pub frames_reported : (n : ℕ) → n ≤ length frames
         → Reports (AreOk g frames n) (events_of_first g frames n)
     unfolding events_of_first
     frames_reported n l =
         found_so_far (events_of_first g frames) (frame_events g frames) (FrameOk g frames) n refl
         (λ i. refl) (λ i below past. frame_reported i past (omega arith))
-
-  -- ---- the whole list
 
   -- No subtitle is due after the last frame, and the page is right at its end.
   abbrev IsOver : Type 0
@@ -406,7 +366,6 @@ module _ (g : Criteria) (frames : Transmission) (Named : CheckFault → Type 0)
   late_reported : Reports IsOver (late_events g frames)
   late_reported = reported_if _ _ (plain _ refl) over_decided
 
-  -- The events after the last frame.
   rest_reported : AreOk g frames (length frames) → 0 < length frames → (o : Option Unread)
       → g.unread ≡ o → Reports (AllOk g frames) (rest_events g frames o)
   rest_reported past some (Some u) e = grind (arith, nat_tests, rule_reported, none-some)
@@ -417,7 +376,6 @@ module _ (g : Criteria) (frames : Transmission) (Named : CheckFault → Type 0)
   unfolding closing_events end_events end_rules
   closing_reported n h1 h2 = grind (arith, nat_tests, rule_reported, rest_reported)
 
-  -- All events.
   pub all_reported : EachPacket IsPacket frames → Reports (AllOk g frames) (events g frames)
   unfolding events
   all_reported whole =

@@ -28,12 +28,8 @@ use Rattle.sub_laws.proofs.UnfinishedLemmas.{first_unfinished_end, first_unfinis
 use Rattle.sub_laws.proofs.UnfinishedLemmas.{unfinished_at}
 use Rattle.sub_laws.proofs.UnfinishedLemmas.{unfinished_is}
 
--- ---- tests
-
 pub none_is : {A : Type 0} (o : Option A) → is_some o ≡ false → o ≡ None
 none_is o e = grind (arith, nat_tests)
-
--- ---- the end of a frame
 
 module _ (programme : ProgrammeValue) (options : OptionsValue) (unread : Option Unread)
     (any_refused : Bool) (undecided : ℕ → Bool) (t : Transmission)
@@ -41,15 +37,12 @@ module _ (programme : ProgrammeValue) (options : OptionsValue) (unread : Option 
   abbrev g : Criteria
   g = criteria_unsure programme options unread any_refused undecided
 
-  -- The first frame.
   abbrev first : ℕ
   first = frame_at t 0
 
-  -- The end of a frame is unfinished, given the packets on air up to it.
   abbrev un : ℕ → Bool
   un = unfinished_at g t rises
 
-  -- A frame whose due page is known is finished exactly if its end is not unfinished.
   pub finished_of : (n f : ℕ) → IsEnd t n f → undecided f ≡ false
       → is_unfinished g t n f ≡ false
       → IsFinishedBy options.keeps programme t options f
@@ -82,7 +75,6 @@ module _ (programme : ProgrammeValue) (options : OptionsValue) (unread : Option 
       subst (λ ps. IsFalse (is_open_after (kind options.page) ps)) on (finished.ended asks))) in
       rw (wrong, shut) refl
 
-  -- Each frame from the first to the last has an end.
   pub frame_end : (f : ℕ) → 0 < length t → first ≤ f → f ≤ end_frame t → (n : ℕ) × IsEnd t n f
   frame_end f some low high =
       let (n, end, on, from) = end_at t rises f some low high in (n, end)
@@ -101,14 +93,12 @@ module _ (programme : ProgrammeValue) (options : OptionsValue) (unread : Option 
       let (n, end) = frame_end f some low high in
       sym (unfinished_is g t rises n f end) ∙ of_finished n f end finished
 
-  -- The frame since which the ends are unfinished.
   pub first_unfinished_is : (n f : ℕ) → IsEnd t n f
       → unfinished_since g t n f ≡ first_unfinished_at un first (f - first)
   first_unfinished_is n f end =
       let low = end_high t rises n f end in
       first_unfinished_end g t rises (f - first) n f end (omega arith)
 
-  -- There is none exactly if the last end is finished.
   pub no_first_unfinished : (n f : ℕ) → IsEnd t n f → is_unfinished g t n f ≡ false
       → unfinished_since g t n f ≡ None
   no_first_unfinished n f end e =

@@ -26,15 +26,12 @@ use Rattle.sub_laws.proofs.EmittedLemmas.{pes_packets_emitted, emitted, emitted-
 use Rattle.sub_rules.specs.Trusted.{CheckStep, at_pes, current_pes}
 use Rattle.sub_rules.proofs.FrameEvents.{events}
 
--- ---- PES packets
-
--- Those before the first skipped one.
+-- The PES packets before the first skipped one.
 prefix : List PesPacket → List PesPacket
 prefix [] = []
 prefix (Sent s ∷ pes_packets) = Sent s ∷ prefix pes_packets
 prefix (Skipped u ∷ pes_packets) = []
 
--- Each of them is sent.
 prefix_sent : (pes_packets : List PesPacket) → length (frames_of (prefix pes_packets)) ≡ length
     (prefix pes_packets)
 unfolding prefix frames_of
@@ -42,7 +39,6 @@ prefix_sent [] = refl
 prefix_sent (Sent s ∷ pes_packets) = ap suc (prefix_sent pes_packets)
 prefix_sent (Skipped u ∷ pes_packets) = refl
 
--- Their frames are those up to the first skipped PES packet.
 prefix_frames : (pes_packets : List PesPacket) (unread : Option Unread)
     → frames_of (prefix pes_packets) ≡ (read_until_skipped pes_packets unread).frames
 unfolding prefix frames_of read_until_skipped
@@ -52,13 +48,9 @@ prefix_frames (Sent s ∷ pes_packets) unread =
 prefix_frames (Skipped u ∷ pes_packets) unread = refl
 
 module _ (frame row column : ℕ) where
-  -- The wrong cell is the first fault.
   abbrev IsFirst : List Event → Type 0
   IsFirst es = first_reported es ≡ Some (fault.Content frame row column)
 
-  -- ---- two lists
-
-  -- It is the first fault of the first list, or of the second if the first has none.
   parts_first : (xs ys : List Event) → IsFirst (xs ++ ys)
       → IsFirst xs ⊎ ((first_reported xs ≡ None) × IsFirst ys)
   parts_first xs ys e = grind (arith, nat_tests, first_of_two)
@@ -69,15 +61,12 @@ module _ (frame row column : ℕ) where
   rest_first : (xs ys : List Event) → first_reported xs ≡ None → IsFirst ys → IsFirst (xs ++ ys)
   rest_first xs ys none e = first_of_two xs ys ∙ rw (none, e) refl
 
-  -- ---- steps
-
-  -- The fault, moved to PES packet `pes`, is a wrong cell exactly if it was one.
+  -- The fault, moved to PES packet `pes`, is a wrong cell exactly if it was a wrong cell before.
   cell_reported : (pes : ℕ) (f : CheckFault)
       → fault_at_pes pes f ≡ fault.Content frame row column
       → f ≡ fault.Content frame row column
   cell_reported pes f e = grind (arith, nat_tests)
 
-  -- So it is the first fault also without PES packets.
   emitted_first : (pes : ℕ) (ms : List CheckStep) → IsFirst (emitted_by pes ms) → IsFirst
       (emitted ms)
   unfolding at_pes
@@ -88,10 +77,7 @@ module _ (frame row column : ℕ) where
   emitted_first pes (AtPes next ∷ ms) e = emitted_first next ms e
   emitted_first pes (m ∷ ms) e = emitted_first pes ms e
 
-  -- ---- all PES packets
-
   module _ (g : Criteria) where
-    -- A sent PES packet: the fault is among its events, or comes later.
     module _ (sent : Transmission) (pes : ℕ) (s : SentFrame) (pes_packets : List PesPacket)
         (rest : List Event) where
       abbrev next : Transmission
@@ -142,7 +128,8 @@ module _ (frame row column : ℕ) where
           ∙ append_assoc own (emitted later) rest))
           ∙ e))
 
-    -- A skipped PES packet has no wrong cell, so all are sent, or the fault comes before.
+    -- The fault of a skipped PES packet is no wrong cell. So all PES packets are sent, or the wrong
+    -- cell is reported before the first skipped one.
     prefix_reported : (sent : Transmission) (pes : ℕ) (pes_packets : List PesPacket)
         (rest : List Event)
         → IsFirst (emitted (steps_of_each g sent pes pes_packets) ++ rest)
@@ -156,7 +143,6 @@ module _ (frame row column : ℕ) where
         one_more sent pes s pes_packets rest
         (prefix_reported (sent_after g.within sent s) (suc pes) pes_packets rest) e
 
-    -- The events of all PES packets.
     abbrev after_each : List PesPacket → List Event
     after_each pes_packets =
         let frames = sent_by_pes_packets g pes_packets in
@@ -168,8 +154,8 @@ module _ (frame row column : ℕ) where
         ≡ emitted (steps_of_each g [] 0 pes_packets) ++ after_each pes_packets
     emitted_all pes_packets = grind (arith, nat_tests, emitted-append, emitted, append_assoc)
 
-    -- If a wrong cell is the first fault, it is one of the frames up to the first skipped PES
-    -- packet. For `check`.
+    -- If a wrong cell is the first fault of a PES file, it is the first fault of the frames up to
+    -- the first skipped PES packet.
     pub content_first : (pes_packets : List PesPacket) → IsFirst (all_of_pes_packets g pes_packets)
         → IsFirst (events g (joined g.within (read_until_skipped pes_packets g.unread).frames))
     unfolding all_of_pes_packets reported_of_pes_packets current_pes

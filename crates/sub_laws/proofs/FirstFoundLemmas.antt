@@ -20,7 +20,7 @@ use Rattle.sub_rules.specs.declared.active_faults.ActiveFaults.{ActiveFaults}
 use Rattle.sub_rules.proofs.EndRuleLemmas.{each_end_rule}
 
 module _ {X : Type 0} where
-  -- What is searched for, in the first event that has it.
+  -- The first result of a search in a list of events.
   abbrev pub first_found : (Event → Option X) → List Event → Option X
   first_found look [] = None
   first_found look (e ∷ es) = option_or (look e) (first_found look es)
@@ -30,8 +30,8 @@ module _ {X : Type 0} where
   found-append look [] ys = refl
   found-append look (x ∷ xs) ys = let rest = found-append look xs ys in grind arith
 
-  -- What is found first satisfies `At`. If nothing is found, `Holds`; and if `Given`, nothing is
-  -- found.
+  -- The first result of the search has the property `At`. If there is no result, `Holds`; and if
+  -- `Given`, there is no result.
   pub record Finds (look : Event → Option X) (At : X → Type 0) (Given Holds : Type 0)
       (es : List Event) : Type 0 where
     pub at : (x : X) → first_found look es ≡ Some x → At x
@@ -42,18 +42,18 @@ module _ {X : Type 0} {look : Event → Option X} {At : X → Type 0} where
   pub Finds-none : {A B : Type 0} → B → Finds look At A B []
   Finds-none b = record { at = λ x e. cc; fault_free = λ e. b; calm = λ h. refl }
 
-  -- Joined lists: if nothing is found in the first, its result is available for the second.
+  -- For joined lists: if the search of the first list has no result, its property is available for
+  -- the second.
   pub Finds-append : {A B C D : Type 0} {xs ys : List Event} → Finds look At A B xs
       → (B → Finds look At C D ys) → (C → A) → Finds look At C D (xs ++ ys)
   Finds-append {xs = xs} {ys = ys} one next back =
       let both = found-append look xs ys in grind (arith, nat_tests)
 
-  -- The same with implied properties.
   pub Finds-like : {A B C D : Type 0} {xs : List Event} → (C → A) → (B → D)
       → Finds look At A B xs → Finds look At C D xs
   Finds-like from to h = grind (arith, nat_tests)
 
-  -- A sequence of lists, each of which extends the one before.
+  -- A sequence of lists of events, each of which extends the list before.
   pub found_so_far : (so_far one : ℕ → List Event) (P : ℕ → Type 0) (m : ℕ)
       → so_far 0 ≡ []
       → ((n : ℕ) → so_far (suc n) ≡ so_far n ++ one n)
@@ -68,20 +68,16 @@ module _ {X : Type 0} {look : Event → Option X} {At : X → Type 0} where
       (λ here j l. grind (arith, nat_tests, cases_lt)) (each m (omega arith) before))
       (λ all j l. all j (omega arith)))
 
--- ---- the rules that a packet breaks
-
--- A property of each rule in the list is one of any rule.
 pub each_rule : (P : PacketRule → Type 0) → AllByRecursion P packet_rules → (r : PacketRule) → P r
 unfolding packet_rules
 each_rule P h r = grind arith
 
--- The converse.
 of_each_rule : (P : PacketRule → Type 0) → ((r : PacketRule) → P r) → AllByRecursion P packet_rules
 of_each_rule P all = recursion_from_All P packet_rules (λ k d l. all (get_or packet_rules k d))
 
 module _ {X : Type 0} (look : Event → Option X) (At : X → Type 0) (frame k : ℕ)
     (at : (r : PacketRule) (x : X) → look (Reported (packet_fault r frame k)) ≡ Some x → At x) where
-  -- No rule of the list passes the test.
+  -- No rule of the list that passes the test is searched for.
   abbrev NonePass : (PacketRule → Bool) → List PacketRule → Type 0
   NonePass test rs =
       AllByRecursion (λ r. test r ≡ true → look (Reported (packet_fault r frame k)) ≡ None) rs
@@ -93,7 +89,6 @@ module _ {X : Type 0} (look : Event → Option X) (At : X → Type 0) (frame k :
   rules_found test (r ∷ rs) =
       let found = at r in let rest = rules_found test rs in grind (arith, nat_tests)
 
-  -- Among the events of packet k of a frame.
   pub packet_found : (w : Watched) (before : List (List ℕ)) (p : List ℕ)
       → Finds look At
       ((r : PacketRule) → breaks r w before p ≡ true → look (Reported (packet_fault r frame k)) ≡
@@ -106,11 +101,8 @@ module _ {X : Type 0} (look : Event → Option X) (At : X → Type 0) (frame k :
       Finds-like (of_each_rule _) (each_rule _)
       (rules_found (λ r. breaks r w before p) packet_rules)
 
--- ---- the rules for the end of a frame
-
 module _ {X : Type 0} {look : Event → Option X} {At : X → Type 0} {Given Holds : EndRule → Type 0}
   where
-    -- Among the events of an end, rule by rule.
     pub end_found : (old : ActiveFaults) (before : ℕ) (new : ActiveFaults) (f : ℕ)
         → ((rule : EndRule)
         → Finds look At (Given rule) (Holds rule)

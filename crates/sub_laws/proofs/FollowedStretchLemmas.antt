@@ -21,17 +21,14 @@ use Rattle.sub_laws.proofs.PrefixLemmas.{EachAfter, RiseTo, before, each_after, 
 use Rattle.sub_laws.proofs.PrefixLemmas.{last-same, on_air_at, packet_at, rises_to}
 use Rattle.sub_laws.proofs.TransmissionLemmas.{packets_between-split}
 
--- No packets transmit any text.
 sends_nil : (keeps : Bool) (page : PageIdValue) (text : ℕ → ℕ → ℕ) → SendsText keeps page [] text
 sends_nil keeps page text = grind (arith, nat_tests)
 
 module _ (transmission : Transmission) (a b : ℕ) (stretch : IsStretch transmission a b)
     (rises : IsRising transmission) where
-  -- Each frame of the list is after the one before.
   pub rising : RiseTo transmission (length transmission)
   rising = rises_each transmission rises
 
-  -- Each frame of the stretch has an end, with the packets on air up to it.
   pub end_of : (f : ℕ) → a ≤ f → f ≤ b
       → (n : ℕ)
       × IsEnd transmission n f
@@ -39,11 +36,9 @@ module _ (transmission : Transmission) (a b : ℕ) (stretch : IsStretch transmis
       × (frame_at transmission (n - 1) ≤ f)
   end_of f low high = grind (arith, nat_tests, first-same, last-same, end_at, rising)
 
-  -- What is on air before the stretch.
   abbrev earlier : List (List ℕ)
   earlier = packets_between transmission (first_frame transmission) a
 
-  -- A packet after that is sent in the stretch or later.
   not_earlier :
       (i k : ℕ)
       → i < length transmission
@@ -62,7 +57,6 @@ module _ (transmission : Transmission) (a b : ℕ) (stretch : IsStretch transmis
         grind (arith, nat_tests, length-append, length-take)
   ]
 
-  -- What is on air from its first frame transmits the text that remains of all packets.
   sends_at : (keeps : Bool) (page : PageIdValue)
       → ((i k : ℕ)
       → i < length transmission

@@ -10,17 +10,15 @@ use Rattle.sub_laws.proofs.PrefixLemmas.{IsInGap, before, packet_at}
 abbrev pub IsFaultFree : Criteria → Transmission → ℕ → ℕ → Type 0
 IsFaultFree g frames n f = active_faults_at g frames n f ≡ no_active_faults
 
--- The number of frame i of the list is as required.
 pub record OrderOk (g : Criteria) (frames : Transmission) (i : ℕ) : Type 0 where
   pub start : i ≡ 0 → (first : ℕ) → g.first_in ≡ Some first → frame_at frames 0 ≤ first
   pub rises : 0 < i → frame_at frames (i - 1) < frame_at frames i
 
--- The first k packets of frame i of the list keep all rules.
 abbrev pub PacketsOk : Criteria → Transmission → ℕ → ℕ → Type 0
 PacketsOk g frames i k =
     (j : ℕ) → j < k → KeepsAllRules g.watched (before frames i j) (packet_at frames i j)
 
--- All requirements for frame i of the list: its number, the frames of the day before it, its
+-- Frame i of the list meets all requirements: its number, the frames of the day before it, its
 -- packets, its header, and its end.
 pub record FrameOk (g : Criteria) (frames : Transmission) (i : ℕ) : Type 0 where
   pub order : OrderOk g frames i
@@ -33,7 +31,7 @@ pub record FrameOk (g : Criteria) (frames : Transmission) (i : ℕ) : Type 0 whe
 abbrev pub AreOk : Criteria → Transmission → ℕ → Type 0
 AreOk g frames n = (j : ℕ) → j < n → FrameOk g frames j
 
--- All requirements are met.
+-- The transmission meets all requirements.
 pub record AllOk (g : Criteria) (frames : Transmission) : Type 0 where
   pub each : AreOk g frames (length frames)
   pub unread : g.unread ≡ None
@@ -41,8 +39,8 @@ pub record AllOk (g : Criteria) (frames : Transmission) : Type 0 where
   pub late : (last : ℕ) → g.last_out ≡ Some last → last ≤ end_frame frames
   pub whole : IsFalse (is_pending g frames)
 
--- The first n frames are read up to the end of frame f of the day: they rise up to it, their
--- packets keep all rules, and the first has a header of the page.
+-- The first n frames are read up to the end of frame f of the day: they rise up to f, their packets
+-- keep all rules, and the first frame has a header of the page.
 pub record IsReadTo (g : Criteria) (frames : Transmission) (n f : ℕ) : Type 0 where
   pub some : 0 < n
   pub fits : n ≤ length frames

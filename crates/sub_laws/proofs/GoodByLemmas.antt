@@ -30,22 +30,17 @@ use Rattle.sub_laws.proofs.PrefixLemmas.{first-same, last-same, rises_to}
 use Rattle.sub_laws.proofs.RepeatLemmas.{law_of_may_keep, repeated_stretch, rules_by, rules_of}
 use Rattle.sub_laws.proofs.SoundStretchLemmas.{last_of_two}
 
--- ---- the frames of subtitles
-
 module _ (programme : ProgrammeValue) (transmission : Transmission)
     (is : IsProgramme programme.drawing programme.records)
     (starts : IfSome (first_in programme.records) (λ tci. first_frame transmission ≤ tci))
     (lasts : IfSome (last_out programme.records) (λ tco. tco ≤ last_frame transmission))
     (k : ℕ) (d : SubtitleValue) (within : k < length programme.records) where
-  -- A subtitle of the programme.
   abbrev t : SubtitleValue
   t = get_or programme.records k d
 
-  -- It has at least one frame.
   pub has_frame : t.tci < t.tco
   has_frame = (is.each k d within).times
 
-  -- It does not begin before the transmission.
   pub begins_in : first_frame transmission ≤ t.tci
   begins_in =
       let first : first_frame transmission ≤ (get_or programme.records 0 d).tci =
@@ -60,7 +55,6 @@ module _ (programme : ProgrammeValue) (transmission : Transmission)
         | inr same ↦ grind (arith, nat_tests)
       ]
 
-  -- It does not end after it.
   pub ends_in : t.tco ≤ last_frame transmission
   ends_in =
       let n : ℕ = length programme.records - 1 in
@@ -70,7 +64,6 @@ module _ (programme : ProgrammeValue) (transmission : Transmission)
       (slice_get-get_or programme.records n d (omega arith))) lasts in
       grind (arith, nat_tests, (cases_lt k n))
 
--- The first frame is not after the last.
 first_to_last :
     (transmission : Transmission)
     → 0 < length transmission
@@ -85,9 +78,8 @@ first_to_last transmission some rising =
           (length transmission - 1) (omega arith) (omega (arith, some)),
     )
 
--- ---- promises
-
--- A good transmission is sufficient in all its frames, and one of a programme keeps its promises.
+-- A good transmission is sufficient in all its frames, and a good transmission of a programme keeps
+-- its promises.
 pub law_of_good_repeats : LawOfGoodRepeats
 law_of_good_repeats keeps programme transmission options good =
     let law =
@@ -107,13 +99,12 @@ law_of_good_repeats keeps programme transmission options good =
           }),
     )
 
--- ---- if `within` is 0 and no repeat may keep the page
-
 module _ (programme : ProgrammeValue) (transmission : Transmission) (options : OptionsValue) where
   module _ (is : IsProgramme programme.drawing programme.records)
       (good : Good programme transmission options)
       (complete : IsTrue options.asks_complete → Complete transmission options) where
-    -- Each frame of a good transmission is finished, with complete pages if these are required.
+    -- If `within` is 0, each frame of a good transmission is finished, with complete pages if these
+    -- are required.
     finished :
         (f : ℕ)
         → first_frame transmission ≤ f
@@ -129,7 +120,8 @@ module _ (programme : ProgrammeValue) (transmission : Transmission) (options : O
           (last_frame transmission) f (complete asks) low high;
     }
 
-    -- So it is good for any `within`.
+    -- A good transmission whose pages are complete, if required, is good by the options for any
+    -- `within`.
     pub good_by : GoodBy false programme transmission options
     good_by = record {
       rules = rules_by programme transmission options good.rules;
@@ -161,7 +153,7 @@ module _ (programme : ProgrammeValue) (transmission : Transmission) (options : O
           (le_refl (last_frame transmission));
     }
 
-  -- If `within` is 0, `GoodBy` is `Good`, with complete pages if these are required.
+  -- If `within` is 0 and no repeat may keep the page, `GoodBy` implies `Good`.
   good_at_once :
       options.within ≡ 0
       → GoodBy false programme transmission options
@@ -194,8 +186,6 @@ law_of_no_delay programme transmission options is none = (
   good_at_once programme transmission options none,
   λ good. good_by programme transmission options is good.0 good.1,
 )
-
--- ---- schedules
 
 pub law_of_plan_repeats : LawOfPlanRepeats
 law_of_plan_repeats keeps programme options serial is some ok slow = go keeps

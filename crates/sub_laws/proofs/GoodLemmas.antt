@@ -18,15 +18,11 @@ use Rattle.sub_rules.specs.Transmission.{first_frame, last_frame}
 use Rattle.sub_rules.specs.Good.{Repeats}
 use Rattle.std.proofs.lemmas.Bool.{cases_lt}
 
--- ---- each packet
-
--- A property of a joined list holds for both parts.
 Each-left : (P : List ℕ → Type 0) (xs ys : List (List ℕ)) → AllByRecursion P (xs ++ ys)
     → AllByRecursion P xs × AllByRecursion P ys
 Each-left P [] ys h = (tt, h)
 Each-left P (x ∷ xs) ys h = let r = Each-left P xs ys h.1 in ((h.0, r.0), r.1)
 
--- A property of all packets holds for those of each frame.
 Each-parts : (P : List ℕ → Type 0) (t : Transmission)
     → AllByRecursion P (flat_map (λ (s : SentFrame). s.packets) t)
     → AllByRecursion (λ (s : SentFrame). All P s.packets) t
@@ -35,22 +31,16 @@ Each-parts P (s ∷ ss) h = let r =
     Each-left P s.packets (flat_map (λ (x : SentFrame). x.packets) ss) h in
     (All-from_recursion P s.packets r.0, Each-parts P ss r.1)
 
--- All packets.
 abbrev pub whole : Transmission → List (List ℕ)
 whole frames = packets_before frames (length frames)
 
--- They are listed frame after frame.
 pub whole-is : (t : Transmission) → whole t ≡ flat_map (λ (s : SentFrame). s.packets) t
 whole-is t = ap (flat_map (λ (s : SentFrame). s.packets)) (take_all (length t) t (omega arith))
 
--- A property of all packets holds for each packet of the transmission.
 pub each_packet : (P : List ℕ → Type 0) (t : Transmission) → AllByRecursion P (whole t)
     → EachPacket P t
 each_packet P t h = grind (arith, All-from_recursion, Each-parts, whole-is)
 
--- ---- headers
-
--- A packet of a frame of the list that passes a test is in the frame of the day.
 pub any_passes : (test : List ℕ → Bool) (t : Transmission) (j n : ℕ)
     → j < length t
     → frame_at t j ≡ n
@@ -61,7 +51,6 @@ any_passes test (s ∷ ss) zero n l e h = grind (arith, nat_tests, list_any-appe
 any_passes test (s ∷ ss) (suc j) n l e h =
     grind (arith, nat_tests, list_any-append, (any_passes test ss j n (omega arith) e h))
 
--- So is a header of the page.
 pub any_sent : (w : Watched) (t : Transmission) (j n : ℕ) → j < length t → frame_at t j ≡ n
     → holds_header (kind w.page) (packets_of_frame t j) ≡ true
     → holds_header (kind w.page) (packets_of t n) ≡ true
@@ -73,19 +62,16 @@ number_at [] i d l = absurd (omega arith)
 number_at (s ∷ ss) zero d l = refl
 number_at (s ∷ ss) (suc i) d l = number_at ss i d (omega arith)
 
--- In rising frames each is after the one before.
 pub rises_each : (t : Transmission) → IsRising t → (i : ℕ) → 0 < i → i < length t
     → frame_at t (i - 1) < frame_at t i
 rises_each t rising i a l =
     let nothing : SentFrame = record { frame = 0; packets = [] } in
     grind (arith, nat_tests, number_at t (i - 1) nothing, number_at t i nothing l)
 
--- An item of a joined list is in the first or in the second.
 any-split : {X : Type 0} (f : X → Bool) (xs ys : List X) → list_any f (xs ++ ys) ≡ true
     → (list_any f xs ≡ true) ⊎ (list_any f ys ≡ true)
 any-split f xs ys e = let both = list_any-append f xs ys in grind arith
 
--- A header in a frame of the day is in a frame of the list.
 pub sent_any : (w : Watched) (t : Transmission) (n : ℕ)
     → holds_header (kind w.page) (packets_of t n) ≡ true
     → (j : ℕ) × (j < length t) × (frame_at t j ≡ n) ×
@@ -100,9 +86,8 @@ sent_any w (s ∷ ss) n e =
       | inr there ↦ let r = later there in (suc r.0, omega (arith, r.1), r.2, r.3)
     ]
 
--- ---- PES packets
-
--- If a header of the page is repeated within a bound, PES packets are no further apart.
+-- If a header of the page is repeated within a bound, PES packets are no further apart than that
+-- bound.
 pub paced_of : (w : Watched) (every frames : ℕ) (t : Transmission) → 0 < length t → every ≤ frames
     → Repeats w.page every t
     → (f : ℕ) → first_frame t ≤ f → f ≤ last_frame t

@@ -19,8 +19,6 @@ use Rattle.sub_rules.proofs.PrefixEventLemmas.{frame_at-prefix, steps_of_arrival
 use Rattle.sub_rules.proofs.PrefixEventLemmas.{steps_of_ending-prefix, packets_before-prefix}
 use Rattle.sub_rules.proofs.PrefixEventLemmas.{packets_of_frame-prefix}
 
--- ---- more packets of the last frame
-
 with_none : (sent : Transmission) → with_packets [] sent ≡ sent
 unfolding with_packets
 with_none [] = refl
@@ -41,21 +39,19 @@ with_two xs ys (s ∷ []) = grind (arith, nat_tests, append_assoc)
 with_two xs ys (s ∷ next ∷ frames) =
     grind (arith, nat_tests, with_packets-length, with_first, (with_two xs ys (next ∷ frames)))
 
--- ---- frames so far
-
--- All frames are these, with more packets of the last frame and with more frames.
+-- All frames of the transmission are the frames sent so far, with more packets in the last frame
+-- and with further frames.
 pub record Grows (sent frames : Transmission) : Type 0 where
   pub rest : List (List ℕ)
   pub more : Transmission
   pub whole : frames ≡ with_packets rest sent ++ more
 
--- The frames before another one are unchanged.
+-- Frames before the last frame sent do not change.
 pub grown : (sent : Transmission) (s : SentFrame) (frames : Transmission)
     → Grows (sent ++ s ∷ []) frames
     → (more : Transmission) × (frames ≡ sent ++ more)
 grown sent s frames is = grind (arith, nat_tests, with_more, with_packets-push, append_assoc)
 
--- The same with fewer packets of the last frame, and without it.
 pub grows_more : (packets : List (List ℕ)) (sent frames : Transmission)
     → Grows (with_packets packets sent) frames
     → Grows sent frames
@@ -72,7 +68,7 @@ grows_one sent s frames is =
       whole = all.1 ∙ sym (ap (λ (l : Transmission). l ++ all.0) (with_none sent));
     }
 
--- One PES packet earlier.
+-- The relation `Grows` also holds for the frames before the last PES packet.
 pub grows_before : (within : ℕ) (sent : Transmission) (s : SentFrame) (frames : Transmission)
     → Grows (sent_after within sent s) frames
     → Grows sent frames
@@ -90,24 +86,21 @@ grows within sent (s ∷ more) =
     grows_before within sent s (joined_after within (sent_after within sent s) more)
     (grows within (sent_after within sent s) more)
 
--- If each PES packet is a frame of its own, these are unchanged.
+-- If each PES packet is a frame of its own, the frames sent so far do not change.
 pub same_at_once : (within : ℕ) (sent more frames : Transmission) → (within == 0) ≡ true
     → joined_after within sent more ≡ frames
     → frames ≡ sent ++ more
 same_at_once within sent more frames none all = grind (arith, nat_tests, joined_after-none)
 
--- If a PES packet continues a frame, there is one, and `within` is not 0.
 pub goes_on_some : (within : ℕ) (sent : Transmission) (s : SentFrame)
     → goes_on_with within sent s ≡ true
     → ((within == 0) ≡ false) × (0 < length sent)
 goes_on_some within sent s h1 = grind (arith, nat_tests)
 
--- There are no more frames so far than in all.
+-- There are at most as many frames so far as in the whole transmission.
 pub so_many : (sent frames : Transmission) → Grows sent frames
     → length sent ≤ length frames
 so_many sent frames is = grind (arith, nat_tests, length-append, with_packets-length)
-
--- ---- the steps
 
 module _ (g : Criteria) (sent frames : Transmission) (is : Grows sent frames) (n : ℕ)
     (size : length sent ≡ suc n)
@@ -127,7 +120,7 @@ module _ (g : Criteria) (sent frames : Transmission) (is : Grows sent frames) (n
     pub before_is : packets_before frames n ≡ packets_before sent n
     before_is = grind (arith, nat_tests, packets_before-prefix, all_long, with_packets-before)
 
-    -- The packets sent so far, with those so far in the last frame.
+    -- The packets sent so far are those of the first n frames, and those so far in frame n.
     pub so_far : packets_before sent (length sent)
         ≡ packets_before frames n ++ packets_of_frame sent n
     so_far =
@@ -144,7 +137,6 @@ module _ (g : Criteria) (sent frames : Transmission) (is : Grows sent frames) (n
         ∙ sym (steps_of_arrival-prefix g g.unread all is.more n (omega (arith, all_long)))
         ∙ ap (λ (fs : Transmission). steps_of_arrival g fs n) (sym is.whole)
 
--- A frame before others is unchanged.
 module _ (g : Criteria) (sent more frames : Transmission) (whole : frames ≡ sent ++ more) (n : ℕ)
     (there : n < length sent)
   where

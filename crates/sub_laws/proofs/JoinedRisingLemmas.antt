@@ -10,7 +10,6 @@ use Rattle.sub_rules.specs.Transmission.{IsRising, SentFrame, Transmission}
 use Rattle.sub_rules.proofs.JoinedLemmas.{sent_after-other}
 use Rattle.sub_laws.proofs.GoodLemmas.{rises_each}
 
--- A frame of the first of two lists, and the first of the second.
 pub frame_at-left : (xs ys : Transmission) (i : ℕ) → i < length xs
     → frame_at (xs ++ ys) i ≡ frame_at xs i
 frame_at-left [] ys i l = absurd (omega arith)
@@ -22,7 +21,7 @@ pub frame_at-next : (xs : Transmission) (s : SentFrame) (ys : Transmission)
 frame_at-next [] s ys = refl
 frame_at-next (x ∷ xs) s ys = frame_at-next xs s ys
 
--- In rising frames none continues the one before.
+-- In rising frames no PES packet continues the frame before.
 another : (within : ℕ) (sent : Transmission) (s : SentFrame) (frames : Transmission)
     → IsRising (sent ++ s ∷ frames)
     → goes_on_with within sent s ≡ false

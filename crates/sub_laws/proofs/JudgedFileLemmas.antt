@@ -20,8 +20,6 @@ use Rattle.sub_rules.specs.PesPacketEvents.{all_of_pes_packets}
 use Rattle.sub_laws.specs.CleanStretch.{criteria_unsure}
 use Rattle.sub_laws.specs.JudgedFiles.{LawOfJudgedAlike, LawOfJudgedParts}
 
--- ---- a part of a file
-
 -- Whether a file was read to its end does not depend on block numbers.
 read_unnumbered : (left : Findings) → is_read_to_the_end left ≡ is_read_to_the_end (unnumbered left)
 read_unnumbered no_more = refl
@@ -29,7 +27,7 @@ read_unnumbered (breaks f block) = refl
 read_unnumbered (refuses f block left) = read_unnumbered left
 read_unnumbered (finds t block left) = read_unnumbered left
 
--- Nor does it matter for whether the next subtitle is in order.
+-- Whether the next subtitle is in order does not depend on block numbers.
 followed_unnumbered : (last : SubtitleValue) (left : Findings)
     → is_followed_in_order (times_of last) left
     ≡ is_followed_in_order (times_of last) (unnumbered left)
@@ -38,11 +36,10 @@ followed_unnumbered last (breaks f block) = refl
 followed_unnumbered last (refuses f block left) = followed_unnumbered last left
 followed_unnumbered last (finds t block left) = refl
 
--- The subtitles that can be relied on after a subtitle, or from the first one on.
+-- The reliable subtitles after a given subtitle, or from the first subtitle on.
 abbrev following : Drawing → Option SubtitleValue → Bool → Findings → AllJudged
 following drawing last other left = judged_after drawing (option_map times_of last) other left
 
--- They do not depend on block numbers either.
 judged_unnumbered : (drawing : Drawing) (last : Option SubtitleValue) (other : Bool)
     (left : Findings)
     → following drawing last other left ≡ following drawing last other (unnumbered left)
@@ -58,13 +55,12 @@ judged_unnumbered drawing last other (finds t block left) =
       judged_unnumbered drawing (Some t) true left,
     ) refl
 
--- The page of a subtitle does not depend on the requested part.
+-- The page of a subtitle does not depend on the requested part of the file.
 drawn_of_day : (drawing : Drawing) (t : SubtitleValue)
     → drawn drawing t ≡ drawn (of_day drawing) t
 unfolding drawn
 drawn_of_day drawing t = refl
 
--- So the reliable subtitles do not either.
 judged_of_day : (drawing : Drawing) (last : Option SubtitleValue) (other : Bool) (left : Findings)
     → following drawing last other left ≡ following (of_day drawing) last other left
 unfolding judged_after
@@ -79,7 +75,6 @@ judged_of_day drawing last other (finds t block left) =
     ) refl
 
 module _ (drawing : Drawing) (one other : Findings) (same : unnumbered one ≡ unnumbered other) where
-  -- The reliable subtitles are the same if the findings are, apart from block numbers.
   judged_same : following drawing None false one ≡ following (of_day drawing) None false other
   judged_same =
       judged_unnumbered drawing None false one
@@ -87,11 +82,9 @@ module _ (drawing : Drawing) (one other : Findings) (same : unnumbered one ≡ u
       ∙ sym (judged_unnumbered drawing None false other)
       ∙ judged_of_day drawing None false other
 
-  -- So is whether the file was read to its end.
   read_same : is_read_to_the_end one ≡ is_read_to_the_end other
   read_same = read_unnumbered one ∙ ap is_read_to_the_end same ∙ sym (read_unnumbered other)
 
-  -- So a transmission can be judged by both or by neither.
   judges_same :
       (is_read_to_the_end one && are_some (following drawing None false one).judged
       && are_in_order (following drawing None false one).judged)
@@ -107,7 +100,6 @@ module _ (drawing : Drawing) (one other : Findings) (same : unnumbered one ≡ u
       all.judged)
       judged_same
 
--- The law, from that of reading: for `law_of_judged_parts`.
 pub judged_parts : LawOfScope → LawOfJudgedParts
 unfolding judged_of
 judged_parts law drawing gsi blocks size each read =
@@ -117,9 +109,7 @@ judged_parts law drawing gsi blocks size each read =
     let same = law drawing.scope gsi blocks size each read in
     (judged_same drawing part rest same, judges_same drawing part rest same)
 
--- ---- two files
-
--- The criteria are equal, since functions with equal values are.
+-- The criteria are equal, since functions with equal values are equal.
 pub law_of_judged_alike : LawOfJudgedAlike
 law_of_judged_alike one other options unread pes_packets programme any_refused undecided =
     ap

@@ -20,7 +20,6 @@ use Rattle.sub_laws.proofs.FollowedStretchLemmas.{end_of}
 use Rattle.sub_laws.proofs.ActiveFaultsLemmas.{active_faults_exact}
 use Rattle.sub_laws.proofs.SufficientDelayLemmas.{enough_repeats}
 
--- If `within` is 0, a stretch that is sufficient for repeats is sufficient.
 pub sufficient_of :
     (programme : ProgrammeValue) (transmission : Transmission) (options : OptionsValue) (a b : ℕ)
     → options.keeps ≡ false
@@ -37,7 +36,7 @@ sufficient_of programme transmission options a b none at_once enough =
           (of.whole at_once f low high row column named);
     }
 
--- If the page is open at no end of a clean stretch, pages are complete in it.
+-- If the page is open at no end in a clean stretch, pages are complete in the stretch.
 pub complete_unreported :
     (programme : ProgrammeValue) (transmission : Transmission) (options : OptionsValue)
     → (unread : Option Unread) (any_refused : Bool) (undecided : ℕ → Bool) (a b : ℕ)
@@ -57,7 +56,6 @@ complete_unreported programme transmission options unread any_refused undecided 
     asks in
     grind (arith, nat_tests)
 
--- So the stretch is sufficient if `within` is 0.
 pub law_of_unreported_stretch : LawOfUnreportedStretch
 law_of_unreported_stretch programme transmission options unread any_refused undecided a b none
     at_once

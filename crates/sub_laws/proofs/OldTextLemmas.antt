@@ -32,14 +32,12 @@ use Rattle.sub_laws.proofs.RepeatLemmas.{repeated_stretch}
 use Rattle.sub_laws.proofs.SoundStretchLemmas.{on_air-cut}
 use Rattle.sub_laws.proofs.TransmissionLemmas.{packets_between-split}
 
--- ---- the kept text stays
-
 module _ (keeps : Bool) (w : PageIdValue) where
-  -- The packets since the text began.
+  -- The packets since the text of the page began.
   abbrev spanned : List (List ℕ) → List (List ℕ)
   spanned packets = text_span keeps (kind w) packets
 
-  -- A packet that does not begin the text only extends them.
+  -- A packet that does not begin the text only extends the packets since the text began.
   span-one : (xs : List (List ℕ)) (p : List ℕ)
       → begins_text keeps (kind w p) ≡ false
       → (more : List (List ℕ)) × (spanned (xs ++ p ∷ []) ≡ spanned xs ++ more)
@@ -57,7 +55,6 @@ module _ (keeps : Bool) (w : PageIdValue) where
       go false true e = (p ∷ [], refl)
       go false false e = ([], sym (append-nil (spanned xs)))
 
-  -- So do more of them.
   span-grows : (xs ys : List (List ℕ))
       → holds_beginning keeps (kind w) ys ≡ false
       → (more : List (List ℕ)) × (spanned (xs ++ ys) ≡ spanned xs ++ more)
@@ -80,11 +77,10 @@ module _ (keeps : Bool) (w : PageIdValue) where
             ∙ append_assoc (spanned xs) more rest,
       )
 
-  -- The code of the first packet of a row, if there is one.
   abbrev code_in : ℕ → Option (List ℕ) → ℕ
   code_in column found = unwrap_or (option_map (λ p. code_of (text_byte p column)) found) space
 
-  -- So a code other than a space stays in its cell.
+  -- If no header begins the text again, a code other than a space stays in its cell.
   pub kept-stays : (xs ys : List (List ℕ)) (row column code : ℕ)
       → holds_beginning keeps (kind w) ys ≡ false
       → kept keeps w xs row column ≡ code
@@ -106,8 +102,6 @@ module _ (keeps : Bool) (w : PageIdValue) where
       go None later e = absurd (text (sym e))
       go (Some first) later e = e
 
--- ---- where the text begins
-
 module _ (keeps : Bool) (w : PageIdValue) (xs ys : List (List ℕ)) where
   begins-left :
       holds_beginning keeps (kind w) xs ≡ true → holds_beginning keeps (kind w) (xs ++ ys) ≡ true
@@ -119,15 +113,12 @@ module _ (keeps : Bool) (w : PageIdValue) (xs ys : List (List ℕ)) where
   begins-right holds =
       list_any-append (λ p. begins_text keeps (kind w p)) xs ys ∙ or_right _ _ holds
 
--- ---- if text ends or changes
-
 module _ (keeps : Bool) (programme : ProgrammeValue) (transmission : Transmission)
     (options : OptionsValue) (e row column code : ℕ)
     (good : GoodBy keeps programme transmission options)
     (goes : TextGoes programme options.within e row column code)
     (from_first : first_frame transmission + options.within < e)
     (to_last : e + options.within ≤ last_frame transmission) where
-  -- Some frame before it is finished.
   finished :
       (f : ℕ) × (e ≤ f + options.within + 1) × (f < e)
       × (kept keeps options.page (on_air_until transmission f) row column ≡ code)
@@ -140,7 +131,6 @@ module _ (keeps : Bool) (programme : ProgrammeValue) (transmission : Transmissio
             ∙ goes.was some.0 (omega (arith, some.2)) (omega (arith, some.1)),
       )
 
-  -- The old code is no longer kept at the end of the last frame of the change.
   not_kept :
       kept keeps options.page (on_air_until transmission (e + options.within)) row column ≢ code
   not_kept is =
@@ -150,7 +140,6 @@ module _ (keeps : Bool) (programme : ProgrammeValue) (transmission : Transmissio
             goes.gone d (omega arith) before (sym due ∙ is)
       ]
 
-  -- So a header was sent that begins the text.
   begins :
       holds_beginning keeps (kind options.page)
       (packets_between transmission (e - options.within) (e + options.within + 1))
@@ -176,7 +165,6 @@ module _ (keeps : Bool) (programme : ProgrammeValue) (transmission : Transmissio
             ∙ kept-stays keeps options.page _ after row column code none is goes.is_text))
       ]
 
-  -- Each receiver that was tuned in before these frames received it.
   begun : (g j f : ℕ)
       → IsListening transmission (first_frame transmission) (last_frame transmission) g j f
       → g + options.within < e
@@ -200,7 +188,6 @@ module _ (keeps : Bool) (programme : ProgrammeValue) (transmission : Transmissio
       (ap (holds_beginning keeps (kind options.page)) rest
       ∙ begins-left keeps options.page _ _ begins))
 
-  -- If no frame may be late, each page is right.
   same_at_once : (f : ℕ)
       → options.within ≡ 0
       → first_frame transmission ≤ f
@@ -211,7 +198,6 @@ module _ (keeps : Bool) (programme : ProgrammeValue) (transmission : Transmissio
       let same : some.0 ≡ f = omega (arith, none, some.1, some.2) in
       subst (IsCorrectPage keeps programme options.page transmission) same some.3.whole
 
-  -- So the receiver has what is due.
   holds : (class : ReceiverClass) (anew : Bool) (g j f : ℕ) (arrived : List Bool)
       → (got : List (List ℕ)) (old new : State)
       → IsGot transmission (first_frame transmission) (last_frame transmission) g j f arrived got

@@ -18,7 +18,6 @@ use Rattle.sub_rules.specs.Transmission.{Transmission}
 use Rattle.sub_rules.proofs.PesReadingLemmas.{reads_ended, reads_more}
 use Rattle.ttx_pes.proofs.ReaderLemmas.{nothing}
 
--- PES packets that carry frames are read as these.
 reads_of :
     (clock : Clock) (given : ℕ) (values : List PesValue) (packets : List (List ℕ))
     (frames : Transmission)
@@ -41,16 +40,12 @@ reads_of clock given (v ∷ values) (p ∷ packets) (s ∷ frames) each few sent
     (sym (rest_after-packet v (p ++ rest) rest read))
     (reads_of clock (given + 1) values packets frames each.1 (omega arith) sent.1))
 
--- A PES file that carries frames is read as its PES packets. For `check`.
 pub carried_is_read :
     (clock : Clock) (within : ℕ) (bytes : List ℕ) (frames : Transmission)
     → (is : CarriesBy clock within bytes frames)
     → ReadsAs clock 0 bytes is.sendings None
 carried_is_read clock within bytes frames is = grind (arith, nat_tests, reads_of)
 
--- ---- if `within` is 0
-
--- Each PES packet has the PTS of its frame.
 sent_exactly :
     (origin : ℕ) (values : List PesValue) (frames : Transmission)
     → AllZip (IsReadAs (clock 0 origin)) values frames
@@ -79,7 +74,6 @@ read_exactly origin (v ∷ values) (s ∷ frames) each = (
   read_exactly origin values frames each.1,
 )
 
--- Each PES packet is a frame.
 exact_frames :
     (origin : ℕ) (bytes : List ℕ) (frames : Transmission)
     → CarriesBy (clock 0 origin) 0 bytes frames ↔ Carries origin bytes frames

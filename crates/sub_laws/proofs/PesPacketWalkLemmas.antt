@@ -27,7 +27,6 @@ use Rattle.sub_laws.proofs.GrowingFrameLemmas.{frame_is, goes_on_some, grown, gr
 use Rattle.sub_laws.proofs.GrowingFrameLemmas.{long, packets_are, so_far, same_at_once}
 use Rattle.sub_rules.specs.Trusted.{CheckStep}
 
--- The last frame has these packets in the end, and perhaps more.
 packets_grow : (g : Criteria) (sent frames : Transmission) (is : Grows sent frames) (n : ℕ)
     → length sent ≡ suc n
     → packets_of_frame frames n ≡ packets_of_frame sent n ++ is.rest
@@ -46,12 +45,11 @@ module _ (X : Type 0) (reported_of : ℕ → X → X) (g : Criteria) (frames : T
     (O : ℕ → List (List ℕ) → X → Type 0)
     (Q : Transmission → Type 0)
   where
-    -- The events of a skipped PES packet.
     abbrev pub skipped_steps : ℕ → Unread → List CheckStep
     skipped_steps pes u = map Emits (Reported (unread_fault pes (Some u)) ∷ [])
 
-    -- T relates the state before and after steps: from a state C, in which so many frames have
-    -- ended, to O, in which the next frame is sent and has these packets, and to its end; and at
+    -- T relates the state before and after steps: from a state C, in which n frames have ended, to
+    -- O, in which the next frame is sent and has some packets, and to the end of that frame; and at
     -- skipped PES packets, after frames with the property Q.
     pub record Steps : Type 0 where
       pub at_ended : (n pes : ℕ) (t : X) → C n t → C n (reported_of pes t)
@@ -92,8 +90,8 @@ module _ (X : Type 0) (reported_of : ℕ → X → X) (g : Criteria) (frames : T
           → O n (packets_of_frame sent n) t
           → T (O n (packets_of_frame sent n)) t (skipped_steps pes u)
 
-    -- The state while these frames are sent: all have ended, as each does at once, or none was
-    -- sent; or the last one may continue.
+    -- The state while frames are sent: all frames have ended, since each ends at once or no frame
+    -- was sent; or the last frame may continue.
     abbrev pub Sends : Transmission → X → Type 0
     Sends sent t =
         ((((g.within == 0) ≡ true) ⊎ (length sent ≡ 0)) × C (length sent) t)
@@ -118,9 +116,6 @@ module _ (X : Type 0) (reported_of : ℕ → X → X) (g : Criteria) (frames : T
         and_so S U t ms is so =
             subst (T U t) (append-nil ms) (append S U t ms [] is (λ u s. nil U u (so u s)))
 
-        -- ---- a PES packet that is sent
-
-        -- It continues the last frame.
         on_more : (sent : Transmission) (s : SentFrame) (t : X) (n : ℕ) → length sent ≡ suc n
             → Grows sent frames
             → Grows (with_packets s.packets sent) frames
@@ -151,7 +146,6 @@ module _ (X : Type 0) (reported_of : ℕ → X → X) (g : Criteria) (frames : T
             (steps.more n packets s.packets after.rest t (long g sent frames is n size) whole
             open_here))
 
-        -- The last frame ends.
         ends : (sent more : Transmission) (t : X) → frames ≡ sent ++ more
             → (n : ℕ) → length sent ≡ suc n
             → O n (packets_of_frame sent n) t
@@ -166,7 +160,6 @@ module _ (X : Type 0) (reported_of : ℕ → X → X) (g : Criteria) (frames : T
             (subst (λ (ps : List (List ℕ)). O n ps t)
             (packets_are g sent more frames whole n (omega arith)) open_here)))
 
-        -- If `within` is not 0, it ends when another frame or the end of the file follows.
         pub waits : (sent more : Transmission) (t : X) → frames ≡ sent ++ more → Sends sent t
             → T (C (length sent)) t (steps_of_pending_end g sent)
         unfolding steps_of_pending_end
@@ -186,7 +179,6 @@ module _ (X : Type 0) (reported_of : ℕ → X → X) (g : Criteria) (frames : T
             (subst (λ (k : ℕ). T (C (suc (length sent))) t (steps_of_ending g (s ∷ sent) k)) last
             (ends (s ∷ sent) more t whole n size open_here))
 
-        -- Another frame begins.
         on_next : (sent more : Transmission) (s : SentFrame) (t : X)
             → Grows (sent ++ s ∷ []) frames
             → ((g.within == 0) ≡ true → frames ≡ (sent ++ s ∷ []) ++ more)
@@ -282,8 +274,6 @@ module _ (X : Type 0) (reported_of : ℕ → X → X) (g : Criteria) (frames : T
                 (on_next sent more s (reported_of pes u) is whole
                 (steps.at_ended (length sent) pes u closed)))
 
-        -- ---- a skipped PES packet
-
         skipped_step : (sent : Transmission) (pes : ℕ) (u : Unread) (t : X) → Grows sent frames
             → Q sent
             → Sends sent t
@@ -301,8 +291,6 @@ module _ (X : Type 0) (reported_of : ℕ → X → X) (g : Criteria) (frames : T
             (steps.skipped_open sent n pes u (reported_of pes t) is size requested
             (steps.at_open n pes (packets_of_frame sent n) t open_here))
             (λ v so. inr (later, n, size, so)))
-
-        -- ---- PES packets
 
         pub each_pes_packet : (sent : Transmission) (pes : ℕ) (t : X) (pes_packets : List PesPacket)
             → joined_after g.within sent (frames_of pes_packets) ≡ frames

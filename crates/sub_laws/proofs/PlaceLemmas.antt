@@ -51,10 +51,8 @@ use Rattle.sub_rules.proofs.FrameLists.{joined_more}
 use Rattle.sub_laws.proofs.CleanSpanLemmas.{MayFollow, clean_cuts, last_clean}
 use Rattle.sub_rules.specs.declared.packet_rule.PacketRule.TheVariants as rule
 
--- ---- a packet since the text began
-
--- While the page is open, a packet that neither is a header of the page nor ends it is one of those
--- since the text began.
+-- While the page is open, a packet that is neither a header of the page nor ends the page belongs
+-- to the packets since the text began.
 span_open :
     (w : Watched) (heard : List (List ℕ)) (p : List ℕ)
     → is_this_page (kind w.page p) ≡ false
@@ -64,16 +62,12 @@ span_open :
     ≡ text_span w.keeps (kind w.page) heard ++ p ∷ []
 span_open w heard p this ends opened = grind (arith, nat_tests, text_span-push, begins_is_header)
 
--- A packet 25 to 28 is neither a header nor a row.
 enhancement_is_other :
     (w : Watched) (p : List ℕ) → IsEnhancement w.page p → kind w.page p ≡ Other
 unfolding kind
 enhancement_is_other w p (a, e, m, low, high) =
     grind arith
 
--- ---- the packets since the text began, if all keep the rules
-
--- Every beginning of them is clean.
 pub clean_spans : (w : Watched) (packets : List (List ℕ)) → EachAfter (KeepsAllRules w) packets
     → (n : ℕ)
     → IsCleanSpan w.page (text_span w.keeps (kind w.page) (take n packets))
@@ -90,14 +84,11 @@ clean_spans w packets each =
       plain = clean rule.Enhancement opened;
     }))
 
--- ---- each header agrees with the first
-
--- A header has the C11 of the first header.
+-- Each page header in the list has the C11 of the first page header.
 abbrev Agrees : List (List ℕ) → List ℕ → Type 0
 Agrees heard q = (b : Header) → header q ≡ Some b
     → (f : Header) × (first_header heard ≡ Some f) × ((c11 b) ≡ (c11 f))
 
--- One more packet that agrees.
 agree_step : (heard : List (List ℕ)) (p : List ℕ)
     → ((h first : Header) → header p ≡ Some h → first_header heard ≡ Some first
     → (c11 h) ≡ (c11 first)) → AllByRecursion (Agrees heard) heard
@@ -112,7 +103,6 @@ agree_step heard p mode h =
       first_header-push heard p,
     )
 
--- A packet of the list has the first header.
 first_pick : (P : List ℕ → Type 0) (xs : List (List ℕ)) (f : Header) → first_header xs ≡ Some f
     → AllByRecursion P xs → (q : List ℕ) × (header q ≡ Some f) × P q
 first_pick P [] f e h = absurd (none-some f e)
@@ -123,32 +113,25 @@ first_pick P (x ∷ xs) f e h = go (header x) refl e (λ d. first_pick P xs f d 
         → (q : List ℕ) × (header q ≡ Some f) × P q
     go o q d ih = grind arith
 
--- ---- from the requirements to the rules
-
 module _ (programme : ProgrammeValue) (options : OptionsValue) (unread : Option Unread)
     (t : Transmission) (some_frames : 0 < options.every)
     (h : AllOk (criteria_of programme options unread) t) where
-  -- There is a frame.
   some : 0 < length t
   some = h.some
 
-  -- Each frame is after the one before.
   pub rising : RiseTo t (length t)
   rising i a b = (h.each i b).order.rises a
 
-  -- The frames rise.
   rising_of : (i j : ℕ) (d : SentFrame) → i < j → j < length t
       → (get_or t i d).frame < (get_or t j d).frame
   rising_of i j d l m =
       let r = rises_strictly t rising i j l m in
       grind (arith, nat_tests, number_at)
 
-  -- Each packet keeps the rules.
   clean_at : (i k : ℕ) → i < length t → k < length (packets_of_frame t i)
       → KeepsAllRules (watched_of programme options) (before t i k) (packet_at t i k)
   clean_at i k l m f = (h.each i l).packets k m f
 
-  -- So does each packet on air up to a frame.
   each_on_air : (f : ℕ) → f ≤ last_frame t
       → EachAfter (KeepsAllRules (watched_of programme options)) (on_air_until t f)
   each_on_air f l =
@@ -167,19 +150,16 @@ module _ (programme : ProgrammeValue) (options : OptionsValue) (unread : Option 
           (each_after (KeepsAllRules (watched_of programme options)) t m le
           (λ i k l h. clean_at i k (omega arith) h))
 
-  -- No fault is active at any end.
   pub fault_free_at : (n f : ℕ) → IsEnd t n f → IsFaultFree (criteria_of programme options unread) t
       n f
   fault_free_at n f h1 = grind (arith, nat_tests)
 
-  -- The repeat bound is not exceeded.
   covered_of : (n f : ℕ) → IsEnd t n f → IsCovered (criteria_of programme options unread) t n f
   covered_of n f end =
       let parts = (fault_free_parts (criteria_of programme options unread) t n f).0
       (fault_free_at n f end) in
       (gap_decided (criteria_of programme options unread) t n f end.1).0 (ap not parts.1)
 
-  -- Nor is the maximum distance of PES packets.
   paced : KeepsPace options.pace t
   paced frames f asks low high =
       let (n, end, on, from) =
@@ -193,18 +173,15 @@ module _ (programme : ProgrammeValue) (options : OptionsValue) (unread : Option 
       (omega (arith, end.0, end.1)) in
       (j, omega (arith, end.1), omega arith, near)
 
-  -- Each frame has an end, with the packets on air up to it.
   pub end_of : (f : ℕ) → first_frame t ≤ f → f ≤ last_frame t
       → (n : ℕ) × IsEnd t n f × (on_air_until t f ≡ packets_before t n) × (frame_at t (n - 1) ≤ f)
   end_of f low high =
       end_at t rising f some (omega (arith, first-same t)) (omega (arith, last-same t))
 
-  -- The first frame has a header of the page.
   opens : HoldsHeader options.page t (first_frame t)
   opens = any_sent (watched_of programme options) t 0 (first_frame t) some (sym (first-same t))
       ((h.each 0 some).header refl)
 
-  -- At the end of each frame the last header is recent enough.
   never_late : (f : ℕ) → first_frame t ≤ f → f ≤ last_frame t
       → (n : ℕ) × (n ≤ f) × (f < n + options.every) × HoldsHeader options.page t n
   never_late f low high =
@@ -218,13 +195,11 @@ module _ (programme : ProgrammeValue) (options : OptionsValue) (unread : Option 
             grind (arith, nat_tests, any_sent (watched_of programme options) t j (frame_at t j))
       ]
 
-  -- So there is one among any `every` frames.
   repeats : Repeats options.page options.every t
   repeats start low high =
       let found = never_late (start + options.every - 1) (omega arith) (omega arith) in
       (found.0, omega (arith, found.2), omega (arith, found.1), found.3)
 
-  -- Each header has the C11 of the first.
   agreed : EachPacket (Agrees (whole t)) t
   agreed =
       each_packet (Agrees (whole t)) t
@@ -232,7 +207,6 @@ module _ (programme : ProgrammeValue) (options : OptionsValue) (unread : Option 
       (λ i k l m ih. agree_step (before t i k) (packet_at t i k) (clean_at i k l m rule.Mode) ih)
       (length t) (omega arith))
 
-  -- If all requirements are met, the transmission keeps these rules.
   pub Rules-from_holds :
       EachPacket (λ packet. length packet ≡ 42) t
       → KeepsRulesBy options.keeps programme t options
@@ -259,18 +233,14 @@ module _ (programme : ProgrammeValue) (options : OptionsValue) (unread : Option 
     paced = paced;
   }
 
--- ---- from the rules to the requirements
-
 pub not_not : (b : Bool) → not b ≡ true → b ≡ false
 not_not b e = grind (arith, nat_tests)
 
 module _ (programme : ProgrammeValue) (options : OptionsValue) (t : Transmission)
     (rules : KeepsRulesBy options.keeps programme t options) where
-  -- Each frame is after the one before.
   abbrev rises : RiseTo t (length t)
   rises = rises_each t rules.rising
 
-  -- Each packet has the C11 of the first header.
   mode_at : (i k : ℕ) → i < length t → k < length (packets_of_frame t i)
       → KeepsRule rule.Mode (watched_of programme options) (before t i k) (packet_at t i k)
   mode_at i k l m a f ea ef =
@@ -283,20 +253,16 @@ module _ (programme : ProgrammeValue) (options : OptionsValue) (t : Transmission
       let q = first_pick P (before t i k) f ef prefix in
       q.2 a f ea q.1
 
-  -- No frame is after the last.
   last_at_least : (i : ℕ) → i < length t → frame_at t i ≤ end_frame t
   last_at_least i l = rises_to t (length t) rises i (length t - 1) (omega arith) (omega arith)
 
-  -- The packets on air up to a frame of the list are those sent before it, followed by its own.
   on_air : (i : ℕ) → i < length t
       → on_air_until t (frame_at t i) ≡ packets_before t i ++ packets_of_frame t i
   on_air i l = on_air_at t rises i l ∙ joined_more t i l
 
-  -- No frame of the list is after the last.
   not_after : (i : ℕ) → i < length t → frame_at t i ≤ last_frame t
   not_after i l = omega (arith, last-same t, last_at_least i l)
 
-  -- While the page is open, the packet may follow those since the text began.
   may_follow : (i k : ℕ) → i < length t → k < length (packets_of_frame t i)
       → is_this_page (kind options.page (packet_at t i k)) ≡ false
       → ends_page (kind options.page (packet_at t i k)) ≡ false
@@ -316,7 +282,6 @@ module _ (programme : ProgrammeValue) (options : OptionsValue) (t : Transmission
       opened)
       (rules.spans (frame_at t i) n (not_after i l)))
 
-  -- Each header of the page erases it or repeats it.
   keeping_at : (i k : ℕ) → i < length t → k < length (packets_of_frame t i)
       → ErasesOrRepeats options.asks_complete options.page (before t i k) (packet_at t i k)
   keeping_at i k l m =
@@ -337,7 +302,6 @@ module _ (programme : ProgrammeValue) (options : OptionsValue) (t : Transmission
       (get_or (on_air_until t (frame_at t i)) n [])) up_to
       (rules.keeping (frame_at t i) n (not_after i l) (omega arith)))
 
-  -- Each packet keeps each rule.
   free_at : (i k : ℕ) → i < length t → k < length (packets_of_frame t i)
       → KeepsAllRules (watched_of programme options) (before t i k) (packet_at t i k)
   free_at i k l m rule.Address = (each_at HasExactWords t i k rules.exact l m).0
@@ -357,13 +321,11 @@ module _ (programme : ProgrammeValue) (options : OptionsValue) (t : Transmission
       let e = enhancement_is_other (watched_of programme options) (packet_at t i k) is in
       (may_follow i k l m (ap is_this_page e) (ap ends_page e) opened).plain is
 
-  -- The first frame of the list has a header of the page.
   starts : HasHeader (criteria_of programme options None) t 0
   starts =
       let r = sent_any (watched_of programme options) t (first_frame t) rules.opens in
       grind (arith, nat_tests, first-same t, cases_eq r.0 0, rises_strictly t rises 0 r.0)
 
-  -- The last header is recent enough.
   covered_at : (n f : ℕ) → f ≤ end_frame t
       → ((j : ℕ) → n ≤ j → j < length t → f < frame_at t j)
       → IsCovered (criteria_of programme options None) t n f
@@ -376,7 +338,6 @@ module _ (programme : ProgrammeValue) (options : OptionsValue) (t : Transmission
         grind (arith, nat_tests, sent_any (watched_of programme options) t r.0 r.3, cases_lt)
   ]
 
-  -- So is the last PES packet.
   paced_at : (n f : ℕ) → first_frame t ≤ f → f ≤ end_frame t
       → ((j : ℕ) → n ≤ j → j < length t → f < frame_at t j)
       → IsPaced (criteria_of programme options None) t n f
@@ -388,14 +349,11 @@ module _ (programme : ProgrammeValue) (options : OptionsValue) (t : Transmission
         | inr above ↦ absurd (let after = later j above there in omega arith)
       ]
 
-  -- ---- all requirements
-
   module _ (still : (n f : ℕ) → IsEnd t n f
       → (broken_cell (criteria_of programme options None) t n f ≡ None)
       × IsFalse (is_late (criteria_of programme options None) t n f
       && is_incomplete (criteria_of programme options None) t n))
       (over : IsFalse (is_pending (criteria_of programme options None) t)) where
-    -- The requirements at an end.
     fault_free_of : (n f : ℕ) → IsEnd t n f → IsFaultFree (criteria_of programme options None) t n f
     fault_free_of n f end =
         let covered =
@@ -413,7 +371,6 @@ module _ (programme : ProgrammeValue) (options : OptionsValue) (t : Transmission
           always_known (frame_at t 0) f options.within,
         )
 
-    -- Each frame meets all requirements.
     frame_of : (i : ℕ) → i < length t → FrameOk (criteria_of programme options None) t i
     frame_of i l = record {
       order = record {

@@ -61,15 +61,11 @@ use Rattle.ttx_pes.proofs.ReaderLemmas.{nothing}
 use Rattle.sub_laws.proofs.GoodLemmas.{paced_of}
 use Rattle.sub_rules.specs.FrameRules.{watched_of}
 
--- ---- rows of one page are a clean span
-
 module _ (w : PageIdValue) (ok : IsWatchable w) where
-  -- The packet of a row has that row's kind.
   kind_of_row : (page : Rows) (p : List ℕ) → IsPage page → (is : IsRowOf w page p)
       → kind w p ≡ Row is.row
   kind_of_row page p shape is = ap (kind w) is.is ∙ kind_row w page is.row ok shape is.low is.high
 
-  -- Two packets of one row are equal.
   same_row : (page : Rows) → IsPage page → (p q : List ℕ) → IsRowOf w page p → IsRowOf w page q
       → IsSameRow w p q
   same_row page shape p q one other row k l =
@@ -81,26 +77,21 @@ module _ (w : PageIdValue) (ok : IsWatchable w) where
         row_of w page,
       )
 
-  -- A row has 40 bytes of odd parity.
   odd_row : (page : Rows) → IsPage page → (p : List ℕ) → IsRowOf w page p → IsOddRow w p
   odd_row page shape p is row k =
       subst HasOddText (sym is.is) (made_row w page is.row ok shape is.low is.high).odd
 
-  -- A row is no packet 25 to 28.
   no_enhancement : (page : Rows) → IsPage page → (p : List ℕ) → IsRowOf w page p → IsEnhancement w p
       → ⊥
   no_enhancement page shape p is (a, at, m, low, high) =
       grind (arith, nat_tests, made_row w page is.row ok shape is.low is.high, same_Some)
 
-  -- So a span of them is clean.
   clean_rows : (packets : List (List ℕ)) → AreRowsOfOnePage w packets → IsCleanSpan w packets
   clean_rows packets are = grind (arith, nat_tests, All-weaker, odd_row, same_row, no_enhancement)
 
--- A bit is set in a number.
 abbrev has_bit : ℕ → ℕ → Bool
 has_bit flag n = bit_and n flag == flag
 
--- C12 to C14 of a header are those that it was made with.
 made_c12 : (serial : Bool) (b : NationalBits) → has_bit 0x100 (watched_control serial b) ≡ b.c12
 made_c12 serial b = grind (arith, nat_tests)
 
@@ -110,12 +101,9 @@ made_c13 serial b = grind (arith, nat_tests)
 made_c14 : (serial : Bool) (b : NationalBits) → has_bit 0x400 (watched_control serial b) ≡ b.c14
 made_c14 serial b = grind (arith, nat_tests)
 
--- The header of a page transmission has the control bits of a subtitle.
 subtitle_header : (w : PageIdValue) (national : National) (serial : Bool)
     → IsSubtitleHeader national (watched_header w national serial)
 subtitle_header w national serial = grind (arith, nat_tests, made_c12, made_c13, made_c14)
-
--- ---- the schedule
 
 module _
     (programme : ProgrammeValue) (o : OptionsValue) (serial : Bool) (first last : ℕ)
@@ -128,11 +116,9 @@ module _
   abbrev due : ℕ → Rows
   due = due_in programme
 
-  -- Whether a frame has a page transmission.
   abbrev p : ℕ → Bool
   p = is_sending due o.every first last
 
-  -- A frame with its page transmission.
   abbrev mk : ℕ → SentFrame
   mk = planned_at due o programme.drawing.national serial
 
@@ -145,27 +131,22 @@ module _
   shape : (f : ℕ) → IsPage (due f)
   shape f = due_is_page programme.drawing programme.records f
 
-  -- The frames with a page transmission, each with its packets.
   plan_is : T ≡ map mk (filter p (range_with_len first (last + 1 - first)))
   unfolding sendings_from
   plan_is = ap (map mk) (sym (plan_frames-is programme o.every first last tci tco))
 
-  -- The first frame has one.
   first_sends : p first ≡ true
   first_sends = sends-first due o.every first last ok.least
 
-  -- So the schedule starts there.
   starts : T ≡ mk first ∷ frames mk num p (first + 1) (last - first)
   starts =
       let e : last + 1 - first ≡ suc (last - first) = omega arith in
       plan_is ∙ ap (λ n. map mk (filter p (range_with_len first n))) e
       ∙ starts_with mk num p first (last - first) first_sends
 
-  -- The first frame is the first TCI.
   first_is : first_frame T ≡ first
   first_is = ap first_frame starts
 
-  -- The last frame is the last TCO.
   last_is : last_frame T ≡ last
   last_is =
       grind (arith, sends-last, plan_is, range_split, filter-append, map-append, last_push)
@@ -173,12 +154,10 @@ module _
   rising : IsRising T
   rising = subst IsRising (sym plan_is) (rises mk num p first (last + 1 - first))
 
-  -- A property of each page transmission holds for each packet.
   each : (Q : List ℕ → Type 0) → ((f : ℕ) → All Q (mk f).packets) → EachPacket Q T
   each Q h = subst (EachPacket Q) (sym plan_is)
       (each_frame mk num p Q (filter p (range_with_len first (last + 1 - first))) h)
 
-  -- A property of each packet of a page transmission.
   each_sent : (Q : List ℕ → Type 0)
       → ((packet : List ℕ) → IsSentPacket w programme.drawing.national serial packet → Q packet)
       → EachPacket Q T
@@ -186,20 +165,16 @@ module _
       each Q (λ f. All-weaker (IsSentPacket w programme.drawing.national serial) Q h (mk f).packets
       (all_sent w programme.drawing.national serial (due f) ok.page (shape f)))
 
-  -- The packets of a frame with a page transmission.
   sent_in_is : (g : ℕ) → p g ≡ true → first ≤ g → g ≤ last → packets_of T g ≡ (mk g).packets
   sent_in_is g h low high = grind (arith, nat_tests, frames, plan_is, sent_at)
 
-  -- It has a header of the page.
   holds_at : (g : ℕ) → p g ≡ true → first ≤ g → g ≤ last
       → holds_header (kind w) (packets_of T g) ≡ true
   holds_at g h low high = grind (arith, nat_tests, sent_in_is, sending_holds, shape)
 
-  -- The packets on air up to a frame are those from the first TCI on.
   until : (f : ℕ) → on_air_until T f ≡ packets_between T first (f + 1)
   until f = ap (λ start. packets_between T start (f + 1)) first_is
 
-  -- They are some packets, followed by the transmission of the due page.
   so_far : (f : ℕ) → first_frame T ≤ f → f ≤ last_frame T → (before : List (List ℕ))
       × (page : Rows) × (page ≡ due f) × IsPage page
       × (on_air_until T f ≡ before ++ sending w programme.drawing.national serial page)
@@ -227,14 +202,12 @@ module _
         until f ∙ split_g ∙ ap (λ ps. packets_between T first g ++ ps) here,
       )
 
-  -- So the due page is shown.
   content : (f row column : ℕ) → first_frame T ≤ f → f ≤ last_frame T → IsCell row column
       → shown w (on_air_until T f) row column ≡ cell (due f) row column
   content f row column low high named =
       let (before, page, same, good, is) = so_far f low high in
       grind (arith, nat_tests, shown_after)
 
-  -- Every beginning of the span is clean.
   spans : (f n : ℕ) → IsCleanSpan w (span (kind w) (take n (on_air_until T f)))
   spans f n =
       let some_of = sent_some mk num p first (f + 1)
@@ -245,11 +218,9 @@ module _
       (clean_rows w ok.page _
       (law_of_cut_sendings w programme.drawing.national serial due some_of.0 n ok.page shape))
 
-  -- C11 is that of the mode.
   abbrev IsSerially : List ℕ → Type 0
   IsSerially packet = (h : Header) → header packet ≡ Some h → c11 h ≡ serial
 
-  -- A header of the page is repeated within the repeat bound.
   repeats : Repeats w o.every T
   repeats start low high =
       let found = sending_in_gap due o.every first last start ok.least
@@ -264,7 +235,6 @@ module _
   some : 0 < length T
   some = subst (λ frames. 0 < length frames) (sym starts) (omega arith)
 
-  -- All rules, unless the maximum distance of PES packets is less than that.
   good : IfSome o.pace (λ frames. o.every ≤ frames) → Good programme T o
   good slow =
       let serially : EachPacket IsSerially T = each_sent IsSerially (λ packet is. is.mode) in
@@ -293,14 +263,12 @@ module _
         content = content;
       }
 
-  -- At the end of each frame the page has ended.
   complete : Complete T o
   complete f low high holds =
       let (before, page, same, shaped, is) = so_far f low high in
       ap (is_unended (kind w)) is
       ∙ ended_after w programme.drawing.national serial page ok.page shaped before
 
--- By cases of the first TCI and the last TCO: with a subtitle there are both.
 plan_between : (programme : ProgrammeValue) (o : OptionsValue) (serial : Bool) (a b : Option ℕ)
     → a ≡ first_in programme.records
     → b ≡ last_out programme.records
@@ -326,13 +294,10 @@ law_of_complete_plan programme o serial is some ok =
     (plan_between programme o serial (first_in programme.records)
     (last_out programme.records) refl refl is some ok).1
 
--- ---- its bytes
-
 module _
     (o : OptionsValue) (ok : IsOptions o) (national : National) (serial : Bool) (due : ℕ → Rows)
     (shape : (f : ℕ) → IsPage (due f))
   where
-    -- The bytes of a frame are read as the frame.
     is_read : (f : ℕ)
         → f < day
         → IsReadAs (clock_of o) (pes_value o.origin (sending o.page national serial (due f)) f)
@@ -351,7 +316,6 @@ module _
               (recursion_from_All IsPacket packets each)).1;
         }
 
-    -- The bytes of page transmissions are read as their frames.
     sendings_read :
         (given : ℕ) (frames : List ℕ)
         → given + length frames ≤ most_packets
@@ -372,7 +336,6 @@ module _
         (λ bytes. ReadsAs (clock_of o) (given + 1) bytes (map (planned_at due o national serial) fs)
         None) (sym back.1) (sendings_read (given + 1) fs (omega arith) in_day.1))
 
--- A schedule has no more frames than a day, by cases of the first TCI and the last TCO.
 few_between :
     (programme : ProgrammeValue) (every : ℕ) (a b : Option ℕ)
     → a ≡ first_in programme.records

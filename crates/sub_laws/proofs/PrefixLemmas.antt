@@ -16,16 +16,13 @@ use Rattle.sub_laws.specs.CleanStretch.{IsEnd}
 use Rattle.sub_rules.proofs.FrameLists.{joined_more}
 use Rattle.sub_laws.proofs.GoodLemmas.{number_at}
 
--- A frame of the day between frame i of the list and the one before.
 abbrev pub IsInGap : Transmission → ℕ → ℕ → Type 0
 IsInGap frames i f =
     (0 < i) × (i < length frames) × (frame_at frames (i - 1) < f) × (f < frame_at frames i)
 
--- The packets before packet k of frame i of the list.
 abbrev pub before : Transmission → ℕ → ℕ → List (List ℕ)
 before t i k = packets_before t i ++ take k (packets_of_frame t i)
 
--- Packet k of frame i of the list.
 abbrev pub packet_at : Transmission → ℕ → ℕ → List ℕ
 packet_at t i k = get_or (packets_of_frame t i) k []
 
@@ -40,19 +37,17 @@ before_all : (t : Transmission) (i : ℕ) → i < length t
     → before t i (length (packets_of_frame t i)) ≡ packets_before t (i + 1)
 before_all t i l = grind (arith, take_all, joined_more)
 
--- A property of the empty list that each packet of the first m frames preserves holds for each
--- beginning of their packets.
+-- Assume a property of the empty list of packets that each packet of the first m frames preserves.
+-- It holds for each beginning of their packets.
 module _ (t : Transmission) (m : ℕ) (fits : m ≤ length t) (Q : List (List ℕ) → Type 0) (none : Q [])
     (more : (i k : ℕ) → i < m → k < length (packets_of_frame t i) → Q (before t i k)
     → Q (before t i k ++ packet_at t i k ∷ [])) where
-  -- Within a frame, if it holds at the frame's start.
   within : (i : ℕ) → i < m → Q (packets_before t i) → (k : ℕ) → k ≤ length (packets_of_frame t i)
       → Q (before t i k)
   within i l base zero h = grind (arith, nat_tests, before_none)
   within i l base (suc k) h =
       grind (arith, nat_tests, before_more, (within i l base k (omega arith)))
 
-  -- At the start of each frame.
   pub at_start : (n : ℕ) → n ≤ m → Q (packets_before t n)
   at_start zero h = none
   at_start (suc n) h =
@@ -62,16 +57,14 @@ module _ (t : Transmission) (m : ℕ) (fits : m ≤ length t) (Q : List (List �
       (within n (omega arith) (at_start n (omega arith)) (length (packets_of_frame t n))
       (omega arith)))
 
-  -- At each packet of a frame.
   pub at_packet : (i k : ℕ) → i < m → k ≤ length (packets_of_frame t i) → Q (before t i k)
   at_packet i k l h = within i l (at_start i (omega arith)) k h
 
--- A property of each packet of a list, after those before it.
+-- A property of each packet of a list, given the packets before it.
 abbrev pub EachAfter : (List (List ℕ) → List ℕ → Type 0) → List (List ℕ) → Type 0
 EachAfter Holds packets =
     (k : ℕ) → k < length packets → Holds (take k packets) (get_or packets k [])
 
--- The same with one more packet.
 pub EachAfter-push : (Holds : List (List ℕ) → List ℕ → Type 0) (xs : List (List ℕ)) (p : List ℕ)
     → EachAfter Holds xs → Holds xs p → EachAfter Holds (xs ++ p ∷ [])
 EachAfter-push Holds xs p each more k l = elim (cases_lt k (length xs)) [
@@ -82,7 +75,6 @@ EachAfter-push Holds xs p each more k l = elim (cases_lt k (length xs)) [
       grind (arith, nat_tests, get_or-append-add, take-append-add, append-nil)
 ]
 
--- Such a property of each packet of the first m frames holds in the joined list.
 pub each_after : (Holds : List (List ℕ) → List ℕ → Type 0) (t : Transmission) (m : ℕ)
     → m ≤ length t
     → ((i k : ℕ) → i < m → k < length (packets_of_frame t i)
@@ -91,7 +83,6 @@ pub each_after : (Holds : List (List ℕ) → List ℕ → Type 0) (t : Transmis
 each_after Holds t m fits each =
     grind (arith, nat_tests, at_start t m fits (EachAfter Holds), EachAfter-push Holds)
 
--- A property of each packet of the transmission holds for this one.
 pub each_at : (P : List ℕ → Type 0) (t : Transmission) (i k : ℕ) → EachPacket P t → i < length t
     → k < length (packets_of_frame t i) → P (packet_at t i k)
 each_at P t i k each l m =
@@ -99,20 +90,16 @@ each_at P t i k each l m =
     let at = get_or-map (λ (s : SentFrame). s.packets) t i d [] l in
     subst (λ ps. P (get_or ps k [])) (sym at) (each i d l k [] (subst (λ ps. k < length ps) at m))
 
--- A property of each packet of each frame holds for all packets of the transmission.
 pub each_from : (P : List ℕ → Type 0) (t : Transmission)
     → ((i k : ℕ) → i < length t → k < length (packets_of_frame t i) → P (packet_at t i k))
     → EachPacket P t
 each_from P t every i d l k e m =
     grind (arith, nat_tests, get_or-map, get_or_default (packets_of_frame t i) k)
 
--- ---- frames
-
--- The first n frames rise.
+-- The first n frames of the list rise.
 abbrev pub RiseTo : Transmission → ℕ → Type 0
 RiseTo t n = (i : ℕ) → 0 < i → i < n → frame_at t (i - 1) < frame_at t i
 
--- Then none of them is after a later one.
 pub rises_to : (t : Transmission) (n : ℕ) → RiseTo t n → (i j : ℕ) → i ≤ j → j < n
     → frame_at t i ≤ frame_at t j
 rises_to t n rises i zero l m = grind (arith, nat_tests)
@@ -126,12 +113,10 @@ rises_to t n rises i (suc j) l m = elim (cases_eq i (suc j)) [
 ]
 
 module _ (t : Transmission) (rising : RiseTo t (length t)) where
-  -- Each is before a later one.
   pub rises_strictly : (i j : ℕ) → i < j → j < length t → frame_at t i < frame_at t j
   rises_strictly i j h l =
       grind (arith, nat_tests, rises_to t (length t) rising i (j - 1))
 
-  -- A frame of the day from the first on is in the list, or in a gap.
   pub locate : (n f : ℕ) → n < length t → frame_at t 0 ≤ f → f ≤ frame_at t n
       → ((i : ℕ) × (i < length t) × (frame_at t i ≡ f)) ⊎ ((i : ℕ) × IsInGap t i f)
   locate zero f l a b = inl (0, l, omega arith)
@@ -143,8 +128,6 @@ module _ (t : Transmission) (rising : RiseTo t (length t)) where
     ]
   ]
 
--- ---- the packets on air up to a frame
-
 pub first-same : (t : Transmission) → first_frame t ≡ frame_at t 0
 first-same t = grind arith
 
@@ -153,7 +136,6 @@ last-same [] = refl
 last-same (s ∷ []) = refl
 last-same (s ∷ u ∷ us) = grind (arith, nat_tests, last-same (u ∷ us))
 
--- The packets between two numbers that include exactly the first n frames.
 between_take : (t : Transmission) (n a b : ℕ)
     → ((j : ℕ) → j < length t → j < n → (a ≤ frame_at t j) × (frame_at t j < b))
     → ((j : ℕ) → n ≤ j → j < length t → b ≤ frame_at t j)
@@ -173,7 +155,6 @@ between_take (s ∷ ss) (suc n) a b inside after =
     (λ j l m. after (suc j) (omega arith) (omega arith)))
 
 module _ (t : Transmission) (rising : RiseTo t (length t)) where
-  -- The packets on air up to a frame not before the first n frames, and before the others.
   pub on_air_is : (n f : ℕ) → n ≤ length t → (0 < n → frame_at t (n - 1) ≤ f)
       → (n < length t → f < frame_at t n) → on_air_until t f ≡ packets_before t n
   on_air_is n f le low high =
@@ -182,11 +163,9 @@ module _ (t : Transmission) (rising : RiseTo t (length t)) where
       (grind (arith, nat_tests, rises_to t (length t) rising 0, rises_to t (length t) rising))
       (grind (arith, nat_tests, rises_to t (length t) rising n))
 
-  -- At the end of frame i of the list all its packets are on air.
   pub on_air_at : (i : ℕ) → i < length t → on_air_until t (frame_at t i) ≡ packets_before t (i + 1)
   on_air_at i l = grind (arith, nat_tests, on_air_is)
 
-  -- Each frame from the first to the last has an end, with the packets on air up to it.
   pub end_at : (f : ℕ) → 0 < length t → frame_at t 0 ≤ f → f ≤ end_frame t
       → (n : ℕ) × IsEnd t n f × (on_air_until t f ≡ packets_before t n) × (frame_at t (n - 1) ≤ f)
   end_at f some low high =
@@ -197,9 +176,6 @@ module _ (t : Transmission) (rising : RiseTo t (length t)) where
             grind (arith, nat_tests, rises_to t (length t) rising, on_air_is i f)
       ]
 
-  -- ---- an end
-
-  -- The frames before an end are not after it, and the others are.
   end_from : (n f : ℕ) → IsEnd t n f → frame_at t (n - 1) ≤ f
   end_from n f h1 = grind (arith, nat_tests)
 
@@ -213,13 +189,11 @@ module _ (t : Transmission) (rising : RiseTo t (length t)) where
   end_before_rest n f (some, le, inr (there, later, earlier)) j l m =
       let after = rises_to t (length t) rising n j l m in omega arith
 
-  -- The packets on air up to its frame are those of the frames before it.
   pub end_is_on_air : (n f : ℕ) → IsEnd t n f → on_air_until t f ≡ packets_before t n
   end_is_on_air n f end =
       on_air_is n f end.1 (λ some. end_from n f end)
       (λ more. end_before_rest n f end n (omega arith) more)
 
-  -- An end is not before the first frame, nor after the last one.
   pub end_high : (n f : ℕ) → IsEnd t n f → frame_at t 0 ≤ f
   end_high n f end =
       let from = end_from n f end in
@@ -235,9 +209,6 @@ module _ (t : Transmission) (rising : RiseTo t (length t)) where
       let last = rises_to t (length t) rising n (length t - 1) (omega arith) (omega arith) in
       omega arith
 
--- ---- the first frames of a list
-
--- Each is the same as in the list.
 pub frame_at-take : (t : Transmission) (n i : ℕ) → i < n → frame_at (take n t) i ≡ frame_at t i
 frame_at-take t n i l =
     ap (λ xs. get_or xs i 0) (sym (take-map (λ (s : SentFrame). s.frame) n t))
@@ -250,13 +221,11 @@ packets-take t n i l =
     ∙ get_or-take n (map (λ (s : SentFrame). s.packets) t) i [] l
 
 module _ (t : Transmission) (n : ℕ) (fits : n ≤ length t) where
-  -- If they rise, they are a rising transmission.
   pub take_rises : RiseTo t n → RiseTo (take n t) (length (take n t))
   take_rises rises i a l = grind (arith, nat_tests, length-take-le, frame_at-take)
 
   pub take_rising : RiseTo t n → IsRising (take n t)
   take_rising rises i k d l high = grind (arith, nat_tests, number_at, rises_strictly, take_rises)
 
-  -- The last one.
   pub take_last : 0 < n → last_frame (take n t) ≡ frame_at t (n - 1)
   take_last some = grind (arith, nat_tests, last-same, length-take-le, frame_at-take)

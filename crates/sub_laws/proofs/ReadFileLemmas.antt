@@ -30,27 +30,20 @@ use Rattle.sub_rules.specs.PesPackets.PesPacket.{Skipped, Sent}
 use Rattle.sub_rules.specs.Transmission.{SentFrame}
 use Rattle.sub_rules.proofs.PacketLists.{Each-push}
 
--- ---- results
-
--- The fault is not one of a device.
+-- The fault was caused by the bytes read, not by a source or sink that failed.
 pub record IsOfBytes (f : PesFault) : Type 0 where
   pub no_source : is_read f ≡ false
   pub no_sink : is_write f ≡ false
 
--- The result has this property, or is a fault that is not one of a device.
 record Sound {A : Type 0} (P : A → Type 0) (r : Result A PesFault) : Type 0 where
   pub is : MatchResult r P IsOfBytes
 
--- ---- units
-
--- A byte with its bits in reverse order is a byte.
 small : (bytes : List ℕ) (place : ℕ) → slice_index (map mirror bytes) place < 0x100
 unfolding mirror
 small [] place = omega arith
 small (b ∷ bytes) zero = omega arith
 small (b ∷ bytes) (suc k) = small bytes k
 
--- The packet of a data unit of 46 bytes.
 unit_complete : (b : List ℕ) → length b ≡ 46 → IsPacket (unit_of b).packet
 unit_complete b long = grind (arith, nat_tests, length-map, length-drop, small)
 
@@ -73,8 +66,6 @@ units_sound (suc n) prefix b long before =
     let one = unit_sound prefix (take 46 b) size before in
     grind (arith, nat_tests, units_sound n)
 
--- ---- packets and files
-
 value_sound : (b : List ℕ) → Sound (λ (v : PesValue). AreCompleteUnits v.units) (value_at b)
 unfolding value_at pts_at
 value_sound b =
@@ -95,7 +86,6 @@ packet_sound b = go (size_at (take 6 b)) refl
     go (Ok size) is =
         let value = value_sound (take (size - 6) (drop 6 b)) in grind (arith, nat_tests)
 
--- The value that was read, if there is one.
 abbrev IsCompleteAnswer : Option PesValue → Type 0
 IsCompleteAnswer o = IfSome o (λ v. AreCompleteUnits v.units)
 
@@ -110,9 +100,8 @@ packets_complete : (units : List UnitValue) → AreCompleteUnits units
 packets_complete [] h = tt
 packets_complete (u ∷ units) h = (h.0, packets_complete units h.1)
 
--- ---- PES packets
-
--- A sent PES packet has 42-byte packets; a skipped one is not skipped for a fault of a device.
+-- A sent PES packet has 42-byte packets; a skipped PES packet is not skipped because a source or
+-- sink failed.
 abbrev pub IsSoundPesPacket : PesPacket → Type 0
 IsSoundPesPacket (Sent s) = AllByRecursion IsPacket s.packets
 IsSoundPesPacket (Skipped (BadPacket f)) = IsOfBytes f
@@ -138,13 +127,11 @@ from_sound clock (suc room) given b =
     by_pes_packet clock (answer_at given b) _ (answer_sound given b)
     (from_sound clock room (given + 1) (rest_after_pes_packet b))
 
--- Reading bytes, also after skipped PES packets. For `check`.
 pub file_pes_packets_sound : (clock : Clock) (given : ℕ) (b : List ℕ)
     → ArePesPacketsSound (pes_packets_at clock given b)
 unfolding pes_packets_at
 file_pes_packets_sound clock given b = from_sound clock (most_packets - given) given b
 
--- The frames have 42-byte packets.
 pub sent_complete : (pes_packets : List PesPacket) → AllByRecursion IsSoundPesPacket pes_packets
     → AllByRecursion (λ (s : SentFrame). AllByRecursion IsPacket s.packets) (frames_of pes_packets)
 unfolding frames_of
@@ -152,7 +139,6 @@ sent_complete [] sound = tt
 sent_complete (Sent s ∷ pes_packets) sound = (sound.0, sent_complete pes_packets sound.1)
 sent_complete (Skipped u ∷ pes_packets) sound = sent_complete pes_packets sound.1
 
--- So have those up to the first skipped PES packet.
 read_to_the_end : (pes_packets : List PesPacket) (unread : Option Unread) → AllByRecursion
     IsSoundPesPacket pes_packets
     → AllByRecursion (λ (s : SentFrame). AllByRecursion IsPacket s.packets)

@@ -33,9 +33,7 @@ use Rattle.sub_rules.specs.Transmission.{on_air_until}
 use Rattle.sub_laws.specs.Repeats.{IsRepeatedStretch, LawOfKeptOnAir, LawOfLongerRepeats}
 use Rattle.sub_laws.proofs.TransmissionLemmas.{packets_between-each}
 
--- ---- sufficient conditions
-
--- The packets since the text began have the kept codes if they are clean.
+-- The packets since the text began have the kept codes if these packets are clean.
 pub codes_of_clean : (keeps : Bool) (page : PageIdValue) (packets : List (List ℕ))
     → IsCleanSpan page (text_span keeps (kind page) packets)
     → All (HasCodes page (kept keeps page packets)) (text_span keeps (kind page) packets)
@@ -44,7 +42,6 @@ codes_of_clean keeps page packets clean k d l row column is below =
     first_code page spanned row column _ (codes_of_same page spanned clean.same)
     (k, l, get_or_default spanned k _ d l) is below
 
--- A transmission that keeps rules 1 to 6 is a stretch of repeats in all its frames.
 pub repeated_stretch :
     (keeps : Bool) (programme : ProgrammeValue) (transmission : Transmission)
     (options : OptionsValue)
@@ -81,16 +78,13 @@ law_of_kept_on_air keeps programme transmission options f old new rules low high
     ((repeated_stretch keeps programme transmission options rules).sends f low high) hears fresh row
     column named
 
--- ---- if each header erases the page
-
--- A header that erases the page begins the text.
+-- A header that erases the page begins its text.
 begins_of_erases : (keeps : Bool) (w : PageIdValue) (packet : List ℕ)
     → ErasesPage w packet
     → is_this_page (kind w packet) ≡ true
     → begins_text keeps (kind w packet) ≡ true
 begins_of_erases keeps w packet erases this = grind (arith, nat_tests)
 
--- So does each header of the first n packets.
 each_begins_of : (keeps : Bool) (w : PageIdValue) (packets : List (List ℕ)) (n : ℕ)
     → AllByRecursion (ErasesPage w) packets
     → EachBegins (kind w) keeps (take n packets)
@@ -101,7 +95,6 @@ each_begins_of keeps w (p ∷ ps) (suc n) each =
 
 module _ (one other : Bool) (w : PageIdValue) (packets : List (List ℕ))
     (erases : All (ErasesPage w) packets) where
-  -- The packets since the text began are the same, whether repeats may keep the page or not.
   text_span-of_erasing : (n : ℕ)
       → text_span one (kind w) (take n packets) ≡ text_span other (kind w) (take n packets)
   text_span-of_erasing n =
@@ -109,7 +102,6 @@ module _ (one other : Bool) (w : PageIdValue) (packets : List (List ℕ))
       text_span-same (kind w) one (take n packets) (each_begins_of one w packets n each)
       ∙ sym (text_span-same (kind w) other (take n packets) (each_begins_of other w packets n each))
 
-  -- So are the kept codes.
   kept-of_erasing : (row column : ℕ)
       → kept one w packets row column ≡ kept other w packets row column
   kept-of_erasing row column =
@@ -123,7 +115,6 @@ module _ (one other : Bool) (w : PageIdValue) (packets : List (List ℕ))
 
 module _ (one other : Bool) (programme : ProgrammeValue) (transmission : Transmission)
     (options : OptionsValue) (each : EachPacket (ErasesPage options.page) transmission) where
-  -- Each header on air erases the page.
   erasing : (f : ℕ) → All (ErasesPage options.page) (on_air_until transmission f)
   erasing f =
       packets_between-each (ErasesPage options.page) transmission (first_frame transmission)
@@ -139,7 +130,6 @@ module _ (one other : Bool) (programme : ProgrammeValue) (transmission : Transmi
       → SomeFinishedBy other programme transmission options a b
   some_same a b some = (some.0, some.1, some.2, finished_same some.0 some.3)
 
-  -- So is what is good.
   good_same :
       GoodBy one programme transmission options → GoodBy other programme transmission options
   good_same good = record {
@@ -171,10 +161,7 @@ pub law_of_none_keeps : LawOfNoneKeeps
 law_of_none_keeps programme transmission options each good =
     good_same true false programme transmission options each good
 
--- ---- if repeats may not keep the page
-
 module _ (programme : ProgrammeValue) (transmission : Transmission) (options : OptionsValue) where
-  -- The rules are those of `Good`.
   pub rules_of :
       KeepsRulesBy false programme transmission options
       → KeepsRules programme transmission options
@@ -227,15 +214,12 @@ pub law_of_no_repeats : LawOfNoRepeats
 law_of_no_repeats programme transmission options =
     (rules_of programme transmission options, rules_by programme transmission options)
 
--- ---- a greater `within`
-
 module _ (keeps : Bool) (programme : ProgrammeValue) (transmission : Transmission)
     (options : OptionsValue) (more : ℕ) (longer : options.within ≤ more) where
-  -- The same options with a greater `within`.
   abbrev allowing : OptionsValue
   allowing = record options { within = more }
 
-  -- A finished frame stays finished.
+  -- A frame that is finished stays finished with a greater `within`.
   finished_longer :
       (f : ℕ)
       → IsFinishedBy keeps programme transmission options f

@@ -28,11 +28,9 @@ use Rattle.sub_laws.proofs.FrameByFrame.{AllOk}
 use Rattle.sub_laws.proofs.PrefixLemmas.{each_at, each_from}
 use Rattle.sub_laws.proofs.ActiveFaultsLemmas.{active_faults_exact}
 
--- Any fault.
 abbrev Any : CheckFault → Type 0
 Any f = Unit {0}
 
--- Each place; and the events begin with a fault, if there are any.
 pub broken_places : (g : Criteria) (frames : Transmission) → g.within ≡ 0
     → (IsFalse g.any_refused
     → EachPacket IsPacket frames
@@ -50,14 +48,12 @@ broken_places g frames at_once refused = record {
   first = refused;
 }
 
--- There are no events exactly if all requirements are met.
 pub nothing_reported : (g : Criteria) (frames : Transmission) → EachPacket IsPacket frames
     → (events g frames ≡ []) ↔ AllOk g frames
 nothing_reported g frames whole =
     reported_none (events g frames)
     (all_reported g frames Any (λ f e. tt) (λ u e. tt) (λ n f x a b. tt) whole)
 
--- If there is no fault, there are no events. For `check`.
 pub none_refused : (g : Criteria) (frames : Transmission) → EachPacket IsPacket frames
     → first_reported (events g frames) ≡ None
     → events g frames ≡ []
@@ -76,7 +72,6 @@ pub sizes_of : (frames : Transmission) → EachPacket IsPacket frames
     → EachPacket (λ packet. length packet ≡ 42) frames
 sizes_of frames whole = grind (arith, nat_tests, each_from, each_at)
 
--- If no repeat may keep the page, frames have no events exactly if they are good.
 pub none_reported : (programme : ProgrammeValue) (options : OptionsValue) (unread : Option Unread)
     (frames : Transmission)
     → options.keeps ≡ false

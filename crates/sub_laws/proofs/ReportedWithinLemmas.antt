@@ -39,11 +39,8 @@ use Rattle.sub_laws.proofs.FinishedLemmas.{of_finished, first_unfinished_is, fir
 use Rattle.std.proofs.Common.{◌↔◌, []}
 use Rattle.sub_rules.proofs.FrameEvents.{events}
 
--- At no frame is the due page unknown.
 abbrev never : ℕ → Bool
 never frame = false
-
--- ---- from the requirements to the rules
 
 module _ (programme : ProgrammeValue) (options : OptionsValue) (unread : Option Unread)
     (t : Transmission) (every : 0 < options.every)
@@ -55,7 +52,6 @@ module _ (programme : ProgrammeValue) (options : OptionsValue) (unread : Option 
   abbrev up : RiseTo t (length t)
   up = rising programme options unread t every h
 
-  -- The requirements at each end.
   parts : (n f : ℕ) → IsEnd t n f
       → (broken_cell criteria t n f ≡ None)
       × (is_gap criteria t n f ≡ false)
@@ -92,7 +88,6 @@ module _ (programme : ProgrammeValue) (options : OptionsValue) (unread : Option 
       subtitle programme options unread false never t (first_frame t) (last_frame t) held is k d l s
       same begins (omega arith)
 
-  -- The last frame is finished.
   ends : IsFinishedBy options.keeps programme t options (last_frame t)
   unfolding is_pending
   ends =
@@ -122,7 +117,7 @@ module _ (programme : ProgrammeValue) (options : OptionsValue) (unread : Option 
               end
               (none_is _ (pending_parts is))
 
-  -- The transmission is good by the options.
+  -- A transmission that meets all requirements is good by the options.
   pub Within-from_holds : EachPacket IsPacket t → GoodBy options.keeps programme t options
   Within-from_holds whole =
       let keeps = Rules-from_holds programme options unread t every h (sizes_of t whole) in
@@ -134,8 +129,6 @@ module _ (programme : ProgrammeValue) (options : OptionsValue) (unread : Option 
         subtitles = λ k d l. held_subtitle keeps k d l (get_or programme.records k d) refl;
         ends = ends;
       }
-
--- ---- from the rules to the requirements
 
 module _ (programme : ProgrammeValue) (options : OptionsValue) (t : Transmission)
     (is : IsProgramme programme.drawing programme.records)
@@ -149,7 +142,7 @@ module _ (programme : ProgrammeValue) (options : OptionsValue) (t : Transmission
   abbrev order : RiseTo t (length t)
   order = rises_each t good.rules.rising
 
-  -- A finished frame is before the frame since which the ends are unfinished.
+  -- A finished frame is before the frame from which on the ends are unfinished.
   first_unfinished_later : (n f r e : ℕ) → IsEnd t n f → unfinished_since requested t n f ≡ Some r
       → from ≤ e
       → e ≤ f
@@ -165,7 +158,6 @@ module _ (programme : ProgrammeValue) (options : OptionsValue) (t : Transmission
       (omega arith) finished)
       (omega arith)
 
-  -- That frame is not before the first frame.
   first_unfinished_from : (n f r : ℕ) → IsEnd t n f → unfinished_since requested t n f ≡ Some r →
       from ≤ r
   first_unfinished_from n f r end first_unfinished =
@@ -173,7 +165,6 @@ module _ (programme : ProgrammeValue) (options : OptionsValue) (t : Transmission
       (sym (first_unfinished_is programme options None false never t order n f end) ∙
       first_unfinished)).low
 
-  -- So it is not too long ago,
   soon : (n f r : ℕ) → IsEnd t n f → unfinished_since requested t n f ≡ Some r
       → f < r + options.within
   soon n f r end first_unfinished = elim (cases_lt f (r + options.within)) [
@@ -190,7 +181,6 @@ module _ (programme : ProgrammeValue) (options : OptionsValue) (t : Transmission
         absurd (omega arith)
   ]
 
-  -- and no subtitle is missed.
   none_missed : (n f r : ℕ) → IsEnd t n f → unfinished_since requested t n f ≡ Some r
       → is_missed (requested.ending (f + 1)) from r ≡ false
   none_missed n f r end first_unfinished = go (requested.ending (f + 1)) refl
@@ -215,7 +205,6 @@ module _ (programme : ProgrammeValue) (options : OptionsValue) (t : Transmission
           (omega arith) finished in
           not_late tci (omega arith) (omega arith)
 
-  -- So no end is overdue.
   in_time : (n f : ℕ) → IsEnd t n f
       → is_overdue requested from (unfinished_since requested t n f) f ≡ false
   in_time n f end = go (unfinished_since requested t n f) refl
@@ -231,7 +220,6 @@ module _ (programme : ProgrammeValue) (options : OptionsValue) (t : Transmission
           overdue r (soon n f r end first_unfinished) (is_missed (requested.ending (f + 1)) from r)
           (none_missed n f r end first_unfinished)
 
-  -- If `within` is 0, each frame is finished.
   at_once : (n f : ℕ) → IsEnd t n f → options.within ≡ 0
       → is_unfinished requested t n f ≡ false
   at_once n f end none =
@@ -244,7 +232,6 @@ module _ (programme : ProgrammeValue) (options : OptionsValue) (t : Transmission
       of_finished programme options None false never t order n f end
       (subst (IsFinishedBy options.keeps programme t options) same finished)
 
-  -- The content and the end of the page are as required.
   still : (n f : ℕ) → IsEnd t n f
       → (broken_cell requested t n f ≡ None)
       × IsFalse (is_late requested t n f && is_incomplete requested t n)
@@ -299,7 +286,6 @@ module _ (programme : ProgrammeValue) (options : OptionsValue) (t : Transmission
                 refl,
           )
 
-  -- No page still has time at the last end.
   none_waited : is_pending requested t ≡ false
   unfolding is_pending
   none_waited =
@@ -313,14 +299,10 @@ module _ (programme : ProgrammeValue) (options : OptionsValue) (t : Transmission
       finished in
       rw none refl
 
-  -- All requirements are met.
+  -- A transmission that is good by the options meets all requirements.
   pub holds-from_within : AllOk requested t
   holds-from_within = holds-from_rules programme options t good.rules still none_waited
 
--- ---- the law
-
--- Frames have no events exactly if they are good by the options, whether repeats may keep the page
--- or not.
 pub none_reported_repeats : (programme : ProgrammeValue) (options : OptionsValue)
     (unread : Option Unread) (frames : Transmission)
     → IsProgramme programme.drawing programme.records

@@ -6,7 +6,6 @@ use Rattle.sub_rules.specs.FrameRules.{frame_at}
 use Rattle.sub_rules.specs.Transmission.{Transmission}
 use Rattle.sub_laws.proofs.PrefixLemmas.{RiseTo}
 
--- If the first frames rise, the last of them is the greatest.
 pub latest_at :
     (frames : Transmission) (n : ℕ)
     → RiseTo frames n

@@ -18,7 +18,6 @@ use Rattle.sub_laws.proofs.SoundStretchLemmas.{repeated, window}
 use Rattle.sub_laws.proofs.StretchLemmas.{law_of_stretch, law_of_whole_stretch}
 use Rattle.sub_laws.proofs.TransmissionLemmas.{packets_between-each}
 
--- A transmission that keeps rules 1 to 6 is sound in all its frames.
 pub sound_stretch :
     (programme : ProgrammeValue) (transmission : Transmission) (options : OptionsValue)
     → KeepsRules programme transmission options
@@ -46,7 +45,6 @@ sound_stretch programme transmission options keeps = record {
   repeats = keeps.repeats;
 }
 
--- A good transmission is sufficient in all its frames.
 pub suffices : LawOfSufficientParts
 suffices = grind (arith, nat_tests, sound_stretch)
 

@@ -39,15 +39,11 @@ use Rattle.sub_laws.proofs.TransmissionLemmas.{packets_between-split}
 pub last_of_two : (x y : Bool) → (x && y) ≡ false → x ≡ true → y ≡ false
 last_of_two x y h1 h2 = grind (arith, nat_tests)
 
--- ---- if repeats may not keep the page
-
 module _ (transmission : Transmission) (options : OptionsValue) (a b : ℕ)
     (stretch : IsSoundStretch transmission options a b) where
-  -- The packets on air from frame a to the end of frame f.
   abbrev from_a : ℕ → List (List ℕ)
   from_a f = on_air transmission a 0 f
 
-  -- They transmit the text that all packets show.
   sends_from :
       (f : ℕ)
       → a ≤ f
@@ -63,11 +59,9 @@ module _ (transmission : Transmission) (options : OptionsValue) (a b : ℕ)
       (sends_of_sound options.page (packets_between transmission (first_frame transmission) a)
       (from_a f) (stretch.sound f low high))
 
-  -- So a sound stretch is one of repeats of which none may keep the page.
   pub repeated : IsRepeatedStretch false transmission options a b
   repeated = assumption (sends_from, stretch)
 
--- And such a stretch is sound.
 pub sound_of_repeated :
     (transmission : Transmission) (options : OptionsValue) (a b : ℕ)
     → IsRepeatedStretch false transmission options a b
@@ -80,25 +74,18 @@ sound_of_repeated transmission options a b stretch = record {
   repeats = stretch.repeats;
 }
 
--- ---- the packets that a receiver gets
-
--- It starts at packet j of frame g and stops at the end of frame f, in a stretch of repeats.
 module _ (keeps : Bool) (transmission : Transmission) (options : OptionsValue) (a b : ℕ)
     (stretch : IsRepeatedStretch keeps transmission options a b)
     (g j f : ℕ) (listening : IsListening transmission a b g j f) where
-  -- The kind of a packet for a receiver of the page.
   abbrev K : List ℕ → PacketKind
   K = kind options.page
 
-  -- The packets on air.
   abbrev sent : List (List ℕ)
   sent = on_air transmission g j f
 
-  -- The packets after frame g, to the end of frame f.
   abbrev later : List (List ℕ)
   later = packets_between transmission (g + 1) (f + 1)
 
-  -- The packets on air are the rest of frame g, followed by those.
   pub on_air-cut : sent ≡ drop j (packets_of transmission g) ++ later
   on_air-cut =
       ap (drop j)
@@ -106,7 +93,6 @@ module _ (keeps : Bool) (transmission : Transmission) (options : OptionsValue) (
       (omega (arith, listening.in_order)))
       ∙ drop-append-le j (packets_of transmission g) later listening.in_frame
 
-  -- A header in frame n, after g and up to f, is one of them.
   later_holds :
       (n : ℕ)
       → g + 1 ≤ n
@@ -123,27 +109,22 @@ module _ (keeps : Bool) (transmission : Transmission) (options : OptionsValue) (
       packets_between-split transmission (g + 1) n (f + 1) stretch.rising above (omega arith) in
       grind (arith, nat_tests, K, true, holds-append_right, holds-append_left)
 
-  -- One of the frames after g has a header.
   pub window : g + options.every ≤ f → holds_header K sent ≡ true
   window far =
       let found =
       stretch.repeats (g + 1) (omega (arith, listening.from)) (omega (arith, listening.to)) in
       grind (arith, nat_tests, on_air-cut, holds-append_right, later_holds)
 
-  -- The packets from frame c up to those on air.
   abbrev before : ℕ → List (List ℕ)
   before c = packets_between transmission c g ++ take j (packets_between transmission g (f + 1))
 
-  -- The packets on air from frame c are these, followed by those on air.
   on_air-split : (c : ℕ) → c ≤ g → on_air transmission c 0 f ≡ before c ++ sent
   on_air-split c low =
       grind (arith, nat_tests, packets_between-split, take-append-drop, append_assoc)
 
-  -- All packets so far, split in this way.
   abbrev so_far : on_air_until transmission f ≡ before (first_frame transmission) ++ sent
   so_far = on_air-split (first_frame transmission) (le_trans stretch.first listening.from)
 
-  -- The packets on air transmit the text that remains of all packets.
   pub heard_text :
       SendsText keeps options.page sent (kept keeps options.page (on_air_until transmission f))
   heard_text =
@@ -154,14 +135,12 @@ module _ (keeps : Bool) (transmission : Transmission) (options : OptionsValue) (
       (on_air-split a listening.from)
       (stretch.sends f (le_trans listening.from listening.in_order) listening.to))
 
-  -- Their span is that of all packets, if they include a header of the page.
   pub span_so_far :
       holds_header K sent ≡ true
       → span K (on_air_until transmission f) ≡ span K sent
   span_so_far holds =
       ap (span K) so_far ∙ span-later options.page (before (first_frame transmission)) sent holds
 
-  -- It has ended if that of all packets has.
   pub ended :
       HasEndedPage options.page transmission f
       → holds_header K sent ≡ true
@@ -171,9 +150,6 @@ module _ (keeps : Bool) (transmission : Transmission) (options : OptionsValue) (
       ∙ last_of_two _ _ (ap (is_open_after K) (sym so_far) ∙ shut)
       (holds-append_right K (before (first_frame transmission)) sent holds)
 
--- ---- the packets that arrive
-
--- A header arrives exactly if one was sent.
 holds-got :
     (w : PageIdValue) (sent : List (List ℕ)) (arrived : List Bool) (got : List (List ℕ))
     → AllByRecursion HasExactWords sent
@@ -186,12 +162,10 @@ holds-got w [] (m ∷ arrived) got exact may near = grind arith
 holds-got w (p ∷ ps) arrived got exact may near =
     grind (arith, nat_tests, lost_is_no_header, kind-near, holds-got w ps)
 
--- The packets that arrive of those that were sent.
 module _ (keeps : Bool) (transmission : Transmission) (options : OptionsValue) (a b : ℕ)
     (stretch : IsRepeatedStretch keeps transmission options a b)
     (g j f : ℕ) (arrived : List Bool) (got : List (List ℕ))
     (is : IsGot transmission a b g j f arrived got) where
-  -- They include a header of the page if one was sent.
   pub got_as :
       holds_header (kind options.page) got
       ≡ holds_header (kind options.page) (on_air transmission g j f)
@@ -201,7 +175,6 @@ module _ (keeps : Bool) (transmission : Transmission) (options : OptionsValue) (
       (heard_text keeps transmission options a b stretch g j f is.listening).exact)
       is.headers is.near
 
-  -- From the law of repeats.
   pub forgetting :
       (anew : Bool) (class : ReceiverClass) (old new : State)
       → HearsForgetting class anew options.page old got new

@@ -34,24 +34,20 @@ use Rattle.sub_laws.proofs.ActiveFaultsLemmas.{gap_decided}
 not_false : (b : Bool) → not b ≡ false → b ≡ true
 not_false b h1 = grind (arith, nat_tests)
 
--- ---- a clean stretch
-
 module _ (programme : ProgrammeValue) (transmission : Transmission) (options : OptionsValue)
     (unread : Option Unread) (any_refused : Bool) (undecided : ℕ → Bool) (a b : ℕ) (unreported :
     IsUnreported (criteria_unsure programme options unread any_refused undecided) transmission a
     b) where
-  -- The criteria of the check.
   abbrev g : Criteria
   g = criteria_unsure programme options unread any_refused undecided
 
-  -- Its packets keep the rules that were not reported.
   kept : (r : PacketRule) → IsTrue (is_needed r) → (r ≡ rule.RowChanged → ⊥)
       → AtPackets (KeepsRule r g.watched) transmission a b
   kept r needed other i k l m low high =
       (refuted _ (rule_decided g.watched _ _ r (λ e. absurd (other e)))).0
       (unreported.packets r needed i k l m low high)
 
-  -- While the page is open, a row has the codes of the first packet of its row since the text
+  -- While the page is open, a row has the codes of the first packet of this row since the text
   -- began.
   same_codes : AtPackets (λ heard p. IsTrue (is_open_after (kind options.page) heard)
       → (row : ℕ) (first : List ℕ)
@@ -67,7 +63,6 @@ module _ (programme : ProgrammeValue) (transmission : Transmission) (options : O
       let equal = unreported.packets rule.RowChanged refl i k l m low high in
       grind (arith, nat_tests, last_of_two, columns_zero, not_false)
 
-  -- Each packet may follow those before it.
   fit :
       (i k : ℕ)
       → i < length transmission
@@ -93,7 +88,6 @@ module _ (programme : ProgrammeValue) (transmission : Transmission) (options : O
   unfolding active_faults_at
   gap_is n f end low high = unreported.gap n f end low high
 
-  -- At the end of each frame the last header of the page is recent enough, or the first frame is.
   covered :
       (f : ℕ)
       → a ≤ f

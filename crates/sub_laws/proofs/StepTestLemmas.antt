@@ -36,11 +36,9 @@ use Rattle.sub_rules.specs.Trusted.{trusted, trusted_up_to, first_correct_of}
 use Rattle.sub_rules.specs.declared.active_faults.ActiveFaults.{ActiveFaults}
 
 module _ (test : CheckStep → Bool) where
-  -- The step of an event passes the test.
   abbrev on : Event → Bool
   on e = test (Emits e)
 
-  -- No step of these passes.
   pub record Passes (ms : List CheckStep) : Type 0 where
     pub none : list_any test ms ≡ false
 
@@ -60,14 +58,13 @@ module _ (test : CheckStep → Bool) where
       same [] = refl
       same (e ∷ es) = rw (same es) refl
 
-  -- No skipped PES packet passes, the first one being number `pes`.
   abbrev pub SkippedPass : ℕ → List PesPacket → Type 0
   SkippedPass pes [] = ⊤
   SkippedPass pes (Sent s ∷ pes_packets) = SkippedPass (suc pes) pes_packets
   SkippedPass pes (Skipped u ∷ pes_packets) =
       (on (Reported (unread_fault pes (Some u))) ≡ false) × SkippedPass (suc pes) pes_packets
 
-  -- Nor does any step of a frame.
+  -- The test fails for each step of a frame.
   pub record FramesPass (g : Criteria) : Type 0 where
     pub at_pes : (n : ℕ) → test (AtPes n) ≡ false
     pub begins : (f : ℕ) → test (Begins f) ≡ false
@@ -168,7 +165,6 @@ module _ (test : CheckStep → Bool) where
         (both_pass (one_passes (Emits (Reported (unread_fault pes (Some u)))) skipped.0)
         (each_passes sent (suc pes) pes_packets skipped.1))
 
-    -- The steps of PES packets before the file ends.
     pub before_passes : (pes_packets : List PesPacket) → ((pes : ℕ) → SkippedPass pes pes_packets)
         → Passes (steps_of_each g [] 0 pes_packets ++ steps_of_pending_end g
         (sent_by_pes_packets g pes_packets))
@@ -176,12 +172,10 @@ module _ (test : CheckStep → Bool) where
         both_pass (each_passes [] 0 pes_packets (skipped 0))
         (pending_passes (sent_by_pes_packets g pes_packets))
 
--- ---- the events of steps that do not pass
-
--- A test of faults that does not depend on the PES packet.
+-- Assume a test of faults that does not depend on the PES packet.
 module _ (bad : CheckFault → Bool)
     (anywhere : (pes : ℕ) (f : CheckFault) → bad f ≡ false → bad (fault_at_pes pes f) ≡ false) where
-  -- The event is a fault that passes it.
+  -- The event reports a fault for which the test `bad` succeeds.
   abbrev pub reports_bad : Event → Bool
   reports_bad (Reported f) = bad f
   reports_bad e = false
@@ -208,7 +202,6 @@ module _ (bad : CheckFault → Bool)
   event_fine pes (Reported f) fine = anywhere pes f fine
   event_fine pes e fine = refl
 
-  -- The events of one step.
   with_fine : (m : CheckStep) (t : List CheckStep) → emits_bad m ≡ false
       → list_any reports_bad (reported_at t m) ≡ false
   unfolding reported_at
@@ -223,7 +216,6 @@ module _ (bad : CheckFault → Bool)
       both_none (reported_at t m) _ (with_fine m t parts.0)
       (reported_fine (m ∷ t) ms parts.1)
 
-  -- The first fault.
   pub first_fine : (es : List Event) (f : CheckFault) → list_any reports_bad es ≡ false
       → first_reported es ≡ Some f
       → bad f ≡ false

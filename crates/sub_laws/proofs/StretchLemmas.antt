@@ -29,9 +29,6 @@ use Rattle.sub_laws.proofs.DelayLemmas.{law_of_repeated_stretch, law_of_right_ce
 use Rattle.sub_laws.proofs.DelayLemmas.{recovers_at_once, shown_at_once}
 use Rattle.sub_laws.proofs.SoundStretchLemmas.{repeated}
 
--- ---- a sufficient stretch
-
--- It may be trusted: the page shown at the end of each of its frames is due.
 pub law_of_stretch : LawOfStretch
 law_of_stretch programme transmission options a b enough = record {
   recovers = λ class.
@@ -64,9 +61,6 @@ law_of_stretch programme transmission options a b enough = record {
         (law_of_repeated_stretch false programme transmission options a b
         (repeated transmission options a b enough.stretch) codes).0 false
 
--- ---- lost rows
-
--- A promise with one excuse holds with each weaker one.
 served_as :
     {programme : ProgrammeValue} {options : OptionsValue} {g f : ℕ} {sent : List (List ℕ)}
     {P Q : ℕ → ℕ → Type 0} {old new : State}
@@ -75,7 +69,6 @@ served_as :
     → IsServed programme options g f sent Q old new
 served_as excuse served = grind arith
 
--- If nothing is lost, all packets arrived, and the same spaces are excused.
 got_complete :
     (w : PageIdValue) (transmission : Transmission) (a b g j f : ℕ) (got : List (List ℕ))
     → IsListening transmission a b g j f
@@ -124,18 +117,14 @@ law_of_all_kept programme transmission options = (robust, kept)
         served_as (λ row column hit. (nothing.hits got near_sent row column).1 hit)
         (robust g j f got old new is.listening near_sent unheard shut hears)
 
--- ---- all frames
-
 module _ (programme : ProgrammeValue) (transmission : Transmission) (options : OptionsValue)
     (recovers :
     RecoversWithin Storing programme transmission options (first_frame transmission)
     (last_frame transmission)) where
-  -- If receivers recover in all frames, the transmission is robust to lost rows.
   to_loss : RobustToAnyLoss programme transmission options
   to_loss arrived g j f got old new is unheard shut hears =
       recovers g j f arrived got old new is hears
 
-  -- So the transmission is robust. Also for the examples.
   pub robust_of_recovers : Robust programme transmission options
   robust_of_recovers =
       (law_of_all_kept programme transmission options).0 (λ arrived all. to_loss arrived)

@@ -34,8 +34,8 @@ use Rattle.sub_laws.proofs.SoundUnreportedLemmas.{repeated_unreported}
 use Rattle.sub_laws.proofs.ActiveFaultsLemmas.{always_late, known_at, none_wrong, unexpected_is}
 use Rattle.sub_laws.proofs.UnfinishedLemmas.{finished_from, first_unfinished_some, unfinished_at}
 
--- In rising frames, the content at each end from one frame to another is as required, and the due
--- page is known.
+-- From frame a to frame b the content at each end is as required, and the due page is known; the
+-- frames of the list rise.
 pub record IsStill (g : Criteria) (t : Transmission) (a b : ℕ) : Type 0 where
   pub up : RiseTo t (length t)
   pub some : 0 < length t
@@ -48,7 +48,7 @@ pub record IsStill (g : Criteria) (t : Transmission) (a b : ℕ) : Type 0 where
       → f ≤ b
       → (broken_cell g t n f ≡ None) × (undecided_within g t f ≡ false)
 
--- So is the end of the page.
+-- From frame a to frame b the content and the end of the page are as required.
 pub record HoldsAtEnds (g : Criteria) (t : Transmission) (a b : ℕ) : Type 0 where
   pub still : IsStill g t a b
   pub shut :
@@ -58,8 +58,6 @@ pub record HoldsAtEnds (g : Criteria) (t : Transmission) (a b : ℕ) : Type 0 wh
       → f ≤ b
       → (is_late g t n f && is_incomplete g t n) ≡ false
 
--- ---- the kept text
-
 module _ (programme : ProgrammeValue) (options : OptionsValue) (unread : Option Unread)
     (any_refused : Bool) (undecided : ℕ → Bool) (t : Transmission) (a b : ℕ)
     (still : IsStill (criteria_unsure programme options unread any_refused undecided) t a b)
@@ -67,11 +65,9 @@ module _ (programme : ProgrammeValue) (options : OptionsValue) (unread : Option 
     abbrev requested : Criteria
     requested = criteria_unsure programme options unread any_refused undecided
 
-    -- The due page is known.
     pub known : (n f : ℕ) → IsEnd t n f → a ≤ f → f ≤ b → undecided f ≡ false
     known n f end low high = known_at requested t n f (still.parts n f end low high).1
 
-    -- Each frame has an end, with the packets on air up to it.
     end_there : (f : ℕ) → a ≤ f → f ≤ b
         → (n : ℕ) × IsEnd t n f × (on_air_until t f ≡ packets_before t n)
     end_there f low high =
@@ -83,7 +79,6 @@ module _ (programme : ProgrammeValue) (options : OptionsValue) (unread : Option 
         (omega arith) in
         (n, end, end_is_on_air t still.up n f end)
 
-    -- If the end is late, each cell is right.
     right_late : (n f : ℕ) → IsEnd t n f → a ≤ f → f ≤ b → is_late requested t n f ≡ true
         → (row column : ℕ)
         → IsCell row column
@@ -92,7 +87,6 @@ module _ (programme : ProgrammeValue) (options : OptionsValue) (unread : Option 
         none_wrong requested t n f (rw late at (still.parts n f end low high).0)
         (known n f end low high) row column named
 
-    -- Otherwise the kept code of each cell is an allowed one.
     codes_early : (n f : ℕ) → IsEnd t n f → a ≤ f → f ≤ b → is_late requested t n f ≡ false
         → (row column : ℕ)
         → IsCell row column
@@ -101,7 +95,8 @@ module _ (programme : ProgrammeValue) (options : OptionsValue) (unread : Option 
     codes_early n f end low high early row column named =
         grind (arith, nat_tests, unexpected_none, unexpected_is, first-same)
 
-    -- At the end of a frame the kept code of each cell is an allowed one.
+    -- At the end of each frame the kept code of a cell is a space or was due within the last
+    -- `within` frames.
     pub codes : KeepsDueCodes options.keeps programme t options a b
     codes f row column low high named =
         let (n, end, on) = end_there f low high in
@@ -123,7 +118,6 @@ module _ (programme : ProgrammeValue) (options : OptionsValue) (unread : Option 
             )
         go n end false early = codes_early n f end low high early row column named
 
-    -- If `within` is 0, each cell is right.
     pub same_at_once : options.within ≡ 0 → (f : ℕ) → a ≤ f → f ≤ b
         → IsCorrectPage options.keeps programme options.page t f
     same_at_once none f low high row column named =
@@ -131,8 +125,6 @@ module _ (programme : ProgrammeValue) (options : OptionsValue) (unread : Option 
         subst (λ ps. IsRight options.keeps options.page ps (due_in programme f) row column)
         (sym on)
         (right_late n f end low high (always_late requested t n f none) row column named)
-
--- ---- frames that are finished in time
 
 module _ (programme : ProgrammeValue) (options : OptionsValue) (unread : Option Unread)
     (any_refused : Bool) (undecided : ℕ → Bool) (t : Transmission) (a b : ℕ)
@@ -150,19 +142,15 @@ module _ (programme : ProgrammeValue) (options : OptionsValue) (unread : Option 
     known_end : (n f : ℕ) → IsEnd t n f → a ≤ f → f ≤ b → undecided f ≡ false
     known_end = known programme options unread any_refused undecided t a b holds.still
 
-    -- A late end is finished.
     pub calm : (n f : ℕ) → IsEnd t n f → a ≤ f → f ≤ b → is_late criteria t n f ≡ true
         → is_unfinished criteria t n f ≡ false
     calm n f end low high late = grind (arith, nat_tests)
 
-    -- So none is overdue.
     not_overdue : (n f : ℕ) → IsEnd t n f → a ≤ f → f ≤ b
         → is_overdue criteria start (unfinished_since criteria t n f) f ≡ false
     unfolding is_late
     not_overdue n f end low high = grind (arith, nat_tests, no_first_unfinished, calm)
 
-    -- If the ends up to this one are unfinished since a frame, that is not too long ago, and no
-    -- subtitle is missed.
     early : (n f r : ℕ) → IsEnd t n f → a ≤ f → f ≤ b → unfinished_since criteria t n f ≡ Some r
         → (f < r + options.within) × (is_missed (criteria.ending (f + 1)) start r ≡ false)
     early n f r end low high e =
@@ -174,7 +162,6 @@ module _ (programme : ProgrammeValue) (options : OptionsValue) (unread : Option 
         before : nat_le (r + options.within) f ≡ false → f < r + options.within
         before e = grind (arith, nat_tests)
 
-    -- A frame is finished if its end is.
     ended : (e : ℕ) → a ≤ e → e ≤ b → unfinished_at criteria t up e ≡ false
         → IsFinishedBy options.keeps programme t options e
     ended e low high finished =
@@ -188,8 +175,6 @@ module _ (programme : ProgrammeValue) (options : OptionsValue) (unread : Option 
         (omega arith)
         (omega arith) (known_end n e end low high) finished
 
-    -- One of the frames `from` to f is finished, unless the ends up to f are unfinished since
-    -- `from` or earlier.
     some_finished : (from f : ℕ) → a ≤ from → from ≤ f → f ≤ b
         → ((n r : ℕ)
         → IsEnd t n f
@@ -228,7 +213,6 @@ module _ (programme : ProgrammeValue) (options : OptionsValue) (unread : Option 
         omega arith)
 
     module _ (is : IsProgramme programme.drawing programme.records) where
-      -- The TCO of a subtitle of the programme gives its TCI.
       ends_at : (k : ℕ) (d : SubtitleValue) → k < length programme.records
           → (s : SubtitleValue)
           → s ≡ get_or programme.records k d
@@ -292,8 +276,6 @@ module _ (programme : ProgrammeValue) (options : OptionsValue) (unread : Option 
             begun k d l (get_or programme.records k d) refl (at ∙ first-same t);
       }
 
--- ---- a stretch without reports
-
 module _ (programme : ProgrammeValue) (options : OptionsValue) (unread : Option Unread)
     (any_refused : Bool) (undecided : ℕ → Bool) (t : Transmission) (a b : ℕ)
     (unreported : IsUnreported (criteria_unsure programme options unread any_refused undecided) t a
@@ -311,7 +293,6 @@ module _ (programme : ProgrammeValue) (options : OptionsValue) (unread : Option 
           (unreported.content n f end low high, unreported.undecided n f end low high);
     }
 
-    -- It is sufficient.
     pub enough_repeats : IsSufficientRepeats options.keeps programme t options a b
     enough_repeats = record {
       stretch = repeated_unreported programme t options unread any_refused undecided a b unreported;
@@ -328,7 +309,6 @@ module _ (programme : ProgrammeValue) (options : OptionsValue) (unread : Option 
         unfolding active_faults_at
         holds_unreported = record { still = still_unreported; shut = closed }
 
-        -- Its frames are finished in time.
         pub finishes_unreported : IsProgramme programme.drawing programme.records
             → FinishesInTimeBy options.keeps programme t options a b
         finishes_unreported is =

@@ -12,13 +12,9 @@ use Rattle.std.proofs.lemmas.List.Elements.{All-nil, All-tail, recursion_from_Al
 use Rattle.sub_rules.specs.Transmission.{EachPacket, IsRising, SentFrame, Transmission, last_frame}
 use Rattle.sub_rules.specs.Transmission.{packets_between}
 
--- ---- the frames from one number up to another
-
--- The packets of one frame.
 abbrev pes_packet : ℕ → ℕ → SentFrame → List (List ℕ)
 pes_packet a b s = cond (nat_le a s.frame && nat_lt s.frame b) s.packets []
 
--- There are no packets before a frame if all frames are that or later.
 pub packets_between-none :
     (frames : Transmission) (a b : ℕ)
     → AllByRecursion (λ (s : SentFrame). b ≤ s.frame) frames
@@ -28,7 +24,6 @@ packets_between-none (s ∷ frames) a b later =
     let rest = packets_between-none frames a b later.1 in
     grind (arith, nat_tests, and_right, le-ltb)
 
--- There are no packets from a frame up to one that is not after it.
 pub packets_between-void :
     (frames : Transmission) (a b : ℕ) → b ≤ a → packets_between frames a b ≡ []
 packets_between-void [] a b l = refl
@@ -39,7 +34,6 @@ pub rising-tail :
     (s : SentFrame) (frames : Transmission) → IsRising (s ∷ frames) → IsRising frames
 rising-tail s frames h i j d l m = h (suc i) (suc j) d (omega arith) (omega arith)
 
--- After the first, rising frames are later than it.
 pub later_than :
     (s : SentFrame) (frames : Transmission) (b : ℕ)
     → IsRising (s ∷ frames)
@@ -70,7 +64,6 @@ packets_between-split (s ∷ frames) a b c rising l m =
       later_than s frames b rising,
     )
 
--- A property of each packet of a transmission holds for those between two frames.
 pub packets_between-each :
     (P : List ℕ → Type 0) (frames : Transmission) (a b : ℕ)
     → EachPacket P frames
@@ -86,19 +79,14 @@ packets_between-each P (s ∷ frames) a b h =
     of_pes_packet true all = all
     of_pes_packet false all = All-nil P
 
--- ---- the frames of a filtered range
-
 module _ (made : ℕ → SentFrame) (numbered : (f : ℕ) → (made f).frame ≡ f) (p : ℕ → Bool) where
-  -- The frames of a range that pass, each as it is made.
   abbrev pub frames : ℕ → ℕ → Transmission
   frames a n = map made (filter p (range_with_len a n))
 
-  -- Those from one on, given whether it passes.
   abbrev passing : Bool → ℕ → ℕ → Transmission
   passing t a n = map made
       (cond t (a ∷ filter p (range_with_len (a + 1) n)) (filter p (range_with_len (a + 1) n)))
 
-  -- They are that frame or later.
   later : (a n b : ℕ) → b ≤ a → AllByRecursion (λ (frame : SentFrame). b ≤ frame.frame) (frames a n)
   later a zero b l = tt
   later a (suc n) b l = grind (arith, nat_tests, later (a + 1) n b (omega arith))
@@ -110,13 +98,11 @@ module _ (made : ℕ → SentFrame) (numbered : (f : ℕ) → (made f).frame ≡
       go : (t : Bool) → IsRising (frames (a + 1) n) → IsRising (passing t a n)
       go t ih = grind (arith, nat_tests, All-from_recursion, later)
 
-  -- If nothing is sent between two frames.
   pub sent_none : (from end a n : ℕ) → ((j : ℕ) → from ≤ j → j < end → p j ≡ false)
       → packets_between (frames a n) from end ≡ []
   sent_none from end a zero none = refl
   sent_none from end a (suc n) none = grind (arith, nat_tests, sent_none from end (a + 1) n none)
 
-  -- The packets of one frame.
   pub sent_at : (g a n : ℕ) → p g ≡ true → a ≤ g → g < a + n
       → packets_between (frames a n) g (g + 1) ≡ (made g).packets
   sent_at g a zero h low high = absurd (omega arith)
@@ -132,7 +118,6 @@ module _ (made : ℕ → SentFrame) (numbered : (f : ℕ) → (made f).frame ≡
           → packets_between (passing t a n) g (g + 1) ≡ (made g).packets
       at t h e = grind (arith, nat_tests, later, packets_between-none, append-nil)
 
-  -- The packets between two frames are those of some of the frames.
   pub sent_some : (from end : ℕ) (fs : List ℕ) → (gs : List ℕ)
       × (packets_between (map made fs) from end ≡ flat_map (λ f. (made f).packets) gs)
   sent_some from end [] = ([], refl)
@@ -146,17 +131,14 @@ module _ (made : ℕ → SentFrame) (numbered : (f : ℕ) → (made f).frame ≡
       go true ih = (f ∷ ih.0, ap (λ ps. (made f).packets ++ ps) ih.1)
       go false ih = ih
 
-  -- A property of the packets of each frame.
   pub each_frame : (P : List ℕ → Type 0) (fs : List ℕ) → ((f : ℕ) → All P (made f).packets)
       → EachPacket P (map made fs)
   each_frame P fs h = All-map (λ (frame : SentFrame). All P frame.packets) made fs
       (λ k d l. h (slice_index_or fs k d))
 
-  -- The first frame of a range passes.
   pub starts_with : (a n : ℕ) → p a ≡ true → frames a (suc n) ≡ made a ∷ frames (a + 1) n
   starts_with a n h = grind arith
 
--- The last frame of a list with one more frame.
 pub last_push : (frames : Transmission) (frame : SentFrame)
     → last_frame (frames ++ frame ∷ []) ≡ frame.frame
 last_push [] frame = refl

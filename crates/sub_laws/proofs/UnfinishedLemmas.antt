@@ -19,23 +19,21 @@ use Rattle.sub_laws.specs.CleanStretch.{IsEnd}
 use Rattle.sub_laws.proofs.PrefixLemmas.{RiseTo, end_is_on_air, rises_to}
 use Rattle.sub_laws.proofs.RisingEndLemmas.{latest_at}
 
--- ---- a sequence of tests
-
 module _ (un : ℕ → Bool) (first : ℕ) where
-  -- The first frame of the unfinished run that ends at first + k.
+  -- The first frame of the run of unfinished frames that ends at first + k.
   abbrev pub first_unfinished_at : ℕ → Option ℕ
   first_unfinished_at zero = unfinished_from None (un first) first
   first_unfinished_at (suc k) = unfinished_from (first_unfinished_at k) (un (first + suc k))
       (first + suc k)
 
-  -- That is frame r: all from it on are unfinished, and the one before it, if any, is not.
+  -- Frame r is the first frame of the unfinished run that ends at first + k: all frames from r to
+  -- first + k are unfinished, and the frame before r, if any, is finished.
   pub record IsFirstUnfinished (k r : ℕ) : Type 0 where
     pub low : first ≤ r
     pub high : r ≤ first + k
     pub all : (e : ℕ) → r ≤ e → e ≤ first + k → un e ≡ true
     pub begins : (r ≡ first) ⊎ ((first < r) × (un (r - 1) ≡ false))
 
-  -- There is none exactly if the last one is finished.
   pub first_unfinished_none : (k : ℕ) → first_unfinished_at k ≡ None → un (first + k) ≡ false
   first_unfinished_none k h1 = grind (arith, nat_tests, none-some)
 
@@ -86,7 +84,8 @@ module _ (un : ℕ → Bool) (first : ℕ) where
             begins = earlier.begins;
           }
 
-  -- One of those from a on is finished, unless the unfinished run begins that early.
+  -- At least one frame from a to first + k is finished, unless the unfinished run begins at a or
+  -- earlier.
   pub finished_from : (a k : ℕ) → first ≤ a → a ≤ first + k
       → ((r : ℕ) → first_unfinished_at k ≡ Some r → r ≤ a → ⊥)
       → (e : ℕ) × (a ≤ e) × (e ≤ first + k) × (un e ≡ false)
@@ -106,7 +105,7 @@ module _ (un : ℕ → Bool) (first : ℕ) where
             ]
           ]
 
-  -- If one of them is finished, the run begins after it.
+  -- If a frame is finished, the unfinished run begins after it.
   pub first_unfinished_after : (k r e : ℕ) → first_unfinished_at k ≡ Some r → un e ≡ false → e ≤
       first + k → e < r
   first_unfinished_after k r e is finished high = elim (cases_lt e r) [
@@ -115,10 +114,8 @@ module _ (un : ℕ → Bool) (first : ℕ) where
         absurd (true≢false (sym ((first_unfinished_some k r is).all e not_after high) ∙ finished))
   ]
 
--- ---- the ends of rising frames
-
 module _ (g : Criteria) (t : Transmission) (rises : RiseTo t (length t)) where
-  -- The end of frame f is unfinished, given the packets on air up to it.
+  -- The end of frame f is unfinished, given the packets on air up to that end.
   abbrev pub unfinished_at : ℕ → Bool
   unfinished_at f =
       is_some
@@ -131,8 +128,6 @@ module _ (g : Criteria) (t : Transmission) (rises : RiseTo t (length t)) where
   unfolding is_incomplete
   unfinished_is n f end = rw (end_is_on_air t rises n f end) refl
 
-  -- The first frame of the unfinished run at the end of a frame without packets, from that of the
-  -- frame before.
   first_unfinished_gap : (n m : ℕ)
       → unfinished_since g t n (latest t n + suc m)
       ≡ unfinished_from (unfinished_since g t n (latest t n + m))
@@ -140,7 +135,6 @@ module _ (g : Criteria) (t : Transmission) (rises : RiseTo t (length t)) where
   unfolding unfinished_since first_unfinished_in_gap
   first_unfinished_gap n m = grind (arith, nat_tests)
 
-  -- The same for a frame of the list.
   first_unfinished_own : (i : ℕ)
       → first_unfinished_in_frames g t (suc i)
       ≡ unfinished_from (unfinished_since g t i (latest t i + gap_length t i))
@@ -160,7 +154,6 @@ module _ (g : Criteria) (t : Transmission) (rises : RiseTo t (length t)) where
   unfolding unfinished_since first_unfinished_in_gap
   first_unfinished_here i l = grind (arith, nat_tests, last_is)
 
-  -- A frame from the last of the first n on, and before the next one, has an end.
   end_from_last : (n x : ℕ) → 0 < n → n < length t → frame_at t (n - 1) ≤ x → x < frame_at t n
       → IsEnd t n x
   end_from_last n x some there low high = elim (cases_eq x (frame_at t (n - 1))) [
@@ -178,7 +171,6 @@ module _ (g : Criteria) (t : Transmission) (rises : RiseTo t (length t)) where
     )
   ]
 
-  -- The end before that of a frame after the first.
   pub record EndBefore (n f : ℕ) : Type 0 where
     pub m : ℕ
     pub end : IsEnd t m (f - 1)
@@ -226,7 +218,6 @@ module _ (g : Criteria) (t : Transmission) (rises : RiseTo t (length t)) where
   end_before (suc n) f (some, l, inr (there, high, low)) after =
       before_in_gap (suc n) f some there high (low (suc n - 1) (omega arith))
 
-  -- The end of the first frame.
   pub end_first : (n f : ℕ) → IsEnd t n f → f ≡ frame_at t 0
       → unfinished_since g t n f ≡ unfinished_from None (is_unfinished g t n f) f
   end_first zero f (some, l, at) first = absurd (omega arith)
@@ -241,7 +232,6 @@ module _ (g : Criteria) (t : Transmission) (rises : RiseTo t (length t)) where
   end_first (suc (suc i)) f (some, l, inr (there, high, low)) first =
       let after = low 0 (omega arith) in absurd (omega arith)
 
-  -- At each end it is the first frame of the unfinished run.
   pub first_unfinished_end : (k n f : ℕ) → IsEnd t n f → f ≡ frame_at t 0 + k
       → unfinished_since g t n f ≡ first_unfinished_at unfinished_at (frame_at t 0) k
   first_unfinished_end zero n f end at =

@@ -36,8 +36,6 @@ use Rattle.sub_rules.specs.Trusted.{reports_none}
 use Rattle.sub_rules.specs.Trusted.{reported_after, reported_at, trusted_up_to}
 use Rattle.sub_rules.proofs.FrameEvents.{events}
 
--- ---- the first fault
-
 both_none : (a b : Option CheckFault) → (option_or a b ≡ None) ↔ ((a ≡ None) × (b ≡ None))
 both_none a b = grind (arith, nat_tests)
 
@@ -55,12 +53,9 @@ none_emitted pes (Emits e ∷ ms) = none_emitted pes ms
 none_emitted pes (AtPes next ∷ ms) = none_emitted next ms
 none_emitted pes (m ∷ ms) = none_emitted pes ms
 
--- The steps report no fault exactly if there is none among their events.
 pub first_none : (t ms : List CheckStep)
     → (first_reported (reported_after t ms) ≡ None) ↔ (first_reported (emitted ms) ≡ None)
 first_none t ms = grind (arith, nat_tests, steps_first, none_emitted)
-
--- ---- if there are no events
 
 append_empty : (xs ys : List Event) → xs ++ ys ≡ [] → (xs ≡ []) × (ys ≡ [])
 append_empty [] ys e = (refl, e)
@@ -70,7 +65,6 @@ some_append : (xs ys : List Event) (e : Event) → xs ++ e ∷ [] ++ ys ≡ [] �
 some_append [] ys e none = cc
 some_append (x ∷ xs) ys e none = cc
 
--- Then the steps have none.
 emitted_none : (t ms : List CheckStep) → reported_after t ms ≡ [] → emitted ms ≡ []
 unfolding reported_after reported_at
 emitted_none t [] e = refl
@@ -79,12 +73,10 @@ emitted_none t (Closes are_left more ∷ ms) e =
     emitted_none (Closes are_left more ∷ t) ms (append_empty _ _ e).1
 emitted_none t (m ∷ ms) e = emitted_none (m ∷ t) ms e
 
--- The file ends.
 abbrev is_close : CheckStep → Bool
 is_close (Closes are_left more) = true
 is_close m = false
 
--- Without events before the file ends, nothing is reported.
 fault_free_so_far : (t ms : List CheckStep) → list_any is_emitted t ≡ false
     → list_any is_close ms ≡ false
     → emitted ms ≡ []
@@ -95,7 +87,8 @@ fault_free_so_far t (Emits x ∷ ms) reported still none = cc
 fault_free_so_far t (Closes are_left more ∷ ms) reported still none = cc
 fault_free_so_far t (m ∷ ms) reported still none = fault_free_so_far (m ∷ t) ms reported still none
 
--- If the state before the end of the file has no event, there was none.
+-- If nothing was reported after a list of steps that does not close the file, nothing was reported
+-- before it either.
 pub silent : (t ms : List CheckStep) → list_any is_close ms ≡ false
     → list_any is_emitted (past_after t ms) ≡ false
     → (list_any is_emitted t ≡ false) × (reported_after t ms ≡ [])
@@ -106,7 +99,6 @@ silent t (Emits x ∷ ms) still none =
 silent t (Closes are_left more ∷ ms) still none = cc
 silent t (m ∷ ms) still none = silent (m ∷ t) ms still none
 
--- Nothing is reported at the end either, if there are no events there and no subtitle was refused.
 closed_fault_free : (t : List CheckStep) (pes : ℕ) (are_left any_refused : Bool) (es : List Event)
     → any_refused ≡ false
     → es ≡ []
@@ -118,10 +110,7 @@ unfolding reported_after reported_at run_of
 closed_fault_free t pes are_left any_refused [] alone none reported = rw (alone, reported) refl
 closed_fault_free t pes are_left any_refused (e ∷ es) alone none reported = cc
 
--- ---- all events
-
 module _ (g : Criteria) where
-  -- The file does not end before its end.
   pub before_open : (pes_packets : List PesPacket)
       → Passes is_close
       (steps_of_each g [] 0 pes_packets ++ steps_of_pending_end g
@@ -148,7 +137,6 @@ module _ (g : Criteria) where
       each_closes (Sent s ∷ pes_packets) pes = each_closes pes_packets (suc pes)
       each_closes (Skipped u ∷ pes_packets) pes = (refl, each_closes pes_packets (suc pes))
 
-  -- The events before the file ends, and those at its end.
   emitted_parts : (pes_packets : List PesPacket)
       → emitted (steps_of_pes_packets g pes_packets)
       ≡ emitted (steps_of_each g [] 0 pes_packets ++ steps_of_pending_end g
@@ -184,7 +172,6 @@ module _ (g : Criteria) where
           alone parts.1
           so_far.1)
 
--- The end of a run of skipped PES packets is reported only with other events.
 announced_one : (e : Event) → announced no_run e ≡ e ∷ []
 unfolding announced joins
 announced_one (Reported f) = refl
@@ -197,7 +184,6 @@ announced_empty [] = grind (arith, nat_tests)
 announced_empty (e ∷ es) = grind (arith, nat_tests, append_empty, announced_one)
 
 module _ (g : Criteria) where
-  -- A skipped PES packet is reported.
   pub each_sent : (sent : Transmission) (pes : ℕ) (pes_packets : List PesPacket)
       → first_reported (emitted (steps_of_each g sent pes pes_packets)) ≡ None
       → length (frames_of pes_packets) ≡ length pes_packets
@@ -216,8 +202,8 @@ module _ (g : Criteria) where
   emitted_sent pes_packets none =
       grind (arith, nat_tests, two_none, emitted, emitted_parts, emitted-append, each_sent)
 
-  -- PES packets have no events exactly if each is sent and their frames have none, if no subtitle
-  -- was refused.
+  -- If no subtitle was refused, PES packets have no events exactly if each is sent and their frames
+  -- have no events.
   pub pes_packets_unreported : (pes_packets : List PesPacket) → g.any_refused ≡ false
       → (all_of_pes_packets g pes_packets ≡ [])
       ↔ ((length (frames_of pes_packets) ≡ length pes_packets) ×
@@ -226,7 +212,7 @@ module _ (g : Criteria) where
   pes_packets_unreported pes_packets alone =
       grind (arith, nat_tests, reported_none, announced_empty, emitted_sent, pes_packets_emitted)
 
-  -- They have no fault exactly if each is sent and their frames have none.
+  -- PES packets have no fault exactly if each is sent and their frames have no fault.
   pub pes_packets_unrefused : (pes_packets : List PesPacket)
       → (first_reported (all_of_pes_packets g pes_packets) ≡ None)
       ↔ ((length (frames_of pes_packets) ≡ length pes_packets)

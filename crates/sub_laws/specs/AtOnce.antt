@@ -10,8 +10,8 @@ use Rattle.sub_laws.specs.OnScreen.{Complete}
 use Rattle.sub_laws.specs.Repeats.{MayBeTrustedBy}
 use Rattle.sub_laws.specs.Stretch.{MayBeTrusted}
 
--- If `within` is 0, a transmission is good by the options exactly if it is good, with complete
--- pages if these are required.
+-- If `within` is 0, a transmission is good by the options exactly if it is good and, if complete
+-- pages are required, its pages are complete.
 abbrev pub LawOfNoDelay : Type 0
 LawOfNoDelay =
     (programme : ProgrammeValue) (transmission : Transmission) (options : OptionsValue)
@@ -21,7 +21,8 @@ LawOfNoDelay =
     ↔ (Good programme transmission options
     × (IsTrue options.asks_complete → Complete transmission options))
 
--- What may be trusted by the options then may be trusted: the promises are the same.
+-- If `within` is 0 and no repeat may keep the page, a stretch that may be trusted by the options
+-- may be trusted: the promises are the same.
 abbrev pub LawOfTrustWithoutDelay : Type 0
 LawOfTrustWithoutDelay =
     (programme : ProgrammeValue) (transmission : Transmission) (options : OptionsValue) (a b : ℕ)

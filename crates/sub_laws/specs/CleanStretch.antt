@@ -1,5 +1,5 @@
 -- A clean stretch: frames in rising order without reports of faults that a receiver depends on,
--- whatever else is reported of them, and whatever is reported elsewhere.
+-- whatever else is reported in the stretch or elsewhere.
 use Rattle.std.specs.Prelude.{Bool, None, Option, IsFalse, IsTrue}
 use Rattle.std.specs.Prelude.{◌≡◌, ℕ, ◌-◌, ◌<◌, ◌≤◌, ◌⊎◌, List, [], ◌++◌, length, take}
 use Rattle.std.specs.Prelude.{slice_index_or}
@@ -18,7 +18,7 @@ use Rattle.sub_laws.specs.Sufficient.{IsSufficient}
 -- ---- packets and ends of a stretch
 
 -- A property holds for each packet of the frames from a to b, given all packets that were sent
--- before it, from the first of the transmission.
+-- before the packet, from the first packet of the transmission.
 abbrev pub AtPackets :
     (List (List ℕ) → List ℕ → Type 0) → Transmission → ℕ → ℕ → Type 0
 AtPackets Holds frames a b =
@@ -30,8 +30,8 @@ AtPackets Holds frames a b =
     → Holds (packets_before frames i ++ take k (packets_of_frame frames i))
     (slice_index_or (packets_of_frame frames i) k [])
 
--- An end: that of frame n - 1 of the list, after its first n frames; or that of a frame of the day
--- after these and before the next one, which has no packets of its own.
+-- The end of frame f, after the first n frames of the list: f is frame n - 1 of the list; or f is a
+-- later frame of the day before the next frame of the list, and has no packets of its own.
 abbrev pub IsEnd : Transmission → ℕ → ℕ → Type 0
 IsEnd frames n f =
     (0 < n)
@@ -41,7 +41,7 @@ IsEnd frames n f =
     × (f < frame_at frames n)
     × ((i : ℕ) → i < n → frame_at frames i < f)))
 
--- A property holds at each end of a frame from a to b, given the number of frames so far and the
+-- A property holds at the end of each frame from a to b, given the number of frames so far and the
 -- frame.
 abbrev pub AtEnds : (ℕ → ℕ → Type 0) → Transmission → ℕ → ℕ → Type 0
 AtEnds Holds frames a b = (n f : ℕ) → IsEnd frames n f → a ≤ f → f ≤ b → Holds n f
@@ -55,14 +55,15 @@ pub record IsStretch (frames : Transmission) (a b : ℕ) : Type 0 where
 
 -- ---- reports of a stretch
 
--- A receiver depends on this rule for packets: a frame in which it is broken is not clean.
+-- A receiver depends on this rule for packets: a frame with a packet that breaks the rule is not
+-- clean.
 abbrev pub is_needed : PacketRule → Bool
 is_needed r = (fault_row (packet_fault r 0 0)).invalidates
 
--- There is no report of the stretch that a receiver depends on: the frames of the whole
--- transmission rise; no packet of the stretch breaks one of these rules; at no end of it wrong
--- content or a missing header is active, whether it is reported there or was before; and at each
--- end the due page is known, and was known at the `within` frames before.
+-- The stretch has no report that a receiver depends on: the frames of the whole transmission rise;
+-- no packet of the stretch breaks a rule that receivers depend on; at no end in the stretch wrong
+-- content or a missing header is active, whether reported in the stretch or before; and at each end
+-- the due page is known, and was known at the `within` frames before.
 pub record IsUnreported (g : Criteria) (frames : Transmission) (a b : ℕ) : Type 0 where
   pub stretch : IsStretch frames a b
   pub rising : IsRising frames
@@ -79,19 +80,20 @@ abbrev pub NoneOpen : Criteria → Transmission → ℕ → ℕ → Type 0
 NoneOpen g frames a b =
     AtEnds (λ n f. IsFalse (active_faults_at g frames n f).incomplete) frames a b
 
--- The criteria of a programme and options, if subtitles of the file may have been refused and the
--- due page is unknown at these frames for that reason.
+-- The criteria of a programme and options, if subtitles of the file may have been refused
+-- (`any_refused`) and the due page is unknown at the frames `undecided` for that reason.
 abbrev pub criteria_unsure :
     ProgrammeValue → OptionsValue → Option Unread → Bool → (ℕ → Bool) → Criteria
 criteria_unsure programme options unread any_refused undecided =
     record (criteria_of programme options unread)
     { any_refused = any_refused; undecided = undecided }
 
--- If no repeat may keep the page, such a stretch has the sufficient parts of the rules, so it may
--- be trusted (`LawOfStretch`). If complete pages are required, and the page is open at no end of
--- the stretch, its pages are complete, so the due page is on screens, too. So the reports of a
--- refused transmission show which rest may be trusted: frames in rising order, from the first
--- header of the page in a stretch.
+-- If no repeat may keep the page and `within` is 0, a stretch without reports that a receiver
+-- depends on has the sufficient parts of the rules, so it may be trusted (`LawOfStretch`). If
+-- complete pages are required, and the page is open at no end in the stretch, its pages are
+-- complete, so the due page is on screens, too. So the reports of a refused transmission show which
+-- part may still be trusted: frames in rising order, from the first header of the page in a
+-- stretch.
 abbrev pub LawOfUnreportedStretch : Type 0
 LawOfUnreportedStretch =
     (programme : ProgrammeValue) (transmission : Transmission) (options : OptionsValue)

@@ -1,4 +1,4 @@
--- The transmission that a PES file carries with a greater `within`, which stays good.
+-- The transmission that a PES file carries with a greater `within`; a good transmission stays good.
 use Rattle.std.specs.Prelude.{ℕ, ◌^◌, ◌<◌, ◌≤◌, Bool, List}
 use Rattle.stl_rows.specs.Programme.{ProgrammeValue}
 use Rattle.sub_plan.specs.FrameTime.{clock_of}
@@ -7,14 +7,14 @@ use Rattle.sub_rules.specs.PesFrames.{CarriesBy}
 use Rattle.sub_rules.specs.Repeats.{GoodBy}
 use Rattle.sub_rules.specs.Transmission.{Transmission}
 
--- The same options, except for `within`.
+-- The options with another value of `within`.
 abbrev pub within_frames : ℕ → OptionsValue → OptionsValue
 within_frames more options = record options { within = more }
 
--- Bytes that carry a transmission with some `within` carry it with a greater one: the PTS of a
--- frame is within its tolerance, and in rising frames no frame is sent by two PES packets. If the
--- transmission is good with the one, it is good with the other. So accepted bytes are accepted with
--- more frames, too.
+-- If the bytes of a PES file carry a transmission with some `within`, they carry it with any
+-- greater `within`: the PTS of a frame is within its tolerance, and in rising frames no frame is
+-- sent by two PES packets. If the transmission is good with the smaller `within`, it is good with
+-- the greater one. So an accepted file is accepted with more frames, too.
 abbrev pub LawOfLongerDelayOfFiles : Type 0
 LawOfLongerDelayOfFiles =
     (keeps : Bool) (programme : ProgrammeValue) (options : OptionsValue) (more : ℕ)

@@ -1,5 +1,5 @@
--- What a transmission is compared with if subtitles of the file were refused, or only a part of the
--- file is requested.
+-- The subtitles with which a transmission is compared if subtitles of the file were refused, or
+-- only a part of the file is requested.
 use Rattle.std.specs.Prelude.{◌≡◌, ℕ, true, List, ◌++◌, length, None, Option}
 use Rattle.std.specs.List.{AllByRecursion, concat}
 use Rattle.stl_file.specs.Gsi.{gsi_size}
@@ -14,9 +14,9 @@ use Rattle.sub_rules.specs.FrameRules.{Unread, criteria_of_judged, is_due_undeci
 use Rattle.sub_rules.specs.PesPacketEvents.{all_of_pes_packets}
 use Rattle.sub_rules.specs.PesPackets.{PesPacket}
 
--- A part of a file is judged like the file from which the blocks of all other subtitles were
--- removed, if nothing ends reading: the same subtitles can be relied on, and a transmission can be
--- judged by both or by neither.
+-- A part of a subtitle file gives the same reliable subtitles as the file from which the blocks of
+-- all other subtitles were removed, if both are read to the end. A transmission can be judged by
+-- both or by neither.
 abbrev pub LawOfJudgedParts : Type 0
 LawOfJudgedParts =
     (drawing : Drawing) (gsi : List ℕ) (blocks : List (List ℕ))
@@ -28,9 +28,9 @@ LawOfJudgedParts =
     × (judges drawing (gsi ++ concat blocks)
     ≡ judges (of_day drawing) (gsi ++ concat (taken_out drawing.scope None blocks)))
 
--- If two files agree on the subtitles that can be relied on, on the frames whose due page is
--- unknown, and on whether subtitles were refused, the events for a PES file are the same. So
--- nothing else of refused subtitles matters, neither their texts nor their times.
+-- If two subtitle files agree on the reliable subtitles, on the frames whose due page is unknown,
+-- and on whether subtitles were refused, the events for a PES file are the same. So neither the
+-- texts nor the times of refused subtitles matter otherwise.
 abbrev pub LawOfJudgedAlike : Type 0
 LawOfJudgedAlike =
     (one other : JudgedValue) (options : OptionsValue) (unread : Option Unread)

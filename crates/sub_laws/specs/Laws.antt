@@ -23,14 +23,15 @@ LawOfWindow =
 
 -- A good transmission is robust, also with lost rows. Receivers of both classes recover whatever
 -- they contained before, so earlier transmissions and errors no longer matter after the next
--- header. If its pages are complete, the due page is on their screens.
+-- header. If the pages of the transmission are complete, the due page is on the receivers' screens.
 abbrev pub LawOfGood : Type 0
 LawOfGood =
     (programme : ProgrammeValue) (transmission : Transmission) (options : OptionsValue)
     → Good programme transmission options
     → HasPromises programme transmission options
 
--- Robust to lost rows, if no packet is lost, is robust.
+-- A transmission is robust to lost rows, for the case that no packet is lost, exactly if it is
+-- robust.
 abbrev pub LawOfAllKept : Type 0
 LawOfAllKept =
     (programme : ProgrammeValue) (transmission : Transmission) (options : OptionsValue)

@@ -16,9 +16,9 @@ use Rattle.sub_laws.specs.Robust.{HoldsDuePage}
 use Rattle.sub_rules.specs.Transmission.{Transmission, first_frame, last_frame, on_air}
 use Rattle.sub_rules.specs.Transmission.{on_air_until}
 
--- Complete pages in the frames from a to b: at the end of each of them, with packets of its own or
--- not, the last header of the page, if there was one, was followed by a header that ends the page.
--- So the page is not open then.
+-- Pages are complete in the frames from a to b: at the end of each of these frames, with packets of
+-- its own or not, the last header of the page, if any, was followed by a header that ends the page.
+-- So the page is not open at the end.
 abbrev pub CompleteWithin : Transmission → OptionsValue → ℕ → ℕ → Type 0
 CompleteWithin transmission options a b =
     (f : ℕ)
@@ -27,15 +27,15 @@ CompleteWithin transmission options a b =
     → IsTrue (holds_header (kind options.page) (on_air_until transmission f))
     → IsFalse (is_unended (kind options.page) (on_air_until transmission f))
 
--- Complete pages in all frames.
+-- Pages are complete in all frames of the transmission.
 abbrev pub Complete : Transmission → OptionsValue → Type 0
 Complete transmission options =
     CompleteWithin transmission options (first_frame transmission) (last_frame transmission)
 
--- Receivers of the class show the frames from a to b: wherever one starts and stops there, whatever
--- it receives, whatever it contained and showed before, and whatever it chooses, after a header of
--- its page was sent its screen has a page. That is the due page, except for spaces that are excused
--- as in `RecoversWithin`.
+-- Receivers of the class show the due page in the frames from a to b: wherever a receiver starts
+-- and stops, whatever it receives, whatever it contained and showed before, and whatever it
+-- chooses, its screen has a page after a header of the page was sent. That page is the due page,
+-- except for spaces that are excused as in `RecoversWithin`.
 abbrev pub ShownWithin :
     ReceiverClass → ProgrammeValue → Transmission → OptionsValue → ℕ → ℕ → Type 0
 ShownWithin class programme transmission options a b =

@@ -1,5 +1,5 @@
--- The page that every receiver has of a transmission, whatever it contained before: wherever it
--- starts, whatever bits are wrong and whatever rows are lost.
+-- The page that every receiver has of a transmission, whatever the receiver contained before,
+-- wherever it starts, whatever bits are wrong and whatever rows are lost.
 use Rattle.std.specs.Prelude.{ℕ, Bool, List}
 use Rattle.ttx_page.specs.DroppedRows.{ExcusedBy}
 use Rattle.ttx_page.specs.LostRows.{IsHitOrLost, arrivals_of}
@@ -10,10 +10,11 @@ use Rattle.sub_laws.specs.LostRows.{IsGot}
 use Rattle.sub_laws.specs.Robust.{IsServed}
 use Rattle.sub_rules.specs.Transmission.{Transmission, on_air}
 
--- Receivers of the class recover in the frames from a to b: wherever one starts and stops there,
--- whatever it receives, whatever it contained before (any page, open or not, with or without a
--- header), and whatever it chooses, it is served. A space is excused only if its byte was hit or
--- its row lost; for a receiver that drops rows, if any byte of its row was hit, or the row lost.
+-- Receivers of the class recover in the frames from a to b: wherever a receiver starts and stops in
+-- these frames, whatever it receives, whatever it contained before (any page, open or not, with or
+-- without a header), and whatever it chooses, it is served. A space is excused only if its byte was
+-- hit or its row lost; for a receiver that drops rows, if any byte of its row was hit, or the row
+-- lost.
 abbrev pub RecoversWithin :
     ReceiverClass → ProgrammeValue → Transmission → OptionsValue → ℕ → ℕ → Type 0
 RecoversWithin class programme transmission options a b =

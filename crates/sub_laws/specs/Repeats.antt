@@ -1,8 +1,8 @@
 -- The promises if frames may be late and repeats may keep the page, for receivers that may forget
 -- the page at a header that does not erase it: wherever they start, whatever bits are wrong and
--- whatever rows are lost. If repeats may not keep the page, each header erases it: the first one
--- removes what a receiver contained before (`IsFresh`), and receivers that keep it are among these
--- (`LawOfForgetting`).
+-- whatever rows are lost. If repeats may not keep the page, each header erases it: the first header
+-- removes what a receiver contained before (`IsFresh`), and receivers that keep the page are among
+-- these receivers (`LawOfForgetting`).
 use Rattle.std.specs.Prelude.{◌≡◌, ℕ, ◌+◌, ◌-◌, ◌<◌, ◌≤◌, ◌||◌, All, Bool, false, List, [], Some}
 use Rattle.std.specs.Prelude.{not, IfSome, IsTrue}
 use Rattle.ttx_page.specs.DroppedRows.{ExcusedBy}
@@ -29,32 +29,33 @@ use Rattle.sub_laws.specs.Robust.{HoldsDuePage}
 
 -- ---- receivers
 
--- The promise to a receiver that may forget the page, or starts again at each header: it listened
--- from frame g to the end of frame f, these packets were sent, and its state went from `old` to
--- `new`.
+-- The promise to a receiver that may forget the page, or starts again at each header (`anew`). The
+-- receiver listened from frame g to the end of frame f, the packets `sent` were sent, and its state
+-- went from `old` to `new`.
 pub record IsServedForgetting
     (keeps anew : Bool) (programme : ProgrammeValue) (transmission : Transmission)
     (options : OptionsValue) (g f : ℕ) (sent : List (List ℕ)) (IsExcused : ℕ → ℕ → Type 0)
     (old new : State)
     : Type 0 where
-  -- By the end of frame g + every a header of its page was sent.
+  -- By the end of frame g + every a header of the page was sent.
   pub in_time : g + options.every ≤ f → IsTrue (holds_header (kind options.page) sent)
-  -- It has received a header of its page exactly if it had before or one was sent.
+  -- The receiver has received a header of the page exactly if it had before or a header was sent.
   pub heard : new.heard ≡ (old.heard || holds_header (kind options.page) sent)
-  -- The page is open exactly if it was opened and no page header after its last header ended it.
+  -- The page of the receiver is open exactly if it was opened and no page header after its last
+  -- header ended it.
   pub is_open :
       IsTrue (holds_header (kind options.page) sent || not old.is_open)
       → new.is_open ≡ is_open_after (kind options.page) sent
   -- After a header was sent and the receiver's old contents are gone, each cell has a space, or a
-  -- code that is due there in that frame or in one of the `within` frames before.
+  -- code that is due in that cell in frame f or in one of the `within` frames before.
   pub codes :
       IsTrue (holds_header (kind options.page) sent)
       → IsFresh keeps anew options.page sent old
       → (row column : ℕ)
       → IsCell row column
       → IsDueWithin programme transmission options f row column (cell new.page row column)
-  -- If each cell is right at the end of the frame, each cell has the code of the due page, or an
-  -- excused space.
+  -- If each cell of the page is right at the end of frame f, each cell of the receiver has the code
+  -- of the due page, or an excused space.
   pub cells :
       IsTrue (holds_header (kind options.page) sent)
       → IsFresh keeps anew options.page sent old
@@ -62,12 +63,13 @@ pub record IsServedForgetting
       → HoldsDuePage programme f IsExcused new.page
 
 -- Receivers of the class that may forget the page, or start again at each header, recover in the
--- frames from a to b: wherever one starts and stops there, whatever it receives, and whatever it
--- chooses, it gets this promise. A space is excused only if its byte was hit or its row lost since
--- the last header; for a receiver that drops rows, if any byte of its row was hit, or the row lost.
+-- frames from a to b: wherever a receiver starts and stops in these frames, whatever it receives,
+-- and whatever it chooses, the promise `IsServedForgetting` holds. A space is excused only if its
+-- byte was hit or its row lost since the last header; for a receiver that drops rows, if any byte
+-- of its row was hit, or the row lost.
 --
--- A receiver with old text recovers from the next header that erases the page; one with a blank
--- closed page, or one that starts again at each header, from any header.
+-- A receiver with old text recovers from the next header that erases the page; a receiver with a
+-- blank closed page, or one that starts again at each header, recovers from any header.
 abbrev pub RecoversForgetting :
     Bool → Bool → ReceiverClass → ProgrammeValue → Transmission → OptionsValue → ℕ → ℕ → Type 0
 RecoversForgetting keeps anew class programme transmission options a b =
@@ -79,9 +81,9 @@ RecoversForgetting keeps anew class programme transmission options a b =
     (IsHitOrLost options.page (on_air transmission g j f) (arrivals_of arrived got)))
     old new
 
--- At the end of each frame such receivers have the due page: after a header of it was sent and
--- their old contents are gone, each cell has its code, or a space that is excused as in
--- `RecoversForgetting`.
+-- At the end of each frame, receivers that may forget the page have the due page: after a header of
+-- the page was sent and their old contents are gone, each cell has the code of the due page, or a
+-- space that is excused as in `RecoversForgetting`.
 abbrev pub HoldsForgetting :
     Bool → Bool → ReceiverClass → ProgrammeValue → Transmission → OptionsValue → ℕ → ℕ → Type 0
 HoldsForgetting keeps anew class programme transmission options a b =
@@ -96,7 +98,7 @@ HoldsForgetting keeps anew class programme transmission options a b =
     new.page
 
 -- At the end of each frame at which each cell is right and the page has ended, the due page is on
--- the screens of such receivers.
+-- the screens of receivers that may forget the page.
 abbrev pub ShownForgetting :
     Bool → Bool → ReceiverClass → ProgrammeValue → Transmission → OptionsValue → ℕ → ℕ → Type 0
 ShownForgetting keeps anew class programme transmission options a b =
@@ -116,23 +118,23 @@ ShownForgetting keeps anew class programme transmission options a b =
 
 -- ---- promises
 
--- The frames from a to b are finished in time by the packets that are sent in them.
+-- The frames from a to b are finished in time by the packets that are sent in these frames.
 pub record FinishesInTimeBy
     (keeps : Bool) (programme : ProgrammeValue) (transmission : Transmission)
     (options : OptionsValue) (a b : ℕ)
     : Type 0 where
-  -- Among any `within` + 1 consecutive frames, at least one is finished.
+  -- Among any `within` + 1 consecutive frames, at least one frame is finished.
   pub again : FinishesAgainBy keeps programme transmission options a b
-  -- At least one frame is finished of each subtitle that begins in these frames and does not end
-  -- after them.
+  -- At least one frame is finished of each subtitle that begins in the frames from a to b and does
+  -- not end after them.
   pub subtitles :
       All
       (λ t. a ≤ t.tci
       → t.tco ≤ b + 1
       → SomeFinishedBy keeps programme transmission options t.tci (t.tco - 1))
       programme.records
-  -- If the transmission begins with these frames, so is one frame of a subtitle that had begun
-  -- before, if it does not end after them.
+  -- If the transmission begins with frame a, at least one frame is finished of each subtitle that
+  -- had begun before a and does not end after frame b.
   pub begun :
       a ≡ first_frame transmission
       → All
@@ -143,29 +145,30 @@ pub record FinishesInTimeBy
       programme.records
 
 -- The promises for the frames from a to b to receivers of both classes, whether repeats may keep
--- the page or not: to those that may forget the page at a header that does not erase it, and to
--- those that start again at each header.
+-- the page or not. The receivers may forget the page at a header that does not erase it, or start
+-- again at each header.
 pub record MayBeTrustedBy
     (keeps : Bool) (programme : ProgrammeValue) (transmission : Transmission)
     (options : OptionsValue) (a b : ℕ)
     : Type 0 where
-  -- They recover there: those with old text from the next header that erases it.
+  -- Receivers recover in these frames; receivers with old text recover from the next header that
+  -- erases the page.
   pub recovers :
       (anew : Bool) (class : ReceiverClass)
       → RecoversForgetting keeps anew class programme transmission options a b
-  -- If a page has ended, the due page is on their screens.
+  -- If a page has ended, the due page is on the receivers' screens.
   pub shown :
       (anew : Bool) (class : ReceiverClass)
       → ShownForgetting keeps anew class programme transmission options a b
   -- Each page becomes right in time.
   pub finishes : FinishesInTimeBy keeps programme transmission options a b
-  -- So if no frame may be late, they have the due page at the end of each frame.
+  -- If no frame may be late, receivers have the due page at the end of each frame.
   pub at_once :
       options.within ≡ 0
       → (anew : Bool) (class : ReceiverClass)
       → HoldsForgetting keeps anew class programme transmission options a b
 
--- The promises for a whole transmission: those for all its frames.
+-- The promises for a whole transmission: the promises of `MayBeTrustedBy` for all its frames.
 abbrev pub HasPromisesBy : Bool → ProgrammeValue → Transmission → OptionsValue → Type 0
 HasPromisesBy keeps programme transmission options =
     MayBeTrustedBy keeps programme transmission options (first_frame transmission)
@@ -180,8 +183,8 @@ pub record IsRepeatedStretch
     : Type 0 where
   pub first : first_frame transmission ≤ a
   pub rising : IsRising transmission
-  -- What is on air from frame a to the end of each frame transmits the text that remains of all
-  -- that was on air.
+  -- The packets on air from frame a to the end of each frame transmit the text that remains of all
+  -- packets that were on air.
   pub sends :
       (f : ℕ)
       → a ≤ f
@@ -198,8 +201,9 @@ pub record IsRepeatedStretch
       × (f < start + options.every)
       × HoldsHeader options.page transmission f
 
--- In the frames from a to b each packet may follow those sent before it, from the first of the
--- transmission, whatever these are, and a header of the page is repeated within the repeat bound.
+-- Each packet of the frames from a to b may follow the packets sent before it, from the first
+-- packet of the transmission, whatever these are, and a header of the page is repeated within the
+-- repeat bound.
 pub record IsFollowedStretch
     (keeps : Bool) (transmission : Transmission) (options : OptionsValue) (a b : ℕ)
     : Type 0 where
@@ -215,17 +219,17 @@ pub record IsFollowedStretch
       × (f < start + options.every)
       × HoldsHeader options.page transmission f
 
--- Such frames have what recovery needs. So recovery depends only on the packets of a stretch, one
--- after another.
+-- A stretch in which each packet may follow those before it has what recovery needs. So recovery
+-- depends only on the packets of a stretch, one after another.
 abbrev pub LawOfFollowedStretch : Type 0
 LawOfFollowedStretch =
     (keeps : Bool) (transmission : Transmission) (options : OptionsValue) (a b : ℕ)
     → IsFollowedStretch keeps transmission options a b
     → IsRepeatedStretch keeps transmission options a b
 
--- In such a stretch whose text is due, receivers of both classes recover, and the due page is on
--- their screens, also of those that start again at each header. If its frames are finished in time,
--- it may be trusted.
+-- In a stretch of repeats whose text is due, receivers of both classes recover, and the due page is
+-- on their screens, also for receivers that start again at each header. If the frames of the
+-- stretch are finished in time, the stretch may be trusted.
 abbrev pub LawOfRepeatedStretch : Type 0
 LawOfRepeatedStretch =
     (keeps : Bool) (programme : ProgrammeValue) (transmission : Transmission)
@@ -238,8 +242,8 @@ LawOfRepeatedStretch =
     × (FinishesInTimeBy keeps programme transmission options a b
     → MayBeTrustedBy keeps programme transmission options a b)
 
--- A good transmission meets these conditions in all its frames, whether repeats may keep the page
--- or not: receivers recover, and the due page is on their screens. If it is a transmission of a
+-- In all frames of a transmission that is good by the options, whether repeats may keep the page or
+-- not, receivers recover, and the due page is on their screens. If it is a transmission of a
 -- programme, it keeps all promises.
 abbrev pub LawOfGoodRepeats : Type 0
 LawOfGoodRepeats =
@@ -254,8 +258,8 @@ LawOfGoodRepeats =
     × (IsProgramme programme.drawing programme.records
     → HasPromisesBy keeps programme transmission options)
 
--- A transmission that is good with some `within` is good with a greater one, whether repeats may
--- keep the page or not.
+-- A transmission that is good with some `within` is good with any greater `within`, whether repeats
+-- may keep the page or not.
 abbrev pub LawOfLongerRepeats : Type 0
 LawOfLongerRepeats =
     (keeps : Bool) (programme : ProgrammeValue) (transmission : Transmission)
@@ -267,7 +271,7 @@ LawOfLongerRepeats =
 -- The schedule of a programme with at least one subtitle is good for any `within`, in both
 -- transmission modes, whether repeats may keep the page or not, unless the required maximum
 -- distance of PES packets is less than the repeat bound. So a checker with the same options accepts
--- it.
+-- the schedule.
 abbrev pub LawOfPlanRepeats : Type 0
 LawOfPlanRepeats =
     (keeps : Bool) (programme : ProgrammeValue) (options : OptionsValue) (serial : Bool)
@@ -277,10 +281,11 @@ LawOfPlanRepeats =
     → IfSome options.pace (λ frames. options.every ≤ frames)
     → GoodBy keeps programme (planned programme options serial) options
 
--- If a transmission keeps rules 1 to 6 and no bit is wrong, a receiver that keeps its page, and
--- started at the first packet, has the kept code in each cell at the end of each frame. This holds
--- if its page was blank and closed, and for every receiver after a header has erased the page. So
--- if the kept code is not the due one, the receiver shows that.
+-- If a transmission keeps rules 1 to 6 and no bit is wrong, a receiver that keeps its page at
+-- repeats, and started at the first packet, has the kept code in each cell at the end of each
+-- frame. This holds if the receiver's page was blank and closed, and for every receiver after a
+-- header has erased the page. So if the kept code is not the due code, the receiver shows a wrong
+-- code.
 abbrev pub LawOfKeptOnAir : Type 0
 LawOfKeptOnAir =
     (keeps : Bool) (programme : ProgrammeValue) (transmission : Transmission)

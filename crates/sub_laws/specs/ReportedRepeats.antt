@@ -8,16 +8,17 @@ use Rattle.sub_rules.specs.Transmission.{Transmission}
 use Rattle.sub_laws.specs.CleanStretch.{IsUnreported, NoneOpen, criteria_unsure}
 use Rattle.sub_laws.specs.Repeats.{FinishesInTimeBy, IsRepeatedStretch}
 
--- What suffices of the frames from a to b.
+-- The conditions that suffice for the promises in the frames from a to b.
 pub record IsSufficientRepeats
     (keeps : Bool) (programme : ProgrammeValue) (transmission : Transmission)
     (options : OptionsValue) (a b : ℕ)
     : Type 0 where
-  -- What recovery needs of them (`LawOfRepeatedStretch`).
+  -- The stretch has what recovery needs (`LawOfRepeatedStretch`).
   pub stretch : IsRepeatedStretch keeps transmission options a b
-  -- At the end of each frame the code of a cell is a space, or was due there within these frames.
+  -- At the end of each frame the code of a cell is a space, or was due in that cell within the last
+  -- `within` frames.
   pub codes : KeepsDueCodes keeps programme transmission options a b
-  -- If `within` is 0, each cell is right there.
+  -- If `within` is 0, each cell is right at the end of each frame.
   pub whole :
       options.within ≡ 0
       → (f : ℕ)
@@ -26,9 +27,9 @@ pub record IsSufficientRepeats
       → IsCorrectPage keeps programme options.page transmission f
 
 -- A stretch without reports that a receiver depends on is sufficient, whatever `within` is; and if
--- the page is open at no end of it, its frames are finished in time. So the reports of a refused
--- transmission show which rest may be trusted: from the first header in a stretch that begins the
--- text of the page, whatever a receiver contained before.
+-- the page is open at no end in the stretch, its frames are finished in time. So the reports of a
+-- refused transmission show which part may still be trusted: from the first header in a stretch
+-- that begins the text of the page, whatever a receiver contained before.
 abbrev pub LawOfUnreportedRepeats : Type 0
 LawOfUnreportedRepeats =
     (programme : ProgrammeValue) (transmission : Transmission) (options : OptionsValue)

@@ -1,5 +1,5 @@
--- The page that every receiver has of a transmission, wherever it starts and whatever bits are
--- wrong.
+-- The page that every receiver has of a transmission, wherever the receiver starts and whatever
+-- bits are wrong.
 use Rattle.std.specs.Prelude.{◌≡◌, ℕ, ◌+◌, ◌≤◌, ◌⊎◌, ◌||◌, List, length, IsTrue, IsFalse}
 use Rattle.std.specs.List.{AllZip}
 use Rattle.ttx_packet.specs.OneBit.{AreNear}
@@ -14,7 +14,8 @@ use Rattle.sub_rules.specs.Transmission.{Transmission, first_frame, last_frame, 
 use Rattle.sub_plan.specs.Schedule.{due_in}
 
 -- A receiver starts at packet j of frame g and stops at the end of frame f, within the frames from
--- a to b. If j is the number of packets of frame g, it starts after all of them.
+-- a to b. If j is the number of packets of frame g, the receiver starts after all packets of that
+-- frame.
 pub record IsListening (transmission : Transmission) (a b g j f : ℕ) : Type 0 where
   pub from : a ≤ g
   pub in_order : g ≤ f
@@ -29,28 +30,29 @@ HoldsDuePage programme f IsExcused page =
     → (cell page row column ≡ cell (due_in programme f) row column)
     ⊎ ((cell page row column ≡ space) × IsExcused row column)
 
--- The promise to a receiver that listened from frame g to the end of frame f: these packets were
--- sent, and its state went from `old` to `new`.
+-- The promise to a receiver that listened from frame g to the end of frame f. The packets `sent`
+-- were sent, and the receiver's state went from `old` to `new`.
 pub record IsServed
     (programme : ProgrammeValue) (options : OptionsValue) (g f : ℕ)
     (sent : List (List ℕ)) (IsExcused : ℕ → ℕ → Type 0) (old new : State)
     : Type 0 where
-  -- By the end of frame g + every a header of its page was sent.
+  -- By the end of frame g + every a header of the page was sent.
   pub in_time : g + options.every ≤ f → IsTrue (holds_header (kind options.page) sent)
-  -- It has received a header of its page exactly if it had before or one was sent.
+  -- The receiver has received a header of the page exactly if it had before or a header was sent.
   pub heard : new.heard ≡ (old.heard || holds_header (kind options.page) sent)
   -- After a header was sent, each cell has the code of the due page, or an excused space.
   pub cells :
       IsTrue (holds_header (kind options.page) sent)
       → HoldsDuePage programme f IsExcused new.page
-  -- Then the page is open exactly if no page header after its last header ended it.
+  -- After a header was sent, the page of the receiver is open exactly if no page header after the
+  -- last header of the page ended it.
   pub is_open :
       IsTrue (holds_header (kind options.page) sent)
       → new.is_open ≡ is_unended (kind options.page) sent
 
 -- A robust transmission: wherever a receiver starts and stops, whatever it receives with at most
 -- one wrong bit in each byte, whatever old page it contains before its first header, and whatever
--- it chooses, it gets the promise, and a space is excused only if its byte was hit.
+-- it chooses, the promise `IsServed` holds, and a space is excused only if its byte was hit.
 abbrev pub Robust : ProgrammeValue → Transmission → OptionsValue → Type 0
 Robust programme transmission options =
     (g j f : ℕ) (got : List (List ℕ)) (old new : State)

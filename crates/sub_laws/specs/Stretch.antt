@@ -14,9 +14,9 @@ use Rattle.sub_rules.specs.Transmission.{Transmission, first_frame, last_frame}
 pub record MayBeTrusted
     (programme : ProgrammeValue) (transmission : Transmission) (options : OptionsValue) (a b : ℕ)
     : Type 0 where
-  -- They recover there.
+  -- Receivers recover in the frames from a to b.
   pub recovers : (class : ReceiverClass) → RecoversWithin class programme transmission options a b
-  -- If the pages of the stretch are complete, the due page is on their screens.
+  -- If the pages of the stretch are complete, the due page is on the receivers' screens.
   pub shown :
       CompleteWithin transmission options a b
       → (class : ReceiverClass)
@@ -26,18 +26,18 @@ pub record MayBeTrusted
 pub record HasPromises
     (programme : ProgrammeValue) (transmission : Transmission) (options : OptionsValue)
     : Type 0 where
-  -- The headline.
+  -- The headline: the transmission is robust.
   pub robust : Robust programme transmission options
-  -- The same with lost rows.
+  -- The transmission is robust to lost rows, too.
   pub to_loss : RobustToAnyLoss programme transmission options
   -- In all frames receivers recover whatever they contained before; if pages are complete, the due
-  -- page is on their screens.
+  -- page is on the receivers' screens.
   pub trusted :
       MayBeTrusted programme transmission options (first_frame transmission)
       (last_frame transmission)
 
--- The headline, with lost rows or without, follows from recovery in all frames alone. So a proof of
--- recovery in a stretch is one of the headline there.
+-- The headline, with lost rows or without, follows from recovery in all frames alone. So a proof
+-- that receivers recover in a stretch proves the headline for the stretch.
 abbrev pub LawOfWholeRecovery : Type 0
 LawOfWholeRecovery =
     (programme : ProgrammeValue) (transmission : Transmission) (options : OptionsValue)
@@ -46,7 +46,7 @@ LawOfWholeRecovery =
     → Robust programme transmission options
     × RobustToAnyLoss programme transmission options
 
--- All promises follow if all frames may be trusted.
+-- If all frames of a transmission may be trusted, the transmission keeps all promises.
 abbrev pub LawOfWholeStretch : Type 0
 LawOfWholeStretch =
     (programme : ProgrammeValue) (transmission : Transmission) (options : OptionsValue)

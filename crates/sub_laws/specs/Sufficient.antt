@@ -1,5 +1,5 @@
--- The parts of the seven rules that suffice for the headline, in a stretch of frames or in all. The
--- other parts have purposes of their own.
+-- The parts of the seven rules that suffice for the headline, in a stretch of frames or in all
+-- frames. The other parts of the rules have purposes of their own.
 use Rattle.std.specs.Prelude.{◌≡◌, ℕ, ◌+◌, ◌<◌, ◌≤◌}
 use Rattle.ttx_page.specs.Noise.{IsSound}
 use Rattle.ttx_page.specs.Page.{cell, IsCell}
@@ -18,9 +18,9 @@ pub record IsSoundStretch (transmission : Transmission) (options : OptionsValue)
   where
     pub first : first_frame transmission ≤ a
     pub rising : IsRising transmission
-    -- What is on air from frame a to the end of each frame is sound: the address bytes, and the
-    -- coded bytes of each packet X/0, are code words without a wrong bit; each header of the page
-    -- has C4, erase page, set; the rows since its last header have odd parity and are repeated
+    -- The packets on air from frame a to the end of each frame are sound: the address bytes, and
+    -- the coded bytes of each packet X/0, are code words without a wrong bit; each header of the
+    -- page has C4, erase page, set; the rows since its last header have odd parity and are repeated
     -- unchanged.
     pub sound : (f : ℕ) → a ≤ f → f ≤ b → IsSound options.page (on_air transmission a 0 f)
     -- A header of the page is repeated within the repeat bound.
@@ -47,15 +47,15 @@ pub record IsSufficient
       → shown options.page (on_air_until transmission f) row column
       ≡ cell (due_in programme f) row column
 
--- A stretch with these parts may be trusted, whatever was on air before it.
+-- A stretch with the sufficient parts of the rules may be trusted, whatever was on air before.
 abbrev pub LawOfStretch : Type 0
 LawOfStretch =
     (programme : ProgrammeValue) (transmission : Transmission) (options : OptionsValue) (a b : ℕ)
     → IsSufficient programme transmission options a b
     → MayBeTrusted programme transmission options a b
 
--- A good transmission has these parts in all its frames. So the headline holds without the other
--- parts of the rules, and all promises follow from these.
+-- A good transmission has the sufficient parts of the rules in all its frames. So the headline
+-- holds without the other parts of the rules.
 abbrev pub LawOfSufficientParts : Type 0
 LawOfSufficientParts =
     (programme : ProgrammeValue) (transmission : Transmission) (options : OptionsValue)

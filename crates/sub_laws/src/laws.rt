@@ -1,6 +1,6 @@
-//! A good transmission is robust, and further laws about its rules.
+//! The laws of transmissions: a good transmission is robust, and further laws about the rules.
 //!
-//! The functions do nothing: the contract of each is a law about the definitions of `specs/`.
+//! The functions have no body: the contract of each is a law about the definitions of `specs/`.
 ghost use Rattle.sub_laws.specs.AtOnce.{LawOfNoDelay, LawOfTrustWithoutDelay};
 ghost use Rattle.sub_laws.specs.BrokenPlaces.{LawOfBrokenPlaces, LawOfNothingReported};
 ghost use Rattle.sub_laws.specs.BrokenPlaces.{LawOfNothingReportedRepeats};
@@ -35,8 +35,8 @@ pub fn law_of_window()
 /// wrong bit in each byte, each cell has the code of the due page or, if its byte was hit, a space.
 /// The same holds if packets other than page headers are lost, where a cell of a lost row counts as
 /// hit; whatever a receiver contained before; for receivers that drop rows, if a byte of the cell's
-/// row was hit; and for the screens of those that show a page only after a later header has ended
-/// it, if pages are complete.
+/// row was hit; and for the screens of receivers that show a page only after a later header has
+/// ended it, if pages are complete.
 pub fn law_of_good()
     ensures { LawOfGood }
 {}
@@ -49,41 +49,44 @@ pub fn law_of_sufficient_parts()
     ensures { LawOfSufficientParts }
 {}
 
-/// If a stretch of frames has these parts, that suffices there, whatever was on air before: every
-/// receiver that starts in it recovers, and if pages are complete in it, the due page is on its
-/// screen.
+/// If a stretch of frames has the sufficient parts of the rules, every receiver that starts in the
+/// stretch recovers, whatever was on air before; and if pages are complete in the stretch, the due
+/// page is on the receiver's screen.
 #[tactic(auto, using(crate::proofs::StretchLemmas::law_of_stretch))]
 pub fn law_of_stretch()
     ensures { LawOfStretch }
 {}
 
 /// If `within` is 0 and no repeat may keep the page, a transmission is good by the options exactly
-/// if it is good, with complete pages if these are required.
+/// if it is good and, if complete pages are required, its pages are complete.
 pub fn law_of_no_delay()
     ensures { LawOfNoDelay }
 {}
 
-/// If a stretch may be trusted by the options then, it may be trusted.
+/// If `within` is 0 and no repeat may keep the page, a stretch that may be trusted by the options
+/// may be trusted.
 #[tactic(auto, using(crate::proofs::DelayLemmas::law_of_trust_without_delay))]
 pub fn law_of_trust_without_delay()
     ensures { LawOfTrustWithoutDelay }
 {}
 
-/// Bytes that carry a good transmission with some `within` carry it with a greater one, with which
-/// it is good, too, whether repeats may keep the page or not.
+/// If the bytes of a PES file carry a good transmission with some `within`, they carry it with any
+/// greater `within`, and it is good with that `within`, too. This holds whether repeats may keep
+/// the page or not.
 pub fn law_of_longer_delay_of_files()
     ensures { LawOfLongerDelayOfFiles }
 {}
 
-/// A stretch without reports that a receiver depends on is sufficient, whatever else is reported,
-/// there or elsewhere, also if repeats may keep the page; and if the page is open at no end of it,
-/// its frames are finished in time.
+/// A stretch without reports that a receiver depends on is sufficient, whatever else is reported in
+/// the stretch or elsewhere, also if repeats may keep the page. If the page is open at no end in
+/// the stretch, its frames are finished in time.
 pub fn law_of_unreported_repeats()
     ensures { LawOfUnreportedRepeats }
 {}
 
-/// If none may keep it, the stretch has the sufficient parts of the rules; and if the page is open
-/// at no end of the stretch, its pages are complete.
+/// If repeats may not keep the page, a stretch without reports that a receiver depends on has the
+/// sufficient parts of the rules. If the page is open at no end in the stretch, its pages are
+/// complete.
 pub fn law_of_unreported_stretch()
     ensures { LawOfUnreportedStretch }
 {}
@@ -93,83 +96,83 @@ pub fn law_of_whole_recovery()
     ensures { LawOfWholeRecovery }
 {}
 
-/// If all frames of a transmission may be trusted, it keeps all promises.
+/// If all frames of a transmission may be trusted, the transmission keeps all promises.
 #[tactic(auto, using(crate::proofs::StretchLemmas::law_of_whole_stretch))]
 pub fn law_of_whole_stretch()
     ensures { LawOfWholeStretch }
 {}
 
-/// Robust to lost rows, if no packet is lost, is robust.
+/// A transmission that is robust to lost rows, for the case that no packet is lost, is robust.
 pub fn law_of_all_kept()
     ensures { LawOfAllKept }
 {}
 
-/// The schedule of a programme with at least one subtitle is a good transmission of it, in both
-/// transmission modes and for both national options.
+/// The schedule of a programme with at least one subtitle is a good transmission of the programme,
+/// in both transmission modes and for both national options.
 pub fn law_of_plan()
     ensures { LawOfPlan }
 {}
 
-/// It has complete pages, in both transmission modes.
+/// The schedule of a programme with at least one subtitle has complete pages, in both transmission
+/// modes.
 #[tactic(auto, using(crate::proofs::PlanLemmas::law_of_complete_plan))]
 pub fn law_of_complete_plan()
     ensures { LawOfCompletePlan }
 {}
 
-/// The bytes of a schedule are read to their end as that transmission, frame by frame.
+/// The bytes of a schedule are read to their end as the scheduled transmission, frame by frame.
 #[tactic(auto, using(crate::proofs::PlanLemmas::law_of_plan_read))]
 pub fn law_of_plan_read()
     ensures { LawOfPlanRead }
 {}
 
 /// If `within` is 0, the transmissions that bytes carry by the clock of the options are those that
-/// they carry by the PTS of each frame. So what holds by the clock holds for these, too.
+/// the bytes carry by the PTS of each frame. So a law about one kind holds for the other.
 pub fn law_of_exact_frames()
     ensures { LawOfExactFrames }
 {}
 
-/// Each broken place of a transmission is reported, in the order of the list, and no other. So the
-/// first fault is the first broken place.
+/// Each broken place of a transmission is reported, in the order of the list, and nothing else is.
+/// So the first fault is the first broken place.
 pub fn law_of_broken_places()
     ensures { LawOfBrokenPlaces }
 {}
 
-/// Whether reading a PES file stops at its first skipped PES packet or goes on, the first fault is
-/// the same.
+/// The first fault is the same whether reading a PES file stops at the first skipped PES packet or
+/// goes on.
 #[tactic(auto, using(sub_rules::proofs::PesPacketEventLemmas::first_reported_is))]
 pub fn law_of_first_reported()
     ensures { LawOfFirstReported }
 {}
 
-/// There is no event for the PES packets of a file exactly if none of them is skipped, their frames
-/// are good by the options, whether repeats may keep the page or not, and the file was read to its
-/// end.
+/// A PES file has no event exactly if none of its PES packets is skipped, their frames are good by
+/// the options, whether repeats may keep the page or not, and the file was read to its end.
 #[tactic(auto, using(crate::proofs::NothingReportedLemmas::law_of_nothing_reported_repeats))]
 pub fn law_of_nothing_reported_repeats()
     ensures { LawOfNothingReportedRepeats }
 {}
 
-/// If none may keep it and `within` is 0, that means a good transmission, with complete pages if
-/// these are required.
+/// If repeats may not keep the page and `within` is 0, a PES file has no event exactly if it
+/// carries a good transmission, with complete pages if these are required.
 #[tactic(auto, using(crate::proofs::NothingReportedLemmas::law_of_nothing_reported))]
 pub fn law_of_nothing_reported()
     ensures { LawOfNothingReported }
 {}
 
-/// If repeats may keep the page, whatever receivers do at a header that does not erase it: in a
-/// stretch whose repeats send the same as before, receivers recover that start again at each header
-/// or whose page was blank when they were tuned in, and all others from the next header that erases
-/// the page; and the due page is on their screens. If the frames of the stretch are finished in
-/// time it may be trusted; if no frame may be late, receivers have the due page at the end of each.
+/// If repeats may keep the page, a stretch whose repeats send the same text as before serves every
+/// receiver, whatever the receiver does at a header that does not erase the page. Receivers recover
+/// from any header if they start again at each header or if their page was blank when they were
+/// tuned in, and otherwise from the next header that erases the page; and the due page is on their
+/// screens. If the frames of the stretch are finished in time, the stretch may be trusted; if no
+/// frame may be late, receivers have the due page at the end of each frame.
 pub fn law_of_repeated_stretch()
     ensures { LawOfRepeatedStretch }
 {}
 
-/// A transmission that is good by the options, whether repeats may keep the page or not, is such a
-/// stretch in all its frames, so it keeps its promises: after a receiver's old contents are gone,
-/// it has only spaces, and codes that are due or were at most `within` frames ago; and at the end
-/// of at least one of any `within` + 1 frames, and of one frame of each subtitle, it has the due
-/// page.
+/// A transmission that is good by the options, whether repeats may keep the page or not, keeps its
+/// promises. After a receiver's old contents are gone, its page has only spaces, and codes that are
+/// due or were due at most `within` frames ago. At the end of at least one of any `within` + 1
+/// frames, and of one frame of each subtitle, the receiver has the due page.
 pub fn law_of_good_repeats()
     ensures { LawOfGoodRepeats }
 {}
@@ -179,24 +182,25 @@ pub fn law_of_right_cells()
     ensures { LawOfRightCells }
 {}
 
-/// And rules 1 to 6 are those of a good transmission then.
+/// If repeats may not keep the page, rules 1 to 6 are those of a good transmission.
 pub fn law_of_no_repeats()
     ensures { LawOfNoRepeats }
 {}
 
-/// A transmission that is good if repeats may not keep the page is good if they may.
+/// A transmission that is good if repeats may not keep the page is also good if repeats may keep
+/// it.
 pub fn law_of_may_keep()
     ensures { LawOfMayKeep }
 {}
 
-/// A transmission that is good if they may, and in which no header keeps the page, is good if they
-/// may not. So all promises of a good transmission hold for it.
+/// A transmission that is good if repeats may keep the page, but in which no header keeps it, is
+/// good if repeats may not keep the page. So all promises of a good transmission hold for it.
 pub fn law_of_none_keeps()
     ensures { LawOfNoneKeeps }
 {}
 
-/// A transmission that is good with some `within` is good with a greater one, whether repeats may
-/// keep the page or not.
+/// A transmission that is good with some `within` is good with any greater `within`, whether
+/// repeats may keep the page or not.
 pub fn law_of_longer_repeats()
     ensures { LawOfLongerRepeats }
 {}
@@ -207,25 +211,26 @@ pub fn law_of_plan_repeats()
     ensures { LawOfPlanRepeats }
 {}
 
-/// A stretch in which each packet may follow those sent before it, whatever these are, has what
-/// recovery needs, also if repeats may keep the page.
+/// A stretch in which each packet may follow the packets sent before it, whatever these are, has
+/// what recovery needs, also if repeats may keep the page.
 pub fn law_of_followed_stretch()
     ensures { LawOfFollowedStretch }
 {}
 
-/// If no bit is wrong, a receiver that keeps its page has the kept codes at the end of each frame.
+/// If no bit is wrong, a receiver that keeps its page at repeats has the kept codes at the end of
+/// each frame.
 pub fn law_of_kept_on_air()
     ensures { LawOfKeptOnAir }
 {}
 
-/// If text ends or changes, a header that erases the page is sent then, or at most `within` frames
-/// later. So old text is gone there at the latest, whatever a receiver contained before.
+/// If text ends or changes at a frame, a header that erases the page is sent in that frame, or at
+/// most `within` frames later. So old text is gone by then, whatever a receiver contained before.
 pub fn law_of_old_text()
     ensures { LawOfOldText }
 {}
 
-/// A part of a subtitle file is judged like the file from which the blocks of all other subtitles
-/// were removed.
+/// Checking against a part of a subtitle file gives the same results as checking against the file
+/// without the blocks of all other subtitles.
 pub fn law_of_judged_parts()
     ensures { LawOfJudgedParts }
 {

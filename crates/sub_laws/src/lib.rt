@@ -1,12 +1,12 @@
-//! The laws of transmissions: the headline, that a good transmission is robust, and how rules,
-//! broken places and reports are related.
+//! The laws of transmissions: a good transmission is robust (the headline), and how rules, broken
+//! places and reports are related.
 //!
-//! `sub_rules` defines the rules, and `ttx_page` receivers and noise. This crate contains no
-//! program: `specs/` defines what every receiver makes of a transmission, `Robust` and the like,
-//! and each function is a law.
+//! `sub_rules` defines the rules, and `ttx_page` defines receivers and noise. This crate contains
+//! no program: `specs/` defines what every receiver makes of a transmission, such as `Robust`, and
+//! each function is a law.
 //!
 //! ```text
-//! law_of_good: Good programme transmission options → HasPromises programme transmission options
+//!  law_of_good: Good programme transmission options → HasPromises programme transmission options
 //! ```
 #![tactic(auto)]
 

@@ -1,4 +1,3 @@
--- The law: StretchLemmas.
 use Rattle.sub_laws.proofs.StretchLemmas.{law_of_all_kept}
 use Rattle.sub_laws.proofs.laws.law_of_all_kept.Goals as goal
 

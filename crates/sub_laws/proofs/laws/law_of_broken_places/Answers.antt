@@ -1,4 +1,3 @@
--- The law: EventLemmas.
 use Rattle.sub_laws.proofs.NothingReportedLemmas.{law_of_broken_places}
 use Rattle.sub_laws.proofs.laws.law_of_broken_places.Goals as goal
 

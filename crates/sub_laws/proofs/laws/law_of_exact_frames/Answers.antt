@@ -1,4 +1,3 @@
--- The law: PesFileLemmas.
 use Rattle.sub_laws.proofs.PesFileLemmas.{law_of_exact_frames}
 use Rattle.sub_laws.proofs.laws.law_of_exact_frames.Goals as goal
 

@@ -1,4 +1,3 @@
--- The law: RobustLemmas.
 use Rattle.sub_laws.proofs.RobustLemmas.{law_of_good}
 use Rattle.sub_laws.proofs.laws.law_of_good.Goals as goal
 

@@ -1,4 +1,3 @@
--- The law: GoodByLemmas.
 use Rattle.sub_laws.proofs.GoodByLemmas.{law_of_no_delay}
 use Rattle.sub_laws.proofs.laws.law_of_no_delay.Goals as goal
 

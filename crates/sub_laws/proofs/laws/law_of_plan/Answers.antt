@@ -1,4 +1,3 @@
--- The law: PlanLemmas.
 use Rattle.sub_laws.proofs.PlanLemmas.{law_of_plan}
 use Rattle.sub_laws.proofs.laws.law_of_plan.Goals as goal
 

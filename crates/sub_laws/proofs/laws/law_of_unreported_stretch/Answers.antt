@@ -1,4 +1,3 @@
--- The law: NoneKeepsLemmas.
 use Rattle.sub_laws.proofs.NoneKeepsLemmas.{law_of_unreported_stretch}
 use Rattle.sub_laws.proofs.laws.law_of_unreported_stretch.Goals as goal
 
