@@ -16,8 +16,6 @@ use Rattle.stl_file.proofs.TimeCodeLemmas.{time_in_range}
 use Rattle.stl_file.proofs.SubtitleLemmas.{before_clean, clean_take, clean_drop}
 use Rattle.stl_file.proofs.SubtitleBlocksLemmas.{linked_cons, linked_text, blocks_subtitle}
 
--- ---- one block
-
 -- A TTI block is its first 16 bytes, a part of the subtitle's text, and unused space up to the end.
 pub block_parts : (s : SubtitleValue) (e : ℕ) (piece : List ℕ)
     → block_of s e piece
@@ -45,8 +43,6 @@ block_begins : (s : SubtitleValue) (e : ℕ) (piece : List ℕ)
     → Begins s (block_of s e piece)
 unfolding block_of is_time frame_in
 block_begins s e piece h = grind (arith, nat_tests, time_in_range)
-
--- ---- the blocks of a subtitle as they are written
 
 -- The number of full text fields of a long text is one more than that of the text without its first
 -- 112 bytes.
@@ -76,8 +72,6 @@ blocks_count s zero ebn text = refl
 blocks_count s (suc full) ebn text = ap suc (blocks_count s full (ebn + 1) (drop 112 text))
 
 pub ruleset spelled = (append_assoc, length-drop, joined_more, joined_end, blocks_count)
-
--- ---- the written blocks belong to the subtitle
 
 blocks_linked : (s : SubtitleValue) (full e : ℕ) (text : List ℕ)
     → length text ≤ 112 * suc full

@@ -106,8 +106,6 @@ pub findings_for-refused : (scope : Scope) (s : List ℕ) (fault : StlFault)
 unfolding findings_for
 findings_for-refused scope s fault e = grind (arith, nat_tests)
 
--- ---- the first bytes
-
 -- The first 12,799,873 bytes after the GSI block determine the results: one byte more than 99,999
 -- blocks.
 opened-first : (scope : Scope) (r : Result (List ℕ) StlFault) (b : List ℕ)

@@ -14,8 +14,6 @@ use Rattle.stl_file.specs.Reading.{Begun, BlockStep, Findings, breaks, findings_
 use Rattle.stl_file.specs.Reading.{finds, no_more, refuses, step_at}
 use Rattle.stl_file.specs.declared.scope.Scope.{Scope}
 
--- ---- the function by cases
-
 abbrev pub findings_nil : ℕ → Option Begun → Findings
 findings_nil room None = no_more
 findings_nil room (Some begun) = breaks fault.Unfinished (most_blocks - room)
@@ -58,8 +56,6 @@ module _ (scope : Scope) where
       rw (e, findings_step next begun (b ++ rest) (omega (arith, length-append b rest)))
       (rw (take_at b rest 128 size, drop_at b rest 128 size) refl)
 
--- ---- the bytes that determine the results
-
 -- The results depend only on the bytes of `room` blocks and one byte more, since reading stops at
 -- the byte after the last permitted block.
 pub findings_at-first : (scope : Scope) (room : ℕ) (begun : Option Begun) (b : List ℕ)
@@ -78,8 +74,6 @@ findings_at-first scope (suc room) begun b = elim (cases_lt (length b) 128) [
       ) (rw (take-take 128 (128 + k) b (omega arith), drop-take 128 k b)
       (simp (findings_at-first scope room)))
 ]
-
--- ---- the blocks in the results
 
 finds-before : (block : ℕ) (o : Findings) → FindsFrom (block + 1) o → FindsFrom block o
 finds-before block no_more h = tt

@@ -53,8 +53,6 @@ pub gsi_complete : (takes_open : Bool) (g : List ℕ)
 unfolding gsi_at
 gsi_complete takes_open g h = grind (arith, nat_tests, bytes_eq-Decides)
 
--- ---- the counts
-
 pub counts_put : (xs ys : List ℕ)
     → length ys ≡ 10
     → 248 ≤ length xs

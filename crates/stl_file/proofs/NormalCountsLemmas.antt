@@ -20,8 +20,6 @@ use Rattle.stl_file.specs.NormalCounts.{given, judged_on, normal_counts}
 use Rattle.stl_file.proofs.SubtitleBlocksLemmas.{kept_few}
 use Rattle.stl_file.proofs.BlocksOfLemmas.{blocks_again, blocks_count}
 
--- ---- one subtitle
-
 pub no_failure : (b : Bool) → 0 ≡ 0 + cond b 1 0 → b ≡ false
 no_failure b e = grind (arith, nat_tests)
 
@@ -39,8 +37,6 @@ pub took : (from to : ℕ) (old new : Option (List ℕ)) (s : SubtitleValue)
 took from to old new s t =
     omega (arith, t.counted, kept_few t.blocks, (blocks_again s _ t.are_of).1)
 
--- ---- the first pass
-
 -- Adds the counts of the remaining subtitles to the counts so far.
 abbrev pub counted_on : Counts → Result Counts NormalFault → Result Counts NormalFault
 counted_on c (Ok d) = Ok (record { tnb = c.tnb + d.tnb; tns = c.tns + d.tns })
@@ -56,8 +52,6 @@ pub counted_cons : (c : Counts) (s : SubtitleValue) (j : Judged)
 counted_cons c s j = grind (arith, length-append)
 
 pub ruleset judging = (counted_none, counted_cons, blocks_count)
-
--- ---- the second pass
 
 pub ok_cons : (s : SubtitleValue) (j : Judged) → is_ok (cons_all s j) ≡ true → is_ok j ≡ true
 ok_cons s j e = grind arith

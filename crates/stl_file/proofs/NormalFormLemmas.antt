@@ -31,8 +31,6 @@ use Rattle.stl_file.proofs.RestLemmas.{groups_of}
 use Rattle.stl_file.proofs.ScopeLemmas.{all_inside, none_outside}
 use Rattle.stl_file.proofs.BlocksOfLemmas.{blocks_again}
 
--- ---- blocks of subtitles
-
 -- The blocks of one subtitle have 128 bytes each, and none of the blocks is a comment or user data.
 linked_kept : (sgn_is sn_is : ℕ) (g : List (List ℕ))
     → AreLinked sgn_is sn_is g
@@ -90,8 +88,6 @@ own_rest bs ts r =
       are_of = own.are_of;
     }
 
--- ---- the laws
-
 -- The normal form of a file is a file with the same subtitles.
 pub normal_is_file : (s g : List ℕ) (ts : List SubtitleValue)
     → IsFile s g ts
@@ -106,8 +102,6 @@ pub normal_twice : (s g h : List ℕ) (ts us : List SubtitleValue)
 normal_twice s g h ts us a b =
     let o = one_file (normal_form g ts) h (counted_gsi g ts) us ts b (normal_is_file s g ts a) in
     grind (arith, nat_tests, counts_twice)
-
--- ---- the results of `normal`
 
 keeps_same : (o : Option (List ℕ)) → Keeps o o
 keeps_same o = grind (arith, nat_tests)

@@ -26,8 +26,6 @@ use Rattle.stl_file.proofs.StepLemmas.{step_gives}
 use Rattle.stl_file.proofs.FindingsLemmas.{findings_block, findings_full, findings_short}
 use Rattle.stl_file.proofs.FindingsLemmas.{finds_from}
 
--- ---- the bytes read so far
-
 -- The bytes read in the current call, after `from` blocks, are complete blocks up to number
 -- `block`, and the results of these bytes followed by any further bytes are known.
 pub record HasRead
@@ -58,8 +56,6 @@ fails_reading scope from block refused old mid new begun bytes h few lt c = reco
       rw (append_assoc h.bytes bytes more, h.goes (bytes ++ more))
       (finds_from scope (most_blocks - block) block begun (bytes ++ more) (omega arith));
 }
-
--- ---- one iteration of the loop: the next bytes
 
 module _ {scope : Scope} {from : ℕ} {refused : Option Begun} {old mid new : Option (List ℕ)}
     {n block : ℕ} {begun : Option Begun} {buffer : List ℕ}

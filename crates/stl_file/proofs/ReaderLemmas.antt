@@ -36,8 +36,6 @@ left-then (Some all) (Some more) rest l is =
     let same : rest ≡ l.bytes ++ more = let whole = l.consumed in cc in
     (more, refl, rw same (l.findings more l.ended))
 
--- ---- results of a reader that stops at the first fault
-
 -- A reader that stops at the first fault reports nothing after a fault, even if reading could
 -- continue.
 by_fault : (to : ℕ) (next : Option Begun) (more : List ℕ) (s : SubtitleValue) (f : StlFault)

@@ -18,8 +18,6 @@ use Rattle.stl_file.specs.Reading.{Begun, BlockStep, More, Yield, step_at, close
 use Rattle.stl_file.specs.Reading.{kept_at}
 use Rattle.stl_file.specs.Reading.{required_of_first, begun_skipped}
 
--- ---- a first block
-
 -- If a list of checks yields a value, all checks passed.
 pub requested-right : {X : Type 0} (qs : Questions) (answer : Result X StlFault) (x : X)
     → requested qs answer ≡ Ok x
@@ -74,8 +72,6 @@ pub further_kept : (scope : Scope) (o : Begun) (b : List ℕ)
     → kept_at scope (Some o) b ≡ Ok (closed (ebn b) (longer o b))
 unfolding kept_at
 further_kept scope o b belongs few = grind (arith, nat_tests)
-
--- ---- incomplete subtitles
 
 abbrev pub Within : ℕ → ℕ → List ℕ → Type 0
 Within sgn_is sn_is b = BelongsTo sgn_is sn_is b × (ebn b < 240)

@@ -13,8 +13,6 @@ use Rattle.stl_file.specs.Subtitle.{SubtitleValue, IsSubtitle}
 use Rattle.stl_file.proofs.TimeCodeLemmas.{in_day}
 use Rattle.stl_file.proofs.SubtitleLemmas.{text_short, has_no_unused-texts}
 
--- ---- lists of blocks
-
 pub length-concat : (bs : List (List ℕ))
     → AllByRecursion IsBlock bs
     → length (concat bs) ≡ 128 * length bs
@@ -23,8 +21,6 @@ length-concat (x ∷ bs) h = grind (arith, nat_tests, length-append, length-conc
 
 pub kept_few : (bs : List (List ℕ)) → length (filter is_kept bs) ≤ length bs
 kept_few bs = omega (arith, length-filter is_kept bs, count_by-le-length is_kept bs)
-
--- ---- linked blocks
 
 pub first_linked : (sgn_is sn_is : ℕ) (b : List ℕ) (bs : List (List ℕ))
     → AreLinked sgn_is sn_is (b ∷ bs)

@@ -29,8 +29,6 @@ pub day_law : LawOfWholeDay
 unfolding begins_outside
 day_law scope b = grind (arith, nat_tests, in_day (tci b))
 
--- ---- the two readings: the file, and the file without the removed blocks
-
 -- The current subtitles of the two readings agree: both are none; both are equal; or the file has a
 -- skipped subtitle, whose blocks were removed from the other file.
 abbrev HaveBegun : Option Bool → Option Begun → Option Begun → Type 0
@@ -54,8 +52,6 @@ same_after room room' next next' b (Ok (More n)) within more give skipped on rea
     on n n (more n refl) read
 same_after room room' next next' b (Ok (Yield s)) within more give skipped on read =
     let rest = on None None (give s refl) read in grind (arith, nat_tests)
-
--- ---- one block
 
 -- If reading continues after a block that is not skipped, the block has CF 0 and the EBN of a
 -- subtitle's block.
@@ -136,8 +132,6 @@ fault_of_further : (scope : Scope) (o : Begun) (b : List ℕ) (f : StlFault)
     → is_of_first f ≡ false
 unfolding kept_at
 fault_of_further scope o b f e = grind (arith, nat_tests)
-
--- ---- the remaining blocks
 
 -- A block that is not removed is still the first block after the removal.
 stays_is : (scope : Scope) (within : Option Bool) (b : List ℕ) (bs : List (List ℕ))
@@ -334,8 +328,6 @@ same_cut scope (b ∷ bs) within full cut (suc room) room' each begun le read =
           (λ full' cut' more h few.
           same_cut scope bs (within_after scope within b) full' cut' room more each.1 h few) now
     ])
-
--- ---- the whole file
 
 module _ (g : List ℕ) (size : length g ≡ 1024) where
   after_gsi : (scope : Scope) (rest : List ℕ)

@@ -15,7 +15,7 @@ use Rattle.stl_file.specs.Reading.{Outcome, ends, fails, gives}
 use Rattle.stl_file.specs.Reader.{outcome_of}
 use Rattle.stl_file.specs.File.{IsFile}
 
--- ---- a subtitle's blocks
+-- ---- the blocks of one subtitle in the normal form
 
 -- The first 16 bytes of a block of the subtitle s: SGN, SN with its low byte first, EBN, CS, TCI,
 -- TCO, VP, JC and CF.
@@ -47,7 +47,7 @@ full_pieces text = (length text - 1) / 112
 abbrev pub blocks_of : SubtitleValue → List (List ℕ)
 blocks_of s = blocks_from s (full_pieces s.text) 0x00 s.text
 
--- ---- the whole file
+-- ---- the normal form of a whole file
 
 -- The blocks of all subtitles in the list.
 abbrev pub all_blocks : List SubtitleValue → List (List ℕ)
@@ -61,7 +61,7 @@ counted_gsi g ts = with_counts (length (all_blocks ts)) (length ts) g
 abbrev pub normal_form : List ℕ → List SubtitleValue → List ℕ
 normal_form g ts = counted_gsi g ts ++ concat (all_blocks ts)
 
--- ---- the subtitles as one list
+-- ---- the subtitles of a file as one list
 
 -- The result of reading a file: all its subtitles, or its first fault with the number of the block.
 abbrev pub Judged : Type 0

@@ -38,7 +38,7 @@ yielded_subtitle (Ok true) s = Ok (Some s)
 yielded_subtitle (Ok false) s = Ok None
 yielded_subtitle (Err f) s = Err f
 
--- ---- remaining results
+-- ---- the results of all later calls of a reader
 
 -- The results for the bytes b after `block` TTI blocks, if the next block begins a subtitle.
 abbrev pub outcome_from : ℕ → List ℕ → Outcome
@@ -71,7 +71,7 @@ pub record GivesNextSubtitle
   pub rest_is : now ≡ Some rest
   pub outcome : outcome_left old bytes ≡ outcome_with new rest result
 
--- ---- the same within one call
+-- ---- the results within one call of a reader
 
 -- The block to report for a fault after `block` blocks. `TooManyBlocks` and `Read` are reported for
 -- the block after the last block that was read.
@@ -90,7 +90,7 @@ abbrev pub LastIsKept : List ℕ → Type 0
 LastIsKept bytes =
     (prefix last : List ℕ) → bytes ≡ prefix ++ last → IsBlock last → is_kept last ≡ true
 
--- ---- bytes consumed by a call
+-- ---- the bytes that a call of a reader consumes
 
 -- The list of blocks has a last block, and the last block is neither user data nor a comment.
 abbrev pub EndsKept : List (List ℕ) → Type 0
@@ -211,7 +211,7 @@ pub record RefusesOpeningFor (scope : Scope) (old new : Option (List ℕ)) (f : 
 abbrev pub RefusesOpening : Option (List ℕ) → Option (List ℕ) → StlFault → Type 0
 RefusesOpening old new f = RefusesOpeningFor whole old new f
 
--- ---- a whole file
+-- ---- reading a whole subtitle file
 
 -- The results of reading a whole file, given the result for its GSI block. A fault of the GSI block
 -- is reported for block 0.

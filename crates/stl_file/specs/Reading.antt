@@ -20,7 +20,7 @@ use Rattle.stl_file.specs.Subtitle.{SubtitleValue, empty_subtitle}
 use Rattle.stl_file.specs.declared.scope.Scope.{Scope}
 use Rattle.stl_file.specs.declared.subtitle_blocks.BlocksRead.{BlocksRead}
 
--- ---- one block
+-- ---- reading one TTI block
 
 -- A subtitle whose last block has not been read: its fields and the text so far, the number of its
 -- blocks so far, 1 to 9, and whether the subtitle is skipped because it is outside the scope or was
@@ -130,7 +130,7 @@ step_at scope begun b =
     else requested (required_of_block b)
     (if cf b == is_comment then Ok (More begun) else kept_at scope begun b)
 
--- ---- all following blocks
+-- ---- reading all following TTI blocks
 
 -- Five faults concern fields of a subtitle's first block: CS, JC, VP, TCI and TCO. It is still
 -- known which blocks belong to the subtitle: this one and the next ones up to the first with EBN
@@ -172,7 +172,7 @@ findings_at scope (suc room) begun (x ∷ b) =
 abbrev pub findings_from : Scope → ℕ → Option Begun → List ℕ → Findings
 findings_from scope block refused b = findings_at scope (most_blocks - block) refused b
 
--- ---- up to the first fault
+-- ---- reading up to the first fault
 
 -- The results of a reader that stops at the first fault: each subtitle with the number of its last
 -- block, then the end of the file, or the first fault with its block number.
@@ -188,7 +188,7 @@ stopped (breaks f block) = fails f block
 stopped (finds s block more) = gives s block (stopped more)
 stopped (refuses f block more) = fails f block
 
--- ---- bound of the current subtitle
+-- ---- the size of the current subtitle
 
 -- The text of the current subtitle has at most 112 bytes per block, and the subtitle at most nine
 -- blocks.

@@ -1,5 +1,5 @@
--- The texts of the cues, one after another: a new text leaves those before it as they were,
--- subtitles_kept, and is found by its cue, subtitles_added.
+-- The buffer of all texts: appending a text changes no earlier text, subtitles_kept, and the new
+-- cue points to the new text, subtitles_added.
 use Rattle.std.proofs.Common.{◌≡◌, ℕ, suc, ◌+◌, ◌<◌, ◌≤◌, List, [], ◌∷◌, ◌++◌, length}
 use Rattle.std.proofs.Common.{refl, ap, ◌∙◌, arith, take, drop, map, get_or}
 use Rattle.std.proofs.Common.{length-append, length-drop, leb, true, false, Result, Ok, Err, OnErr}
@@ -14,7 +14,6 @@ use Rattle.stl_file.specs.Subtitle.{IsSubtitle, SubtitleValue}
 use Rattle.stl_rows.specs.declared.cues.Cue.{Cue}
 use Rattle.stl_rows.specs.Cues.{IsCueAmong, cue_at, subtitle_in}
 
--- A text among all texts stays where it was when others are added.
 pub text_kept : (texts more : List ℕ) (start len : ℕ)
     → start + len ≤ length texts
     → take len (drop start (texts ++ more)) ≡ take len (drop start texts)
@@ -57,7 +56,6 @@ pub is_added : (texts : List ℕ) (s : SubtitleValue)
     → subtitle_in (texts ++ s.text) (cue_at (length texts) s) ≡ s
 is_added texts s = rw (text_added texts s.text) refl
 
--- For `push`.
 pub subtitles_added : (texts : List ℕ) (cs : List Cue) (s : SubtitleValue)
     → All (IsCueAmong texts) cs
     → map (subtitle_in (texts ++ s.text)) (cs ++ cue_at (length texts) s ∷ [])
@@ -66,7 +64,6 @@ subtitles_added texts cs s all =
     map-append (subtitle_in (texts ++ s.text)) cs (cue_at (length texts) s ∷ [])
     ∙ rw (subtitles_kept texts s.text cs all, is_added texts s) refl
 
--- For `push`.
 pub all_added : (texts : List ℕ) (cs : List Cue) (s : SubtitleValue)
     → All (IsCueAmong texts) cs
     → IsSubtitle s
@@ -81,8 +78,6 @@ pub on_err : {T E P : Type 0} (r : Result T E) → P → OnErr r P
 on_err (Ok x) p = tt
 on_err (Err e) p = p
 
--- ---- a binary search among cues is one among subtitles
-
 no_cue : Cue
 no_cue = record { start = 0; tci = 0; tco = 0; len = 0; sn = 0; sgn = 0; vp = 0; jc = 0 }
 
@@ -92,7 +87,7 @@ pub same_tco : (texts : List ℕ) (cs : List Cue) (k : ℕ) (c : Cue) (d : Subti
 same_tco texts cs k c d b =
     ap (λ (t : SubtitleValue). t.tco) (get_or-map (subtitle_in texts) cs k c d b)
 
--- The TCOs of the cues rise if those of the subtitles do.
+-- If the TCOs of the subtitles do not decrease, the TCOs of their cues do not decrease either.
 pub tco_rises-cues : (texts : List ℕ) (cs : List Cue)
     → IsNonDecreasingBy (λ (t : SubtitleValue). t.tco) (map (subtitle_in texts) cs)
     → IsNonDecreasingBy (λ (c : Cue). c.tco) cs

@@ -1,4 +1,4 @@
--- The parts of a text at a character: cut_at-first. For `first_text`.
+-- The parts of a text at the first occurrence of a character, for `first_text`: cut_at-first.
 use Rattle.std.proofs.Common.{◌≡◌, ℕ, ◌<◌, ◌≤◌, List, [], ◌∷◌, length, refl, ◌==◌, arith}
 use Rattle.std.proofs.Common.{Bool, Option, Some, None, option_map, nat_lt, subst, sym}
 use Rattle.std.proofs.lemmas.Bool.{ltb-false, ltb-true}
@@ -11,14 +11,12 @@ use Rattle.std.specs.Option.{option_map_or}
 use Rattle.std.specs.Prelude.{IfSome}
 use Rattle.stl_rows.specs.LayoutText.{cut_at}
 
--- A text without the character is a single part.
 cut_at-none : (mark : ℕ) (text : List ℕ)
     → length text ≤ position_or_len (λ c. c == mark) text
     → slice_split (λ c. c == mark) text ≡ text ∷ []
 cut_at-none mark [] none = refl
 cut_at-none mark (c ∷ text) none = grind (arith, nat_tests, cut_at-none mark text)
 
--- The first part, and the parts after it.
 abbrev AreFirst : ℕ → List ℕ → List ℕ × Option (List ℕ) → Type 0
 AreFirst mark text parts =
     (slice_split (λ c. c == mark) text
@@ -32,7 +30,6 @@ unfolding cut_at
 are_first-by mark text found is =
     grind (arith, nat_tests, ltb-true, slice_split_first, length-drop, cut_at-none, ltb-false)
 
--- Shown for the result of `cut_at`.
 pub cut_at-first : (mark : ℕ) (text prefix : List ℕ) (following : Option (Bor (List ℕ)))
     → (prefix, option_map (λ x. x.now) following) ≡ cut_at mark text
     → (slice_split (λ c. c == mark) text

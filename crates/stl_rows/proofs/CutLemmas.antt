@@ -1,4 +1,4 @@
--- The lines of a text are its cells, cut at the new lines: cut_flat. For `draw_by`.
+-- The lines of a text are its cells, cut at each new line, for `draw_by`: cut_flat.
 use Rattle.std.proofs.Common.{◌≡◌, ℕ, zero, suc, ◌+◌, List, [], ◌∷◌, ◌++◌, refl}
 use Rattle.std.proofs.Common.{arith, Some, Err, false}
 use Rattle.std.proofs.lemmas.Bool.Decides.{nat_tests}
@@ -47,7 +47,7 @@ module _ (n : National) (items : LayoutItems) (t : SubtitleValue) (cells : List 
       rw (is, cut_flat n 0 0 (unstripped items t.text))
       (cells_small n 0 0 (unstripped items t.text))
 
-  -- If no byte is refused, the lines decide the result.
+  -- If no byte of the text is rejected, the lines decide the result of drawing.
   pub drawn_by-cut : (off : ℕ) (place : Place)
       → refused_codes (codes_by n items t.text) ≡ []
       → off ≡ rows_off items (prepared_cut items cells)
@@ -58,14 +58,13 @@ module _ (n : National) (items : LayoutItems) (t : SubtitleValue) (cells : List 
       rw (off_is, place_is, cut_prepared, sound)
       (drawn_from-is items t.jc (rows_off items (lines_by n items t.text)) _ _)
 
--- If there are faults, the first is the result.
 first_fault : (faults more : List RowFault) (page : Rows) (fault : RowFault)
     → first_of faults ≡ Some fault
     → Err fault ≡ unless (faults ++ more) page
 first_fault [] more page fault e = cc
 first_fault (f ∷ faults) more page fault e = cc
 
--- A refused byte is reported.
+-- If a byte of the text is rejected, the fault of the first such byte is the result of drawing.
 pub drawn_by-refused : (n : National) (items : LayoutItems) (t : SubtitleValue) (fault : RowFault)
     → first_of (refused_codes (codes_by n items t.text)) ≡ Some fault
     → Err fault ≡ drawn_by n items t

@@ -1,4 +1,5 @@
--- The default layout draws a subtitle plainly: drawn_by-default.
+-- The default layout draws a subtitle plainly, with each line in a box of its own:
+-- drawn_by-default.
 use Rattle.std.proofs.Common.{◌≡◌, ℕ, ◌+◌, ◌≤◌, Bool, false, List, [], ◌∷◌, ◌++◌}
 use Rattle.std.proofs.Common.{length, map, refl, ap, ◌∙◌, arith}
 use Rattle.std.proofs.Common.{append_assoc, None, Some, Result}
@@ -26,15 +27,13 @@ use Rattle.stl_rows.specs.TextCode.{refused_codes}
 use Rattle.stl_rows.proofs.DrawnPageLemmas.{row_of-none}
 use Rattle.stl_rows.proofs.LaidOutLemmas.{none_above}
 
--- ---- the lines
-
 none_stripped : (text : List ℕ) → unstripped default_items text ≡ text
 unfolding default_items
 none_stripped [] = refl
 none_stripped (b ∷ text) =
     grind (arith, nat_tests, get_or-replicate 32 b false false, none_stripped text)
 
--- The default layout only puts a line in a box that has none.
+-- The default layout changes a line only by adding a box, if the line has none.
 prepared-default : (cells : List ℕ) → prepared_by default_items cells ≡ prepared cells
 unfolding prepared_by prepared framed headed default_items attribute_code is_boxed
 prepared-default [] = refl
@@ -44,9 +43,6 @@ lines-default : (ls : List (List ℕ)) → map (prepared_by default_items) ls �
 lines-default [] = refl
 lines-default (l ∷ ls) = rw (prepared-default l, lines-default ls) refl
 
--- ---- the faults
-
--- The faults of a line.
 kinds-default : (number row : ℕ) (under : Bool) (line : List ℕ)
     → 1 ≤ row
     → placed_fault_kinds default_items 0 (record {
@@ -59,7 +55,6 @@ kinds-default : (number row : ℕ) (under : Bool) (line : List ℕ)
 unfolding placed_fault_kinds line_fault_kinds default_items
 kinds-default number row under line low = grind (arith, nat_tests)
 
--- The faults of lines one below the other.
 faults-default : (number row : ℕ) (under : Bool) (ls : List (List ℕ))
     → 1 ≤ row
     → placed_faults default_items 0 (placed_from default_items number row under ls)
@@ -74,21 +69,16 @@ faults-default number row under (l ∷ ls) low =
       (faults-default (number + 1) (row + 1) (is_double l) ls (omega arith)),
     )
 
--- ---- the page
-
--- The column at which a line starts.
 start-default : (jc : ℕ) (line : List ℕ)
     → start_by default_items jc line ≡ start_column jc (length line)
 unfolding start_by default_items
 start-default jc line = grind (arith, nat_tests)
 
--- The row that shows it.
 row-default : (jc : ℕ) (line : List ℕ)
     → row_from (start_by default_items jc line) line ≡ row_of jc line
 unfolding row_from row_of
 row-default jc line = rw (start-default jc line) refl
 
--- Empty lines take rows, and lines follow on successive rows.
 default-pack : default_items.pack ≡ false
 unfolding default_items
 default-pack = refl
@@ -97,7 +87,6 @@ default-double : default_items.double ≡ false
 unfolding default_items
 default-double = refl
 
--- A row of a page whose lines follow on successive rows.
 shown-default : (jc number first row : ℕ) (under : Bool) (ls : List (List ℕ))
     → shown_row default_items jc 0 (placed_from default_items number first under ls) row
     ≡ row_of jc (line_on first ls row)
@@ -120,9 +109,6 @@ page-default : (jc vp : ℕ) (ls : List (List ℕ))
 unfolding page_of_placed page_of_lines
 page-default jc vp ls = λ i. map (λ row. shown-default jc 0 vp row false ls i) (range_with_len 1 24)
 
--- ---- all
-
--- The lines are not shifted up, and line 0 goes to row VP.
 off-default : (ls : List (List ℕ)) → rows_off default_items ls ≡ 0
 unfolding default_items
 off-default ls = refl
@@ -131,7 +117,6 @@ first-default : (vp : ℕ) → first_depth default_items vp ≡ vp
 unfolding default_items
 first-default vp = omega arith
 
--- All faults, and the whole page.
 faults-all : (vp : ℕ) (ls : List (List ℕ))
     → 1 ≤ vp
     → placed_faults default_items (rows_off default_items ls) (placed_lines default_items vp ls)
@@ -153,14 +138,12 @@ page-all jc vp ls =
     (first-default vp)
     ∙ page-default jc vp ls
 
--- The result of drawing lines and text codes.
 drawn_of : National → ℕ → ℕ → List (ℕ × TextCode) → List (List ℕ) → Result Rows RowFault
 drawn_of national jc vp codes ls =
     unless (refused_codes codes
     ++ placed_faults default_items (rows_off default_items ls) (placed_lines default_items vp ls))
     (page_of_placed default_items jc (rows_off default_items ls) (placed_lines default_items vp ls))
 
--- For `draw`.
 drawn_by-default : (national : National) (t : SubtitleValue)
     → 1 ≤ t.vp
     → drawn_by national default_items t ≡ plainly_drawn national t
@@ -168,7 +151,6 @@ unfolding drawn_by plainly_drawn drawn_of
 drawn_by-default national t low =
     grind (arith, nat_tests, drawn_of, none_stripped, lines-default, faults-all, page-all)
 
--- A drawing without items, and one with some: for `first_fault` and `draw_on`.
 pub drawn-none : (drawing : Drawing) (t : SubtitleValue)
     → drawing.layout.items ≡ None
     → 1 ≤ t.vp
@@ -182,6 +164,5 @@ pub drawn-some : (drawing : Drawing) (t : SubtitleValue) (items : LayoutItems)
 unfolding drawn
 drawn-some drawing t items is = rw is refl
 
--- For `law_of_default_layout`.
 pub default_is_plain : LawOfDefaultLayout
 default_is_plain national t low = drawn-none (drawing_by national default_layout) t refl low

@@ -1,4 +1,4 @@
--- Lines drawn one by one: line-fault, line-next, line-end. For `draw_lines`.
+-- Drawing lines one by one, for `draw_lines`: line-fault, line-next, line-end.
 use Rattle.std.proofs.Common.{◌≡◌, ℕ, ◌+◌, ◌≤◌, List, [], ◌∷◌, map, refl, ap, ◌∙◌, sym, arith}
 use Rattle.std.proofs.Common.{Option, Some, None, Ok, Err}
 use Rattle.std.proofs.lemmas.Bool.Decides.{nat_tests}
@@ -14,11 +14,9 @@ use Rattle.stl_rows.specs.PreparedLine.{prepared_by}
 use Rattle.stl_rows.proofs.LineLemmas.{holds_at}
 use Rattle.stl_rows.proofs.PageShapeLemmas.{prepared_small}
 
--- The lines after the first.
 abbrev pub lines_after_first : Option (Bor (List ℕ)) → List (List ℕ)
 lines_after_first following = option_map_or (λ more. cut_lines more.now) following []
 
--- The first line of some cells, prepared.
 module _ (items : LayoutItems) (jc off : ℕ) (place : Place) (page : Rows)
     (rest first line : List ℕ) (following : Option (Bor (List ℕ)))
     (cut : cut_lines rest ≡ first ∷ lines_after_first following)
@@ -28,14 +26,14 @@ module _ (items : LayoutItems) (jc off : ℕ) (place : Place) (page : Rows)
       ap (map (prepared_by items)) cut
       ∙ ap (λ own. own ∷ map (prepared_by items) (lines_after_first following)) (sym is)
 
-  -- If it has a fault, that is the first of all.
+  -- If the first line has a fault, that fault is the first fault of all lines.
   pub line-fault : (fault : RowFault)
       → fault_at items off place line ≡ Some fault
       → drawn_from items jc off place page (prepared_cut items rest) ≡ Err fault
   unfolding drawn_from
   line-fault fault reported = rw (all_lines, reported) refl
 
-  -- If it has none, drawing continues with the lines after it.
+  -- If the first line has no fault, drawing continues with the other lines.
   pub line-next : fault_at items off place line ≡ None
       → drawn_from items jc off place page (prepared_cut items rest)
       ≡ drawn_from items jc off (place_after items place line)
@@ -50,13 +48,11 @@ module _ (items : LayoutItems) (jc off : ℕ) (place : Place) (page : Rows)
   pub following-codes : HoldCodes (cut_lines rest) → HoldCodes (lines_after_first following)
   following-codes h = (rw cut at h).1
 
--- When no line is left, the page is the result.
 pub line-end : (items : LayoutItems) (jc off : ℕ) (place : Place) (page : Rows)
     → drawn_from items jc off place page [] ≡ Ok page
 unfolding drawn_from
 line-end items jc off place page = refl
 
--- The place after a line.
 pub place-grows : (items : LayoutItems) (place : Place) (line : List ℕ)
     → ((place_after items place line).number ≡ place.number + 1)
     × ((place_after items place line).depth ≤ place.depth + 2)

@@ -1,5 +1,6 @@
--- Lines put on the blank page one after another give the page that shows them: is_drawn-start,
--- is_drawn-next. How the faults decide the drawn page: drawn-first.
+-- Drawing lines one after another on the blank page gives the page that shows the lines:
+-- is_drawn-start, is_drawn-next. The first fault is the result of drawing, if there is one:
+-- drawn-first.
 use Rattle.std.proofs.Common.{◌≡◌, ◌≢◌, ℕ, suc, ◌+◌, ◌-◌, ◌<◌, ◌≤◌, false, List, [], ◌∷◌, ◌++◌, Ok}
 use Rattle.std.proofs.Common.{Err, length, map, get_or, refl, sym, ap, ◌∙◌, arith, inl, inr, rules}
 use Rattle.std.proofs.Common.{get_or-set_other, length-append, append_assoc, append-nil}
@@ -22,9 +23,6 @@ use Rattle.stl_rows.specs.TextCode.{first_of, refused_codes, text_codes}
 use Rattle.stl_rows.proofs.LineByLineLemmas.{prepared_longer}
 use Rattle.stl_rows.proofs.FaultlessLemmas.{IsOnPage, empty_parts, on_page}
 
--- ---- the rows of the page
-
--- An empty line shows spaces. For row_of-none.
 code_in_column-none : (start k : ℕ) → 32 ≡ code_in_column start [] k
 code_in_column-none start k = grind (arith, nat_tests)
 
@@ -40,7 +38,6 @@ get_or_push-none : (ls : List (List ℕ)) (k : ℕ) → get_or ls k [] ≡ get_o
 get_or_push-none [] k = grind (arith, nat_tests)
 get_or_push-none (l ∷ ls) k = grind (arith, nat_tests, get_or_push-none ls)
 
--- The line that follows other lines is on the row after theirs.
 line_on-last : (vp row : ℕ) (done : List (List ℕ)) (line : List ℕ)
     → row ≡ vp + length done
     → line_on vp (done ++ line ∷ []) row ≡ line
@@ -51,12 +48,10 @@ line_on-other : (vp row : ℕ) (done : List (List ℕ)) (line : List ℕ)
     → line_on vp (done ++ line ∷ []) row ≡ line_on vp done row
 line_on-other vp row done line e = search (rules, length-append, get_or_append_left, get_or_past)
 
--- A line without cells gets no box.
 prepared_none : prepared [] ≡ []
 unfolding prepared
 prepared_none = refl
 
--- A line after others is put on the row after theirs.
 put_line-page : (jc vp : ℕ) (done : List (List ℕ)) (cells : List ℕ)
     → FitsRow (vp + length done) cells
     → put_line jc (vp + length done) cells (page_of_lines jc vp done)
@@ -90,9 +85,7 @@ put_line-page jc vp done (c ∷ cs) fits =
           ∙ sym (get_or-map-range_with_len new 1 24 k (k + 1) [] inside (omega arith))
     ]))
 
--- ---- drawing
-
--- The lines `done` are on the page, the lines `left` are not.
+-- The page shows the lines `done`, and the lines `left` are still to be drawn.
 pub record IsDrawn (jc vp row : ℕ) (page : Rows) (all left : List (List ℕ)) : Type 0 where
   pub done : List (List ℕ)
   pub shown : page ≡ page_of_lines jc vp done
@@ -102,7 +95,7 @@ pub record IsDrawn (jc vp row : ℕ) (page : Rows) (all left : List (List ℕ)) 
 pub is_drawn-start : {jc vp : ℕ} {all : List (List ℕ)} → IsDrawn jc vp vp blank all all
 is_drawn-start {jc} {vp} = grind (arith, nat_tests, page_of_none)
 
--- If no line has a fault, the next one is on the page.
+-- If no line has a fault, the next line fits on the page.
 pub is_drawn-on_page : {jc vp row : ℕ} {page : Rows} {all left : List (List ℕ)}
     → IsDrawn jc vp row page all left
     → line_faults 0 vp false all ≡ []
@@ -116,7 +109,6 @@ module _ {jc vp row : ℕ} {page : Rows} {all left : List (List ℕ)} (cells : L
   pub is_drawn-fits : FitsRow row cells
   is_drawn-fits = grind (arith, nat_tests, is_drawn-on_page h none, prepared_longer cells)
 
-  -- With the next line put, the page is drawn up to the next row.
   pub is_drawn-next : IsDrawn jc vp (row + 1) (put_line jc row cells page) all left
   is_drawn-next = search (rules, put_line-page, is_drawn-fits, length-append, append_assoc)
 
@@ -125,26 +117,21 @@ pub is_drawn-end : {jc vp row : ℕ} {page : Rows} {all : List (List ℕ)}
     → page_of_lines jc vp all ≡ page
 is_drawn-end h = rw (h.all_are, append-nil) (sym h.shown)
 
--- ---- faults
-
 no_faults : (n : National) (t : SubtitleValue) → IsOk (plainly_drawn n t) → subtitle_faults n t ≡ []
 unfolding plainly_drawn
 no_faults n t ok = grind (arith, nat_tests)
 
--- For `draw_on`.
 pub no_line_faults : (n : National) (t : SubtitleValue)
     → IsOk (plainly_drawn n t)
     → line_faults 0 t.vp false (lines n t) ≡ []
 no_line_faults n t ok = (empty_parts (refused_codes (text_codes n 0 t.text)) _ (no_faults n t ok)).1
 
--- For `draw_on`.
 pub drawn-page : (n : National) (t : SubtitleValue)
     → IsOk (plainly_drawn n t)
     → plainly_drawn n t ≡ Ok (page_of_lines t.jc t.vp (lines n t))
 unfolding plainly_drawn
 drawn-page n t ok = rw (no_faults n t ok) refl
 
--- For `first_fault`.
 pub drawn-first : (n : National) (t : SubtitleValue)
     → MatchOption (first_of (subtitle_faults n t)) (IsOk (plainly_drawn n t))
     (λ f. plainly_drawn n t ≡ Err f)

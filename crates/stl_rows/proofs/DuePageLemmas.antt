@@ -1,4 +1,4 @@
--- The expected page and the next cue follow from the first subtitle whose TCO is after a frame:
+-- The first subtitle whose TCO is after a frame decides the expected page and the next cue:
 -- due_is_shown, none_is_blank and next_edge-tci.
 use Rattle.std.proofs.Common.{rules, ◌≡◌, ◌≢◌, ℕ, zero, suc, ◌+◌, ◌-◌, ◌<◌, ◌≤◌, Bool, true, false}
 use Rattle.std.proofs.Common.{List, [], ◌∷◌, Option, Some, None, MatchOption, option_map, length}
@@ -21,9 +21,6 @@ use Rattle.stl_rows.specs.DuePage.{LawOfDueSubtitles, LawOfEdges, ReportsLastEdg
 use Rattle.stl_rows.specs.DuePage.{due, ends_at, is_due, tci_of_ending}
 use Rattle.stl_rows.specs.Programme.{IsProgramme}
 
--- ---- the expected page
-
--- A subtitle is not due before its TCI, nor from its TCO on.
 not_due : (f : ℕ) (t : SubtitleValue) → (f < t.tci) ⊎ (t.tco ≤ f) → is_due f t ≡ false
 not_due f t h = grind (arith, nat_tests)
 
@@ -33,7 +30,6 @@ other_end f t h = grind (arith, nat_tests)
 own_end : (f : ℕ) (t : SubtitleValue) → t.tco ≡ f → ends_at f t ≡ true
 own_end f t h = grind (arith, nat_tests)
 
--- For `law_of_blank_pages`.
 pub none_is_blank : LawOfBlankPages
 unfolding due
 none_is_blank n ts f none =
@@ -41,7 +37,6 @@ none_is_blank n ts f none =
     (found_nowhere (find (is_due f)) (is_due f) Some None refl (λ x xs. refl) ts empty_subtitle
     (λ k b. not_due f (get_or ts k empty_subtitle) (none k empty_subtitle b)))
 
--- For `law_of_due_subtitles`.
 pub due_is_shown : LawOfDueSubtitles
 unfolding due
 due_is_shown n ts f t order member low high =
@@ -61,7 +56,6 @@ none_ends ts f none =
     (found_nowhere (find (ends_at f)) (ends_at f) Some None refl (λ x xs. refl) ts empty_subtitle
     (λ k b. other_end f (get_or ts k empty_subtitle) (none k empty_subtitle b))))
 
--- Two tests that agree find the same. For edges_alone.
 find_same : {X : Type 0} (p q : X → Bool) (xs : List X)
     → ((k : ℕ) (d : X) → k < length xs → p (get_or xs k d) ≡ q (get_or xs k d))
     → find p xs ≡ find q xs
@@ -71,20 +65,17 @@ find_same p q (x ∷ xs) h =
     let tail : find p xs ≡ find q xs = find_same p q xs (λ k d b. h (suc k) d (omega arith)) in
     rw (e, tail) refl
 
--- For `law_of_edges`.
 pub edges_alone : LawOfEdges
 unfolding due
 edges_alone n ts f first none = search (rules, find_same, get_or_default)
 
--- A property of the blank page and of each drawn page holds of each expected page.
+-- If the blank page and each drawn page have a property, each expected page has the property.
 pub due_has : (P : Rows → Type 0) (n : Drawing) (ts : List SubtitleValue) (f : ℕ)
     → P blank
     → ((t : SubtitleValue) (page : Rows) → drawn n t ≡ Ok page → P page)
     → P (due n ts f)
 unfolding due
 due_has P n ts f none some = grind (arith, nat_tests)
-
--- ---- the first subtitle after a frame
 
 pub record IsFirstAfter (ts : List SubtitleValue) (f at : ℕ) : Type 0 where
   pub before : (k : ℕ) (d : SubtitleValue) → k < at → (get_or ts k d).tco ≤ f
@@ -93,7 +84,6 @@ pub record IsFirstAfter (ts : List SubtitleValue) (f at : ℕ) : Type 0 where
 module _ (n : Drawing) (ts : List SubtitleValue) (f at : ℕ) (t : SubtitleValue)
     (ok : IsProgramme n ts) (first : IsFirstAfter ts f at) (inside : at < length ts)
     (is : t ≡ get_or ts at t) where
-  -- Each subtitle has ended by the frame, or is this one, or starts at its TCO or later.
   placed : (x : SubtitleValue)
       → Contains ts x
       → (x.tco ≤ f) ⊎ ((x ≡ t) ⊎ (t.tco ≤ x.tci))
@@ -104,7 +94,7 @@ module _ (n : Drawing) (ts : List SubtitleValue) (f at : ℕ) (t : SubtitleValue
   pub ends_after : f < t.tco
   ends_after = rw (← is) at (first.after at t (omega arith) inside)
 
-  -- In a gap before it no subtitle is due: for `draw_near`.
+  -- No subtitle is due in the gap before the first subtitle whose TCO is after the frame.
   pub none-between : f < t.tci
       → (k : ℕ) (d : SubtitleValue)
       → k < length ts
@@ -112,7 +102,6 @@ module _ (n : Drawing) (ts : List SubtitleValue) (f at : ℕ) (t : SubtitleValue
   none-between gap k d b =
       let cases = placed (get_or ts k d) (Contains-get_or ts k d b) in grind arith
 
-  -- A cue after the frame is its TCI, or is at its TCO or later.
   later_edge : (x : ℕ) → IsEdge ts x → f < x → (x ≡ t.tci) ⊎ (t.tco ≤ x)
   later_edge x edge after =
       let s : SubtitleValue = edge.1 in
@@ -120,7 +109,8 @@ module _ (n : Drawing) (ts : List SubtitleValue) (f at : ℕ) (t : SubtitleValue
       let order : s.tci < s.tco = (All-contains IsSubtitle ts s ok.each member).times in
       grind (arith, placed s member, order, edge.4)
 
-  -- Before it the next cue is its TCI: for `edge_after`.
+  -- If the first subtitle whose TCO is after the frame starts later, the next cue is the TCI of
+  -- that subtitle.
   pub next_edge-tci : f < t.tci → IsNextEdge ts f t.tci
   next_edge-tci gap = record {
     is_edge = (at, t, inside, sym is, inl refl);
@@ -133,7 +123,7 @@ module _ (n : Drawing) (ts : List SubtitleValue) (f at : ℕ) (t : SubtitleValue
         );
   }
 
-  -- During it the next cue is its TCO: for `edge_after`.
+  -- If the first subtitle whose TCO is after the frame has started, the next cue is its TCO.
   pub next_edge-tco : t.tci ≤ f → IsNextEdge ts f t.tco
   next_edge-tco low = record {
     is_edge = (at, t, inside, sym is, inr refl);
@@ -141,7 +131,8 @@ module _ (n : Drawing) (ts : List SubtitleValue) (f at : ℕ) (t : SubtitleValue
     least = λ x edge after. omega (arith, later_edge x edge after, low, after);
   }
 
-  -- If it does not end at the next frame, no subtitle does: for `tci_ending_at`.
+  -- If the first subtitle whose TCO is after a frame does not end at the next frame, no subtitle
+  -- ends there.
   pub none_ends-next : (g : ℕ) → f + 1 ≡ g → t.tco ≢ g → None ≡ tci_of_ending ts g
   none_ends-next g next other = none_ends ts g (λ k d b.
       let cases = placed (get_or ts k d) (Contains-get_or ts k d b) in
@@ -149,7 +140,8 @@ module _ (n : Drawing) (ts : List SubtitleValue) (f at : ℕ) (t : SubtitleValue
       let after = ends_after in
       grind arith)
 
-  -- If it does, it is the one that is found: for `tci_ending_at`.
+  -- If the first subtitle whose TCO is after a frame ends at the next frame, `tci_of_ending`
+  -- returns its TCI.
   pub ends-next : (g : ℕ) → f + 1 ≡ g → t.tco ≡ g → Some t.tci ≡ tci_of_ending ts g
   unfolding tci_of_ending
   ends-next g next own =
@@ -159,16 +151,13 @@ module _ (n : Drawing) (ts : List SubtitleValue) (f at : ℕ) (t : SubtitleValue
       (rw (← is) (own_end g t own))
       ∙ ap Some (sym is)))
 
--- ---- the cues up to a frame
-
 module _ (n : Drawing) (ts : List SubtitleValue) (f at : ℕ) (ok : IsProgramme n ts) where
-  -- A cue is the TCI or TCO of a subtitle in the list, whose TCI is before its TCO.
+  -- A cue is the TCI or the TCO of a subtitle, and the subtitle's TCI is before its TCO.
   times_of_edge : (x : ℕ) (edge : IsEdge ts x)
       → (edge.1.tci < edge.1.tco) × ((x ≡ edge.1.tci) ⊎ (x ≡ edge.1.tco))
   times_of_edge x edge =
       ((All-contains IsSubtitle ts edge.1 ok.each (edge.0, edge.2, edge.3)).times, edge.4)
 
-  -- For `edge_until`.
   pub last_edge-tci : (t : SubtitleValue) → IsFirstAfter ts f at → at < length ts
       → t ≡ get_or ts at t → t.tci ≤ f → IsLastEdge ts f t.tci
   last_edge-tci t first inside is low = record {
@@ -188,7 +177,8 @@ module _ (n : Drawing) (ts : List SubtitleValue) (f at : ℕ) (ok : IsProgramme 
           let after : at < edge.0 → f < edge.1.tci = grind (arith, get_or_read) in
           grind (arith, nat_tests, cases_lt)
 
-  -- If the first subtitle after a frame starts after it, so do all later ones.
+  -- If the first subtitle whose TCO is after a frame starts after the frame, so do all later
+  -- subtitles.
   pub starts_after : (t : SubtitleValue) → IsFirstAfter ts f at → at < length ts
       → t ≡ get_or ts at t → f < t.tci
       → (k : ℕ) (d : SubtitleValue)
@@ -199,7 +189,6 @@ module _ (n : Drawing) (ts : List SubtitleValue) (f at : ℕ) (ok : IsProgramme 
       let later = ok.in_order at k d in
       grind (arith, nat_tests, cases_lt)
 
-  -- For `edge_until`.
   pub last_edge-gap : (o : Option ℕ) → at ≤ length ts
       → ((k : ℕ) (d : SubtitleValue) → k < at → (get_or ts k d).tco ≤ f)
       → ((k : ℕ) (d : SubtitleValue) → at ≤ k → k < length ts → f < (get_or ts k d).tci)
@@ -238,8 +227,8 @@ module _ (n : Drawing) (ts : List SubtitleValue) (f at : ℕ) (ok : IsProgramme 
           λ l. let following = after edge.0 edge.1 l edge.2 in grind arith in
           grind (arith, nat_tests, cases_lt)
 
--- Without a cue between two frames the expected page is the same: for a checker that goes back
--- from a frame.
+-- If no cue is between two frames, both frames have the same expected page. A checker that goes
+-- back from a frame needs this.
 pub due_back : (n : Drawing) (ts : List SubtitleValue) (f j : ℕ)
     → j ≤ f
     → ((e : ℕ) → IsEdge ts e → f < e + j → e ≤ f → ⊥)
@@ -254,14 +243,13 @@ due_back n ts f (suc j) within none =
     let same : f - suc j ≡ f - j - 1 = omega arith in
     rw same (sym here ∙ before)
 
--- The TCOs of a programme rise, so that a binary search finds one: for `first_after`.
+-- The TCOs of a programme do not decrease, so a binary search finds the first TCO after a frame.
 pub tco_rises : (n : Drawing) (ts : List SubtitleValue)
     → IsProgramme n ts
     → IsNonDecreasingBy (λ (t : SubtitleValue). t.tco) ts
 tco_rises n ts ok i j d le inside = grind (arith, nat_tests, cases_lt)
 
--- All subtitles before one that has ended have ended, and none after one that has not: for
--- `is_first_after`.
+-- If a subtitle has ended by a frame, all subtitles before it have ended too.
 pub ended-until : (n : Drawing) (ts : List SubtitleValue) (f at : ℕ)
     → IsProgramme n ts
     → at < length ts

@@ -1,4 +1,4 @@
--- `load` returns the first of all faults; main lemmas: reports-first, none-reported.
+-- `load` returns the first of all faults of a file; main lemmas: reports-first, none-reported.
 use Rattle.std.proofs.Common.{◌≡◌, ℕ, List, ◌∷◌, Option, Some, None, []}
 use Rattle.std.proofs.Common.{Ok, map, inl, inr}
 use Rattle.std.proofs.Common.{Err, refl, sym, ◌<◌, ◌≤◌, ◌⊎◌, Bool, true, false, arith, take}
@@ -27,7 +27,6 @@ use Rattle.stl_file.specs.Reading.{Findings, breaks, finds, no_more, refuses}
 use Rattle.stl_rows.proofs.FaultlessLemmas.{empty_parts, map_empty}
 use Rattle.stl_rows.specs.TextCode.{first_of}
 
--- A file is rejected for the first of its faults.
 first_reported : (fs : List LoadFault) (p : ProgrammeValue) (fault : LoadFault)
     → (unless_reported fs p ≡ Err fault) ↔ (first_of fs ≡ Some fault)
 first_reported [] p fault = ((λ e. absurd cc), (λ e. absurd cc))
@@ -37,8 +36,6 @@ first_fault : (drawing : Drawing) (file : List ℕ) (fault : LoadFault)
     → (loaded drawing file ≡ Err fault) ↔ (first_of (faults drawing file) ≡ Some fault)
 unfolding loaded
 first_fault drawing file fault = first_reported (faults drawing file) _ fault
-
--- ---- `load`, whose audience keeps the first fault
 
 first_taken : (n : ℕ) (all : List LoadFault) (fault : LoadFault)
     → 0 < n
@@ -52,13 +49,11 @@ reports-kind : (drawing : Drawing) (file : List ℕ) (block : ℕ) (kind : LoadF
     → ReportsFault drawing file block kind
 reports-kind drawing file block kind of_file h = grind (arith, nat_tests)
 
--- The fault that was reported of the file is one of its faults.
 pub first-of_file : (first : Option LoadFault)
     → ReportsOfFile KeepsFirst None first
     → (fault : LoadFault) × (first ≡ Some fault) × (is_of_file fault.kind ≡ true)
 first-of_file first of_file = grind (arith, nat_tests, first_is)
 
--- Such a fault is neither a failure of the source nor the end of the file.
 not_read : (kind : LoadFaultKind)
     → is_of_file kind ≡ true
     → (kind ≢ File Ended) × (is_read_kind kind ≡ false)
@@ -72,7 +67,6 @@ pub first-not_read : (new first : Option LoadFault) (fault : LoadFault)
 first-not_read new first fault is_new is_first of_file =
     grind (arith, nat_tests, first-of_file first (rw is_new at of_file), not_read fault.kind)
 
--- The one fault that was reported is the fault of the file.
 pub reports-first : (drawing : Drawing) (file : List ℕ) (fault : LoadFault) (stopped : Bool)
     → ReportsFaults KeepsFirst None (Some fault) stopped (faults drawing file)
     → ReportsOfFile KeepsFirst None (Some fault)
@@ -86,21 +80,18 @@ reports-first drawing file fault stopped reported of_file =
     reports-kind drawing file fault.block fault.kind kind
     ((first_fault drawing file fault).1 first)
 
--- If no fault comes before this block, the first of all does not.
 not_before : (block : ℕ) (all : List LoadFault) (fault : LoadFault)
     → first_of all ≡ Some fault
     → filter (is_reported_before block) all ≡ []
     → is_reported_before block fault ≡ false
 not_before block all fault first none = grind (arith, nat_tests)
 
--- A fault that does not come before is the end inside a subtitle, or names this block or a later
--- one.
 is_late : (block at : ℕ) (kind : LoadFaultKind)
     → is_reported_before block (load_fault at kind) ≡ false
     → (kind ≡ File Unfinished) ⊎ (block ≤ at)
 is_late block at kind h = grind (arith, nat_tests)
 
--- If the source failed and no fault was reported, none comes before.
+-- If the source failed and no fault was reported, no fault of the file comes before that block.
 pub none-reported : (drawing : Drawing) (old new : Option (List ℕ)) (block : ℕ)
     (reported : Option LoadFault)
     → (is_some reported ≡ true → ⊥)
@@ -125,7 +116,6 @@ pub loads-all : (drawing : Drawing) (file : List ℕ) (j : JudgedValue)
 loads-all drawing file j judged reported =
     (judged.whole (sym (first_is None (faults drawing file) reported))).0
 
--- If no fault is reported before an accepted subtitle, there is none up to it.
 ends_after_times : (drawing : Drawing) (before : Option Times) (at : ℕ) (left : Findings)
     → EndsSubtitleAfter drawing before [] at left
     → EndsAfterTimes drawing before at left
@@ -139,7 +129,6 @@ ends_after_times drawing before at (finds t block left) (inr later) =
     let own = map_empty (load_fault block) (follow_faults drawing before t) parts.0 in
     (own, inr (ends_after_times drawing (Some (times_of t)) at left (rw parts.1 at later.2)))
 
--- Memory was refused before any fault was reported.
 pub ends-record : (drawing : Drawing) (file : List ℕ) (block : ℕ)
     → WantsMemory drawing file KeepsFirst None None block
     → EndsRecord drawing file block
@@ -148,7 +137,8 @@ ends-record drawing file block wants =
     ends_after_times drawing None block (findings_for drawing.scope file)
     (rw (sym none) at wants.ends)
 
--- The source failed or memory was refused, and no fault was reported.
+-- If the source failed or memory could not be allocated before any fault was reported, `load`
+-- returns that error.
 pub reports-failed : (drawing : Drawing) (file : List ℕ) (block : ℕ) (kind : LoadFaultKind)
     → (kind ≡ Memory) ⊎ (kind ≡ File Read)
     → (kind ≡ Memory → WantsMemory drawing file KeepsFirst None None block)
@@ -157,7 +147,6 @@ reports-failed drawing file block kind (inl is) wants =
     rw is (ends-record drawing file block (wants is))
 reports-failed drawing file block kind (inr is) wants = rw is tt
 
--- An audience that did not say stop keeps no fault.
 pub keeps-none : (first : Option LoadFault) → (is_some first ≡ true → ⊥) → first ≡ None
 keeps-none None goes_on = refl
 keeps-none (Some fault) goes_on = absurd (goes_on refl)

@@ -1,4 +1,4 @@
--- Where the source fails, and what was reported before; main lemma: fails-next.
+-- The block at which the source fails, and the faults reported before; main lemma: fails-next.
 use Rattle.std.proofs.Common.{◌≡◌, ℕ, ◌+◌, ◌*◌, ◌/◌, List, ◌∷◌, ◌++◌, length, Option, [], Some}
 use Rattle.std.proofs.Common.{Result, true, refl, arith, length-append}
 use Rattle.std.specs.Prelude.{is_ok}
@@ -22,13 +22,12 @@ use Rattle.stl_rows.specs.EveryFault.{FailsReporting, faults, is_reported_before
 use Rattle.stl_rows.specs.Keeping.{KeptRecords}
 use Rattle.stl_rows.proofs.LoadingLemmas.{GoesOn, IsReportedBy, reports-unread}
 
--- The GSI block and `block` TTI blocks have been read.
+-- The GSI block and `block` TTI blocks have been read completely.
 pub record HasTaken (old now : Option (List ℕ)) (block : ℕ) : Type 0 where
   pub bytes : List ℕ
   pub consumed : Consumes old now bytes
   pub long : length bytes ≡ 1024 + 128 * block
 
--- If reading goes on after a result, its blocks have been read too.
 pub has_taken-next : {old mid now : Option (List ℕ)} {scope : Scope} {from to : ℕ}
     {refused next : Option Begun} {t : SubtitleValue} {result : Result Found StlFault}
     → LeadsOn scope from to refused next mid now t result
@@ -38,27 +37,23 @@ pub has_taken-next : {old mid now : Option (List ℕ)} {scope : Scope} {from to 
 has_taken-next {old} {mid} {now} l goes h =
     grind (arith, nat_tests, Consumes-trans, length-append)
 
--- ---- the source fails
-
--- A source's bytes are those that were read and those that are left.
 left_over : (rest : List ℕ) (new : Option (List ℕ)) (bytes : List ℕ)
     → Consumes (Some rest) new bytes
     → (more : List ℕ) × (rest ≡ bytes ++ more)
 left_over rest new bytes p = grind (arith, nat_tests)
 
--- The block at which a source ends, after `from` TTI blocks.
 block-is : (bytes more : List ℕ) (from to : ℕ)
     → length bytes ≡ 1024 + 128 * from
     → to ≡ from + length more / 128 + 1
     → to ≡ block_of_byte (length (bytes ++ more))
 block-is bytes more from to long at = grind (arith, nat_tests, length-append bytes more)
 
--- No fault comes before block 0.
 none_before-0 : (all : List LoadFault) → filter (is_reported_before 0) all ≡ []
 none_before-0 [] = refl
 none_before-0 (f ∷ fs) = grind (arith, nat_tests, none_before-0 fs)
 
--- The source fails while a subtitle is read.
+-- If the source fails while a subtitle is read, exactly the faults of earlier blocks have been
+-- reported.
 pub fails-next : {drawing : Drawing} {start old new : Option (List ℕ)} {before : Option Times}
     {kept : KeptRecords} {early : List LoadFault} {D : Type 0}
     {IsReported : D → LoadFault → D → Type 0} {reported_old reported_new : D} {scope : Scope}
@@ -88,7 +83,7 @@ fails-next {start = start} {old} {new} {scope = scope} reader {block} taken earl
           reported;
     }
 
--- The source fails while the GSI block is read: nothing was reported.
+-- If the source fails within the GSI block, no fault has been reported.
 pub reads-nothing : (drawing : Drawing) (file : List ℕ)
     {D : Type 0} {IsReported : D → LoadFault → D → Type 0} (reported : D)
     → Reports IsReported reported reported (filter (is_reported_before 0) (faults drawing file))

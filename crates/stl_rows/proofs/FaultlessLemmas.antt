@@ -1,5 +1,5 @@
--- Lines without a fault: each is on the page (on_page), and while text codes are left to be read
--- the cells before them are at most 40 (few_cells).
+-- Lines without a fault: each line fits on the page, on_page, and a line that is still being read
+-- has at most 40 cells, few_cells.
 use Rattle.std.proofs.Common.{◌≡◌, ℕ, zero, suc, ◌+◌, ◌<◌, ◌≤◌, Bool, List, [], ◌∷◌, ◌++◌, length}
 use Rattle.std.proofs.Common.{map, get_or, refl, arith}
 use Rattle.std.proofs.lemmas.Bool.Decides.{nat_tests}
@@ -17,7 +17,7 @@ pub map_empty : {A B : Type 0} (f : A → B) (xs : List A) → map f xs ≡ [] �
 map_empty f [] e = refl
 map_empty f (x ∷ xs) e = cc
 
--- A prepared line has at most 40 cells, and none below the last row.
+-- A prepared line has at most 40 cells, and its row is not below row 23 unless the line is empty.
 pub record IsOnPage (row : ℕ) (line : List ℕ) : Type 0 where
   pub few : length line ≤ 40
   pub last : 0 < length line → row ≤ last_row
@@ -28,7 +28,7 @@ on_page_faultless : (row : ℕ) (under : Bool) (line : List ℕ)
 unfolding line_fault_kinds
 on_page_faultless row under line e = grind (arith, nat_tests)
 
--- If lines have no fault, each is on the page; line `k` goes to row `at`.
+-- If no line has a fault, each line fits on the page.
 pub on_page : (number row at : ℕ) (under : Bool) (lines : List (List ℕ)) (k : ℕ)
     → at ≡ row + k
     → line_faults number row under lines ≡ []
@@ -40,7 +40,6 @@ on_page number row at under (line ∷ lines) (suc k) is e =
     let rest = on_page (number + 1) (row + 1) at (is_double line) lines k in
     grind (arith, nat_tests, empty_parts)
 
--- If the first prepared line is on the page, the cells before all the others are at most 40.
 pub few_cells : (row : ℕ) (cells : List ℕ) (lines : List (List ℕ))
     → IsOnPage row (get_or (map prepared (onto cells lines)) 0 [])
     → length cells ≤ 40

@@ -1,5 +1,4 @@
--- The first line of cells that are read one by one: first_line-more, first_line-end,
--- first_line-all.
+-- Finding the first line of a text, cell by cell: first_line-more, first_line-end, first_line-all.
 use Rattle.std.proofs.lemmas.Bool.Decides.{nat_tests}
 use Rattle.std.proofs.Common.{arith}
 use Rattle.std.proofs.Common.{◌≡◌, ℕ, ◌+◌, ◌<◌, ◌≤◌, List, [], ◌∷◌, ◌++◌, length, get_or, take}
@@ -14,8 +13,6 @@ use Rattle.stl_rows.specs.TextCode.{new_line}
 use Rattle.stl_rows.proofs.LineByLineLemmas.{onto_code, onto_line_end}
 
 module _ (cells : List ℕ) (at : ℕ) where
-  -- The lines of the cells are those of the remaining cells, with the cells so far before the
-  -- first.
   abbrev pub AreOnto : Type 0
   AreOnto = cut_lines cells ≡ onto (take at cells) (cut_lines (drop at cells))
 
@@ -26,7 +23,6 @@ module _ (cells : List ℕ) (at : ℕ) where
       → take (at + 1) cells ≡ take at cells ++ get_or cells at 0 ∷ []
   one_more low = rw add-one (take-suc cells at 0 low)
 
-  -- A cell that is no new line is one of the cells so far.
   pub first_line-more : at < length cells
       → (get_or cells at 0 == new_line) ≡ false
       → AreOnto
@@ -34,7 +30,6 @@ module _ (cells : List ℕ) (at : ℕ) where
   first_line-more low other h =
       grind (arith, nat_tests, here, slice_split-cons_no, onto_code, one_more)
 
-  -- A new line ends the first line.
   pub first_line-end : (more : List ℕ)
       → at < length cells
       → (get_or cells at 0 == new_line) ≡ true
@@ -44,6 +39,5 @@ module _ (cells : List ℕ) (at : ℕ) where
   first_line-end more low own h is =
       grind (arith, nat_tests, here, slice_split-cons_yes, onto_line_end)
 
-  -- So does the end of the cells.
   pub first_line-all : length cells ≤ at → AreOnto → cut_lines cells ≡ cells ∷ []
   first_line-all past h = grind (arith, nat_tests, drop_all, onto_line_end, take_all)

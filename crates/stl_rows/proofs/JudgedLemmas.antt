@@ -1,5 +1,5 @@
--- Each reliable subtitle draws a page: judged_drawn; without a fault, all subtitles are reliable:
--- all_decided. Frames whose expected page is unknown: undecided-last, undecided-next.
+-- Each reliable subtitle draws a page: judged_drawn. In a file without faults, all subtitles are
+-- reliable: all_decided. Frames whose expected page is unknown: undecided-last, undecided-next.
 use Rattle.std.proofs.Common.{◌≡◌, ℕ, Bool, false, true, List, [], ◌∷◌, ◌++◌, Option, Some, None}
 use Rattle.std.proofs.Common.{map, refl, ap, arith, Result, Ok, Err, zero, suc, ◌<◌, ◌≤◌}
 use Rattle.std.proofs.Common.{get_or, length}
@@ -23,8 +23,6 @@ use Rattle.stl_rows.specs.Loading.{records_of}
 use Rattle.stl_rows.specs.Programme.{follow_faults, row_faults, times_of}
 use Rattle.stl_rows.specs.TextCode.{first_of}
 use Rattle.stl_rows.proofs.FaultlessLemmas.{empty_parts, map_empty}
-
--- ---- each draws a page
 
 drawn_none : (order : List LoadFaultKind) (r : Result Rows RowFault)
     → is_none (first_of (order ++ row_faults r)) ≡ true
@@ -54,9 +52,6 @@ pub judged_drawn : LawOfJudged
 unfolding judged_of
 judged_drawn drawing file = each_drawn drawing None false (findings_for drawing.scope file)
 
--- ---- files without a fault
-
--- The expected page is known at every frame.
 abbrev AllDecided : AllJudged → Type 0
 AllDecided all =
     (all.is_before_other ≡ false)
@@ -71,12 +66,10 @@ decided_more : (t : SubtitleValue) (all : AllJudged)
 decided_more t all h =
     (h.0, λ start frame. let rest = h.1 t.tco frame in grind (arith, nat_tests))
 
--- A subtitle without a fault has no fault of its times.
 no_order : (order row : List LoadFaultKind) → order ++ row ≡ [] → is_none (first_of order) ≡ true
 no_order [] row e = refl
 no_order (k ∷ ks) row e = absurd cc
 
--- If there is no fault, the next record is in order with a subtitle.
 followed : (drawing : Drawing) (t : SubtitleValue) (left : Findings)
     → faults_after drawing (Some (times_of t)) left ≡ []
     → is_followed_in_order (times_of t) left ≡ true
@@ -87,7 +80,6 @@ followed drawing t (refuses f block left) none = grind (arith, nat_tests)
 followed drawing t (finds u block left) none =
     grind (arith, nat_tests, empty_parts, no_order, map_empty)
 
--- All subtitles are reliable.
 all_after : (drawing : Drawing) (before : Option Times) (left : Findings)
     → faults_after drawing before left ≡ []
     → (map (λ (j : JudgedSubtitle). j.subtitle) (judged_after drawing before false left).judged
@@ -113,9 +105,6 @@ all_decided drawing file none =
     let all = all_after drawing None (findings_for drawing.scope file) none in
     (all.0, λ frame. all.1.1 0 frame)
 
--- ---- for callers
-
--- If no bit is set, no frame is undecided.
 none_set : (ts : List SubtitleValue) (start frame : ℕ)
     → is_undecided_from start (with_bits ts []) false frame ≡ false
 none_set [] start frame = grind (arith, nat_tests)
@@ -131,7 +120,6 @@ pub all_known : LawOfKnown
 unfolding is_undecided_in
 all_known programme frame = none_set programme.records 0 frame
 
--- Before the start no frame is undecided.
 none_before : (ts : List SubtitleValue) (bits : List Bool) (other : Bool) (start frame : ℕ)
     → frame < start
     → All (λ (t : SubtitleValue). frame < t.tco) ts
@@ -146,7 +134,6 @@ none_before (t ∷ ts) (bit ∷ bits) other start frame early after =
     (λ k d h. after (suc k) d (omega arith)) in
     grind (arith, nat_tests)
 
--- If all subtitles have ended, it depends on what follows the last.
 pub undecided-last : (ts : List SubtitleValue) (bits : List Bool) (other : Bool)
     (start frame : ℕ)
     → start ≤ frame
@@ -167,7 +154,8 @@ undecided-last (t ∷ ts) (bit ∷ bits) other start frame le each past =
     (λ k d h. each (suc k) d (omega arith)) (λ k d h. past (suc k) d (omega arith)) in
     grind (arith, nat_tests)
 
--- Otherwise it depends on the first subtitle that ends after the frame, and its bit.
+-- If a subtitle ends after the frame, its bit and its TCI decide whether the expected page is
+-- unknown.
 pub undecided-next : (ts : List SubtitleValue) (bits : List Bool) (other : Bool)
     (start frame at : ℕ) (d : SubtitleValue)
     → start ≤ frame

@@ -1,5 +1,6 @@
--- The subtitles kept while a file is read, and those of the rest, are its reliable subtitles:
--- judged-start, judged-refused, judged-next, judged-end. Subtitles that are in order: ordered.
+-- The subtitles kept so far, followed by the reliable subtitles of the rest, are the reliable
+-- subtitles of the file: judged-start, judged-refused, judged-next, judged-end. The test for
+-- overlap: ordered.
 use Rattle.std.proofs.Common.{◌≡◌, ℕ, zero, suc, ◌+◌, ◌-◌, ◌<◌, ◌≤◌, Bool, false, true, List, []}
 use Rattle.std.proofs.Common.{◌∷◌, ◌++◌, length, take, drop, map, replicate, Option, Some, None}
 use Rattle.std.proofs.Common.{refl, sym}
@@ -33,8 +34,6 @@ use Rattle.stl_rows.proofs.ProgrammeLemmas.{IsProgramme-push, draws, last_of-pus
 use Rattle.stl_rows.specs.DrawnPage.{drawn}
 use Rattle.stl_rows.specs.TextCode.{first_of}
 
--- ---- subtitles with their bits
-
 abbrev with_bit : SubtitleValue → Bool → JudgedSubtitle
 with_bit t bit = record { subtitle = t; is_after_other = bit }
 
@@ -42,7 +41,6 @@ take_none : (n : ℕ) → take {A = Bool} n [] ≡ []
 take_none zero = refl
 take_none (suc n) = refl
 
--- One more subtitle, whose bit is set.
 pub with_bits-set : (ts : List SubtitleValue) (bits : List Bool) (t : SubtitleValue)
     → with_bits (ts ++ t ∷ [])
     (take (length ts) bits ++ (replicate (length ts - length bits) false ++ true ∷ []))
@@ -60,7 +58,6 @@ with_bits-set (s ∷ ts) (bit ∷ bits) t =
     let left : suc (length ts) - suc (length bits) ≡ length ts - length bits = omega arith in
     rw left (ap (λ (l : List JudgedSubtitle). with_bit s bit ∷ l) (with_bits-set ts bits t))
 
--- One more subtitle, whose bit is missing.
 pub with_bits-unset : (ts : List SubtitleValue) (bits : List Bool) (t : SubtitleValue)
     → length bits ≤ length ts
     → with_bits (ts ++ t ∷ []) bits ≡ with_bits ts bits ++ with_bit t false ∷ []
@@ -90,9 +87,6 @@ with_bits-subtitles (s ∷ ts) [] =
 with_bits-subtitles (s ∷ ts) (bit ∷ bits) =
     ap (λ (l : List SubtitleValue). s ∷ l) (with_bits-subtitles ts bits)
 
--- ---- subtitles in order
-
--- The bits don't matter for it.
 start_from-bits : (frame : ℕ) (ts : List SubtitleValue) (bits : List Bool)
     → start_from frame (with_bits ts bits) ≡ start_from frame (with_bits ts [])
 start_from-bits frame [] bits = refl
@@ -110,7 +104,6 @@ pub start_from-0 : (js : List JudgedSubtitle) → start_from 0 js ≡ true
 start_from-0 [] = refl
 start_from-0 (j ∷ js) = grind (arith, nat_tests, start_from-0 js)
 
--- Subtitles that start at a frame or later do so for an earlier frame.
 start_from-earlier : (early late : ℕ) (js : List JudgedSubtitle)
     → early ≤ late
     → start_from late js ≡ true
@@ -120,7 +113,6 @@ start_from-earlier early late (j ∷ js) le h =
     let rest = start_from-earlier early late js le in
     grind (arith, nat_tests)
 
--- The test of the first subtitle, and then of the rest.
 abbrev pub InOrderFrom : ℕ → List SubtitleValue → Bool
 InOrderFrom last ts = start_from last (with_bits ts []) && are_in_order (with_bits ts [])
 
@@ -137,7 +129,6 @@ pub in_order-early : (last : ℕ) (t : SubtitleValue) (ts : List SubtitleValue)
     → InOrderFrom last (t ∷ ts) ≡ false
 in_order-early last t ts early = grind (arith, nat_tests)
 
--- The test of the rest: first of the next subtitle, then of the others.
 pub in_order-next : (last i : ℕ) (ts : List SubtitleValue) (t : SubtitleValue)
     → i < length ts
     → get_or ts i t ≡ t
@@ -156,11 +147,9 @@ pub in_order-end : (last i : ℕ) (ts : List SubtitleValue) (t : SubtitleValue)
 in_order-end last i ts t inside is early =
     rw (drop-cons ts i t inside, is) (in_order-early last t (drop (suc i) ts) early)
 
--- From frame 0 only the order is tested.
 pub in_order-all : (ts : List SubtitleValue) → InOrderFrom 0 ts ≡ are_in_order (with_bits ts [])
 in_order-all ts = rw (start_from-0 (with_bits ts [])) refl
 
--- Each of these starts at this frame or later.
 starts : (frame : ℕ) (ts : List SubtitleValue) (bits : List Bool) (i : ℕ) (d : SubtitleValue)
     → start_from frame (with_bits ts bits) ≡ true
     → i < length ts
@@ -187,9 +176,6 @@ ordered (t ∷ ts) [] h (suc i) (suc j) d below inside =
 ordered (t ∷ ts) (bit ∷ bits) h (suc i) (suc j) d below inside =
     ordered ts bits (grind (arith, nat_tests)) i j d (omega arith) (omega arith)
 
--- ---- the kept subtitles, and the rest
-
--- These subtitles, and then those.
 abbrev joined : List JudgedSubtitle → AllJudged → AllJudged
 joined js all = record { judged = js ++ all.judged; is_before_other = all.is_before_other }
 
@@ -197,25 +183,22 @@ joined-more : (js : List JudgedSubtitle) (j : JudgedSubtitle) (all : AllJudged)
     → joined js (judged_before j all) ≡ joined (js ++ j ∷ []) all
 joined-more js j all = grind (arith, nat_tests, append_assoc)
 
--- The record compared next with these times is in order with them.
 abbrev is_followed : Option Times → Findings → Bool
 is_followed None left = true
 is_followed (Some times) left = is_followed_in_order times left
 
--- The reliable subtitles of a file: the kept ones, without the last if the next record is early or
--- overlaps it, and those of the rest.
+-- The reliable subtitles of a file: the kept ones, without the last if the next subtitle starts
+-- before its TCI or overlaps, followed by those of the rest.
 abbrev pub judged_on : Drawing → Option Times → KeptRecords → Findings → AllJudged
 judged_on drawing before k left =
     if k.is_latest && not (is_followed before left)
     then joined (take (length k.records - 1) (all_kept k)) (judged_after drawing before true left)
     else joined (all_kept k) (judged_after drawing before k.is_before_other left)
 
--- Before anything is read.
 pub judged-start : (drawing : Drawing) (left : Findings)
     → judged_after drawing None false left ≡ judged_on drawing None nothing_kept left
 judged-start drawing left = refl
 
--- At the end of the file.
 end_none : (latest other : Bool) (js : List JudgedSubtitle) (given : AllJudged)
     → (if latest && false then given
     else record { judged = js ++ []; is_before_other = other })
@@ -229,7 +212,6 @@ unfolding judged_after
 judged-end drawing None k = end_none k.is_latest k.is_before_other (all_kept k) _
 judged-end drawing (Some times) k = end_none k.is_latest k.is_before_other (all_kept k) _
 
--- After a rejected subtitle.
 pub judged-refused : (drawing : Drawing) (before : Option Times) (k : KeptRecords)
     (fault : StlFault) (block : ℕ) (left : Findings)
     → judged_on drawing before k (refuses fault block left)
@@ -238,7 +220,6 @@ unfolding judged_after
 judged-refused drawing None k fault block left = refl
 judged-refused drawing (Some times) k fault block left = refl
 
--- A record without a fault.
 finds_clean : (drawing : Drawing) (before : Option Times) (other : Bool) (t : SubtitleValue)
     (block : ℕ) (left : Findings)
     → is_none (first_of (follow_faults drawing before t)) ≡ true
@@ -249,7 +230,6 @@ finds_clean : (drawing : Drawing) (before : Option Times) (other : Bool) (t : Su
 unfolding judged_after
 finds_clean drawing before other t block left none = rw none refl
 
--- A record with a fault.
 finds_reported : (drawing : Drawing) (before : Option Times) (other : Bool) (t : SubtitleValue)
     (block : ℕ) (left : Findings)
     → is_none (first_of (follow_faults drawing before t)) ≡ false
@@ -258,21 +238,18 @@ finds_reported : (drawing : Drawing) (before : Option Times) (other : Bool) (t :
 unfolding judged_after
 finds_reported drawing before other t block left some = rw some refl
 
--- A record is in order with those times if it has no fault of its times.
 followed_is : (before : Option Times) (t : SubtitleValue) (block : ℕ) (left : Findings)
     → is_followed before (finds t block left)
     ≡ is_none (first_of (order_faults before (times_of t)))
 followed_is None t block left = refl
 followed_is (Some times) t block left = refl
 
--- A record without a fault is in order.
 clean_order : (order row : List LoadFaultKind)
     → is_none (first_of (order ++ row)) ≡ true
     → is_none (first_of order) ≡ true
 clean_order [] row none = refl
 clean_order (k ∷ ks) row none = absurd cc
 
--- One more subtitle that is kept.
 bits_kept : (k : KeptRecords) (t : SubtitleValue)
     → length k.after_other ≤ length k.records
     → all_kept (with_one t k) ≡ all_kept k ++ with_bit t k.is_before_other ∷ []
@@ -289,7 +266,6 @@ kept_length [] bits = refl
 kept_length (t ∷ ts) [] = ap suc (kept_length ts [])
 kept_length (t ∷ ts) (bit ∷ bits) = ap suc (kept_length ts bits)
 
--- Whether the last subtitle was reliable or not.
 clean_step : (latest followed : Bool) (given following other_after : AllJudged)
     (js then_kept : List JudgedSubtitle) (j : JudgedSubtitle) (n : ℕ)
     → then_kept ≡ js ++ j ∷ []
@@ -329,7 +305,7 @@ judged_reported : (drawing : Drawing) (before : Option Times) (k : KeptRecords) 
 judged_reported drawing before k t block left in_order some is =
     grind (arith, nat_tests, followed_is, finds_reported, with_bits-take)
 
--- One more record of the file.
+-- Taking one more subtitle of the file does not change the reliable subtitles of the file.
 pub judged-next : (drawing : Drawing) (before : Option Times) (k : KeptRecords)
     (t : SubtitleValue) (block : ℕ) (left : Findings) (in_order clean : Bool)
     → length k.after_other ≤ length k.records
@@ -342,10 +318,8 @@ judged-next drawing before k t block left in_order true fits is_order is_clean =
 judged-next drawing before k t block left in_order false fits is_order is_clean =
     judged_reported drawing before k t block left in_order (sym is_clean) is_order
 
--- ---- the kept subtitles are a programme
-
--- What is kept of the subtitles so far: while no fault was reported it is all of them, and they are
--- a programme.
+-- The kept subtitles are valid and can be drawn. As long as no fault was reported, all subtitles
+-- are kept, and they do not overlap.
 pub record AreKept (drawing : Drawing) (before : Option Times) (early : List LoadFault)
     (k : KeptRecords) : Type 0 where
   pub each : All IsSubtitle k.records
@@ -354,15 +328,12 @@ pub record AreKept (drawing : Drawing) (before : Option Times) (early : List Loa
   pub whole : are_all_kept k ≡ is_none (first_of early)
   pub programme : early ≡ [] → (before ≡ times_before k.records) × IsProgramme drawing k.records
 
--- Before anything is read.
 pub kept-none : (drawing : Drawing) → AreKept drawing None [] nothing_kept
 kept-none drawing = grind (arith, nat_tests)
 
--- If something untrusted follows the last, not all is kept.
 not_all_kept : (none : Bool) → (none && not true) ≡ false
 not_all_kept none = grind (arith, nat_tests)
 
--- A fault was reported.
 reported_some : {A : Type 0} (xs ys : List A) (y : A)
     → is_none (first_of (xs ++ y ∷ ys)) ≡ false
 reported_some [] ys y = refl
@@ -372,14 +343,12 @@ not_empty : {A : Type 0} (xs ys : List A) (y : A) → xs ++ y ∷ ys ≡ [] → 
 not_empty [] ys y e = absurd cc
 not_empty (x ∷ xs) ys y e = absurd cc
 
--- After a rejected subtitle.
 pub kept-refused : {drawing : Drawing} {before : Option Times} {early : List LoadFault}
     {k : KeptRecords} (fault : LoadFault)
     → AreKept drawing before early k
     → AreKept drawing before (early ++ fault ∷ []) (refused_one k)
 kept-refused fault kept = grind (arith, nat_tests, not_all_kept, reported_some, not_empty)
 
--- If a bit was set, not all bits are unset.
 some_bits : (bits more : List Bool) → are_none (bits ++ (more ++ true ∷ [])) ≡ false
 some_bits [] [] = refl
 some_bits [] (bit ∷ more) = refl
@@ -388,7 +357,6 @@ some_bits (bit ∷ bits) more = refl
 pub none-first : {A : Type 0} (xs : List A) → is_none (first_of xs) ≡ true → xs ≡ []
 none-first xs h = grind (arith, nat_tests)
 
--- The faults of one more record were reported.
 reported_more : (early : List LoadFault) (block : ℕ) (kinds : List LoadFaultKind)
     → is_none (first_of kinds) ≡ false
     → is_none (first_of (early ++ map (load_fault block) kinds)) ≡ false
@@ -396,7 +364,6 @@ reported_more early block [] some = absurd cc
 reported_more early block (kind ∷ kinds) some =
     reported_some early (map (load_fault block) kinds) (load_fault block kind)
 
--- A list with a first element is not empty.
 none_some : {A : Type 0} (xs : List A) → is_none (first_of xs) ≡ false → xs ≡ [] → ⊥
 none_some xs some none = grind (arith, nat_tests)
 
@@ -409,7 +376,6 @@ module _ {drawing : Drawing} {before : Option Times} {early : List LoadFault} {k
   all_kept_then : are_all_kept (with_one t k) ≡ is_none (first_of early)
   all_kept_then = grind (arith, nat_tests, not_all_kept, some_bits)
 
-  -- A record without a fault is kept.
   kept_clean : IsSubtitle t
       → follow_faults drawing before t ≡ []
       → AreKept drawing (Some (times_of t))
@@ -431,7 +397,6 @@ module _ {drawing : Drawing} {before : Option Times} {early : List LoadFault} {k
             );
       })
 
-  -- A record with a fault is not kept; the record before it may be dropped too.
   kept_reported : (early_then : List LoadFault) (drops : Bool)
       → is_none (first_of early_then) ≡ false
       → AreKept drawing (Some (times_of t)) early_then
@@ -454,7 +419,6 @@ module _ {drawing : Drawing} {before : Option Times} {early : List LoadFault} {k
         programme = λ none. absurd (none_some early_then some none);
       }
 
-  -- One more record of the file.
   pub kept-next : (in_order clean : Bool)
       → clean ≡ is_none (first_of (follow_faults drawing before t))
       → IsSubtitle t
@@ -468,8 +432,6 @@ module _ {drawing : Drawing} {before : Option Times} {early : List LoadFault} {k
       (k.is_latest && not in_order)
       (reported_more early block (follow_faults drawing before t) (sym is_clean))
 
--- ---- the subtitles used for checking
-
 -- If all subtitles are kept, no fault was reported.
 pub all_kept_none : {drawing : Drawing} {before : Option Times} {early : List LoadFault}
     {k : KeptRecords}
@@ -478,7 +440,7 @@ pub all_kept_none : {drawing : Drawing} {before : Option Times} {early : List Lo
     → early ≡ []
 all_kept_none {early = early} kept whole = none-first early (sym kept.whole ∙ whole)
 
--- Subtitles that are enough for checking are a programme.
+-- If a transmission can be checked against the kept subtitles, they are a programme.
 pub programme-kept : {drawing : Drawing} {before : Option Times} {early : List LoadFault}
     {k : KeptRecords}
     → AreKept drawing before early k
@@ -494,9 +456,6 @@ programme-kept {k = k} kept enough = elim (cases_Bool (are_all_kept k)) [
   }
 ]
 
--- ---- as the code tests it
-
--- If a fault was reported, they must be in order.
 pub enough-some : (k : KeptRecords)
     → are_all_kept k ≡ false
     → 0 < length k.records

@@ -1,5 +1,5 @@
--- Lines put on a page by a layout one after another give the page that shows them, or their first
--- fault: drawn_from-is. Properties of such a page: drawn_by-lines.
+-- Drawing lines by a layout, one after another, gives the page that shows the lines, or their first
+-- fault: drawn_from-is. The lines of a drawn page have no fault: drawn_by-lines.
 use Rattle.std.proofs.Common.{◌≡◌, ℕ, ◌+◌, ◌-◌, ◌<◌, ◌≤◌, Bool, true, false, List, [], ◌∷◌}
 use Rattle.std.proofs.Common.{length, map, get_or, refl, sym, ap, ◌∙◌, arith}
 use Rattle.std.proofs.Common.{None, Result, Ok, Err}
@@ -26,9 +26,6 @@ use Rattle.stl_rows.specs.PreparedLine.{row_from, start_by}
 use Rattle.stl_rows.specs.TextCode.{fault_of, first_of}
 use Rattle.stl_rows.proofs.FaultlessLemmas.{empty_parts, map_empty}
 
--- ---- the rows follow on downwards
-
--- Lines from a depth on go to no row above it.
 pub none_above : (items : LayoutItems) (off row number depth : ℕ) (under : Bool)
     (lines : List (List ℕ))
     → off + row < depth
@@ -42,9 +39,6 @@ none_above items off row number depth under (line ∷ lines) low =
       none_above items off row (number + 1) (depth + pitch items) (is_double line) lines,
     )
 
--- ---- a page on which lines are put
-
--- The row of a page on which lines are put.
 abbrev row_over : LayoutItems → ℕ → ℕ → Rows → List PlacedLine → ℕ → List ℕ
 row_over items jc off page lines row =
     option_map_or (λ (line : PlacedLine). row_from (start_by items jc line.cells) line.cells)
@@ -54,7 +48,6 @@ abbrev page_over : LayoutItems → ℕ → ℕ → Rows → List PlacedLine → 
 page_over items jc off page lines =
     map (row_over items jc off page lines) (range_with_len 1 24)
 
--- Two pages with the same rows 1 to 24.
 rows_same : (f g : ℕ → List ℕ)
     → ((row : ℕ) → 1 ≤ row → row ≤ 24 → f row ≡ g row)
     → map f (range_with_len 1 24) ≡ map g (range_with_len 1 24)
@@ -72,7 +65,7 @@ page_again page long =
     at_row : (k : ℕ) → k ≡ k + 1 - 1
     at_row k = omega arith
 
--- A line without a fault that has cells goes to a row of the page.
+-- A line that has cells and no fault is drawn in a row from 1 to 23.
 pub on_page : (items : LayoutItems) (off : ℕ) (line : PlacedLine)
     → placed_fault_kinds items off line ≡ []
     → has_cells line.cells ≡ true
@@ -80,7 +73,6 @@ pub on_page : (items : LayoutItems) (off : ℕ) (line : PlacedLine)
 unfolding placed_fault_kinds
 on_page items off line none some = grind (arith, nat_tests)
 
--- A row of a page on which a line is put, and then others.
 row_step : (items : LayoutItems) (jc off : ℕ) (place : Place) (line : List ℕ) (page : Rows)
     (rest : List PlacedLine) (row : ℕ)
     → length page ≡ 24
@@ -94,10 +86,7 @@ unfolding page_with
 row_step items jc off place line page rest row long none above low high =
     grind (arith, nat_tests, on_page, get_or-set_same, get_or-set_other)
 
--- ---- the loop
-
 module _ (items : LayoutItems) (jc off : ℕ) (place : Place) (line : List ℕ) (page : Rows) where
-  -- A line that takes no row changes only the number.
   skipped : takes_none items line ≡ true
       → (fault_at items off place line ≡ None)
       × (place_after items place line ≡ record place { number = place.number + 1 })
@@ -105,7 +94,6 @@ module _ (items : LayoutItems) (jc off : ℕ) (place : Place) (line : List ℕ) 
   unfolding fault_at place_after page_with
   skipped none = grind (arith, nat_tests)
 
-  -- Any other line has its own fault, and the place moves down.
   taken : takes_none items line ≡ false
       → (fault_at items off place line
       ≡ first_of (map (fault_of place.number) (placed_fault_kinds items off (line_at place line))))
@@ -121,17 +109,14 @@ module _ (items : LayoutItems) (jc off : ℕ) (place : Place) (line : List ℕ) 
   unfolding page_with
   same_length long = grind (arith, nat_tests, length-set)
 
--- The lines from a place on that take rows.
 abbrev placed_at : LayoutItems → Place → List (List ℕ) → List PlacedLine
 placed_at items place lines =
     placed_from items place.number place.depth place.is_under_double lines
 
--- The page with these lines, or the first fault.
 abbrev drawn_over : LayoutItems → ℕ → ℕ → Rows → List PlacedLine → Result Rows RowFault
 drawn_over items jc off page lines =
     unless (placed_faults items off lines) (page_over items jc off page lines)
 
--- A line that takes a row, by its faults.
 of_kinds : (items : LayoutItems) (jc off : ℕ) (place : Place) (line : List ℕ) (page : Rows)
     (rest : List PlacedLine) (kinds : List RowFaultKind) (drawn : Result Rows RowFault)
     → length page ≡ 24
@@ -145,7 +130,6 @@ of_kinds items jc off place line page rest [] drawn long none is above =
 of_kinds items jc off place line page rest (k ∷ ks) drawn long some is above =
     grind (arith, nat_tests)
 
--- One line, and those after it.
 drawn_from-step : (items : LayoutItems) (jc off : ℕ) (place : Place) (page : Rows)
     (line : List ℕ) (lines : List (List ℕ)) (none : Bool)
     → length page ≡ 24
@@ -179,7 +163,7 @@ drawn_from-step items jc off place page line lines false long is rest =
     pitch_some : 0 < pitch items
     pitch_some = grind (arith, nat_tests)
 
--- Drawing from a place on gives the page with all lines on it, or the first fault.
+-- Drawing the lines from a position on gives the page that shows all of them, or their first fault.
 drawn_from-over : (items : LayoutItems) (jc off : ℕ) (place : Place) (page : Rows)
     (lines : List (List ℕ))
     → length page ≡ 24
@@ -199,7 +183,6 @@ blank_long : length blank ≡ 24
 unfolding blank
 blank_long = refl
 
--- On the blank page: for `draw_by`.
 pub drawn_from-is : (items : LayoutItems) (jc off : ℕ) (place : Place) (lines : List (List ℕ))
     → drawn_from items jc off place blank lines
     ≡ unless (placed_faults items off (placed_at items place lines))
@@ -213,7 +196,7 @@ drawn_from-is items jc off place lines =
     ap (option_map_or (λ (line : PlacedLine). row_from (start_by items jc line.cells) line.cells)
     (find (is_on_row off row) taken)) (blank_rows row low high)))
 
--- A line with cells and without a fault fits a row of the page: for `put_line`.
+-- A line that has cells and no fault fits in a row of the page.
 pub sound_line : (items : LayoutItems) (off : ℕ) (place : Place) (line : List ℕ)
     → fault_at items off place line ≡ None
     → 0 < length line
@@ -222,9 +205,6 @@ unfolding fault_at placed_fault_kinds
 sound_line items off place [] sound some = omega (arith, some)
 sound_line items off place (c ∷ line) sound some = grind (arith, nat_tests)
 
--- ---- a page that is drawn
-
--- If there is a value, there is no fault.
 nothing_wrong : {A E : Type 0} (es : List E) (value got : A)
     → unless es value ≡ Ok got
     → (es ≡ []) × (got ≡ value)
@@ -234,11 +214,10 @@ nothing_wrong (x ∷ es) value got e = cc
 abbrev pub lines_of_subtitle : National → LayoutItems → SubtitleValue → List PlacedLine
 lines_of_subtitle national items t = placed_lines items t.vp (lines_by national items t.text)
 
--- How many rows its lines are shifted up.
 abbrev pub off_of_subtitle : National → LayoutItems → SubtitleValue → ℕ
 off_of_subtitle national items t = rows_off items (lines_by national items t.text)
 
--- A drawn page shows lines without a fault.
+-- If a page is drawn, none of the subtitle's lines has a fault.
 pub drawn_by-lines : (national : National) (items : LayoutItems) (t : SubtitleValue) (page : Rows)
     → drawn_by national items t ≡ Ok page
     → (placed_faults items (off_of_subtitle national items t) (lines_of_subtitle national items t)
@@ -248,7 +227,7 @@ pub drawn_by-lines : (national : National) (items : LayoutItems) (t : SubtitleVa
 unfolding drawn_by
 drawn_by-lines national items t page e = grind (arith, nat_tests, taken, nothing_wrong, empty_parts)
 
--- No line without a fault goes to row 24.
+-- No line without a fault is drawn in row 24.
 pub none_below : (items : LayoutItems) (off : ℕ) (lines : List PlacedLine)
     → placed_faults items off lines ≡ []
     → find (is_on_row off 24) lines ≡ None

@@ -12,19 +12,16 @@ use Rattle.stl_rows.proofs.DuePageLemmas.{due_has}
 use Rattle.stl_rows.proofs.LaidOutLemmas.{drawn_by-lines, lines_of_subtitle, none_below}
 use Rattle.stl_rows.proofs.LaidOutLemmas.{off_of_subtitle}
 
--- Row 24 of the page of lines without a fault is blank.
 row_free : (items : LayoutItems) (jc off : ℕ) (lines : List PlacedLine)
     → placed_faults items off lines ≡ []
     → row_at (page_of_placed items jc off lines) 24 ≡ blank_row
 unfolding page_of_placed
 row_free items jc off lines none = grind (arith, nat_tests, none_below)
 
--- Row 24 of the blank page is blank.
 blank_free : row_at blank 24 ≡ blank_row
 unfolding blank
 blank_free = refl
 
--- Row 24 of each drawn page is blank.
 drawn_free : (drawing : Drawing) (t : SubtitleValue) (page : Rows)
     → drawn drawing t ≡ Ok page
     → row_at page 24 ≡ blank_row

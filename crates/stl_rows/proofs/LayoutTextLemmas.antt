@@ -1,4 +1,4 @@
--- Layouts read item by item, and their codes pair by pair: items_set-more, codes_filled-step,
+-- Parsing layouts item by item, and codes pair by pair: items_set-more, codes_filled-step,
 -- stripped_with-more.
 use Rattle.std.proofs.Common.{◌≡◌, ℕ, zero, suc, ◌+◌, ◌<◌, ◌≤◌, Bool, true, false, List, [], ◌∷◌}
 use Rattle.std.proofs.Common.{length, get_or}
@@ -14,9 +14,6 @@ use Rattle.stl_rows.specs.Layout.{attribute_of}
 use Rattle.stl_rows.specs.LayoutText.{byte_of_digits, codes_filled, item_set, items_set}
 use Rattle.stl_rows.specs.LayoutText.{stripped_with}
 
--- ---- what came before
-
--- Within a list the default value doesn't matter; beyond its end it is the result.
 received_at : (received : List Bool) (k : ℕ) → k < length received → get_or received k true ≡ get_or
     received k false
 received_at [] k low = absurd (omega (arith, low))
@@ -30,8 +27,6 @@ received_before [] k h = refl
 received_before (c ∷ received) zero h = grind (arith, nat_tests)
 received_before (c ∷ received) (suc k) h = grind (arith, nat_tests, received_before received k)
 
--- ---- pairs of digits
-
 here : (text : List ℕ) (at : ℕ) → at < length text
     → drop at text ≡ get_or text at 0 ∷ drop (at + 1) text
 here text at low = rw (add-one, drop-cons text at 0) refl
@@ -40,14 +35,12 @@ pair_at : (text : List ℕ) (at : ℕ) → at + 1 < length text
     → drop at text ≡ get_or text at 0 ∷ get_or text (at + 1) 0 ∷ drop (at + 2) text
 pair_at text at low = grind (arith, nat_tests, here)
 
--- The last digit, without another.
 last_at : (text : List ℕ) (at : ℕ) → at + 1 ≡ length text → drop at text ≡ get_or text at 0 ∷ []
 last_at text at is =
     here text at (omega (arith, is))
     ∙ ap (λ rest. get_or text at 0 ∷ rest) (drop_all (at + 1) text (omega (arith, is)))
 
 module _ (text : List ℕ) (at : ℕ) where
-  -- The codes of the places, by the pair of digits at a place of the text: for `codes_of_text`.
   pub codes_filled-step : (places : List (Option Attribute)) (filled : ℕ)
       → at + 1 < length text
       → codes_filled places filled (drop at text)
@@ -71,7 +64,6 @@ module _ (text : List ℕ) (at : ℕ) where
   unfolding codes_filled
   codes_filled-end places filled past = rw (drop_all at text past) refl
 
-  -- The bytes that give no cell: for `stripped_of_text`. A byte that came before is rejected.
   stripped_with-step : (strip : List Bool) (code : ℕ)
       → at + 1 < length text
       → byte_of_digits (get_or text at 0) (get_or text (at + 1) 0) ≡ Some code
@@ -118,9 +110,6 @@ module _ (text : List ℕ) (at : ℕ) where
   unfolding stripped_with
   stripped_with-end strip past = rw (drop_all at text past) refl
 
--- ---- items
-
--- Items, by the first text: for `items_of_text`.
 pub items_set-more : (items next : LayoutItems) (received : List Bool) (number : ℕ) (text : List ℕ)
     (texts : List (List ℕ))
     → Some (number, next) ≡ item_set items text

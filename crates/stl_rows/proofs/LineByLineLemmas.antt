@@ -1,5 +1,4 @@
--- The lines of a text as its text codes are read one by one: the effect of each code, as
--- prepared_lines-cell.
+-- Reading the lines of a text, one text code at a time, as prepared_lines-cell.
 use Rattle.std.proofs.Common.{◌≡◌, ℕ, zero, suc, ◌≤◌, List, ◌∷◌, ◌++◌, map, length, drop, refl, []}
 use Rattle.std.proofs.Common.{ap, arith, length-append, ◌∙◌}
 use Rattle.std.proofs.lemmas.Bool.Decides.{nat_tests}
@@ -13,23 +12,16 @@ use Rattle.stl_rows.specs.LineByLine.{onto, prepared_lines}
 use Rattle.stl_rows.specs.TextCode.{text_codes}
 use Rattle.stl_rows.specs.declared.national.National.{National}
 
--- ---- cells before the first line
-
--- A new line ends the cells before it.
 pub onto_line_end : (cells : List ℕ) (lines : List (List ℕ))
     → onto cells ([] ∷ lines) ≡ cells ∷ lines
 onto_line_end [] lines = refl
 onto_line_end (c ∷ cells) lines = ap (onto_first c) (onto_line_end cells lines)
 
--- A cell before the first line is one of the cells before it.
 pub onto_code : (cells : List ℕ) (code : ℕ) (lines : List (List ℕ))
     → onto cells (onto_first code lines) ≡ onto (cells ++ code ∷ []) lines
 onto_code [] code lines = refl
 onto_code (c ∷ cells) code lines = ap (onto_first c) (onto_code cells code lines)
 
--- ---- one text code
-
--- A cell is added after those before it.
 pub prepared_lines-cell : (cells : List ℕ) {at code : ℕ} {s : TextCode}
     {ss rest : List (ℕ × TextCode)}
     → ss ≡ (at, s) ∷ rest
@@ -37,7 +29,6 @@ pub prepared_lines-cell : (cells : List ℕ) {at code : ℕ} {s : TextCode}
     → prepared_lines cells ss ≡ prepared_lines (cells ++ code ∷ []) rest
 prepared_lines-cell cells {rest = rest} step is = grind (arith, nat_tests, onto_code)
 
--- A new line ends the line.
 pub prepared_lines-line_end : (cells : List ℕ) {at : ℕ} {s : TextCode}
     {ss rest : List (ℕ × TextCode)}
     → ss ≡ (at, s) ∷ rest
@@ -45,7 +36,6 @@ pub prepared_lines-line_end : (cells : List ℕ) {at : ℕ} {s : TextCode}
     → prepared_lines cells ss ≡ prepared cells ∷ prepared_lines [] rest
 prepared_lines-line_end cells {rest = rest} step is = grind (arith, nat_tests, onto_line_end)
 
--- The end of the text ends the last line.
 pub prepared_lines-end : (n : National) (cells : List ℕ) (at : ℕ) (text : List ℕ)
     → length text ≤ at
     → prepared_lines cells (text_codes n at (drop at text)) ≡ prepared cells ∷ []
@@ -57,7 +47,6 @@ pub prepared_longer : (cells : List ℕ) → length cells ≤ length (prepared c
 unfolding prepared
 prepared_longer cells = grind (arith, nat_tests, length-append)
 
--- For `draw_text`.
 pub codes_push : (cells : List ℕ) (code : ℕ)
     → AreCodes cells
     → IsCode code

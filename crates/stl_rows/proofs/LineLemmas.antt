@@ -1,4 +1,5 @@
--- The row that shows a line: row_from-put gives its cells, row_small shows that they are codes.
+-- The row that shows a line: row_from-put gives its cells, row_small shows that all cells are below
+-- 128.
 use Rattle.std.proofs.Common.{◌≡◌, ℕ, ◌+◌, ◌-◌, ◌<◌, ◌≤◌, List, [], ◌∷◌, ◌++◌, length, map, get_or}
 use Rattle.std.proofs.Common.{take, drop, replicate, arith, lit<}
 use Rattle.std.proofs.lemmas.Bool.Decides.{nat_tests}
@@ -10,7 +11,6 @@ use Rattle.ttx_page.specs.Page.{AreCodes, space}
 use Rattle.stl_rows.specs.Line.{code_in_column}
 use Rattle.stl_rows.specs.PreparedLine.{row_from}
 
--- A line put on a row of spaces: for `codes_from`.
 pub row_from-put : (start : ℕ) (line row : List ℕ)
     → start + length line ≤ 40
     → row ≡ replicate 40 space
@@ -26,7 +26,6 @@ row_from-put start line row room is =
 abbrev pub Small : List ℕ → Type 0
 Small codes = AllByRecursion (λ (c : ℕ). c < 128) codes
 
--- A property of each element, and of the default value, holds of the element at a place.
 pub holds_at : {X : Type 0} (P : X → Type 0) (xs : List X) (k : ℕ) (d : X)
     → P d
     → AllByRecursion P xs
@@ -34,7 +33,6 @@ pub holds_at : {X : Type 0} (P : X → Type 0) (xs : List X) (k : ℕ) (d : X)
 holds_at P [] k d none h = none
 holds_at P (x ∷ xs) k d none h = grind (arith, nat_tests, holds_at P xs)
 
--- A property of all results of a function holds of each element of a list that it makes.
 pub holds_map : {X Y : Type 0} (P : Y → Type 0) (f : X → Y) (xs : List X)
     → ((x : X) → P (f x))
     → AllByRecursion P (map f xs)
@@ -46,7 +44,6 @@ cell_small : (start column : ℕ) (line : List ℕ)
     → code_in_column start line column < 128
 cell_small start column line h = grind (arith, nat_tests, holds_at)
 
--- A row has 40 cells.
 pub row_length : (start : ℕ) (line : List ℕ) → length (row_from start line) ≡ 40
 unfolding row_from
 row_length start line = grind (arith, nat_tests, length-map-range_with_len)
@@ -55,7 +52,6 @@ pub row_small : (start : ℕ) (line : List ℕ) → Small line → Small (row_fr
 unfolding row_from
 row_small start line h = grind (arith, nat_tests, holds_map, cell_small)
 
--- The codes of such a row, column by column: for `codes_from`.
 pub row_from-codes : (start : ℕ) (line : List ℕ) → AreCodes line → AreCodes (row_from start line)
 row_from-codes start line codes column =
     holds_at (λ c. c < 128) (row_from start line) column 0 (lit< tt)

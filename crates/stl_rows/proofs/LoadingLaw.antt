@@ -1,5 +1,4 @@
--- A file is loaded if and only if it is a file whose subtitles are in order, disjoint and drawable:
--- loading_is.
+-- A file is loaded if and only if its subtitles do not overlap and can all be drawn: loading_is.
 use Rattle.std.proofs.Common.{◌≡◌, ℕ, suc, ◌-◌, ◌<◌, ◌≤◌, List, [], ◌∷◌, ◌++◌, Some, None, Result}
 use Rattle.std.proofs.Common.{Ok, length, take, map, refl, sym, ◌∙◌, ap, arith, append_assoc}
 use Rattle.std.proofs.Common.{append-nil, length-append}
@@ -31,10 +30,8 @@ use Rattle.stl_rows.specs.Programme.{order_faults, row_faults, times_before, tim
 use Rattle.stl_rows.proofs.FaultlessLemmas.{empty_parts, map_empty}
 use Rattle.stl_rows.proofs.ProgrammeLemmas.{IsProgramme-none, IsProgramme-push, last_of-push}
 
--- ---- loaded files are in order and drawable
-
--- In a file without a fault, these are all its subtitles, and with those before they are a
--- programme.
+-- If no fault is left in the file, the reader returns all remaining subtitles, and together with
+-- the earlier ones they are a programme.
 record IsFaultless (n : Drawing) (records : List SubtitleValue) (left : Findings) : Type 0 where
   all : subtitles_of (stopped left) ≡ Ok (records_of left)
   programme : IsProgramme n records
@@ -63,18 +60,13 @@ faultless n records (finds t block left) h =
           (λ k d h. each (suc k) d (omega arith)));
     }
 
--- ---- files in order and drawable are loaded
-
--- A drawable subtitle has no row fault.
 no_row_fault : (r : Result Rows RowFault) → IsOk r → row_faults r ≡ []
 no_row_fault r h = grind arith
 
--- A subtitle that starts at the TCO of the one before, or later, has no fault of its times.
 no_order_fault : (before t : SubtitleValue) → before.tci < before.tco → before.tco ≤ t.tci
     → order_faults (Some (times_of before)) (times_of t) ≡ []
 no_order_fault before t times order = grind (arith, nat_tests)
 
--- A subtitle of a programme has no fault of its times against the one before it.
 times_follow : (n : Drawing) (records ts : List SubtitleValue) (t : SubtitleValue)
     → IsProgramme n (records ++ t ∷ ts)
     → order_faults (times_before records) (times_of t) ≡ []
@@ -87,7 +79,6 @@ times_follow n (r ∷ rs) ts t ok =
     let new = get_or-append_seam records t ts t in
     grind (arith, nat_tests, slice_get-get_or, no_order_fault)
 
--- It has no fault at all.
 none_follow : (n : Drawing) (records ts : List SubtitleValue) (t : SubtitleValue)
     → IsProgramme n (records ++ t ∷ ts)
     → follow_faults n (times_before records) t ≡ []
@@ -97,7 +88,7 @@ none_follow n records ts t ok =
     rw (get_or-append_seam records t ts t) at (ok.drawable (length records) t (omega arith)) in
     rw (times_follow n records ts t ok, no_row_fault (drawn n t) drawable) refl
 
--- Subtitles that are a programme have no faults.
+-- If the subtitles of a file are a programme, the file has no faults.
 given_faultless : (n : Drawing) (records : List SubtitleValue) (left : Findings)
     (ts : List SubtitleValue)
     → subtitles_of (stopped left) ≡ Ok ts
@@ -116,8 +107,6 @@ given_faultless n records (finds t block left) ts h ok =
       ap (λ rs. t ∷ rs) rest.1 ∙ sym given.2,
     )
 
--- ---- the law
-
 all_subtitles : (ts : List SubtitleValue) (gs : List (List (List ℕ)))
     → AllZip AreBlocksOf ts gs
     → All IsSubtitle ts
@@ -126,20 +115,18 @@ all_subtitles (t ∷ ts) [] e = λ k d h. absurd e
 all_subtitles (t ∷ ts) (g ∷ gs) e =
     All-cons IsSubtitle t ts (blocks_subtitle t g e.0) (all_subtitles ts gs e.1)
 
--- If a value was loaded, there is no fault.
 none_reported : (fs : List LoadFault) (p q : ProgrammeValue)
     → unless_reported fs p ≡ Ok q
     → (fs ≡ []) × (p ≡ q)
 none_reported fs p q h = grind (arith, nat_tests)
 
--- A file that is loaded has no fault. Also for `sub_answer`.
 pub none_of_loaded : (drawing : Drawing) (file : List ℕ) (programme : ProgrammeValue)
     → loaded drawing file ≡ Ok programme
     → faults drawing file ≡ []
 unfolding loaded
 none_of_loaded drawing file programme h = (none_reported (faults drawing file) _ programme h).0
 
--- The law, from the definition of a file: for `law_of_loading`.
+-- The law of loading follows from the definition of a file by its reading.
 pub loading_is : ((scope : Scope) (s g : List ℕ) (ts : List SubtitleValue)
     → IsFileFor scope s g ts
     ↔ ((g ≡ take 1024 s) × (subtitles_of (stopped (findings_for scope s)) ≡ Ok ts)))

@@ -1,4 +1,4 @@
--- The rest of a file after some of its subtitles, and the faults reported of these; main lemmas:
+-- The loop of `load_all`: faults reported so far and faults of the rest of the file; main lemmas:
 -- goes_on-next, reports-unread.
 use Rattle.std.proofs.Common.{rules, ◌≡◌, ◌<◌, ◌≤◌, ◌+◌, ℕ, Bool, true, false, List, ◌∷◌, ◌++◌, []}
 use Rattle.std.proofs.Common.{take, length, map, Option, Some, None, refl, sym}
@@ -52,9 +52,7 @@ use Rattle.std.proofs.lemmas.Bool.{cases_Bool}
 use Rattle.stl_rows.specs.Programme.{follow_faults, order_faults, row_faults, times_of}
 use Rattle.stl_rows.specs.TextCode.{first_of}
 
--- ---- the reported faults of subtitles
-
--- A fault of a subtitle, after which reading goes on.
+-- The fault is one of a single subtitle, so reading continues after the fault.
 abbrev pub is_of_subtitle : LoadFaultKind → Bool
 is_of_subtitle (File fault) = is_of_first fault
 is_of_subtitle OutOfOrder = true
@@ -62,16 +60,14 @@ is_of_subtitle Overlap = true
 is_of_subtitle (Row fault) = true
 is_of_subtitle _ = false
 
--- Such a fault, reported at this block or before.
+-- The fault is one of a single subtitle, at this block or before.
 abbrev pub IsReportedBy : ℕ → LoadFault → Type 0
 IsReportedBy block fault = (is_of_subtitle fault.kind ≡ true) × (fault.block ≤ block)
 
--- The faults of a subtitle are reported at its block.
 at_block : (drawing : Drawing) (before : Option Times) (t : SubtitleValue) (block : ℕ)
     → All (IsReportedBy block) (map (load_fault block) (follow_faults drawing before t))
 at_block drawing before t block = grind (arith, nat_tests)
 
--- The faults of the subtitles so far, and of one more.
 pub reported-next : (drawing : Drawing) (before : Option Times) (t : SubtitleValue) (from to : ℕ)
     (early : List LoadFault)
     → from ≤ to
@@ -84,7 +80,6 @@ reported-next drawing before t from to early le h =
     h)
     (at_block drawing before t to)
 
--- The faults of the subtitles so far, and the one for which the next is rejected.
 pub reported-refused : (fault : StlFault) (from to : ℕ) (early : List LoadFault)
     → from ≤ to
     → is_of_first fault ≡ true
@@ -97,7 +92,6 @@ reported-refused fault from to early le first h =
     h)
     (first, omega arith)
 
--- Such a fault is neither a failure of the source nor the end of the file.
 pub first_kind : (fault : StlFault)
     → is_of_first fault ≡ true
     → (is_file_read fault ≡ false) × (fault ≢ Ended)
@@ -117,7 +111,6 @@ reported-of_file block early h = grind (
   of_file,
 )
 
--- If the audience said stop at the last fault of a subtitle, all its faults were reported.
 order_alone : (before : Option Times) (t : Times)
     → first_alone (first_of (order_faults before t)) ≡ order_faults before t
 order_alone before t = grind (arith, nat_tests)
@@ -141,10 +134,9 @@ pub stops-last : (drawing : Drawing) (before : Option Times) (t : SubtitleValue)
 stops-last drawing before t block old mid new order row is_order is_row some p q =
     grind (arith, nat_tests, order_alone, map-append, stops-whole, length-append, Reports-trans)
 
--- ---- the rest of the file
-
--- The reported faults of the subtitles so far and the faults of the rest are all faults of the
--- file; likewise the kept subtitles and the reliable ones of the rest.
+-- The faults reported so far, followed by the faults of the rest, are all faults of the file.
+-- Likewise the kept subtitles, followed by the reliable ones of the rest, are all reliable
+-- subtitles.
 pub record GoesOn (drawing : Drawing) (file : List ℕ) (left : Findings) (before : Option Times)
     (kept : KeptRecords) (early : List LoadFault) : Type 0 where
   pub same : faults drawing file ≡ early ++ faults_after drawing before left
@@ -154,7 +146,6 @@ pub record GoesOn (drawing : Drawing) (file : List ℕ) (left : Findings) (befor
       → EndsSubtitleAfter drawing before rest at left
       → EndsSubtitleAfter drawing None (early ++ rest) at (findings_for drawing.scope file)
 
--- Before anything is read.
 pub goes_on-start : (drawing : Drawing) (file : List ℕ)
     → GoesOn drawing file (findings_for drawing.scope file) None nothing_kept []
 unfolding faults judged_of
@@ -162,7 +153,6 @@ goes_on-start drawing file = grind (arith, nat_tests, judged-start)
 
 module _ {drawing : Drawing} {file : List ℕ} {rest : Findings} {before : Option Times}
     {kept : KeptRecords} {early : List LoadFault} where
-  -- One more subtitle.
   pub goes_on-next : (t : SubtitleValue) (block : ℕ) (in_order clean : Bool)
       → AreKept drawing before early kept
       → in_order ≡ is_none (first_of (order_faults before (times_of t)))
@@ -174,7 +164,6 @@ module _ {drawing : Drawing} {file : List ℕ} {rest : Findings} {before : Optio
   goes_on-next t block in_order clean are_kept is_order is_clean on =
       grind (arith, nat_tests, append_assoc, judged-next)
 
-  -- One more that is rejected.
   pub goes_on-refused : (fault : StlFault) (block : ℕ)
       → GoesOn drawing file (refuses fault block rest) before kept early
       → GoesOn drawing file rest before (refused_one kept)
@@ -182,9 +171,6 @@ module _ {drawing : Drawing} {file : List ℕ} {rest : Findings} {before : Optio
   unfolding faults_after
   goes_on-refused fault block on = grind (arith, nat_tests, append_assoc, judged-refused)
 
--- ---- all that was reported
-
--- All faults.
 reports-all : {D : Type 0} {IsReported : D → LoadFault → D → Type 0} {old new : D} {stopped : Bool}
     {early all : List LoadFault}
     → all ≡ early
@@ -195,7 +181,6 @@ reports-all same some reported = rw same
     (record { all = λ no. reported; prefix = stops-whole some reported })
 
 module _ {D : Type 0} {IsReported : D → LoadFault → D → Type 0} {old mid new : D} where
-  -- The faults up to the one at which the audience said stop.
   stops-more : (early items rest : List LoadFault)
       → Reports IsReported old mid early
       → StopsWithin IsReported mid new items
@@ -227,7 +212,7 @@ module _ {D : Type 0} {IsReported : D → LoadFault → D → Type 0} {old mid n
         reported = stops.3;
       }
 
-  -- The fault that ends reading is a fault of the file too.
+  -- The fault that ends reading is in the bytes of the file, unless the source failed.
   pub of_file-end : (early : List LoadFault) (fault : StlFault) {from block : ℕ}
       → All (IsReportedBy from) early
       → is_file_read fault ≡ false
@@ -250,13 +235,10 @@ module _ {D : Type 0} {IsReported : D → LoadFault → D → Type 0} {old mid n
           → is_of_file (File fault) ≡ true
       file-of_file fault read ended = grind (arith, nat_tests)
 
--- ---- each way out
-
 module _ {D : Type 0} {IsReported : D → LoadFault → D → Type 0} {old mid : D} {drawing : Drawing}
     {file : List ℕ} {left : Findings} {before : Option Times} {kept : KeptRecords}
     {early : List LoadFault} (on : GoesOn drawing file left before kept early)
     (reported : Reports IsReported old mid early) where
-  -- Faults were reported, and the rest of the file has none.
   pub reports-none : {stopped : Bool}
       → left ≡ no_more
       → 0 < length early
@@ -264,7 +246,6 @@ module _ {D : Type 0} {IsReported : D → LoadFault → D → Type 0} {old mid :
   unfolding faults_after
   reports-none is some = reports-all (rw is at on.same ∙ append-nil early) some reported
 
-  -- The fault that ends reading was reported last.
   pub reports-end : {new : D} {stopped : Bool} {fault : StlFault} {block : ℕ}
       → left ≡ breaks fault block
       → Reports IsReported mid new (load_fault block (File fault) ∷ [])
@@ -275,7 +256,6 @@ module _ {D : Type 0} {IsReported : D → LoadFault → D → Type 0} {old mid :
       reports-all (rw is at on.same) (omega (arith, length-append early last))
       (Reports-trans old mid new early last reported q)
 
-  -- The audience said stop at one of these faults.
   reports-some : {new : D} (items rest : List LoadFault) (has_stopped : Bool)
       → faults_after drawing before left ≡ items ++ rest
       → has_stopped ≡ true
@@ -285,7 +265,6 @@ module _ {D : Type 0} {IsReported : D → LoadFault → D → Type 0} {old mid :
       let s = stops-more early items rest reported q in
       grind (arith, nat_tests, on.same, is)
 
-  -- It said stop at a fault of a subtitle.
   pub reports-stop : {new : D} {rest : Findings} {t : SubtitleValue} {block : ℕ}
       (has_stopped : Bool)
       → left ≡ finds t block rest
@@ -297,7 +276,6 @@ module _ {D : Type 0} {IsReported : D → LoadFault → D → Type 0} {old mid :
       reports-some (map (load_fault block) (follow_faults drawing before t))
       (faults_after drawing (Some (times_of t)) rest) has_stopped (rw is refl)
 
-  -- It said stop at the fault for which a subtitle is rejected.
   pub reports-refused : {new : D} {rest : Findings} {fault : StlFault} {block : ℕ}
       (has_stopped : Bool)
       → left ≡ refuses fault block rest
@@ -309,13 +287,9 @@ module _ {D : Type 0} {IsReported : D → LoadFault → D → Type 0} {old mid :
       reports-some (load_fault block (File fault) ∷ []) (faults_after drawing before rest)
       has_stopped (rw is refl) is_stopped (stops-whole (omega arith) q)
 
--- Something was reported.
 pub some-first : {A : Type 0} (xs : List A) → is_none (first_of xs) ≡ false → 0 < length xs
 some-first xs h = grind (arith, nat_tests)
 
--- ---- the subtitles used for checking
-
--- If all subtitles are kept, no bit is set.
 all_kept_bits : (bits : List Bool) (other : Bool)
     → (are_none bits && not other) ≡ true
     → (bits ≡ []) × (other ≡ false)
@@ -326,7 +300,6 @@ all_kept_bits (bit ∷ bits) other h = absurd cc
 module _ {drawing : Drawing} {file : List ℕ} {left : Findings} {before : Option Times}
     {kept : KeptRecords} {early : List LoadFault}
     (on : GoesOn drawing file left before kept early) where
-  -- The whole file was read.
   module _ (is : left ≡ no_more) where
     all_is : judged_of drawing file
         ≡ record { judged = all_kept kept; is_before_other = kept.is_before_other }
@@ -342,7 +315,6 @@ module _ {drawing : Drawing} {file : List ℕ} {left : Findings} {before : Optio
     judges_is : judges drawing file ≡ (are_some (all_kept kept) && are_in_order (all_kept kept))
     judges_is = rw (all_is, read_to_the_end) refl
 
-    -- The kept subtitles are enough for checking.
     pub judges-enough : AreKept drawing before early kept
         → is_enough kept ≡ true
         → JudgesBy drawing file (judged_with drawing kept)
@@ -364,11 +336,10 @@ module _ {drawing : Drawing} {file : List ℕ} {left : Findings} {before : Optio
           (rw (none, records) refl, rw (bits.0, bits.1) refl);
     }
 
-    -- They are not enough.
     pub judges-not : is_enough kept ≡ false → judges drawing file ≡ false
     judges-not few = judges_is ∙ grind (arith, nat_tests)
 
-  -- Reading ended before the end of the file.
+  -- If reading ended before the end of the file, a transmission cannot be checked against the file.
   pub judges-broken : {fault : StlFault} {block : ℕ}
       → left ≡ breaks fault block
       → judges drawing file ≡ false
@@ -377,7 +348,6 @@ module _ {drawing : Drawing} {file : List ℕ} {left : Findings} {before : Optio
       in
       rw broken refl
 
--- If they are not enough, a fault was reported.
 pub some-few : {drawing : Drawing} {before : Option Times} {kept : KeptRecords}
     {early : List LoadFault}
     → AreKept drawing before early kept
@@ -387,9 +357,6 @@ some-few {kept = kept} {early} are_kept few =
     let part : are_all_kept kept ≡ false = grind (arith, nat_tests) in
     some-first early (sym are_kept.whole ∙ part)
 
--- ---- if the source failed
-
--- The faults reported before come before this block.
 not_unfinished : (kind : LoadFaultKind) → is_of_subtitle kind ≡ true → ends_in_subtitle kind ≡ false
 not_unfinished kind h = grind (arith, nat_tests)
 
@@ -403,7 +370,6 @@ filter-early from block (f ∷ fs) lt h =
     let rest = filter-early from block fs lt (All-tail (IsReportedBy from) f fs h) in
     grind (arith, nat_tests, not_unfinished f.kind, one.0, one.1)
 
--- Faults at this block or a later one do not.
 late_kinds : (block at : ℕ) (kinds : List LoadFaultKind)
     → block ≤ at
     → filter (is_reported_before block) (map (load_fault at) kinds) ≡ []
@@ -432,7 +398,6 @@ late drawing before block (finds t at left) names =
       (late drawing (Some (times_of t)) block left names.1),
     )
 
--- The faults that are found before this block.
 unread : {drawing : Drawing} {file : List ℕ} {left : Findings} {before : Option Times}
     {kept : KeptRecords} {early : List LoadFault} (from block : ℕ)
     → from < block
@@ -448,7 +413,7 @@ unread {drawing} {left = left} {before} {early = early} from block lt early_repo
       late drawing before block left names,
     ) (append-nil early)
 
--- The faults before the block at which the source failed were reported.
+-- If the source failed, exactly the faults before that block had been reported.
 pub reports-unread : {D : Type 0} {IsReported : D → LoadFault → D → Type 0} {old new : D}
     {drawing : Drawing} {file : List ℕ} {left : Findings} {before : Option Times}
     {kept : KeptRecords} {early : List LoadFault} (from block : ℕ)
@@ -461,15 +426,12 @@ pub reports-unread : {D : Type 0} {IsReported : D → LoadFault → D → Type 0
 reports-unread from block lt early_reported names on reported =
     rw (unread from block lt early_reported names on) reported
 
--- ---- if memory was refused
-
 finds_before : (block : ℕ) (left : Findings) → FindsFrom (block + 1) left → FindsFrom block left
 finds_before block no_more h = tt
 finds_before block (breaks f at) h = grind arith
 finds_before block (finds t at left) h = (grind arith, finds_before block left h.1)
 finds_before block (refuses f at left) h = (grind arith, finds_before block left h.1)
 
--- The findings after so many blocks.
 pub found-from : (scope : Scope) (block : ℕ) (refused : Option Begun) (b : List ℕ)
     → block ≤ most_blocks
     → FindsFrom block (findings_from scope block refused b)
@@ -477,7 +439,6 @@ found-from scope block refused b le =
     finds_before block (findings_from scope block refused b)
     (finds_from scope (most_blocks - block) block refused b (omega arith))
 
--- For a subtitle without a fault.
 pub wants-memory : {D : Type 0} {IsReported : D → LoadFault → D → Type 0} {old new : D}
     {drawing : Drawing} {file : List ℕ} {before : Option Times} {kept : KeptRecords}
     {early : List LoadFault} (from block : ℕ) (t : SubtitleValue) (rest : Findings)

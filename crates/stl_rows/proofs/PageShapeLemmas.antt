@@ -1,5 +1,5 @@
--- Each expected page is a page, 24 rows of 40 codes below 128: due_is_page. The lines of a text
--- hold only codes, also as a layout prepares them: cells_small, prepared_small.
+-- Each expected page has 24 rows of 40 codes below 128: due_is_page. The lines of a text have only
+-- such codes, before and after a layout prepares the lines: cells_small, prepared_small.
 use Rattle.std.proofs.Common.{◌≡◌, ℕ, zero, suc, ◌+◌, ◌<◌, List, [], ◌∷◌, ◌++◌, map, get_or, refl}
 use Rattle.std.proofs.Common.{Bool, false, Ok, Option, Some, None, arith, drop, length, lit<, take}
 use Rattle.std.specs.List.{range_with_len, AllByRecursion}
@@ -28,9 +28,6 @@ use Rattle.stl_rows.proofs.LaidOutLemmas.{drawn_by-lines, off_of_subtitle}
 use Rattle.stl_rows.proofs.LineLemmas.{Small, holds_at, holds_map, row_length, row_small}
 use Rattle.stl_rows.proofs.TextCodeLemmas.{code_before-small}
 
--- ---- the cells of a text
-
--- A text code before lines of codes.
 with_small : (s : TextCode) (ls : List (List ℕ))
     → HasSevenBits s
     → AllByRecursion Small ls
@@ -45,8 +42,6 @@ cells_small national at zero (b ∷ bytes) =
     let s = code_before national b bytes in
     with_small s.0 (lines_of_codes (codes_after national (at + 1) s.1 bytes))
     (code_before-small national b bytes) (cells_small national (at + 1) s.1 bytes)
-
--- ---- prepared lines
 
 append_small : (xs ys : List ℕ) → Small xs → Small ys → Small (xs ++ ys)
 append_small [] ys h k = k
@@ -71,16 +66,13 @@ codes_small [] = tt
 codes_small (None ∷ places) = codes_small places
 codes_small (Some a ∷ places) = (attribute_small a, codes_small places)
 
--- The leading codes with 07.
 whitened_small : (items : LayoutItems) (codes : List ℕ) → Small codes
     → Small (whitened items codes)
 whitened_small items codes h = grind (arith, nat_tests, append_small codes (0x07 ∷ []) h)
 
--- The codes added at the end of a line.
 ending_small : (items : LayoutItems) (n : ℕ) → Small (ending items n)
 ending_small items n = grind (arith, nat_tests, codes_small items.after, take_small)
 
--- A line with the codes added to it.
 headed_small : (items : LayoutItems) (cells : List ℕ) → Small cells → Small (headed items cells)
 unfolding headed
 headed_small items cells h =
@@ -97,7 +89,6 @@ trimmed_small : (cells : List ℕ) → Small cells → Small (trimmed cells)
 unfolding trimmed
 trimmed_small cells h = take_small _ _ (drop_small _ cells h)
 
--- For `draw_lines`.
 pub prepared_small : (items : LayoutItems) (cells : List ℕ) → Small cells
     → Small (prepared_by items cells)
 unfolding prepared_by
@@ -109,9 +100,6 @@ all_prepared : (items : LayoutItems) (ls : List (List ℕ))
 all_prepared items [] h = tt
 all_prepared items (l ∷ ls) h = (prepared_small items l h.0, all_prepared items ls h.1)
 
--- ---- the rows of a page
-
--- A row of 40 codes.
 record IsRowOfCodes (codes : List ℕ) : Type 0 where
   columns : length codes ≡ 40
   small : Small codes
@@ -123,7 +111,6 @@ blank_is = record { columns = refl; small = grind (arith, nat_tests) }
 row_is : (start : ℕ) (line : List ℕ) → Small line → IsRowOfCodes (row_from start line)
 row_is start line h = record { columns = row_length start line; small = row_small start line h }
 
--- So is each row on which lines of codes are.
 shown_is : (items : LayoutItems) (jc off row number depth : ℕ) (under : Bool)
     (lines : List (List ℕ))
     → AllByRecursion Small lines
@@ -169,7 +156,6 @@ drawn_is_page drawing t page e =
     (page_is items t.jc (off_of_subtitle n items t) _ (lines_by n items t.text)
     (all_prepared items _ (cells_small n 0 0 (unstripped items t.text))))
 
--- For `law_of_due_pages`.
 pub due_is_page : (drawing : Drawing) (ts : List SubtitleValue) (f : ℕ)
     → IsPage (due drawing ts f)
 due_is_page drawing ts f = due_has IsPage drawing ts f is_page_blank (drawn_is_page drawing)

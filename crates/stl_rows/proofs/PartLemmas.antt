@@ -1,4 +1,5 @@
--- A part of a file is loaded as the file from which the rest was taken out: part_is.
+-- Loading a part of a file gives the same as loading the file from which the other subtitles were
+-- removed: part_is.
 use Rattle.std.proofs.Common.{◌≡◌, ℕ, List, [], ◌∷◌, Option, Some, None, map, refl, sym}
 use Rattle.std.proofs.Common.{ap, ◌∙◌}
 use Rattle.std.proofs.lemmas.List.{map-append}
@@ -15,13 +16,11 @@ use Rattle.stl_rows.specs.EveryFault.{faults, faults_after, load_fault}
 use Rattle.stl_rows.specs.Loading.{LawOfParts, of_day, kinds_of, records_of}
 use Rattle.stl_rows.specs.Programme.{follow_faults, times_of}
 
--- The faults of one block.
 kinds_at : (block : ℕ) (kinds : List LoadFaultKind)
     → kinds_of (map (load_fault block) kinds) ≡ kinds
 kinds_at block [] = refl
 kinds_at block (k ∷ ks) = ap (λ (l : List LoadFaultKind). k ∷ l) (kinds_at block ks)
 
--- The faults are the same, apart from the block numbers.
 kinds_unnumbered : (drawing : Drawing) (before : Option Times) (left : Findings)
     → kinds_of (faults_after drawing before left)
     ≡ kinds_of (faults_after drawing before (unnumbered left))
@@ -49,7 +48,7 @@ records_unnumbered (refuses f block left) = records_unnumbered left
 records_unnumbered (finds t block left) =
     ap (λ (l : List SubtitleValue). t ∷ l) (records_unnumbered left)
 
--- A drawn page does not depend on the part of the file that is read.
+-- A drawn page does not depend on the scope, the part of the file that is read.
 drawn_same : (drawing : Drawing) (t : SubtitleValue) → drawn drawing t ≡ drawn (of_day drawing) t
 unfolding drawn
 drawn_same drawing t = refl
@@ -63,7 +62,6 @@ faults_same drawing before (refuses f block left) = rw (faults_same drawing befo
 faults_same drawing before (finds t block left) =
     rw (drawn_same drawing t, faults_same drawing (Some (times_of t)) left) refl
 
--- The law, from that of reading: for `law_of_parts`.
 pub part_is : LawOfScope → LawOfParts
 unfolding faults
 part_is law drawing gsi blocks size each read =

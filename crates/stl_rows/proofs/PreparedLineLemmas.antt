@@ -1,5 +1,5 @@
--- The ends of a line, read from its end: trailing_at, trailing_all. What fits at its end:
--- framed-fits.
+-- Counting the codes at the end of a line: trailing_at, trailing_all. Adding only the codes that
+-- fit at the end: framed-fits.
 use Rattle.std.proofs.Common.{◌≡◌, ℕ, zero, suc, ◌+◌, ◌-◌, ◌<◌, ◌≤◌, true, false, List, [], ◌∷◌}
 use Rattle.std.proofs.Common.{length}
 use Rattle.std.proofs.Common.{get_or, drop, refl, arith, ◌++◌, take, max, ap, ◌∙◌}
@@ -17,7 +17,6 @@ pub trailing_all : (first last : ℕ) (cells : List ℕ)
 trailing_all first last [] all = refl
 trailing_all first last (c ∷ cells) all = rw all refl
 
--- If one cell is not within the codes, not all are.
 not_all : (first last : ℕ) (cells : List ℕ) (at : ℕ)
     → at < length cells
     → is_within first last (get_or cells at 0) ≡ false
@@ -27,7 +26,6 @@ not_all first last (c ∷ cells) zero low not = rw not refl
 not_all first last (c ∷ cells) (suc at) low not =
     grind (arith, nat_tests, not_all first last cells at (omega (arith, low)) not)
 
--- If one cell is not within the codes and those after it are, the latter are the trailing ones.
 trailing_from : (first last : ℕ) (cells : List ℕ) (at : ℕ)
     → at < length cells
     → is_within first last (get_or cells at 0) ≡ false
@@ -41,7 +39,6 @@ trailing_from first last (c ∷ cells) (suc at) low not all =
     rw (not_all first last (c ∷ cells) (suc at) low not)
     (trailing_from first last cells at (omega (arith, low)) not all ∙ omega arith)
 
--- For `trailing`.
 pub trailing_at : (first last : ℕ) (cells : List ℕ) (left : ℕ)
     → 0 < left
     → left ≤ length cells
@@ -50,7 +47,6 @@ pub trailing_at : (first last : ℕ) (cells : List ℕ) (left : ℕ)
     → trailing first last cells ≡ length cells - left
 trailing_at first last cells left some low not all = grind (arith, nat_tests, trailing_from)
 
--- The first 40 cells of two joined lines, or the first line if it is longer.
 take_fitting : (xs ys : List ℕ)
     → take (max (length xs) 40) (xs ++ ys) ≡ xs ++ take (40 - length xs) ys
 take_fitting xs ys =
@@ -59,7 +55,6 @@ take_fitting xs ys =
     room : (n : ℕ) → max n 40 ≡ n + (40 - n)
     room n = omega arith
 
--- With `fit`, codes are added to a line as far as there is room: for `push_framed`.
 pub framed-fits : (items : LayoutItems) (cells : List ℕ)
     → 0 < length cells
     → items.fit ≡ true
@@ -71,7 +66,6 @@ framed-fits items [] some fit = absurd (omega (arith, some))
 framed-fits items (c ∷ cells) some fit =
     take_fitting (headed items (c ∷ cells)) (codes_of_places items.after) ∙ rw fit refl
 
--- Without it, all are added.
 pub framed-all : (items : LayoutItems) (cells : List ℕ)
     → 0 < length cells
     → items.fit ≡ false

@@ -1,4 +1,4 @@
--- A page has the letters of its text: law_of_printing_codes.
+-- A page has the printable characters of its text: law_of_printing_codes.
 use Rattle.std.proofs.Common.{◌≡◌, ◌≢◌, ℕ, zero, suc, ◌+◌, ◌<◌, ◌≤◌, Bool, true, false, List, []}
 use Rattle.std.proofs.Common.{◌∷◌, ◌++◌, map, refl, sym, ap, ◌∙◌, arith, Option}
 use Rattle.std.proofs.Common.{None, Ok, inl, inr, ◌⊎◌}
@@ -30,8 +30,6 @@ use Rattle.stl_rows.proofs.LaidOutLemmas.{drawn_by-lines, none_above}
 use Rattle.stl_rows.proofs.LaidOutLemmas.{off_of_subtitle, on_page}
 use Rattle.stl_rows.proofs.PrintingCodeLemmas.{printing_codes-lines, printed-prepared, printed-row}
 
--- ---- the rows of a page are its lines
-
 abbrev cells_of : List PlacedLine → List (List ℕ)
 cells_of lines = map (λ (line : PlacedLine). line.cells) lines
 
@@ -39,7 +37,8 @@ printed-blank : printed blank_row ≡ []
 unfolding printed blank_row
 printed-blank = refl
 
--- A line without a fault has at most 40 cells, so the row that shows it prints the same.
+-- A line without a fault has at most 40 cells, so the row that shows the line has the same
+-- printable characters.
 printed-shown : (items : LayoutItems) (jc off : ℕ) (line : PlacedLine)
     → placed_fault_kinds items off line ≡ []
     → printed (row_from (start_by items jc line.cells) line.cells) ≡ printed line.cells
@@ -53,7 +52,6 @@ printed_lines-cons : (line : List ℕ) (lines : List (List ℕ)) (own : List ℕ
 printed_lines-cons line lines [] is = rw is refl
 printed_lines-cons line lines (c ∷ own) is = rw is refl
 
--- The rows from one on show the lines from a depth on, if none of these goes to a row before.
 abbrev RowsShow : LayoutItems → ℕ → ℕ → List PlacedLine → ℕ → ℕ → Type 0
 RowsShow items jc off lines row count =
     printed_lines (map (shown_row items jc off lines) (range_with_len row count))
@@ -67,14 +65,12 @@ range_same f g row (suc count) h =
     let rest = range_same f g (row + 1) count (λ at low. h at (omega (arith, low))) in
     rw (h row (omega arith), rest) refl
 
--- Rows on which no line is.
 rows-none : (items : LayoutItems) (jc off row count : ℕ)
     → RowsShow items jc off [] row count
 rows-none items jc off row zero = refl
 rows-none items jc off row (suc count) =
     printed_lines-cons blank_row _ [] printed-blank ∙ rows-none items jc off (row + 1) count
 
--- The faults of a line, and of those after it.
 own_and_rest : (items : LayoutItems) (off : ℕ) (line : PlacedLine) (rest : List PlacedLine)
     → placed_faults items off (line ∷ rest) ≡ []
     → (placed_fault_kinds items off line ≡ []) × (placed_faults items off rest ≡ [])
@@ -84,14 +80,12 @@ printed-nothing : printed [] ≡ []
 unfolding printed
 printed-nothing = refl
 
--- A line that prints nothing, before others.
 printed_lines-empty : (line : List ℕ) (lines : List (List ℕ))
     → has_cells line ≡ false
     → printed_lines (line ∷ lines) ≡ printed_lines lines
 printed_lines-empty [] lines none = printed_lines-cons [] lines [] printed-nothing
 printed_lines-empty (c ∷ line) lines none = cc
 
--- A line at a place; the lines after it follow.
 abbrev place_of : ℕ → ℕ → Bool → List ℕ → PlacedLine
 place_of number depth under line = record {
   number = number;
@@ -104,11 +98,10 @@ abbrev following : LayoutItems → ℕ → ℕ → List ℕ → List (List ℕ) 
 following items number depth line lines =
     placed_from items (number + 1) (depth + pitch items) (is_double line) lines
 
--- Each line goes to a later row.
+-- Two lines never share a row, since each line is at least one row below the line before.
 pitch_some : (items : LayoutItems) → 0 < pitch items
 pitch_some items = grind (arith, nat_tests)
 
--- A line has cells or not, and one that takes no row has none.
 has_cases : (line : List ℕ) → (has_cells line ≡ false) ⊎ (has_cells line ≡ true)
 has_cases [] = inl refl
 has_cases (c ∷ line) = inr refl
@@ -117,7 +110,6 @@ none_empty : (items : LayoutItems) (line : List ℕ) → takes_none items line �
     → has_cells line ≡ false
 none_empty items line is = grind (arith, nat_tests)
 
--- Case distinction by whether a line takes a row.
 by_test : (items : LayoutItems) (number depth : ℕ) (under : Bool) (line : List ℕ)
     (lines : List (List ℕ)) (P : List PlacedLine → Type 0) (b : Bool)
     → takes_none items line ≡ b
@@ -129,7 +121,6 @@ by_test items number depth under line lines P true is none some = rw is (none is
 by_test items number depth under line lines P false is none some = rw is (some is)
 
 module _ (items : LayoutItems) (jc off : ℕ) where
-  -- Lines without a fault print nothing below the last row.
   abbrev HasNothing : List PlacedLine → Type 0
   HasNothing lines = placed_faults items off lines ≡ [] → printed_lines (cells_of lines) ≡ []
 
@@ -153,12 +144,10 @@ module _ (items : LayoutItems) (jc off : ℕ) where
       (nothing_below (number + 1) (depth + pitch items) (is_double line) lines
       (omega (arith, low))))
 
-  -- Rows from one on show lines without a fault.
   abbrev Show : ℕ → ℕ → List PlacedLine → Type 0
   Show row count lines =
       placed_faults items off lines ≡ [] → RowsShow items jc off lines row count
 
-  -- A row to which a line does not go shows those after it.
   others : (place : PlacedLine) (rest : List PlacedLine) (at : ℕ)
       → (has_cells place.cells ≡ false) ⊎ (off + at ≢ place.depth)
       → shown_row items jc off (place ∷ rest) at ≡ shown_row items jc off rest at
@@ -173,7 +162,6 @@ module _ (items : LayoutItems) (jc off : ℕ) where
       ∙ more (own_and_rest items off place rest sound).1
       ∙ sym (printed_lines-empty place.cells (cells_of rest) empty)
 
-  -- The row of a line shows it, and the rows below it the lines after it.
   show-line : (place : PlacedLine) (rest : List PlacedLine) (row count : ℕ)
       → has_cells place.cells ≡ true
       → off + row ≡ place.depth
@@ -182,14 +170,12 @@ module _ (items : LayoutItems) (jc off : ℕ) where
   show-line place rest row count h1 h2 h3 =
       grind (arith, nat_tests, own_and_rest, printed_lines-cons, printed-shown, range_same, others)
 
-  -- A row above all lines shows nothing.
   show-above : (lines : List PlacedLine) (row count : ℕ)
       → find (is_on_row off row) lines ≡ None
       → Show (row + 1) count lines
       → Show row (suc count) lines
   show-above lines row count h1 h2 = grind (arith, nat_tests, printed_lines-cons, printed-blank)
 
-  -- The rows from one on show the lines from a depth on, if none goes to a row before.
   rows_show : (lines : List (List ℕ)) (count number depth row : ℕ) (under : Bool)
       → row + count ≡ 25
       → off + row ≤ depth
@@ -222,7 +208,6 @@ module _ (items : LayoutItems) (jc off : ℕ) where
             ])
       ]
 
-  -- Rows 1 to 24 show lines without a fault: lines above row 1 are empty.
   page-empty : (place : PlacedLine) (rest : List PlacedLine) (b : Bool)
       → place.depth ≤ off
       → has_cells place.cells ≡ b
@@ -249,9 +234,7 @@ module _ (items : LayoutItems) (jc off : ℕ) where
             (page_shows lines (number + 1) (depth + pitch items) (is_double line)))
       ]
 
--- ---- lines
-
--- The lines that take rows print what all lines print.
+-- The lines that take a row have the printable characters of all lines.
 printed-placed : (items : LayoutItems) (number depth : ℕ) (under : Bool) (lines : List (List ℕ))
     → printed_lines (cells_of (placed_from items number depth under lines)) ≡ printed_lines lines
 printed-placed items number depth under [] = refl
@@ -266,7 +249,7 @@ printed-placed items number depth under (line ∷ lines) =
     (printed-placed items (number + 1) (depth + pitch items) (is_double line) lines)
     ∙ sym (printed_lines-cons line lines (printed line) refl))
 
--- Prepared lines print what their cells print.
+-- A layout does not change the printable characters of a line.
 printed-lines : (items : LayoutItems) (lines : List (List ℕ))
     → printed_lines (map (prepared_by items) lines) ≡ printed_lines lines
 printed-lines items [] = refl
@@ -275,9 +258,6 @@ printed-lines items (line ∷ lines) =
     ∙ ap (λ more. filter has_cells (printed line ∷ []) ++ more) (printed-lines items lines)
     ∙ sym (printed_lines-cons line lines (printed line) refl)
 
--- ---- letters of a text
-
--- The byte of a character is above 20 and is not 80; after a diacritical mark it is a letter.
 abbrev HavePrintingCodes : List NationalCharacter → Type 0
 HavePrintingCodes characters =
     AllByRecursion (λ (c : NationalCharacter). (0x20 < c.byte) × (c.byte ≢ 0x80)) characters
@@ -286,7 +266,6 @@ have_printing_codes : (n : National) → HavePrintingCodes (sub_set n).character
 unfolding sub_set
 have_printing_codes n = grind (arith, nat_tests)
 
--- So no other byte gives a character, after a diacritical mark or by itself.
 no_character : (characters : List NationalCharacter) (mark : Option ℕ) (byte : ℕ)
     → HavePrintingCodes characters
     → (byte ≤ 0x20) ⊎ (byte ≡ 0x80)
@@ -296,7 +275,6 @@ no_character [] mark byte h other = refl
 no_character (c ∷ characters) mark byte h other =
     grind (arith, nat_tests, no_character characters mark byte h.1 other)
 
--- The letter that a text code gives.
 abbrev printing_code_of : TextCode → List ℕ
 printing_code_of (Cell code) = filter prints (code ∷ [])
 printing_code_of _ = []
@@ -310,25 +288,21 @@ printing_codes-code : (code : TextCode) (lines : List (List ℕ))
     → printing_codes (with_code code lines) ≡ printing_code_of code ++ printing_codes lines
 printing_codes-code code lines = grind (arith, nat_tests, printing_codes-first)
 
--- Two text codes that give the same letter, and take as many bytes.
 abbrev HaveSameCode : TextCode × ℕ → TextCode × ℕ → Type 0
 HaveSameCode a b = (printing_code_of a.0 ≡ printing_code_of b.0) × (a.1 ≡ b.1)
 
--- A byte below 20 gives no letter, nor does 80.
 low_byte : (n : National) (byte : ℕ) (bytes : List ℕ)
     → (byte < 0x20) ⊎ (byte ≡ 0x80)
     → HaveSameCode (code_before n byte bytes) (NoCell, 0)
 unfolding cell_of cell_of_pair code_of_other is_common
 low_byte n byte bytes low = grind (arith, nat_tests, no_character, have_printing_codes)
 
--- The bytes after a byte that is not stripped give the same pair with it.
 pair_kept : (items : LayoutItems) (n : National) (byte : ℕ) (bytes : List ℕ)
     → cell_of_pair n byte (first_of (unstripped items bytes))
     ≡ cell_of_pair n byte (first_of bytes)
 unfolding cell_of_pair
 pair_kept items n byte bytes = grind (arith, nat_tests, no_character, have_printing_codes)
 
--- A text code has the same letter if bytes are stripped.
 code_kept-by : (items : LayoutItems) (n : National) (byte : ℕ) (bytes : List ℕ) (b : Bool)
     → strips items byte ≡ b
     → HaveSameCode
@@ -370,9 +344,7 @@ printing_codes-kept items n place zero (byte ∷ bytes) =
     ∙ sym (printing_codes-code (code_before n byte bytes).0
     (lines_of_codes (codes_after n (place + 1) (code_before n byte bytes).1 bytes)))
 
--- ---- the law
-
--- A drawn page prints what the lines of its text print.
+-- A drawn page has the printable characters of the lines of its text.
 printed-drawn : (national : National) (items : LayoutItems) (t : SubtitleValue) (page : Rows)
     → drawn_by national items t ≡ Ok page
     → printed_lines page ≡ printed_lines (lines_of_codes (codes_by national items t.text))
@@ -387,7 +359,6 @@ printed-drawn national items t page e =
     ∙ printed-placed items 0 first false lines
     ∙ printed-lines items (lines_of_codes (codes_by national items t.text))
 
--- No layout adds, changes, loses or reorders letters: for `law_of_printing_codes`.
 pub printing_codes_stay : LawOfPrintingCodes
 unfolding drawn
 printing_codes_stay national layout t page e =

@@ -1,5 +1,5 @@
--- A line from its first cell that prints to its last is that of the prepared line, and of the row
--- that shows it: printed-prepared, printed-row.
+-- A line, its prepared form and the row that shows it have the same printable characters:
+-- printed-prepared, printed-row.
 use Rattle.std.proofs.Common.{◌≡◌, ℕ, zero, suc, ◌+◌, ◌-◌, ◌≤◌, Bool, true, List, []}
 use Rattle.std.proofs.Common.{◌∷◌, ◌++◌, length, take, drop, replicate, refl, sym, ap, ◌∙◌}
 use Rattle.std.proofs.Common.{arith, Option, Some, None, append-nil}
@@ -18,8 +18,6 @@ use Rattle.stl_rows.specs.PreparedLine.{row_from, trailing, trimmed, whitened}
 use Rattle.stl_rows.specs.PreparedLine.{without_leading_spaces}
 use Rattle.stl_rows.specs.TextCode.{is_within}
 use Rattle.stl_rows.proofs.LineLemmas.{row_from-put}
-
--- ---- cells that don't print
 
 abbrev pub NonePrints : List ℕ → Type 0
 NonePrints cells = AllByRecursion (λ (c : ℕ). c ≤ space) cells
@@ -42,7 +40,6 @@ none-spaces : (n : ℕ) → NonePrints (replicate n space)
 none-spaces zero = tt
 none-spaces (suc n) = (omega arith, none-spaces n)
 
--- The codes at the front of a line, or its spaces.
 none-leading : (first last : ℕ) (cells : List ℕ) → last ≤ space
     → NonePrints (take (leading first last cells) cells)
 none-leading first last [] low = tt
@@ -56,7 +53,6 @@ none-all first last [] low all = tt
 none-all first last (c ∷ cells) low all =
     grind (arith, nat_tests, none-all first last cells low)
 
--- The codes or spaces at its end.
 trailing-few : (first last : ℕ) (cells : List ℕ) → trailing first last cells ≤ length cells
 trailing-few first last [] = omega arith
 trailing-few first last (c ∷ cells) = grind (arith, nat_tests, trailing-few first last cells)
@@ -75,7 +71,6 @@ none-trailing first last (c ∷ cells) low =
     none-trailing-by first last c cells (list_all (is_within first last) (c ∷ cells)) low refl
     (none-trailing first last cells low)
 
--- The codes of a list.
 attribute-low : (a : Attribute) → attribute_code a ≤ space
 unfolding attribute_code
 attribute-low a = grind (arith, nat_tests)
@@ -85,9 +80,6 @@ none-codes [] = tt
 none-codes (None ∷ places) = none-codes places
 none-codes (Some a ∷ places) = (attribute-low a, none-codes places)
 
--- ---- what a line prints
-
--- Cells that don't print, before or after others, don't change it.
 from_first-none : (xs cells : List ℕ) → NonePrints xs → from_first (xs ++ cells) ≡ from_first cells
 from_first-none [] cells h = refl
 from_first-none (x ∷ xs) cells h = grind (arith, nat_tests, from_first-none xs cells h.1)
@@ -111,15 +103,11 @@ printed-ahead : (xs cells : List ℕ) → NonePrints xs → printed (xs ++ cells
 unfolding printed
 printed-ahead xs cells h = ap to_last (from_first-none xs cells h)
 
--- ---- prepared lines
-
--- Without the front of a line that does not print.
 printed-drop : (n : ℕ) (cells : List ℕ) → NonePrints (take n cells)
     → printed (drop n cells) ≡ printed cells
 printed-drop n cells h =
     sym (printed-ahead (take n cells) (drop n cells) h) ∙ ap printed (take-append-drop n cells)
 
--- Without its end that does not print.
 printed-take : (n : ℕ) (cells : List ℕ) → NonePrints (drop n cells)
     → printed (take n cells) ≡ printed cells
 printed-take n cells h =
@@ -166,15 +154,14 @@ printed-framed items cells = grind (
   printed-headed,
 )
 
--- A prepared line prints what its cells print.
+-- The prepared form of a line has the same cells from the first printable one to the last.
 pub printed-prepared : (items : LayoutItems) (cells : List ℕ)
     → printed (prepared_by items cells) ≡ printed cells
 unfolding prepared_by
 printed-prepared items cells = grind (arith, nat_tests, printed-framed, printed-trimmed)
 
--- ---- rows
-
--- The row that shows a line prints what the line prints.
+-- The row that shows a line has the same cells as the line, from the first printable one to the
+-- last.
 pub printed-row : (start : ℕ) (line : List ℕ) → start + length line ≤ 40
     → printed (row_from start line) ≡ printed line
 printed-row start line room =
@@ -183,8 +170,6 @@ printed-row start line room =
     ap printed (sym (row_from-put start line row room refl))
     ∙ printed-ahead (take start row) _ (none-take start row all)
     ∙ printed-following line _ (none-drop _ _ (none-drop start row all))
-
--- ---- letters
 
 printing_codes-from_first : (cells : List ℕ) → filter prints (from_first cells) ≡ filter prints
     cells

@@ -1,4 +1,4 @@
--- A programme with one more subtitle that has no fault is one: IsProgramme-push.
+-- A programme and one more subtitle without faults are a programme: IsProgramme-push.
 use Rattle.std.proofs.Common.{◌≡◌, ℕ, ◌-◌, ◌<◌, ◌≤◌, List, [], ◌∷◌, ◌++◌, Result, ◌∙◌, ap, Some}
 use Rattle.std.proofs.Common.{length, get_or, arith, length-append}
 use Rattle.std.proofs.lemmas.Bool.{cases_lt}
@@ -16,17 +16,15 @@ use Rattle.stl_rows.specs.Programme.{AreInOrder, IsProgramme, follow_faults, las
 use Rattle.stl_rows.specs.Programme.{row_faults, times_before, times_of}
 use Rattle.stl_rows.proofs.FaultlessLemmas.{empty_parts}
 
--- A subtitle without a row fault draws a page.
 pub draws : (r : Result Rows RowFault) → row_faults r ≡ [] → IsOk r
 draws r h = grind arith
 
--- A subtitle without a fault of its times starts at the TCO of the one before, or later.
+-- If a subtitle's times have no fault, its TCI is at or after the TCO of the previous subtitle.
 after_last : (last t : SubtitleValue)
     → order_faults (Some (times_of last)) (times_of t) ≡ []
     → last.tco ≤ t.tci
 after_last last t h = grind (arith, nat_tests)
 
--- It starts at the TCO of each one before, or later.
 last_before : (ts : List SubtitleValue) (t : SubtitleValue) (i : ℕ) (d : SubtitleValue)
     → All IsSubtitle ts
     → AreInOrder ts
@@ -38,7 +36,6 @@ last_before ts t i d each ordered h inside =
     let times = (each at d (omega arith)).times in
     grind (arith, nat_tests, after_last, slice_get-get_or)
 
--- Subtitles in order stay so with it.
 in_order-push : (ts : List SubtitleValue) (t : SubtitleValue)
     → All IsSubtitle ts
     → AreInOrder ts
@@ -47,7 +44,6 @@ in_order-push : (ts : List SubtitleValue) (t : SubtitleValue)
 in_order-push ts t each ordered h i j d below inside =
     grind (arith, nat_tests, length-append, get_or_append_left, cases_lt, get_or_push, last_before)
 
--- For `put`.
 pub IsProgramme-push : (n : Drawing) (ts : List SubtitleValue) (t : SubtitleValue)
     → IsProgramme n ts
     → IsSubtitle t
@@ -69,6 +65,5 @@ last_of-push xs x =
     slice_get-get_or (xs ++ x ∷ []) at x (omega (arith, size))
     ∙ ap Some (get_or_push xs x x at (omega (arith, size)))
 
--- For `load_in`.
 pub IsProgramme-none : (n : Drawing) → IsProgramme n []
 IsProgramme-none n = grind (arith, nat_tests, All-nil)

@@ -1,5 +1,5 @@
--- The national option sub-sets: the cells of a row are codes, cell_in-small; each option has its
--- own word, word_of_option.
+-- National options: the cells of all characters are below 128, cell_in-small, and each option has
+-- its own name, word_of_option.
 use Rattle.std.proofs.Common.{◌≡◌, ◌↔◌, ℕ, ◌<◌, List, [], ◌∷◌, Option, Some, find, sym}
 use Rattle.std.proofs.Common.{arith}
 use Rattle.std.proofs.lemmas.Slice.Eq.{bytes_eq-Decides}
@@ -12,11 +12,9 @@ use Rattle.stl_rows.specs.declared.national.National.{National}
 use Rattle.stl_rows.specs.declared.sub_sets.NationalCharacter.{NationalCharacter}
 use Rattle.stl_rows.specs.SubSets.{cell_in, option_named, options, sub_set}
 
--- Characters whose cells are codes.
 abbrev HaveCodes : List NationalCharacter → Type 0
 HaveCodes characters = AllByRecursion (λ (c : NationalCharacter). c.cell < 128) characters
 
--- Such characters give a code.
 cell_in-code : (characters : List NationalCharacter) (mark : Option ℕ) (byte : ℕ)
     → HaveCodes characters
     → IfSome (cell_in characters mark byte) IsCode
@@ -43,7 +41,6 @@ word_of_found [] n text e = cc
 word_of_found (m ∷ ns) n text e =
     grind (arith, nat_tests, bytes_eq-Decides (sub_set m).word text, word_of_found ns n text)
 
--- For `parse`.
 pub word_of_option : (n : National) (text : List ℕ)
     → (option_named text ≡ Some n) ↔ (text ≡ (sub_set n).word)
 unfolding option_named

@@ -1,5 +1,5 @@
--- Which bytes of a text are one text code: text_codes-common, text_codes-pair. The cell of a text
--- code is a code: code_before-small. The table of common bytes: common_by_table.
+-- One or two bytes of a text are one text code: text_codes-common, text_codes-pair. The cell of a
+-- text code is below 128: code_before-small. The table of common bytes: common_by_table.
 use Rattle.std.proofs.Common.{◌≡◌, ℕ, ◌+◌, ◌<◌, List, ◌∷◌, Option, Some, length, get_or, drop}
 use Rattle.std.proofs.Common.{refl, arith, true, ◌==◌}
 use Rattle.std.proofs.Common.{add-one, drop-cons}
@@ -18,13 +18,12 @@ cut_at : (text : List ℕ) (at : ℕ) → at < length text
     → drop at text ≡ get_or text at 0 ∷ drop (at + 1) text
 cut_at text at h = rw (add-one, drop-cons text at 0) refl
 
--- Each entry of the table is what the definition gives: 256 cases, computed. For `is_common`.
+-- Each of the 256 entries of the table of common bytes is computed and equals the definition.
 pub common_by_table : (byte : ℕ) → byte < 0x100
     → (get_or COMMON byte 0 == 1) ≡ is_common byte
 unfolding is_common
 common_by_table byte l = agree_below_at (λ b. get_or COMMON b 0 == 1) is_common 0x100 byte refl l
 
--- A common byte is one text code: for `text_code_at`.
 pub text_codes-common : (n : National) (at : ℕ) (text : List ℕ) → at < length text
     → is_common (get_or text at 0) ≡ true
     → text_codes n at (drop at text)
@@ -32,7 +31,6 @@ pub text_codes-common : (n : National) (at : ℕ) (text : List ℕ) → at < len
 unfolding cell_of cell_of_pair is_common
 text_codes-common n at text h e = grind (arith, nat_tests, cut_at)
 
--- A pair of bytes is one text code: for `text_code_at`.
 pub text_codes-pair : (n : National) (at : ℕ) (text : List ℕ) (code : ℕ) → at + 1 < length text
     → Some code ≡ cell_of_pair n (get_or text at 0) (first_of (drop (at + 1) text))
     → text_codes n at (drop at text) ≡ (at, Cell code) ∷ text_codes n (at + 2) (drop (at + 2) text)
@@ -52,7 +50,6 @@ pub cell_of_pair-small : (n : National) (byte : ℕ) (next : Option ℕ)
 unfolding cell_of_pair
 cell_of_pair-small n byte next = grind (arith, nat_tests, cell_in-small)
 
--- For `text_code_at` and for expected pages.
 pub code_before-small : (n : National) (b : ℕ) (bytes : List ℕ)
     → HasSevenBits (code_before n b bytes).0
 code_before-small n b bytes =

@@ -1,5 +1,5 @@
--- The first fault of a text whose codes are read one by one, by the shape of each line:
--- reported-faults.
+-- The first fault of a text, found from a few properties of each line while its text codes are read
+-- one by one: reported-faults.
 use Rattle.std.proofs.Common.{rules, ◌≡◌, ℕ, ◌+◌, Bool, true, false, cond, List, [], ◌∷◌, ◌++◌}
 use Rattle.std.proofs.Common.{Option, None, length, refl, sym, ap, ◌∙◌, arith, length-append}
 use Rattle.std.proofs.Common.{append-nil}
@@ -20,9 +20,8 @@ use Rattle.stl_rows.specs.LineByLine.{shape_fault_kinds, reported, reported_firs
 use Rattle.stl_rows.specs.TextCode.{first_of, lines_of_codes, refused_codes, text_codes}
 use Rattle.stl_rows.proofs.LineByLineLemmas.{onto_code, onto_line_end}
 
--- ---- shapes
-
--- The open line records the properties of its cells on which the line's faults depend.
+-- The state of the current line has the number of its cells, and whether they contain a start box
+-- and double height.
 pub record HasShape (cells : List ℕ) (line : OpenLine) : Type 0 where
   pub count : length cells ≡ line.len
   pub box : is_boxed cells ≡ line.is_boxed
@@ -32,20 +31,16 @@ shape-none : (number row : ℕ) (under : Bool) → HasShape [] (empty_line numbe
 unfolding is_boxed is_double
 shape-none number row under = record { count = refl; box = refl; height = refl }
 
--- One more cell.
 shape-push : (cells : List ℕ) (code : ℕ) (line : OpenLine)
     → HasShape cells line
     → HasShape (cells ++ code ∷ []) (with_cell line code)
 unfolding is_boxed is_double
 shape-push cells code line h = grind (arith, nat_tests, length-append, list_any-append, or-false)
 
--- ---- faults by shape
-
 double_prepared : (cells : List ℕ) → is_double (prepared cells) ≡ is_double cells
 unfolding prepared is_double
 double_prepared cells = grind (arith, nat_tests, list_any-append, or-false)
 
--- The length of a prepared line that has cells.
 length_prepared : (c : ℕ) (cs : List ℕ)
     → length (prepared (c ∷ cs)) ≡ cond (is_boxed (c ∷ cs)) (length (c ∷ cs)) (length (c ∷ cs) + 4)
 unfolding prepared
@@ -55,7 +50,6 @@ cells_prepared : (c : ℕ) (cs : List ℕ) → has_cells (prepared (c ∷ cs)) �
 unfolding prepared
 cells_prepared c cs = grind (arith, nat_tests)
 
--- A line without cells has no double height, nor a box.
 kinds_of_none : (line : OpenLine)
     → HasShape [] line
     → line_fault_kinds line.row line.is_under_double (prepared []) ≡ shape_fault_kinds line
@@ -69,8 +63,6 @@ unfolding line_fault_kinds shape_fault_kinds
 shape_kinds [] line h = kinds_of_none line h
 shape_kinds (c ∷ cs) line h = search (rules, length_prepared, cells_prepared, double_prepared)
 
--- ---- the first fault of the lines
-
 first_of-append : {A : Type 0} (xs ys : List A)
     → first_of (xs ++ ys) ≡ option_or (first_of xs) (first_of ys)
 first_of-append xs ys = grind (arith, nat_tests)
@@ -79,7 +71,6 @@ option_or_assoc : {A : Type 0} (a b c : Option A)
     → option_or (option_or a b) c ≡ option_or a (option_or b c)
 option_or_assoc a b c = grind (arith, nat_tests)
 
--- The faults of the open line come before those of the lines below it.
 reported_line : (before : Option RowFault) (cells : List ℕ) (line : OpenLine) (ls : List (List ℕ))
     → HasShape cells line
     → option_or (reported_first before line)
@@ -89,8 +80,8 @@ reported_line : (before : Option RowFault) (cells : List ℕ) (line : OpenLine) 
 reported_line before cells line ls h =
     grind (arith, nat_tests, shape_kinds, double_prepared, first_of-append, option_or_assoc)
 
--- The result is a refused code, or else a fault found before, or else the first fault of the lines
--- that are left, if the open line has the shape of its cells.
+-- The result is the fault of a rejected byte; otherwise a fault found before; otherwise the first
+-- fault of the lines left.
 abbrev IsReported : List (ℕ × TextCode) → Type 0
 IsReported ss =
     (before : Option RowFault) (cells : List ℕ) (line : OpenLine)
@@ -99,7 +90,6 @@ IsReported ss =
     ≡ option_or (first_of (refused_codes ss)) (option_or before (first_of
     (line_faults line.number line.row line.is_under_double (prepared_lines cells ss))))
 
--- One text code, and those after it.
 reported-code : (at : ℕ) (s : TextCode) (ss : List (ℕ × TextCode)) → IsReported ss → IsReported
     ((at, s) ∷ ss)
 reported-code at (Cell code) ss after before cells line h = search (rules, onto_code, shape-push)
@@ -111,7 +101,6 @@ reported-code at NewLine ss after before cells line h =
     (reported_line before cells line (prepared_lines [] ss) h))
 reported-code at (Refused kind) ss after before cells line h = refl
 
--- All text codes.
 reported-is : (ss : List (ℕ × TextCode)) → IsReported ss
 reported-is [] before cells line h = grind (
   arith,
@@ -123,7 +112,6 @@ reported-is [] before cells line h = grind (
 reported-is (c ∷ ss) before cells line h = reported-code c.0 c.1 ss (reported-is ss) before cells
     line h
 
--- For `first_fault`.
 pub reported-faults : (n : National) (t : SubtitleValue)
     → reported None (empty_line 0 t.vp false) (text_codes n 0 t.text) ≡ first_of
     (subtitle_faults n t)

@@ -1,9 +1,9 @@
--- Subtitles whose texts are in one buffer (own).
+-- Cues: subtitles of a programme whose texts are stored in one common buffer (own).
 use Rattle.std.specs.Prelude.{ℕ, ◌+◌, ◌≤◌, List, length, take, drop}
 use Rattle.stl_file.specs.Subtitle.{IsSubtitle, SubtitleValue}
 use Rattle.stl_rows.specs.declared.cues.Cue.{Cue}
 
--- The subtitle of a cue whose text is among all texts.
+-- The subtitle of the cue c, with its text taken from the buffer of all texts.
 abbrev pub subtitle_in : List ℕ → Cue → SubtitleValue
 subtitle_in texts c = record {
   sgn = c.sgn;
@@ -15,12 +15,12 @@ subtitle_in texts c = record {
   text = take c.len (drop c.start texts);
 }
 
--- The text of a cue is within all texts, and its fields are those of a valid subtitle.
+-- The text of the cue c is within the buffer, and the cue has the fields of a valid subtitle.
 pub record IsCueAmong (texts : List ℕ) (c : Cue) : Type 0 where
   pub within : c.start + c.len ≤ length texts
   pub subtitle : IsSubtitle (subtitle_in texts c)
 
--- The cue of a subtitle whose text begins at `start`.
+-- The cue of a subtitle whose text begins at position `start` of the buffer.
 abbrev pub cue_at : ℕ → SubtitleValue → Cue
 cue_at start s = record {
   start = start;

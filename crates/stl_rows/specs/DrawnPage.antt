@@ -1,4 +1,5 @@
--- The drawn page of a subtitle with a national option and a layout, or its first fault.
+-- The drawn page of a subtitle, given a national option and a layout, or the first fault of drawing
+-- the subtitle.
 use Rattle.std.specs.Prelude.{◌≡◌, ◌≤◌, ℕ, ◌+◌, Bool, false, not, ◌&&◌, List, [], ◌∷◌, ◌++◌, Result}
 use Rattle.std.specs.Prelude.{◌==◌}
 use Rattle.std.specs.Prelude.{nat_lt, nat_le, if◌then◌else◌, map, length}
@@ -22,38 +23,39 @@ use Rattle.stl_rows.specs.TextCode.{fault_of, lines_of_codes, refused_codes, tex
 
 -- ---- the lines of a text
 
--- A text in which each byte that `strip` names is replaced by 80, which has no cell.
+-- The text with each byte that the layout item `strip` names replaced by 80, a byte without a cell.
 abbrev pub unstripped : LayoutItems → List ℕ → List ℕ
 unstripped items text = map (λ byte. if strips items byte then 0x80 else byte) text
 
--- The text codes of a text.
+-- The text codes of a text, after `strip`.
 abbrev pub codes_by : National → LayoutItems → List ℕ → List (ℕ × TextCode)
 codes_by national items text = text_codes national 0 (unstripped items text)
 
--- The prepared lines of a text.
+-- The lines of a text, prepared by the layout.
 abbrev pub lines_by : National → LayoutItems → List ℕ → List (List ℕ)
 lines_by national items text =
     map (prepared_by items) (lines_of_codes (codes_by national items text))
 
 -- ---- the rows of lines
 
--- A prepared line that takes rows: its number among all lines; its row before the subtraction;
--- whether the line before it has double height and may hide it; and its cells.
+-- A prepared line that takes a row: the number of the line among all lines; `depth`, the row before
+-- the shift of all lines; whether the line directly above has double height, so may hide this line;
+-- and the cells.
 pub record PlacedLine : Type 0 where
   pub number : ℕ
   pub depth : ℕ
   pub is_under_double : Bool
   pub cells : List ℕ
 
--- `double`: the distance of lines in rows.
+-- The layout item `double`: the distance of two lines in rows, 2 or 1.
 abbrev pub pitch : LayoutItems → ℕ
 pitch items = if items.double then 2 else 1
 
--- `pack`: a line takes no row.
+-- The layout item `pack`: the line takes no row, because it is empty.
 abbrev pub takes_none : LayoutItems → List ℕ → Bool
 takes_none items line = items.pack && not (has_cells line)
 
--- The lines that take rows, numbered from `number` on; the first of them has this depth.
+-- The lines that take a row, with their positions. The first line has this number and depth.
 abbrev pub placed_from : LayoutItems → ℕ → ℕ → Bool → List (List ℕ) → List PlacedLine
 placed_from items number depth is_under_double [] = []
 placed_from items number depth is_under_double (line ∷ lines) =
@@ -66,8 +68,8 @@ placed_from items number depth is_under_double (line ∷ lines) =
       cells = line;
     } ∷ placed_from items (number + 1) (depth + pitch items) (is_double line) lines
 
--- The depth of the last line that is not empty, with the first line at this depth; `other` if all
--- are empty.
+-- The depth of the last line that is not empty, if the first line has this depth; `other` if all
+-- lines are empty.
 abbrev pub last_depth : LayoutItems → ℕ → ℕ → List (List ℕ) → ℕ
 last_depth items depth other [] = other
 last_depth items depth other (line ∷ lines) =
@@ -75,26 +77,27 @@ last_depth items depth other (line ∷ lines) =
     then last_depth items (depth + pitch items) depth lines
     else last_depth items (if items.pack then depth else depth + pitch items) other lines
 
--- `row`: the depth of line 0. The row of a line is its depth minus the rows that are subtracted.
+-- The layout item `row`: the depth of line 0, which is VP plus the rows that all lines are moved
+-- down.
 abbrev pub first_depth : LayoutItems → ℕ → ℕ
 first_depth items vp = vp + items.lower
 
--- `row` and `last`: the number of rows that are subtracted. With `last`, the last line that is not
--- empty gets the row of line 0.
+-- The layout items `row` and `last`: the number of rows to subtract from each line's depth. With
+-- `last`, the last line that is not empty gets the row that line 0 would have.
 abbrev pub rows_off : LayoutItems → List (List ℕ) → ℕ
 rows_off items lines = items.higher + (if items.last then last_depth items 0 0 lines else 0)
 
--- The lines of a subtitle that take rows.
+-- The lines of a subtitle that take a row, with their positions.
 abbrev pub placed_lines : LayoutItems → ℕ → List (List ℕ) → List PlacedLine
 placed_lines items vp lines = placed_from items 0 (first_depth items vp) false lines
 
--- ---- faults
+-- ---- the faults of drawing a subtitle
 
--- The line is in a row that a subtitle may use.
+-- After subtracting `off`, the row of the line is 1 to 23.
 abbrev pub is_on_page : ℕ → PlacedLine → Bool
 is_on_page off line = nat_lt off line.depth && nat_le line.depth (off + last_row)
 
--- The faults of a line, in order.
+-- The faults of a line, in the order of reports.
 unfoldable pub placed_fault_kinds : LayoutItems → ℕ → PlacedLine → List RowFaultKind
 placed_fault_kinds items off line =
     when (nat_lt columns (length line.cells)) RowTooLong
@@ -102,29 +105,31 @@ placed_fault_kinds items off line =
     ++ when (is_double line.cells && (line.depth == off + last_row)) DoubleRow
     ++ when (has_cells line.cells && line.is_under_double && not items.double) Hidden
 
--- The faults of lines.
+-- The faults of all lines, line by line.
 abbrev pub placed_faults : LayoutItems → ℕ → List PlacedLine → List RowFault
 placed_faults items off [] = []
 placed_faults items off (line ∷ lines) =
     map (fault_of line.number) (placed_fault_kinds items off line) ++ placed_faults items off lines
 
--- ---- the page
+-- ---- the page of a subtitle
 
--- A line that is not empty is in this row.
+-- The line is not empty, and its row after subtracting `off` is `row`.
 abbrev pub is_on_row : ℕ → ℕ → PlacedLine → Bool
 is_on_row off row line = has_cells line.cells && (line.depth == off + row)
 
--- The codes of a row: those of its line, or spaces.
+-- The 40 codes of a row: the cells of the line in this row with spaces around them, or only spaces
+-- if no line is in the row.
 abbrev pub shown_row : LayoutItems → ℕ → ℕ → List PlacedLine → ℕ → List ℕ
 shown_row items jc off lines row =
     option_map_or (λ (line : PlacedLine). row_from (start_by items jc line.cells) line.cells)
     (find (is_on_row off row) lines) blank_row
 
--- The page that shows lines: rows 1 to 24.
+-- The page that shows the lines: 24 rows.
 unfoldable pub page_of_placed : LayoutItems → ℕ → ℕ → List PlacedLine → Rows
 page_of_placed items jc off lines = map (shown_row items jc off lines) (range_with_len 1 24)
 
--- The drawn page of a subtitle, or its first fault: first of the text by byte, then line by line.
+-- The drawn page of a subtitle with the items of a layout, or the first fault: faults of the text
+-- come first, by byte, then faults of the lines, by line.
 unfoldable pub drawn_by : National → LayoutItems → SubtitleValue → Result Rows RowFault
 drawn_by national items t =
     let codes : List (ℕ × TextCode) = codes_by national items t.text in
@@ -134,12 +139,13 @@ drawn_by national items t =
     unless (refused_codes codes ++ placed_faults items off taken)
     (page_of_placed items t.jc off taken)
 
--- The drawn page of a subtitle, or its first fault.
+-- The drawn page of a subtitle with a national option and a layout, or the first fault of drawing
+-- the subtitle.
 unfoldable pub drawn : Drawing → SubtitleValue → Result Rows RowFault
 drawn drawing t = drawn_by drawing.national (items_of_layout drawing.layout) t
 
--- With the default layout a subtitle is drawn plainly: a layout with each item at its default
--- changes nothing.
+-- The default layout draws a subtitle plainly: each line is in a box of its own, one row below the
+-- line before. So a layout changes nothing if each of its items has the default value.
 abbrev pub LawOfDefaultLayout : Type 0
 LawOfDefaultLayout =
     (national : National) (t : SubtitleValue)

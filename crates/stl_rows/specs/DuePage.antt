@@ -1,4 +1,5 @@
--- The expected page at a frame, and the cues at which it can change.
+-- The expected page at a frame of the day, and the cues: the frames at which the expected page can
+-- change.
 use Rattle.std.specs.Prelude.{◌≡◌, ℕ, ◌-◌, ◌<◌, ◌≤◌, ◌==◌, ◌⊎◌, Bool, ◌&&◌, List, Option, Some}
 use Rattle.std.specs.Prelude.{None, nat_lt, nat_le, option_map, All, Any, Contains}
 use Rattle.std.specs.List.{find}
@@ -9,57 +10,58 @@ use Rattle.stl_rows.specs.declared.layout.Drawing.{Drawing}
 use Rattle.stl_rows.specs.DrawnPage.{drawn}
 use Rattle.stl_rows.specs.Programme.{AreInOrder}
 
--- A subtitle is shown from its TCI to the frame before its TCO.
+-- A subtitle is due, and so on the air, from its TCI to the frame before its TCO.
 abbrev pub is_due : ℕ → SubtitleValue → Bool
 is_due frame t = nat_le t.tci frame && nat_lt frame t.tco
 
--- The drawn page of a subtitle; blank if there is none, or if it cannot be drawn.
+-- The drawn page of a subtitle; blank if there is no subtitle, or if the subtitle cannot be drawn.
 abbrev pub drawn_or_blank : Drawing → Option SubtitleValue → Rows
 drawn_or_blank drawing None = blank
 drawn_or_blank drawing (Some t) = result_unwrap_or (drawn drawing t) blank
 
--- The expected page at a frame: that of the subtitle shown there, or blank. No two subtitles in
--- order are shown at the same frame.
+-- The expected page at a frame: the drawn page of the subtitle that is due at the frame, or blank
+-- if none is. If subtitles do not overlap (`AreInOrder`), at most one is due at each frame.
 unfoldable pub due : Drawing → List SubtitleValue → ℕ → Rows
 due drawing records frame = drawn_or_blank drawing (find (is_due frame) records)
 
--- The subtitle ends at a frame, its TCO.
+-- The subtitle ends at the frame: its TCO is the frame.
 abbrev pub ends_at : ℕ → SubtitleValue → Bool
 ends_at frame t = t.tco == frame
 
--- The TCI of the subtitle that ends at a frame; `None` if none does. No two subtitles in order end
--- at the same frame.
+-- The TCI of the subtitle whose TCO is the frame; `None` if there is no such subtitle. If subtitles
+-- do not overlap (`AreInOrder`), at most one ends at each frame.
 unfoldable pub tci_of_ending : List SubtitleValue → ℕ → Option ℕ
 tci_of_ending records frame = option_map (λ t. t.tci) (find (ends_at frame) records)
 
--- The frame is a cue: a TCI or a TCO.
+-- The frame is a cue: the TCI or the TCO of a subtitle.
 abbrev pub IsEdge : List SubtitleValue → ℕ → Type 0
 IsEdge records frame = Any (λ t. (frame ≡ t.tci) ⊎ (frame ≡ t.tco)) records
 
--- The first cue after a frame.
+-- `edge` is the first cue after the frame.
 pub record IsNextEdge (records : List SubtitleValue) (frame edge : ℕ) : Type 0 where
   pub is_edge : IsEdge records edge
   pub after : frame < edge
   pub least : (e : ℕ) → IsEdge records e → frame < e → edge ≤ e
 
--- The answer is the first cue after a frame; `None` if there is none.
+-- The result is the first cue after the frame, or `None` if no cue is after the frame.
 abbrev pub ReportsNextEdge : List SubtitleValue → ℕ → Option ℕ → Type 0
 ReportsNextEdge records frame None = (e : ℕ) → IsEdge records e → e ≤ frame
 ReportsNextEdge records frame (Some edge) = IsNextEdge records frame edge
 
--- The last cue up to a frame.
+-- `edge` is the last cue at or before the frame.
 pub record IsLastEdge (records : List SubtitleValue) (frame edge : ℕ) : Type 0 where
   pub is_edge : IsEdge records edge
   pub until : edge ≤ frame
   pub greatest : (e : ℕ) → IsEdge records e → e ≤ frame → e ≤ edge
 
--- The answer is the last cue up to a frame; `None` if there is none.
+-- The result is the last cue at or before the frame, or `None` if all cues are after the frame.
 abbrev pub ReportsLastEdge : List SubtitleValue → ℕ → Option ℕ → Type 0
 ReportsLastEdge records frame None = (e : ℕ) → IsEdge records e → frame < e
 ReportsLastEdge records frame (Some edge) = IsLastEdge records frame edge
 
--- Among subtitles in order, one whose time includes a frame is shown there. So the order in which
--- they are searched does not matter.
+-- If subtitles do not overlap (`AreInOrder`), the expected page at a frame is the drawn page of any
+-- subtitle due at that frame, or blank if the subtitle cannot be drawn. So the order in which
+-- subtitles are searched does not matter.
 abbrev pub LawOfDueSubtitles : Type 0
 LawOfDueSubtitles =
     (drawing : Drawing) (records : List SubtitleValue) (frame : ℕ) (t : SubtitleValue)
@@ -69,15 +71,16 @@ LawOfDueSubtitles =
     → frame < t.tco
     → due drawing records frame ≡ drawn_or_blank drawing (Some t)
 
--- If each subtitle starts later or has ended, the expected page is blank.
+-- If each subtitle starts after the frame or has ended by then, the expected page at the frame is
+-- blank.
 abbrev pub LawOfBlankPages : Type 0
 LawOfBlankPages =
     (drawing : Drawing) (records : List SubtitleValue) (frame : ℕ)
     → All (λ t. (frame < t.tci) ⊎ (t.tco ≤ frame)) records
     → due drawing records frame ≡ blank
 
--- The expected page changes only at a TCI or a TCO. So a checker that draws it only at cues misses
--- no change.
+-- The expected page changes only at a TCI or a TCO. So a checker that draws the expected page only
+-- at cues misses no change.
 abbrev pub LawOfEdges : Type 0
 LawOfEdges =
     (drawing : Drawing) (records : List SubtitleValue) (frame : ℕ)
@@ -85,14 +88,15 @@ LawOfEdges =
     → (IsEdge records frame → ⊥)
     → due drawing records frame ≡ due drawing records (frame - 1)
 
--- Row 24 of each expected page is blank, since no subtitle may use it (own). So a transmission of
--- an expected page needs one row fewer than a page has.
+-- Row 24 of each expected page is blank, since no subtitle may use row 24 (own). So a transmission
+-- of an expected page needs only 23 rows.
 abbrev pub LawOfLastRow : Type 0
 LawOfLastRow =
     (drawing : Drawing) (records : List SubtitleValue) (frame : ℕ)
     → row_at (due drawing records frame) 24 ≡ blank_row
 
--- Each expected page is a page: 24 rows of 40 codes below 128. So it can be sent with odd parity.
+-- Each expected page is a valid page: 24 rows of 40 codes below 128. So the page can be sent with
+-- odd parity.
 abbrev pub LawOfDuePages : Type 0
 LawOfDuePages =
     (drawing : Drawing) (records : List SubtitleValue) (frame : ℕ)

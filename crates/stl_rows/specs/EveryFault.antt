@@ -1,4 +1,4 @@
--- Every fault of a subtitle file in order, and the reports to an audience.
+-- Every fault of a subtitle file, in order, and how the faults are reported to an audience.
 use Rattle.std.specs.Prelude.{◌≡◌, ℕ, ◌<◌, ◌≤◌, ◌&&◌, nat_lt, not, Bool, true, false, List, []}
 use Rattle.std.specs.Prelude.{◌∷◌, ◌++◌, length, map, take, Option, Some, None, Result, Ok, Err}
 use Rattle.std.specs.Prelude.{◌⊎◌}
@@ -16,14 +16,17 @@ use Rattle.stl_rows.specs.declared.layout.Drawing.{Drawing}
 use Rattle.stl_rows.specs.declared.times.Times.{Times}
 use Rattle.stl_rows.specs.Programme.{follow_faults, times_of}
 
--- A fault at a block.
+-- A fault of this kind at a TTI block.
 abbrev pub load_fault : ℕ → LoadFaultKind → LoadFault
 load_fault block kind = record { block = block; kind = kind }
 
--- The faults of the rest of a file, after a subtitle with these times. At the first block of a
--- rejected subtitle, the reason; times are then compared as if it did not exist. At the last block
--- of any other, its times compared with those of the one before, even if that has faults, and the
--- first fault of drawing it. At the end, the fault that ends reading.
+-- The faults of the rest of a file, after a subtitle with the times `before`:
+--
+-- - for a rejected subtitle, the reason, at its first block; times are then compared as if the
+--   subtitle did not exist;
+-- - for any other subtitle, at its last block: the fault of its times, compared with those of the
+--   previous subtitle even if that has faults, and the first fault of drawing the subtitle;
+-- - at the end, the fault that ends reading, if there is one.
 unfoldable pub faults_after : Drawing → Option Times → Findings → List LoadFault
 faults_after drawing before no_more = []
 faults_after drawing before (breaks fault block) = load_fault block (File fault) ∷ []
@@ -33,7 +36,7 @@ faults_after drawing before (finds t block more) =
     map (load_fault block) (follow_faults drawing before t)
     ++ faults_after drawing (Some (times_of t)) more
 
--- All faults of a file, in the order of its blocks.
+-- All faults of a subtitle file, in the order of the file's blocks.
 unfoldable pub faults : Drawing → List ℕ → List LoadFault
 faults drawing file = faults_after drawing None (findings_for drawing.scope file)
 
@@ -44,7 +47,7 @@ is_of_file (File Ended) = false
 is_of_file Memory = false
 is_of_file _ = true
 
--- Faults of the file were reported, at least one.
+-- At least one fault was reported, and all reported faults are in the bytes of the file.
 pub record ReportsOfFile {D : Type 0} (IsReported : D → LoadFault → D → Type 0) (old new : D) : Type
     0
   where
@@ -53,7 +56,7 @@ pub record ReportsOfFile {D : Type 0} (IsReported : D → LoadFault → D → Ty
     pub of_file : list_all (λ (f : LoadFault). is_of_file f.kind) faults ≡ true
     pub reported : Reports IsReported old new faults
 
--- Faults of the file were reported, or nothing.
+-- All faults that were reported, if any, are in the bytes of the file.
 pub record ReportsAnyOfFile
     {D : Type 0} (IsReported : D → LoadFault → D → Type 0) (old new : D)
     : Type 0 where
@@ -61,22 +64,23 @@ pub record ReportsAnyOfFile
   pub of_file : list_all (λ (f : LoadFault). is_of_file f.kind) faults ≡ true
   pub reported : Reports IsReported old new faults
 
--- The reports before a result, whether or not the source's bytes are known: faults of the file, or
--- nothing, if there is a result; faults of the file if there is none; and faults, or nothing, if
--- the source failed or memory could not be allocated.
+-- The reports by a result of `load_all`, even if the source's bytes are unknown. If subtitles are
+-- returned: no report, or faults of the file. If none are returned: at least one fault of the file.
+-- If the source failed or memory could not be allocated: any number of faults.
 abbrev pub ReportsByAnswer : {D A : Type 0}
     → (D → LoadFault → D → Type 0) → D → D → Result (Option A) LoadFault → Type 0
 ReportsByAnswer IsReported old new (Ok (Some found)) = ReportsAnyOfFile IsReported old new
 ReportsByAnswer IsReported old new (Ok None) = ReportsOfFile IsReported old new
 ReportsByAnswer IsReported old new (Err f) = ReportsSome IsReported old new
 
--- The audience stopped at one of these: it received those up to there.
+-- The audience stopped at one of the faults `items`: it received the faults up to and including
+-- that one.
 abbrev pub StopsWithin : {D : Type 0}
     → (D → LoadFault → D → Type 0) → D → D → List LoadFault → Type 0
 StopsWithin IsReported old new items =
     (n : ℕ) × (0 < n) × (n ≤ length items) × Reports IsReported old new (take n items)
 
--- All of these were reported if the audience did not stop, otherwise a prefix of them.
+-- The audience received all of the faults `items`; or, if it stopped, a prefix of them.
 pub record ReportsFaults
     {D : Type 0} (IsReported : D → LoadFault → D → Type 0) (old new : D) (has_stopped : Bool)
     (items : List LoadFault)
@@ -84,18 +88,19 @@ pub record ReportsFaults
   pub all : has_stopped ≡ false → Reports IsReported old new items
   pub prefix : StopsWithin IsReported old new items
 
--- The file ends within a subtitle.
+-- The fault means that the file ends within a subtitle.
 abbrev pub ends_in_subtitle : LoadFaultKind → Bool
 ends_in_subtitle (File Unfinished) = true
 ends_in_subtitle _ = false
 
--- The fault is found before this block is read. A file that ends within a subtitle, with the last
--- complete block as its place, is found only when the next block is read.
+-- The fault is found before this block is read. A file that ends within a subtitle is the
+-- exception: the fault names the last complete block, but is found only when the next block is
+-- read.
 abbrev pub is_reported_before : ℕ → LoadFault → Bool
 is_reported_before block fault = nat_lt fault.block block && not (ends_in_subtitle fault.kind)
 
--- The source failed: the block is that of the first byte after those consumed. Exactly the faults
--- before it were reported.
+-- The source failed at `block`, the block of the first byte that could not be read, and exactly the
+-- faults before that block were reported.
 pub record FailsReporting
     {D : Type 0} (drawing : Drawing) (old new : Option (List ℕ))
     (IsReported : D → LoadFault → D → Type 0) (reported_old reported_new : D) (block : ℕ)
@@ -108,8 +113,8 @@ pub record FailsReporting
       (λ all. Reports IsReported reported_old reported_new
       (filter (is_reported_before block) (faults drawing all)))
 
--- A subtitle without faults ends at this block, after one with the times `before`, and exactly
--- these faults are reported before it.
+-- A subtitle without faults ends at block `at`, and `reported` are exactly the faults of the file
+-- before that subtitle. The times of the subtitle before are `before`.
 abbrev pub EndsSubtitleAfter : Drawing → Option Times → List LoadFault → ℕ → Findings → Type 0
 EndsSubtitleAfter drawing before reported at no_more = ⊥
 EndsSubtitleAfter drawing before reported at (breaks fault block) = ⊥
@@ -123,8 +128,8 @@ EndsSubtitleAfter drawing before reported at (finds t block more) =
     × (reported ≡ map (load_fault block) (follow_faults drawing before t) ++ rest)
     × EndsSubtitleAfter drawing (Some (times_of t)) rest at more)
 
--- The memory for the subtitle that ends at this block could not be allocated: it has no fault, and
--- the faults before it were reported.
+-- Memory could not be allocated for the subtitle that ends at `block`. The subtitle has no fault,
+-- and exactly the faults before it were reported.
 pub record WantsMemory
     {D : Type 0} (drawing : Drawing) (file : List ℕ) (IsReported : D → LoadFault → D → Type 0)
     (old new : D) (block : ℕ)

@@ -1,4 +1,5 @@
--- The number and the name of a fault in reports (own), and which faults are failures of the source.
+-- The number and the name of each fault of drawing and loading (own), and which faults mean that
+-- the source failed.
 use Rattle.std.specs.Prelude.{Bool, false, codes}
 use Rattle.sub_io.specs.FaultCode.{FaultCodeValue, fault_code}
 use Rattle.stl_file.specs.Fault as stl
@@ -9,7 +10,7 @@ use Rattle.stl_rows.specs.declared.fault.LoadFaultKind.TheVariants as load
 use Rattle.stl_rows.specs.declared.fault.RowFaultKind.{RowFaultKind}
 use Rattle.stl_rows.specs.declared.fault.RowFaultKind.TheVariants as row
 
--- The fault of a subtitle's text.
+-- The number and the name of a fault in a subtitle's text.
 abbrev pub row_code : RowFaultKind → FaultCodeValue
 row_code row.Character = fault_code 50 (codes "Character")
 row_code row.Control = fault_code 51 (codes "Control")
@@ -18,7 +19,7 @@ row_code row.PastBottom = fault_code 53 (codes "PastBottom")
 row_code row.DoubleRow = fault_code 54 (codes "DoubleRow")
 row_code row.Hidden = fault_code 55 (codes "Hidden")
 
--- The fault of a file.
+-- The number and the name of a fault of loading a file.
 abbrev pub load_code : LoadFaultKind → FaultCodeValue
 load_code (load.File fault) = stl_code fault
 load_code load.OutOfOrder = fault_code 56 (codes "OutOfOrder")
@@ -26,11 +27,11 @@ load_code load.Overlap = fault_code 57 (codes "Overlap")
 load_code (load.Row fault) = row_code fault.kind
 load_code load.Memory = fault_code 58 (codes "Memory")
 
--- The source failed.
+-- The fault of loading means that the source failed.
 abbrev pub is_read_kind : LoadFaultKind → Bool
 is_read_kind (load.File fault) = stl.is_file_read fault
 is_read_kind _ = false
 
--- A fault with its block is a failure of the source.
+-- The fault of loading, with its block, means that the source failed.
 abbrev pub is_load_read : LoadFault → Bool
 is_load_read fault = is_read_kind fault.kind

@@ -1,4 +1,4 @@
--- The subtitles kept while a file is read: the reliable ones among those read so far.
+-- The state of loading a file: the reliable subtitles among those read so far.
 use Rattle.std.specs.Prelude.{ℕ, ◌-◌, Bool, true, false, not, ◌&&◌, ◌||◌, if◌then◌else◌, List, []}
 use Rattle.std.specs.Prelude.{◌∷◌, ◌++◌, length, take, replicate, ◌≡◌, ◌⊎◌, Option, Some, None}
 use Rattle.std.specs.Prelude.{Result, Ok, Err}
@@ -11,25 +11,25 @@ use Rattle.stl_rows.specs.EveryFault.{ReportsFaults, WantsMemory, faults}
 use Rattle.stl_rows.specs.Judged.{JudgedSubtitle, JudgedValue, JudgesBy, are_in_order, are_some}
 use Rattle.stl_rows.specs.Judged.{judges, with_bits}
 
--- The subtitles kept; for each, whether another one of the file precedes it (missing bits are
--- false); whether another one follows the last; and whether the last is the one with whose times
--- the next are compared.
+-- The state of loading: the kept subtitles; for each, whether an unreliable subtitle directly
+-- precedes it (a missing bit means false); whether an unreliable subtitle follows the last; and
+-- whether the times of the next subtitle are compared with those of the last kept one.
 pub record KeptRecords : Type 0 where
   pub records : List SubtitleValue
   pub after_other : List Bool
   pub is_before_other : Bool
   pub is_latest : Bool
 
--- The state before any subtitle.
+-- The state of loading before the first subtitle.
 abbrev pub nothing_kept : KeptRecords
 nothing_kept =
     record { records = []; after_other = []; is_before_other = false; is_latest = false }
 
--- The subtitles with their bits.
+-- The kept subtitles, each with its bit: whether an unreliable subtitle directly precedes it.
 abbrev pub all_kept : KeptRecords → List JudgedSubtitle
 all_kept k = with_bits k.records k.after_other
 
--- The programme against which a transmission is checked.
+-- The programme of the kept subtitles, against which a transmission is checked.
 abbrev pub judged_with : Drawing → KeptRecords → JudgedValue
 judged_with drawing k = record {
   programme = record { drawing = drawing; records = k.records };
@@ -37,14 +37,15 @@ judged_with drawing k = record {
   is_before_other = k.is_before_other;
 }
 
--- ---- the next subtitle
+-- ---- the effect of the next subtitle
 
--- The bits after adding one for subtitle number n.
+-- The bits of the kept subtitles after adding the bit of subtitle number n. Missing bits are filled
+-- with false.
 abbrev pub bits_after : ℕ → Bool → List Bool → List Bool
 bits_after n other bits =
     if other then take n bits ++ (replicate (n - length bits) false ++ true ∷ []) else bits
 
--- After a subtitle that is kept.
+-- The state after keeping the subtitle t.
 abbrev pub with_one : SubtitleValue → KeptRecords → KeptRecords
 with_one t k = record {
   records = k.records ++ t ∷ [];
@@ -53,50 +54,54 @@ with_one t k = record {
   is_latest = true;
 }
 
--- After a rejected subtitle: times are not compared with it.
+-- The state after a rejected subtitle. The times of the next subtitle are not compared with those
+-- of a rejected one.
 abbrev pub refused_one : KeptRecords → KeptRecords
 refused_one k = record k { is_before_other = true }
 
--- After a subtitle with a fault.
+-- The state after a subtitle with a fault, which is not kept.
 abbrev pub broken_one : KeptRecords → KeptRecords
 broken_one k = record k { is_before_other = true; is_latest = false }
 
--- Without the last subtitle, which is not reliable.
+-- The state without the last kept subtitle, which is not reliable.
 abbrev pub without_last : KeptRecords → KeptRecords
 without_last k = record k {
   records = take (length k.records - 1) k.records;
   after_other = take (length k.records - 1) k.after_other;
 }
 
--- After the next subtitle, with or without a fault. If its times are not in order with those of the
--- one before, that one is not reliable either.
+-- The state after the next subtitle. `clean`: the subtitle has no fault. `in_order`: its times are
+-- in order with those of the previous subtitle; if they are not, the previous subtitle is not
+-- reliable either.
 abbrev pub kept_after : Bool → Bool → SubtitleValue → KeptRecords → KeptRecords
 kept_after in_order clean t k =
     if clean then with_one t k
     else if k.is_latest && not in_order then broken_one (without_last k)
     else broken_one k
 
--- ---- at the end
+-- ---- the kept subtitles at the end of the file
 
--- There are no bits.
+-- The list has no bits, so no kept subtitle has an unreliable one before it.
 abbrev pub are_none : List Bool → Bool
 are_none [] = true
 are_none (bit ∷ bits) = false
 
--- No other subtitle exists, so no fault was reported.
+-- All subtitles of the file are kept, so no fault was reported.
 abbrev pub are_all_kept : KeptRecords → Bool
 are_all_kept k = are_none k.after_other && not k.is_before_other
 
--- A transmission can be checked against these subtitles.
+-- A transmission can be checked against the kept subtitles: no fault was reported, or they are at
+-- least one and do not overlap.
 abbrev pub is_enough : KeptRecords → Bool
 is_enough k = are_all_kept k || (are_some (all_kept k) && are_in_order (all_kept k))
 
 -- ---- results of loading a whole file
 
--- The subtitles kept of a file, and the reports, for each result: all its faults, with subtitles
--- against which a transmission can be checked; its faults, or those up to where the audience
--- stopped, without such subtitles; or the faults before the subtitle for which memory could not be
--- allocated.
+-- The kept subtitles and the reports for each result of `load_all`. With subtitles: a transmission
+-- can be checked against them, and all faults of the file were reported. With `None`: the audience
+-- stopped, or a transmission cannot be checked; all faults were reported, or those up to the stop.
+-- With `Memory`: the faults before the subtitle for which memory could not be allocated were
+-- reported.
 abbrev pub LoadsAll : {D : Type 0}
     → Drawing → List ℕ → (D → LoadFault → D → Type 0) → D → D → Bool
     → Result (Option KeptRecords) LoadFault → Type 0

@@ -1,4 +1,5 @@
--- Layouts: how a broadcaster's inserter draws texts (own). EBU Tech 3264 leaves this open.
+-- Layouts: how a broadcaster's inserter draws the texts of subtitles (own). EBU Tech 3264 leaves
+-- the drawing open.
 use Rattle.std.specs.Prelude.{ℕ, Bool, false, List, [], ◌∷◌, Option, Some, None, ◌==◌, unwrap_or}
 use Rattle.std.specs.Prelude.{replicate, slice_index_or, nat_lt, ◌&&◌}
 use Rattle.std.specs.List.{find}
@@ -15,9 +16,9 @@ use Rattle.stl_rows.specs.declared.layout.Layout.{Layout}
 use Rattle.stl_rows.specs.declared.layout.LayoutItems.{LayoutItems}
 use Rattle.stl_rows.specs.declared.national.National.{National}
 
--- ---- codes
+-- ---- spacing attributes of a layout
 
--- The code of a spacing attribute (EN 300 706, spacing attributes).
+-- The code of a spacing attribute, 01 to 0D (EN 300 706, spacing attributes).
 unfoldable pub attribute_code : Attribute → ℕ
 attribute_code AlphaRed = 0x01
 attribute_code AlphaGreen = 0x02
@@ -33,30 +34,30 @@ attribute_code StartBox = 0x0B
 attribute_code NormalHeight = 0x0C
 attribute_code DoubleHeight = 0x0D
 
--- The attributes that a layout may add to a line.
+-- The spacing attributes that a layout may add to a line.
 abbrev pub attributes : List Attribute
 attributes =
     AlphaRed ∷ AlphaGreen ∷ AlphaYellow ∷ AlphaBlue ∷ AlphaMagenta ∷ AlphaCyan ∷ AlphaWhite
     ∷ Flash ∷ Steady ∷ EndBox ∷ StartBox ∷ NormalHeight ∷ DoubleHeight ∷ []
 
--- The attribute with this code.
+-- The spacing attribute with this code; `None` if a layout may not add the code.
 unfoldable pub attribute_of : ℕ → Option Attribute
 attribute_of code = find (λ a. attribute_code a == code) attributes
 
--- The codes of a list whose places each have a code or none.
+-- The codes of a list of spacing attributes, without the empty places of the list.
 abbrev pub codes_of_places : List (Option Attribute) → List ℕ
 codes_of_places [] = []
 codes_of_places (None ∷ places) = codes_of_places places
 codes_of_places (Some a ∷ places) = attribute_code a ∷ codes_of_places places
 
--- ---- items
+-- ---- layout items and their defaults
 
--- A list of places without a code.
+-- A list of n empty places for spacing attributes.
 abbrev pub no_codes : ℕ → List (Option Attribute)
 no_codes n = replicate n None
 
--- The default items: two start boxes before a line's own leading codes, two end boxes at its end,
--- and nothing else.
+-- The default layout items: two start boxes before a line's own leading codes, two end boxes at the
+-- line's end, and nothing else.
 unfoldable pub default_items : LayoutItems
 default_items = record {
   strip = replicate 32 false;
@@ -78,15 +79,15 @@ default_items = record {
   higher = 0;
 }
 
--- The layout to use if none is given.
+-- The layout if the user gives none.
 abbrev pub default_layout : Layout
 default_layout = record { items = None }
 
--- The items of a layout.
+-- The items of a layout; the default items if the layout has none.
 abbrev pub items_of_layout : Layout → LayoutItems
 items_of_layout layout = unwrap_or layout.items default_items
 
--- `strip`: a byte of a text, 00 to 1F, has no cell.
+-- The layout item `strip` names this byte, 00 to 1F, so the byte of a text has no cell.
 abbrev pub strips : LayoutItems → ℕ → Bool
 strips items byte = nat_lt byte 0x20 && slice_index_or items.strip byte false
 
@@ -95,6 +96,6 @@ abbrev pub drawing_within : National → Layout → Scope → Drawing
 drawing_within national layout scope =
     record { national = national; layout = layout; scope = scope }
 
--- A drawing with the whole scope.
+-- A drawing with a national option and a layout, for all subtitles of a file.
 abbrev pub drawing_by : National → Layout → Drawing
 drawing_by national layout = drawing_within national layout whole

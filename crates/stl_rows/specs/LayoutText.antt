@@ -1,4 +1,5 @@
--- Layouts as users type them (own): items joined by commas, without duplicates, in any order.
+-- The syntax of layouts that users type (own): items joined by commas, without duplicates, in any
+-- order.
 use Rattle.std.specs.Prelude.{ℕ, ◌+◌, ◌-◌, ◌*◌, Bool, true, false, ◌&&◌, List, [], ◌∷◌, Option}
 use Rattle.std.specs.Prelude.{Some, None, codes, drop, length, nat_lt, nat_le, option_map}
 use Rattle.std.specs.Prelude.{replicate}
@@ -12,34 +13,36 @@ use Rattle.stl_rows.specs.declared.layout.LayoutItems.{LayoutItems}
 use Rattle.stl_rows.specs.Layout.{attribute_of, default_items, no_codes}
 use Rattle.stl_rows.specs.TextCode.{is_within}
 
--- ---- characters
+-- ---- separators of a layout's text
 
--- The separator of items.
+-- The comma, which separates the items of a layout.
 abbrev pub between_items : ℕ
 between_items = 0x2C
 
--- The separator of an item's name and value.
+-- The equals sign, which separates the name and the value of a layout item.
 abbrev pub equals_sign : ℕ
 equals_sign = 0x3D
 
--- In `before`, the place of a line's own leading codes.
+-- The asterisk. In the value of the layout item `before`, it marks the place of a line's own
+-- leading codes.
 abbrev pub asterisk : ℕ
 asterisk = 0x2A
 
--- The text before the first of a character, and the text after it, if there is one.
+-- The text before the first `mark`, and the text after it; `None` for the second part if the text
+-- has no `mark`.
 unfoldable pub cut_at : ℕ → List ℕ → List ℕ × Option (List ℕ)
 cut_at mark text =
     if nat_lt (position_or_len (λ c. c == mark) text) (length text)
     then (before_first (λ c. c == mark) text, Some (after_first (λ c. c == mark) text))
     else (text, None)
 
--- ---- numbers
+-- ---- numbers in a layout's text
 
--- A decimal digit.
+-- The value of a decimal digit in ASCII; `None` for other characters.
 abbrev pub decimal_digit : ℕ → Option ℕ
 decimal_digit c = if is_within 0x30 0x39 c then Some (c - 0x30) else None
 
--- N: one or two decimal digits.
+-- The value of one or two decimal digits; `None` for any other text.
 abbrev pub number_of_digits : List ℕ → Option ℕ
 number_of_digits (units ∷ []) = decimal_digit units
 number_of_digits (tens ∷ units ∷ []) = do
@@ -48,22 +51,23 @@ number_of_digits (tens ∷ units ∷ []) = do
   Some (10 * tens + units)
 number_of_digits _ = None
 
--- N within a range.
+-- The value of one or two decimal digits, if it is from `least` to `most`.
 unfoldable pub number_within : ℕ → ℕ → List ℕ → Option ℕ
 number_within least most text = do
   n ← number_of_digits text
   if nat_le least n && nat_le n most then Some n else None
 
--- N with or without `-` before it: how many rows down and how many up.
+-- The value of the layout item `row`, 0 to 22, with `-` before it to move lines up: how many rows
+-- down, and how many rows up.
 unfoldable pub rows_of_text : List ℕ → Option (ℕ × ℕ)
 rows_of_text text =
     if slice_index_or text 0 0 == 0x2D
     then option_map (λ n. (0, n)) (number_within 0 22 (drop 1 text))
     else option_map (λ n. (n, 0)) (number_within 0 22 text)
 
--- ---- codes
+-- ---- hexadecimal codes in a layout's text
 
--- A hexadecimal digit of either case.
+-- The value of a hexadecimal digit in ASCII, upper or lower case; `None` for other characters.
 unfoldable pub hex_digit_value : ℕ → Option ℕ
 hex_digit_value c =
     if is_within 0x30 0x39 c then Some (c - 0x30)
@@ -77,7 +81,8 @@ byte_of_digits high low = do
   low ← hex_digit_value low
   Some (16 * high + low)
 
--- HEX: codes from pairs of digits, stored in these places, of which the first are already filled.
+-- Fills a list of places with the spacing attributes of pairs of hexadecimal digits. The first
+-- `filled` places are taken.
 unfoldable pub codes_filled :
     List (Option Attribute) → ℕ → List ℕ → Option (List (Option Attribute))
 codes_filled places filled [] = Some places
@@ -89,11 +94,12 @@ codes_filled places filled (high ∷ low ∷ digits) = do
       then codes_filled (slice_set places filled (Some attribute)) (filled + 1) digits
       else None
 
--- HEX: at most this many codes of 01 to 0D.
+-- The spacing attributes of pairs of hexadecimal digits: at most `most`, each from 01 to 0D.
 abbrev pub codes_of_text : ℕ → List ℕ → Option (List (Option Attribute))
 codes_of_text most text = codes_filled (no_codes most) 0 text
 
--- HEX: codes of 00 to 1F from pairs of digits, without duplicates.
+-- Adds the bytes of pairs of hexadecimal digits, 00 to 1F, to the bytes of the layout item `strip`.
+-- A duplicate is rejected.
 unfoldable pub stripped_with : List Bool → List ℕ → Option (List Bool)
 stripped_with strip [] = Some strip
 stripped_with strip (high ∷ []) = None
@@ -102,7 +108,8 @@ stripped_with strip (high ∷ low ∷ digits) = do
   if slice_index_or strip code true then None
       else stripped_with (slice_set strip code true) digits
 
--- `before`: the codes before the `*` and those after it, at most 6 in total.
+-- The codes of the layout item `before`, given the parts of its value around `*`: at most 6 codes
+-- in total.
 abbrev pub before_of_parts :
     List ℕ → Option (List ℕ) → Option (List (Option Attribute) × List (Option Attribute))
 before_of_parts ahead None = option_map (λ codes. (codes, no_codes 6)) (codes_of_text 6 ahead)
@@ -111,15 +118,17 @@ before_of_parts ahead (Some following) = do
   second ← codes_of_text 6 following
   if nat_le (length ahead + length following) 12 then Some (first, second) else None
 
--- The value of `before`: the codes before the asterisk and those after it.
+-- The codes of the layout item `before`: those before a line's own leading codes, and those after
+-- them.
 unfoldable pub before_of_text :
     List ℕ → Option (List (Option Attribute) × List (Option Attribute))
 before_of_text text =
     let parts : List ℕ × Option (List ℕ) = cut_at asterisk text in before_of_parts parts.0 parts.1
 
--- ---- items
+-- ---- layout items by name and value
 
--- The number of the item with this name, which has no value, and the items with it set.
+-- Sets the layout item with this name, which takes no value. Returns the number of the item, to
+-- find duplicates, and the changed items.
 unfoldable pub flag_set : LayoutItems → List ℕ → Option (ℕ × LayoutItems)
 flag_set items name =
     if bytes_eq name (codes "fit") then Some (0, record items { fit = true })
@@ -132,7 +141,8 @@ flag_set items name =
     else (if bytes_eq name (codes "last") then Some (7, record items { last = true })
     else None)))))))
 
--- The number of the item with this name and a decimal value, and the items with it set.
+-- Sets the layout item with this name to a decimal value. Returns the number of the item, to find
+-- duplicates, and the changed items.
 unfoldable pub number_set : LayoutItems → List ℕ → List ℕ → Option (ℕ × LayoutItems)
 number_set items name value =
     if bytes_eq name (codes "left")
@@ -146,7 +156,8 @@ number_set items name value =
     (rows_of_text value)
     else None)))
 
--- The number of the item with this name and value, and the items with it set.
+-- Sets the layout item with this name to a value. Returns the number of the item, to find
+-- duplicates, and the changed items.
 unfoldable pub value_set : LayoutItems → List ℕ → List ℕ → Option (ℕ × LayoutItems)
 value_set items name value =
     if bytes_eq name (codes "strip")
@@ -161,18 +172,21 @@ value_set items name value =
     then option_map (λ a. (10, record items { after = a })) (codes_of_text 4 value)
     else number_set items name value))
 
--- The number of an item with or without a value, and the items with it set.
+-- Sets the layout item with this name, with or without a value. Returns the number of the item, to
+-- find duplicates, and the changed items.
 abbrev pub item_set_of : LayoutItems → List ℕ → Option (List ℕ) → Option (ℕ × LayoutItems)
 item_set_of items name None = flag_set items name
 item_set_of items name (Some value) = value_set items name value
 
--- The number of the item of a text, with its value after an equals sign, and the items with it set.
+-- Sets the layout item that a text names, with the value after an equals sign, if any. Returns the
+-- number of the item, to find duplicates, and the changed items.
 unfoldable pub item_set : LayoutItems → List ℕ → Option (ℕ × LayoutItems)
 item_set items text =
     let parts : List ℕ × Option (List ℕ) = cut_at equals_sign text in
     item_set_of items parts.0 parts.1
 
--- Sets the items of more texts. `None` if a text is no item, or one that was set before.
+-- Sets the layout items that several texts name. `None` if a text names no item, or an item that
+-- was already set.
 unfoldable pub items_set : LayoutItems → List Bool → List (List ℕ) → Option LayoutItems
 items_set items received [] = Some items
 items_set items received (text ∷ texts) = do
@@ -181,7 +195,7 @@ items_set items received (text ∷ texts) = do
       then None
       else items_set next.1 (slice_set received next.0 true) texts
 
--- The layout of a text.
+-- The layout that a text describes; `None` if the text does not match the syntax.
 unfoldable pub layout_of_text : List ℕ → Option Layout
 layout_of_text text =
     option_map (λ items. record { items = Some items })

@@ -1,22 +1,23 @@
--- A line of cells: how it is sent, and the row that shows it (EN 300 706, packets X/1 to X/24).
+-- A line of cells: its preparation for sending, and the row that shows the line (EN 300 706,
+-- packets X/1 to X/24).
 use Rattle.std.specs.Prelude.{ℕ, ◌-◌, ◌/◌, Bool, true, false, not, ◌&&◌, List, [], ◌∷◌, ◌++◌, ◌==◌}
 use Rattle.std.specs.Prelude.{nat_le, if◌then◌else◌, map, length, slice_index_or}
 use Rattle.std.specs.List.{range_with_len, list_any}
 use Rattle.ttx_page.specs.Page.{space}
 
--- Start box, a spacing attribute.
+-- The spacing attribute "start box".
 abbrev pub start_box : ℕ
 start_box = 0x0B
 
--- End box, a spacing attribute.
+-- The spacing attribute "end box".
 abbrev pub end_box : ℕ
 end_box = 0x0A
 
--- Double height, a spacing attribute.
+-- The spacing attribute "double height".
 abbrev pub double_height : ℕ
 double_height = 0x0D
 
--- The number of columns of a row, 0 to 39.
+-- The number of columns of a Teletext row.
 abbrev pub columns : ℕ
 columns = 40
 
@@ -33,8 +34,8 @@ is_boxed line = list_any (λ c. c == start_box) line
 unfoldable pub is_double : List ℕ → Bool
 is_double line = list_any (λ c. c == double_height) line
 
--- The prepared line. A line that is not empty and has no start box gets two start boxes before it
--- and two end boxes after it (own; EN 300 706 has each box code sent twice).
+-- The prepared form of a line: if the line has cells but no start box, two start boxes are added
+-- before it and two end boxes after it (own; EN 300 706 has each box code sent twice).
 unfoldable pub prepared : List ℕ → List ℕ
 prepared cells =
     if has_cells cells && not (is_boxed cells)
@@ -42,17 +43,18 @@ prepared cells =
     else cells
 
 -- The column at which a line of n cells starts (EBU Tech 3264, TTI block, field JC): 0 for JC 0
--- (unchanged) and 1 (left); centred for 2 (rounded down, own); at the end for 3 (right).
+-- (unchanged) and 1 (left); centred for JC 2 (rounded down, own); at the right end for JC 3.
 abbrev pub start_column : ℕ → ℕ → ℕ
 start_column jc n =
     if jc == 2 then (columns - n) / 2 else (if jc == 3 then columns - n else 0)
 
--- The code in a column of the row that shows a line: the line's cell, or a space outside it.
+-- The code in a column of the row that shows a line from column `start` on: a cell of the line, or
+-- a space outside the line.
 abbrev pub code_in_column : ℕ → List ℕ → ℕ → ℕ
 code_in_column start line column =
     if nat_le start column then slice_index_or line (column - start) space else space
 
--- The codes of the row that shows a line.
+-- The 40 codes of the row that shows a line at the column given by JC.
 unfoldable pub row_of : ℕ → List ℕ → List ℕ
 row_of jc line =
     map (code_in_column (start_column jc (length line)) line) (range_with_len 0 columns)

@@ -1,4 +1,5 @@
--- Drawing lines on a page one at a time by a layout, as the code does. No public clause uses this.
+-- Drawing the lines of a text on a page one at a time by a layout, as the code does. No public
+-- clause uses this file.
 use Rattle.std.specs.Prelude.{ℕ, ◌+◌, ◌-◌, ◌<◌, List, [], ◌∷◌, Option, Some, None, Result}
 use Rattle.std.specs.Prelude.{Ok, Err, ◌==◌, if◌then◌else◌, map, slice_set}
 use Rattle.std.specs.List.{AllByRecursion, filter_map, slice_split}
@@ -14,34 +15,34 @@ use Rattle.stl_rows.specs.Line.{has_cells, is_double}
 use Rattle.stl_rows.specs.PreparedLine.{prepared_by, row_from, start_by}
 use Rattle.stl_rows.specs.TextCode.{fault_of, first_of, new_line}
 
--- ---- the cells of a text
+-- ---- the cells of a text and its lines
 
--- The cell of a text code, or a new line.
+-- The cell of a text code, or 8A for a new line; `None` for a text code without a cell.
 abbrev pub flat_code : TextCode → Option ℕ
 flat_code (Cell code) = Some code
 flat_code NewLine = Some new_line
 flat_code _ = None
 
--- The cells of text codes, and the new lines between them.
+-- The cells of text codes, with 8A for each new line.
 abbrev pub flat_codes : List (ℕ × TextCode) → List ℕ
 flat_codes codes = filter_map (λ (c : ℕ × TextCode). flat_code c.1) codes
 
--- The lines between new lines.
+-- The lines of cells between new lines (8A).
 abbrev pub cut_lines : List ℕ → List (List ℕ)
 cut_lines cells = slice_split (λ c. c == new_line) cells
 
--- All cells of the lines are codes.
+-- All cells of the lines are codes below 128.
 abbrev pub HoldCodes : List (List ℕ) → Type 0
 HoldCodes lines =
     AllByRecursion (λ (line : List ℕ). AllByRecursion (λ (c : ℕ). c < 128) line) lines
 
--- Their prepared lines.
+-- The lines of cells between new lines, prepared by a layout.
 abbrev pub prepared_cut : LayoutItems → List ℕ → List (List ℕ)
 prepared_cut items cells = map (prepared_by items) (cut_lines cells)
 
 -- ---- drawing lines on a page
 
--- A line at a position.
+-- The line with its position: number, depth, and whether the line above has double height.
 abbrev pub line_at : Place → List ℕ → PlacedLine
 line_at place line = record {
   number = place.number;
@@ -50,13 +51,13 @@ line_at place line = record {
   cells = line;
 }
 
--- The first fault of a line at a position.
+-- The first fault of a line at a position; `None` if the line takes no row.
 unfoldable pub fault_at : LayoutItems → ℕ → Place → List ℕ → Option RowFault
 fault_at items off place line =
     if takes_none items line then None
     else first_of (map (fault_of place.number) (placed_fault_kinds items off (line_at place line)))
 
--- The position of the next line.
+-- The position of the next line, given the line at `place`.
 unfoldable pub place_after : LayoutItems → Place → List ℕ → Place
 place_after items place line =
     if takes_none items line then record place { number = place.number + 1 }
@@ -66,14 +67,14 @@ place_after items place line =
       is_under_double = is_double line;
     }
 
--- The page with the line.
+-- The page after drawing a line at a position. An empty line changes nothing.
 unfoldable pub page_with : LayoutItems → ℕ → ℕ → Place → List ℕ → Rows → Rows
 page_with items jc off place line page =
     if has_cells line
     then slice_set page (place.depth - off - 1) (row_from (start_by items jc line) line)
     else page
 
--- The page with lines from a position on, or the first fault of these.
+-- The page after drawing lines from a position on, or the first fault of the lines.
 unfoldable pub drawn_from :
     LayoutItems → ℕ → ℕ → Place → Rows → List (List ℕ) → Result Rows RowFault
 drawn_from items jc off place page [] = Ok page

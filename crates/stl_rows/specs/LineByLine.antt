@@ -1,5 +1,5 @@
--- Drawing lines on a page one at a time, as the code does, and the properties of a line on which
--- its faults depend. No public clause uses this.
+-- Drawing the lines of a text on a page one at a time, as the code does, and the properties of a
+-- line that decide its faults. No public clause uses this file.
 use Rattle.std.specs.Prelude.{ℕ, ◌+◌, ◌-◌, ◌<◌, ◌≤◌, Bool, false, ◌&&◌, ◌||◌, List, [], ◌∷◌}
 use Rattle.std.specs.Prelude.{◌++◌, Option, Some, ◌==◌, nat_lt, if◌then◌else◌, length, map}
 use Rattle.std.specs.Prelude.{slice_set}
@@ -18,32 +18,32 @@ use Rattle.stl_rows.specs.Line.{columns, double_height, prepared, row_of}
 use Rattle.stl_rows.specs.Line.{start_box}
 use Rattle.stl_rows.specs.PlainPage.{last_row, when}
 
--- ---- lines
+-- ---- the lines of a text, read cell by cell
 
 -- Puts cells in front of the first line.
 abbrev pub onto : List ℕ → List (List ℕ) → List (List ℕ)
 onto [] lines = lines
 onto (c ∷ cells) lines = onto_first c (onto cells lines)
 
--- The prepared lines of text codes, with some cells in front of the first.
+-- The prepared lines of text codes, if `cells` are already read of the first line.
 abbrev pub prepared_lines : List ℕ → List (ℕ × TextCode) → List (List ℕ)
 prepared_lines cells codes = map prepared (onto cells (lines_of_codes codes))
 
--- The page with a line, prepared, in a row; an empty line changes nothing.
+-- The page after drawing a line in a row. An empty line changes nothing.
 abbrev pub put_line : ℕ → ℕ → List ℕ → Rows → Rows
 put_line jc row cells page =
     if nat_lt 0 (length cells) then slice_set page (row - 1) (row_of jc (prepared cells)) else page
 
--- A line fits in a row: it has at most 40 prepared cells, and is not below the last row unless it
--- is empty.
+-- The line fits in the row: the prepared line has at most 40 cells, and the row is 1 to 23. An
+-- empty line fits in any row from 1 on.
 pub record FitsRow (row : ℕ) (cells : List ℕ) : Type 0 where
   pub first : 1 ≤ row
   pub last : 0 < length cells → row ≤ last_row
   pub few : length (prepared cells) ≤ columns
 
--- ---- faults
+-- ---- the faults of a line, from its properties
 
--- Adds a cell to a line.
+-- The properties of a line after one more cell.
 abbrev pub with_cell : OpenLine → ℕ → OpenLine
 with_cell line code =
     record line {
@@ -52,7 +52,7 @@ with_cell line code =
       is_double = line.is_double || (code == double_height);
     }
 
--- A line without cells yet.
+-- The properties of a line that has no cells yet.
 abbrev pub empty_line : ℕ → ℕ → Bool → OpenLine
 empty_line number row is_under_double =
     record {
@@ -64,11 +64,12 @@ empty_line number row is_under_double =
       is_double = false;
     }
 
--- The next line.
+-- The properties of the next line, which has no cells yet.
 abbrev pub line_under : OpenLine → OpenLine
 line_under line = empty_line (line.number + 1) (line.row + 1) line.is_double
 
--- The faults of a line, in order. It gets two codes on each side if it has no start box of its own.
+-- The faults of a line, in the order of reports. A line without a start box gets two codes on each
+-- side.
 unfoldable pub shape_fault_kinds : OpenLine → List RowFaultKind
 shape_fault_kinds line =
     when (nat_lt columns (if line.is_boxed then line.len else line.len + 4)) RowTooLong
@@ -76,12 +77,13 @@ shape_fault_kinds line =
     ++ when (line.is_double && (line.row == last_row)) DoubleRow
     ++ when (nat_lt 0 line.len && line.is_under_double) Hidden
 
--- A fault found before, or else the first fault of the line.
+-- The fault found before the line, or else the first fault of the line.
 abbrev pub reported_first : Option RowFault → OpenLine → Option RowFault
 reported_first before line =
     option_or before (first_of (map (fault_of line.number) (shape_fault_kinds line)))
 
--- The first fault of a text code and those after it.
+-- The first fault, given one text code of the current line and the rest of the text as a function
+-- `next`.
 abbrev pub reported_of_code : ℕ → TextCode → Option RowFault → OpenLine
     → (Option RowFault → OpenLine → Option RowFault) → Option RowFault
 reported_of_code at (Cell code) before line next = next before (with_cell line code)
@@ -89,7 +91,8 @@ reported_of_code at NoCell before line next = next before line
 reported_of_code at NewLine before line next = next (reported_first before line) (line_under line)
 reported_of_code at (Refused kind) before line next = Some (fault_of at kind)
 
--- The first fault of text codes, given a fault found before, if any, and the current line.
+-- The first fault of a text, given a fault found before, if any, the properties of the current
+-- line, and the text codes left.
 abbrev pub reported : Option RowFault → OpenLine → List (ℕ × TextCode) → Option RowFault
 reported before line [] = reported_first before line
 reported before line (c ∷ codes) = reported_of_code c.0 c.1 before line (λ f l. reported f l codes)

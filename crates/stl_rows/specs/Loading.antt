@@ -21,14 +21,14 @@ use Rattle.stl_rows.specs.DrawnPage.{drawn}
 use Rattle.stl_rows.specs.EveryFault.{faults, load_fault}
 use Rattle.stl_rows.specs.Programme.{AreInOrder, ProgrammeValue, follow_faults, times_of}
 
--- The subtitles of a file.
+-- The subtitles of a file that are not rejected.
 abbrev pub records_of : Findings → List SubtitleValue
 records_of no_more = []
 records_of (breaks fault block) = []
 records_of (refuses fault block more) = records_of more
 records_of (finds t block more) = t ∷ records_of more
 
--- The programme if there is no fault; otherwise the first fault.
+-- The programme if the list of faults is empty; otherwise the first fault.
 abbrev pub unless_reported : List LoadFault → ProgrammeValue → Result ProgrammeValue LoadFault
 unless_reported [] programme = Ok programme
 unless_reported (fault ∷ more) programme = Err fault
@@ -39,7 +39,8 @@ loaded drawing file =
     unless_reported (faults drawing file)
     (record { drawing = drawing; records = records_of (findings_for drawing.scope file) })
 
--- A subtitle ends at this block, after one with the times `before`, and there is no fault up to it.
+-- A subtitle ends at block `at`, and no fault comes up to that block. The times of the subtitle
+-- before are `before`.
 abbrev pub EndsAfterTimes : Drawing → Option Times → ℕ → Findings → Type 0
 EndsAfterTimes drawing before at no_more = ⊥
 EndsAfterTimes drawing before at (breaks fault block) = ⊥
@@ -48,36 +49,38 @@ EndsAfterTimes drawing before at (finds t block more) =
     (follow_faults drawing before t ≡ [])
     × ((at ≡ block) ⊎ EndsAfterTimes drawing (Some (times_of t)) at more)
 
--- A subtitle of the file ends at this block, and there is no fault up to it.
+-- A subtitle of the file ends at block `at`, and no fault comes up to that block.
 abbrev pub EndsRecord : Drawing → List ℕ → ℕ → Type 0
 EndsRecord drawing file at = EndsAfterTimes drawing None at (findings_for drawing.scope file)
 
--- An error of loading. `Memory` occurs only at the last block of a subtitle with no fault before. A
--- failure of the source says nothing about the file.
+-- The meaning of an error of `load`. `Memory`: a subtitle ends at the block, and no fault comes up
+-- to there. `Read`: the source failed, which says nothing about the file. Any other error is the
+-- first fault of the file.
 abbrev pub ReportsFault : Drawing → List ℕ → ℕ → LoadFaultKind → Type 0
 ReportsFault drawing file block (File Read) = ⊤
 ReportsFault drawing file block Memory = EndsRecord drawing file block
 ReportsFault drawing file block kind = loaded drawing file ≡ Err (load_fault block kind)
 
--- No fault comes before this block. Except that a file that ends within a subtitle, with the last
--- complete block as its place, is found only when the next block is read.
+-- No fault of the file comes before this block. A file that ends within a subtitle is the
+-- exception: the fault names the last complete block, but is found only when the next block is
+-- read.
 abbrev pub NoneBefore : Drawing → List ℕ → ℕ → Type 0
 NoneBefore drawing file block =
     (fault : LoadFault)
     → loaded drawing file ≡ Err fault
     → (fault.kind ≡ File Unfinished) ⊎ (block ≤ fault.block)
 
--- The source failed: the block is that of the first byte after those consumed. A fault in these
--- bytes would have been returned instead.
+-- The source failed at `block`, the block of the first byte that could not be read. A fault in the
+-- bytes before would have been returned instead.
 pub record FailsLoading (drawing : Drawing) (old new : Option (List ℕ)) (block : ℕ) : Type 0 where
   pub bytes : List ℕ
   pub consumed : Consumes old new bytes
   pub block_is : block ≡ block_of_byte (length bytes)
   pub none : IfKnown old (λ all. NoneBefore drawing all block)
 
--- Bytes are loaded as a programme exactly if they are a subtitle file whose subtitles are in order,
--- disjoint and drawable; the programme consists of these. So `load` rejects no such file, unless
--- memory cannot be allocated or the source fails.
+-- Bytes are loaded as a programme if and only if they are a subtitle file whose subtitles do not
+-- overlap and can all be drawn, and the programme consists of these subtitles. So `load` accepts
+-- each such file, unless memory cannot be allocated or the source fails.
 abbrev pub LawOfLoading : Type 0
 LawOfLoading =
     (drawing : Drawing) (s : List ℕ) (ts : List SubtitleValue)
@@ -87,16 +90,16 @@ LawOfLoading =
     × AreInOrder ts
     × All (λ t. IsOk (drawn drawing t)) ts)
 
--- The drawing for the whole day of a file.
+-- The same drawing for all subtitles of the day.
 abbrev pub of_day : Drawing → Drawing
 of_day drawing = record drawing { scope = all_day drawing.scope }
 
--- The faults without block numbers.
+-- The kinds of faults, without their block numbers.
 abbrev pub kinds_of : List LoadFault → List LoadFaultKind
 kinds_of faults = map (λ (fault : LoadFault). fault.kind) faults
 
--- The faults and subtitles of a part of a file are those of the file without the blocks of all
--- other subtitles, apart from block numbers, if no fault ends reading.
+-- If no fault ends reading, the faults and subtitles of a part of a file are those of the file from
+-- which the blocks of all other subtitles were removed, apart from block numbers.
 abbrev pub LawOfParts : Type 0
 LawOfParts =
     (drawing : Drawing) (gsi : List ℕ) (blocks : List (List ℕ))

@@ -1,5 +1,5 @@
--- The drawn page of a subtitle with the default layout, or its first fault: each line is in a box
--- of its own, one row below the line before.
+-- The drawn page of a subtitle with the default layout, or the first fault of drawing: each line is
+-- in a box of its own, one row below the line before.
 use Rattle.std.specs.Prelude.{ℕ, ◌+◌, ◌-◌, Bool, false, ◌&&◌, List, [], ◌∷◌, ◌++◌, Result, Ok, Err}
 use Rattle.std.specs.Prelude.{◌==◌, nat_lt, if◌then◌else◌, map, length, slice_index_or}
 use Rattle.std.specs.List.{range_with_len}
@@ -13,21 +13,22 @@ use Rattle.stl_rows.specs.declared.fault.RowFaultKind.TheVariants.{DoubleRow, Hi
 use Rattle.stl_rows.specs.TextCode.{text_codes, refused_codes, lines_of_codes, fault_of}
 use Rattle.stl_rows.specs.Line.{columns, has_cells, is_double, prepared, row_of}
 
--- The last row that a subtitle may use: row 24 is kept free (own).
+-- The last row that a subtitle may use, 23: row 24 is kept free (own).
 abbrev pub last_row : ℕ
 last_row = 23
 
--- The prepared lines of a subtitle.
+-- The lines of a subtitle's text, in their prepared form.
 abbrev pub lines : National → SubtitleValue → List (List ℕ)
 lines national t = map prepared (lines_of_codes (text_codes national 0 t.text))
 
--- ---- faults
+-- ---- the faults of drawing a subtitle plainly
 
--- The fault if the test holds.
+-- A list with the fault of this kind if the condition holds; otherwise an empty list.
 abbrev pub when : Bool → RowFaultKind → List RowFaultKind
 when b kind = if b then kind ∷ [] else []
 
--- The faults of a prepared line in a row, below a line of double height or not, in order.
+-- The faults of a prepared line, in the order of reports, given the row and whether the line
+-- directly above has double height.
 unfoldable pub line_fault_kinds : ℕ → Bool → List ℕ → List RowFaultKind
 line_fault_kinds row is_under_double line =
     when (nat_lt columns (length line)) RowTooLong
@@ -35,34 +36,36 @@ line_fault_kinds row is_under_double line =
     ++ when (is_double line && (row == last_row)) DoubleRow
     ++ when (has_cells line && is_under_double) Hidden
 
--- The faults of lines, numbered from `number` on, the first of them in this row.
+-- The faults of all lines. The first line has this number and row, and each next line is one row
+-- lower.
 abbrev pub line_faults : ℕ → ℕ → Bool → List (List ℕ) → List RowFault
 line_faults number row is_under_double [] = []
 line_faults number row is_under_double (line ∷ lines) =
     map (fault_of number) (line_fault_kinds row is_under_double line)
     ++ line_faults (number + 1) (row + 1) (is_double line) lines
 
--- All faults in the order of reports: the text by byte, then line by line.
+-- All faults of a subtitle in the order of reports: faults of the text by byte, then faults of the
+-- lines by line.
 abbrev pub subtitle_faults : National → SubtitleValue → List RowFault
 subtitle_faults national t =
     refused_codes (text_codes national 0 t.text) ++ line_faults 0 t.vp false (lines national t)
 
--- ---- the page
+-- ---- the plainly drawn page of a subtitle
 
--- The line in a row, with line 0 in row VP; an empty line if there is none.
+-- The line shown in a row, if line 0 is in row VP; an empty line if the row has none.
 abbrev pub line_on : ℕ → List (List ℕ) → ℕ → List ℕ
 line_on vp lines row = if nat_lt row vp then [] else slice_index_or lines (row - vp) []
 
--- The page that shows lines: rows 1 to 24.
+-- The page that shows the lines: 24 rows, with line 0 in row VP.
 unfoldable pub page_of_lines : ℕ → ℕ → List (List ℕ) → Rows
 page_of_lines jc vp lines = map (λ row. row_of jc (line_on vp lines row)) (range_with_len 1 24)
 
--- The value if there is no fault, otherwise the first fault.
+-- The value if the list of faults is empty; otherwise the first fault.
 abbrev pub unless : {A E : Type 0} → List E → A → Result A E
 unless [] value = Ok value
 unless (e ∷ es) value = Err e
 
--- The drawn page of a subtitle, or its first fault.
+-- The plainly drawn page of a subtitle, or the first fault of drawing the subtitle.
 unfoldable pub plainly_drawn : National → SubtitleValue → Result Rows RowFault
 plainly_drawn national t =
     unless (subtitle_faults national t) (page_of_lines t.jc t.vp (lines national t))

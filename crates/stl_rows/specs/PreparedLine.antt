@@ -1,4 +1,4 @@
--- A line of cells prepared by a layout, and the column at which it starts.
+-- A line of cells in the form prepared by a layout, and the column at which the line starts.
 use Rattle.std.specs.Prelude.{ℕ, suc, ◌+◌, ◌-◌, ◌/◌, not, ◌&&◌, List, [], ◌∷◌, ◌++◌, ◌==◌}
 use Rattle.std.specs.Prelude.{if◌then◌else◌, length, take, drop, map, min}
 use Rattle.std.specs.List.{list_all, list_any, range_with_len}
@@ -7,15 +7,15 @@ use Rattle.stl_rows.specs.Layout.{codes_of_places}
 use Rattle.stl_rows.specs.Line.{code_in_column, columns, is_boxed}
 use Rattle.stl_rows.specs.TextCode.{is_within}
 
--- ---- the ends of a line
+-- ---- the codes and spaces at the ends of a line
 
--- How many cells at the front of a line are in a range of codes.
+-- The number of cells at the start of a line that are in a range of codes.
 abbrev pub leading : ℕ → ℕ → List ℕ → ℕ
 leading first last [] = 0
 leading first last (c ∷ cells) =
     if is_within first last c then suc (leading first last cells) else 0
 
--- How many cells at the end of a line are in a range of codes.
+-- The number of cells at the end of a line that are in a range of codes.
 abbrev pub trailing : ℕ → ℕ → List ℕ → ℕ
 trailing first last [] = 0
 trailing first last (c ∷ cells) =
@@ -23,34 +23,36 @@ trailing first last (c ∷ cells) =
     then length (c ∷ cells)
     else trailing first last cells
 
--- How many spacing attributes, codes below 20, are at the front of a line.
+-- The number of spacing attributes (codes below 20) at the start of a line.
 abbrev pub leading_codes : List ℕ → ℕ
 leading_codes cells = leading 0 0x1F cells
 
--- How many spacing attributes are at the end of a line.
+-- The number of spacing attributes (codes below 20) at the end of a line.
 abbrev pub trailing_codes : List ℕ → ℕ
 trailing_codes cells = trailing 0 0x1F cells
 
--- A line without leading spaces.
+-- The line without leading spaces.
 abbrev pub without_leading_spaces : List ℕ → List ℕ
 without_leading_spaces cells = drop (leading 0x20 0x20 cells) cells
 
--- A line without trailing spaces.
+-- The line without trailing spaces.
 abbrev pub without_trailing_spaces : List ℕ → List ℕ
 without_trailing_spaces cells = take (length cells - trailing 0x20 0x20 cells) cells
 
--- `trim`: a line without spaces at both ends.
+-- The layout item `trim`: the line without spaces at both ends.
 unfoldable pub trimmed : List ℕ → List ℕ
 trimmed cells = without_trailing_spaces (without_leading_spaces cells)
 
 -- ---- prepared lines
 
--- `white`: the leading codes of a line, followed by 07, alpha white, if none is a colour.
+-- The layout item `white`: the leading codes of a line, followed by 07 (alpha white) if none of the
+-- codes is a colour.
 abbrev pub whitened : LayoutItems → List ℕ → List ℕ
 whitened items codes =
     if items.white && not (list_any (is_within 0x01 0x07) codes) then codes ++ 0x07 ∷ [] else codes
 
--- `before`: the codes before a line's leading codes, these, the codes after them, and the rest.
+-- The layout item `before`: a line with the codes of the layout before and after the line's own
+-- leading codes.
 unfoldable pub headed : LayoutItems → List ℕ → List ℕ
 headed items cells =
     codes_of_places items.ahead
@@ -58,29 +60,31 @@ headed items cells =
     ++ codes_of_places items.following
     ++ drop (leading_codes cells) cells
 
--- `after`: the codes at the end of a line. With `fit`, only as many as there is room for.
+-- The layout item `after`: the codes to add at the end of a line of n cells. With `fit`, only as
+-- many codes as there is room for.
 abbrev pub ending : LayoutItems → ℕ → List ℕ
 ending items n =
     if items.fit
     then take (columns - n) (codes_of_places items.after)
     else codes_of_places items.after
 
--- A line with the codes that a layout adds. An empty line gets none.
+-- The line with the codes that a layout adds. An empty line gets no codes.
 unfoldable pub framed : LayoutItems → List ℕ → List ℕ
 framed items [] = []
 framed items (c ∷ cells) =
     headed items (c ∷ cells) ++ ending items (length (headed items (c ∷ cells)))
 
--- The prepared line. A line with a start box of its own does not change.
+-- The form of a line prepared by a layout. A line with a start box of its own does not change.
 unfoldable pub prepared_by : LayoutItems → List ℕ → List ℕ
 prepared_by items cells =
     if is_boxed cells then cells
     else framed items (if items.trim then trimmed cells else cells)
 
--- ---- columns
+-- ---- the column of a prepared line
 
--- `text`: how many cells at the front and the end of a prepared line do not count for its column.
--- If the line has only codes, all count as its front.
+-- The layout item `text`: the numbers of cells at the start and at the end of a prepared line that
+-- do not count for its column. If the line has only spacing attributes, all cells count as its
+-- start.
 abbrev pub uncounted : LayoutItems → List ℕ → ℕ × ℕ
 uncounted items line =
     if items.text
@@ -90,25 +94,27 @@ uncounted items line =
     )
     else (0, 0)
 
--- `free`: the JC to use for that of a subtitle (EBU Tech 3264, TTI block, field JC).
+-- The layout item `free`: the JC to use for a subtitle whose JC is 0 (EBU Tech 3264, TTI block,
+-- field JC).
 abbrev pub jc_read : LayoutItems → ℕ → ℕ
 jc_read items jc = if jc == 0 then items.free else jc
 
--- `left`, `right`, `up`: the column at which a line should start, with `width` cells that count
--- after `ahead` others; at least 0.
+-- The layout items `left`, `right` and `up`: the column at which a line should start, at least 0,
+-- if `width` cells of the line count, after `ahead` cells that do not.
 abbrev pub wanted_column : LayoutItems → ℕ → ℕ → ℕ → ℕ
 wanted_column items jc ahead width =
     if jc == 2 then (columns - width + (if items.up then 1 else 0)) / 2 - ahead
     else (if jc == 3 then columns - (items.right + width + ahead)
     else items.left - ahead)
 
--- The column at which a prepared line starts, so that it fits in its row.
+-- The column at which a prepared line starts. It is moved left if the line would not fit in its
+-- row.
 unfoldable pub start_by : LayoutItems → ℕ → List ℕ → ℕ
 start_by items jc line =
     let free : ℕ × ℕ = uncounted items line in
     min (wanted_column items (jc_read items jc) free.0 (length line - (free.0 + free.1)))
     (columns - length line)
 
--- The codes of the row that shows a line from a column on.
+-- The 40 codes of the row that shows a line from column `start` on.
 unfoldable pub row_from : ℕ → List ℕ → List ℕ
 row_from start line = map (code_in_column start line) (range_with_len 0 columns)

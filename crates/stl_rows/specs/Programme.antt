@@ -1,4 +1,4 @@
--- A programme: subtitles in order and disjoint, all of which can be drawn.
+-- Programmes: lists of subtitles that do not overlap and can all be drawn.
 use Rattle.std.specs.Prelude.{ℕ, ◌-◌, ◌<◌, ◌≤◌, List, [], ◌∷◌, ◌++◌, Option, Some, None, option_map}
 use Rattle.std.specs.Prelude.{Result, Ok, Err, nat_lt, if◌then◌else◌, length, slice_get}
 use Rattle.std.specs.Prelude.{slice_index_or, All, IsOk}
@@ -11,12 +11,13 @@ use Rattle.stl_rows.specs.declared.layout.Drawing.{Drawing}
 use Rattle.stl_rows.specs.declared.times.Times.{Times}
 use Rattle.stl_rows.specs.DrawnPage.{drawn}
 
--- The model of a programme: the drawing, and its subtitles.
+-- The model of a `Programme`: the drawing, and the list of subtitles.
 pub record ProgrammeValue : Type 0 where
   pub drawing : Drawing
   pub records : List SubtitleValue
 
--- In order and disjoint: each TCI is at or after each TCO before it.
+-- The subtitles are in order and do not overlap: each subtitle starts at or after the TCO of every
+-- earlier one.
 abbrev pub AreInOrder : List SubtitleValue → Type 0
 AreInOrder records =
     (i j : ℕ) (d : SubtitleValue)
@@ -24,33 +25,34 @@ AreInOrder records =
     → j < length records
     → (slice_index_or records i d).tco ≤ (slice_index_or records j d).tci
 
--- Subtitles in order, all of which can be drawn.
+-- The subtitles are valid, do not overlap, and can all be drawn.
 pub record IsProgramme (drawing : Drawing) (records : List SubtitleValue) : Type 0 where
   pub each : All IsSubtitle records
   pub in_order : AreInOrder records
   pub drawable : All (λ t. IsOk (drawn drawing t)) records
 
--- The first TCI.
+-- The TCI of the first subtitle, as a frame of the day.
 abbrev pub first_in : List SubtitleValue → Option ℕ
 first_in records = option_map (λ t. t.tci) (slice_get records 0)
 
--- The last TCO.
+-- The TCO of the last subtitle, as a frame of the day.
 abbrev pub last_out : List SubtitleValue → Option ℕ
 last_out records = option_map (λ t. t.tco) (slice_get records (length records - 1))
 
--- The last element of a list.
+-- The last element of a list; `None` if the list is empty.
 abbrev pub last_of : {A : Type 0} → List A → Option A
 last_of xs = slice_get xs (length xs - 1)
 
--- The start and the end of a subtitle.
+-- TCI and TCO of a subtitle.
 abbrev pub times_of : SubtitleValue → Times
 times_of t = record { tci = t.tci; tco = t.tco }
 
--- The times of the last subtitle.
+-- TCI and TCO of the last subtitle in the list.
 abbrev pub times_before : List SubtitleValue → Option Times
 times_before records = option_map times_of (last_of records)
 
--- The faults of a subtitle's times, compared with those of the one before.
+-- The fault of a subtitle's times, compared with those of the previous subtitle: `OutOfOrder` if
+-- the TCI is before the previous TCI, otherwise `Overlap` if the TCI is before the previous TCO.
 abbrev pub order_faults : Option Times → Times → List LoadFaultKind
 order_faults None t = []
 order_faults (Some before) t =
@@ -58,12 +60,13 @@ order_faults (Some before) t =
     else if nat_lt t.tci before.tco then Overlap ∷ []
     else []
 
--- The fault of drawing a page, if there is one.
+-- The fault of drawing a page, as a list of at most one fault.
 abbrev pub row_faults : Result Rows RowFault → List LoadFaultKind
 row_faults (Ok page) = []
 row_faults (Err fault) = Row fault ∷ []
 
--- All faults of a subtitle that follows one with these times, in the order of reports.
+-- The faults of a subtitle in the order of reports, if the previous subtitle has the times
+-- `before`: the fault of its times, then the fault of drawing.
 abbrev pub follow_faults : Drawing → Option Times → SubtitleValue → List LoadFaultKind
 follow_faults drawing before t =
     order_faults before (times_of t) ++ row_faults (drawn drawing t)

@@ -15,28 +15,29 @@ use Rattle.stl_rows.specs.declared.national.National.TheVariants.{French, Spanis
 use Rattle.stl_rows.specs.declared.national.NationalBits.{NationalBits}
 use Rattle.stl_rows.specs.declared.sub_sets.NationalCharacter.{NationalCharacter}
 
--- A row of the table.
+-- A row of the table of national options.
 pub record SubSetValue : Type 0 where
-  -- The name of the option (own).
+  -- The name of the national option (own).
   pub word : List ℕ
-  -- C12, C13 and C14 of page headers.
+  -- The control bits C12, C13 and C14 of the option's page headers.
   pub bits : NationalBits
-  -- The characters by place. A missing place cannot be reached by any text.
+  -- The characters of the option, by their places in the code table. A place that is missing cannot
+  -- be reached by any text.
   pub characters : List NationalCharacter
 
--- C12, C13 and C14.
+-- The control bits C12, C13 and C14 from three numbers, 0 or 1.
 abbrev pub three_bits : ℕ → ℕ → ℕ → NationalBits
 three_bits c12 c13 c14 = record { c12 = c12 == 1; c13 = c13 == 1; c14 = c14 == 1 }
 
--- The character at a place with a byte of its own.
+-- The character at the place `cell` that has a byte of its own.
 abbrev pub plain : ℕ → ℕ → NationalCharacter
 plain cell byte = record { cell = cell; mark = None; byte = byte }
 
--- The character at a place with a diacritical mark and the letter after it.
+-- The character at the place `cell` that is a diacritical mark with the letter after it.
 abbrev pub with_mark : ℕ → ℕ → ℕ → NationalCharacter
 with_mark cell mark letter = record { cell = cell; mark = Some mark; byte = letter }
 
--- The rows.
+-- The table of national options.
 --
 -- (own) lenient: both 24 and A4 are read as the dollar sign, whatever an edition of the code table
 -- says, since files in the field use both. In a sub-set without a dollar sign, neither byte is
@@ -169,19 +170,20 @@ sub_set Czech = record {
       ∷ [];
 }
 
--- The options.
+-- All national options.
 abbrev pub options : List National
 options = English ∷ German ∷ Swedish ∷ Italian ∷ French ∷ Spanish ∷ Czech ∷ []
 
--- The option with this name, in lower case.
+-- The national option with this name, in lower case.
 unfoldable pub option_named : List ℕ → Option National
 option_named text = find (λ n. bytes_eq (sub_set n).word text) options
 
--- The character has this byte, and this diacritical mark or none.
+-- The character c has this byte, and this diacritical mark or none.
 unfoldable pub has_bytes : Option ℕ → ℕ → NationalCharacter → Bool
 has_bytes mark byte c = c.byte == byte && option_eq nat_eq c.mark mark
 
--- The cell of the first of these characters for a byte, after a diacritical mark or alone.
+-- The cell of the character with this byte and this diacritical mark, or none. `None` if no
+-- character in the list matches.
 abbrev pub cell_in : List NationalCharacter → Option ℕ → ℕ → Option ℕ
 cell_in [] mark byte = None
 cell_in (c ∷ characters) mark byte =

@@ -1,4 +1,5 @@
-//! Subtitles in the order of a file: their times and positions, with all texts in one buffer.
+//! The subtitles of a programme, in the order of the file: times and positions in a list, with all
+//! texts in one buffer.
 //!
 //! A `Subtitle` has a buffer of 1,008 bytes for its text: 100,000 of them took 103 MB, and page
 //! faults took half the time of a check. So a programme stores cues of 24 bytes with all texts in
@@ -16,7 +17,7 @@ use std::alloc::{AllocError, Allocator};
 use std::marker::Model;
 use stl_file::{Subtitle, TimeCode};
 
-/// A subtitle without its text, and the position of the text among all texts.
+/// A subtitle without its text, and the position of the text in the buffer of all texts.
 #[derive(Clone, Copy)]
 pub(crate) struct Cue {
     start: usize,
@@ -29,13 +30,13 @@ pub(crate) struct Cue {
     jc: u8,
 }
 
-/// Subtitles in the order of a file. The model is the list of subtitles.
+/// The subtitles of a programme, in the order of the file. The model is the list of subtitles.
 ///
 /// A subtitle takes 24 bytes plus its text, instead of the 1 KB of a `Subtitle`.
 #[derive(Drop)]
 pub struct Cues<A: Allocator + Copy> {
     cues: Vec<Cue, A>,
-    // The texts of all subtitles, also of removed ones.
+    // The texts of all subtitles, including those of removed subtitles.
     texts: Vec<u8, A>,
 }
 
@@ -52,7 +53,7 @@ impl<A: Allocator + Copy> Model for Cues<A> {
     ghost invariant = { λ c. All (IsCueAmong c.texts.items) c.cues.items };
 }
 
-// Returns the cue of a subtitle whose text begins at `start`.
+// Returns the cue of a subtitle whose text begins at position `start` of the buffer.
 fn cue_at(start: usize, subtitle: &Subtitle) -> Cue
     ensures { result ≡ cue_at start subtitle.now }
 {
@@ -69,7 +70,7 @@ fn cue_at(start: usize, subtitle: &Subtitle) -> Cue
 }
 
 impl<A: Allocator + Copy> Cues<A> {
-    /// Creates an empty list.
+    /// Creates an empty list of subtitles.
     pub(crate) fn new(alloc: A) -> Cues<A>
         ensures { result ≡ [] }
     {
@@ -86,14 +87,14 @@ impl<A: Allocator + Copy> Cues<A> {
         self.cues.len()
     }
 
-    /// Returns whether there is none.
+    /// Returns whether the list has no subtitles.
     pub fn is_empty(&self) -> bool
         ensures { result ≡ (length self.now == 0) }
     {
         self.cues.is_empty()
     }
 
-    /// Borrows a subtitle by its index, from 0 and below `len`.
+    /// Borrows the subtitle with the index `i`, counted from 0 and below `len`.
     pub(crate) fn at(&self, i: usize) -> Record<'_>
         requires { i < length self.now }
         ensures value { slice_get self.now i ≡ Some result }
@@ -113,7 +114,7 @@ impl<A: Allocator + Copy> Cues<A> {
         }
     }
 
-    /// Borrows the first subtitle, or returns `None` if there is none.
+    /// Borrows the first subtitle. Returns `None` if the list is empty.
     pub(crate) fn first(&self) -> Option<Record<'_>>
         ensures { result ≡ slice_get self.now 0 }
     {
@@ -123,7 +124,7 @@ impl<A: Allocator + Copy> Cues<A> {
         Some(self.at(0))
     }
 
-    /// Borrows the last subtitle, or returns `None` if there is none.
+    /// Borrows the last subtitle. Returns `None` if the list is empty.
     pub(crate) fn last(&self) -> Option<Record<'_>>
         ensures { result ≡ slice_get self.now (length self.now - 1) }
     {
@@ -133,7 +134,7 @@ impl<A: Allocator + Copy> Cues<A> {
         Some(self.at(self.len() - 1))
     }
 
-    /// Returns a subtitle by its index, from 0 and below `len`.
+    /// Returns the subtitle with the index `i`, counted from 0 and below `len`.
     pub fn subtitle(&self, i: usize) -> Subtitle
         requires { i < length self.now }
         ensures { slice_get self.now i ≡ Some result }
@@ -141,7 +142,7 @@ impl<A: Allocator + Copy> Cues<A> {
         self.at(i).to_subtitle()
     }
 
-    /// Appends a subtitle.
+    /// Appends a subtitle to the list.
     ///
     /// # Errors
     ///
@@ -156,14 +157,15 @@ impl<A: Allocator + Copy> Cues<A> {
         Ok(())
     }
 
-    /// Keeps the first `n` subtitles.
+    /// Keeps the first `n` subtitles, and removes the others.
     pub(crate) fn truncate(&mut self, n: usize)
         ensures { self.new ≡ take n self.old }
     {
         self.cues.truncate(n);
     }
 
-    /// Returns how many have ended by a frame, by binary search. The TCOs must not decrease.
+    /// Returns the number of subtitles that have ended by a frame, by binary search. The TCOs must
+    /// not decrease.
     pub(crate) fn ended_by(&self, frame: u32) -> usize
         requires { IsNonDecreasingBy (λ (t : SubtitleValue). t.tco) self.now }
         ensures bound { result ≤ length self.now }

@@ -44,7 +44,7 @@ fn put_line(jc: u8, row: u16, cells: &[u8], page: &mut Page)
     page.set_row(row as u8, &row_codes(jc, line.as_slice()));
 }
 
-// Draws the lines of a text without faults on a blank page, the first one in row VP.
+// Draws the lines of a text without faults on a blank page, with the first line in row VP.
 fn draw_text(national: National, jc: u8, vp: u8, text: &[u8], page: &mut Page)
     requires first { 1 ≤ vp }
     requires last { vp ≤ 23 }
@@ -73,7 +73,8 @@ fn draw_text(national: National, jc: u8, vp: u8, text: &[u8], page: &mut Page)
     put_line(jc, row, cells.as_slice(), page);
 }
 
-/// Draws the page of a subtitle without faults over another page, since copying a page takes long.
+/// Draws the page of a subtitle without faults over the contents of `page`, since copying a page
+/// takes long.
 pub(crate) fn draw_on(subtitle: &Record<'_>, drawing: &Drawing, page: &mut Page)
     requires { IsOk (drawn drawing.now subtitle.now) }
     ensures { drawn drawing.now subtitle.now ≡ Ok page.new }
@@ -96,7 +97,7 @@ pub(crate) fn draw_on(subtitle: &Record<'_>, drawing: &Drawing, page: &mut Page)
 /// Draws a subtitle's text on a page with the character set of a national option, according to a
 /// layout (EBU Tech 3264, TTI block, fields TF, VP and JC; EN 300 706, packets X/1 to X/24).
 ///
-/// Each line that ends with 8A takes a row of its own, by default the first one row VP, with its
+/// The byte 8A ends a line. Each line takes a row of its own, by default line 0 row VP, at the
 /// column given by JC. A line that isn't empty and has no start box gets the codes of the layout,
 /// by default a box. All other cells of rows 1 to 24 are spaces.
 ///
@@ -119,7 +120,8 @@ pub fn draw(subtitle: &Subtitle, national: National, layout: Layout) -> Result<P
     }
 }
 
-/// With the default layout each line is drawn in a box of its own, one row below the line before.
+/// The default layout draws each line of a subtitle in a box of its own, one row below the line
+/// before.
 #[tactic(auto, using(crate::proofs::DefaultLayoutLemmas::default_is_plain))]
 pub fn law_of_default_layout()
     ensures { LawOfDefaultLayout }

@@ -1,4 +1,4 @@
-//! Loads the reliable subtitles of a file, and reports every fault of it.
+//! Loads the reliable subtitles of a file, and reports every fault of the file.
 
 ghost use Rattle.std.specs.Prelude.{◌≡◌, ◌⊎◌, [], ◌∷◌, map, true, false, IfErr, IfOk};
 ghost use Rattle.std.specs.Prelude.{IfSome, None, Ok, OnErr, OnOk, is_err, is_none};
@@ -35,17 +35,19 @@ use sub_io::{Audience, Source, Stopped};
 
 /// Loads the reliable subtitles of an STL file, and reports every fault of the file to `audience`.
 ///
-/// The faults are reported by block, up to the one at which the audience stops. At the first block
-/// of a rejected subtitle it is the reason, `File`; such a subtitle is not drawn, and times are
-/// compared as if it did not exist. At the last block of each other subtitle it is `OutOfOrder` or
-/// `Overlap`, compared with the times of the one before, even if that has faults, and then the
-/// first fault of `draw`, as `Row`. The fault that ends reading, `File`, comes last.
+/// The faults are reported by block, until the audience stops:
 ///
-/// If there is no fault, returns what `load` returns, and no frame is undecided. Otherwise returns
-/// the subtitles without faults whose successor has times in order. Returns `None` if a
-/// transmission cannot be checked against these: the file was not read to its end, there are none,
-/// or one of them starts before an earlier one has ended. Also returns `None` if the audience
-/// stops.
+/// - `File` at the first block of a rejected subtitle. The subtitle is not drawn, and times are
+///   compared as if it did not exist.
+/// - `OutOfOrder` or `Overlap` at the last block of any other subtitle, compared with the times of
+///   the previous subtitle even if that has faults; then the first fault of `draw`, as `Row`.
+/// - `File` for the fault that ends reading.
+///
+/// If the file has no fault, returns what `load` returns, and no frame is undecided. Otherwise
+/// returns the subtitles that have no fault and whose successor neither starts earlier nor
+/// overlaps. Returns `None` if a transmission cannot be checked against the returned subtitles: the
+/// file was not read to its end, no subtitle is left, or a subtitle starts before an earlier one
+/// has ended. Also returns `None` if the audience stops.
 ///
 /// # Errors
 ///
@@ -62,7 +64,7 @@ pub fn load_all<S: Source, D: Audience<LoadFault>>(
 ) -> Result<Option<JudgedProgramme>, LoadFault>
     requires count { CanFail (S.failure_count source.old) }
     requires listens { D.has_stopped audience.old ≡ false }
-    // If the source's bytes are known, they determine the result and the reports.
+    // If the source's bytes are known, the bytes determine the result and the reports.
     ensures exact { IfKnown (S.remaining source.old) (λ bytes. IfOk result (λ found.
         IfSome found (JudgesBy (drawing_within national layout scope) bytes))) }
     ensures reported_all { IfKnown (S.remaining source.old) (λ bytes. IfOk result (λ found.
@@ -82,15 +84,15 @@ pub fn load_all<S: Source, D: Audience<LoadFault>>(
         IsProgramme judged.programme.drawing judged.programme.records)) }
     ensures drawing { IfOk result (λ found. IfSome found (λ judged.
         judged.programme.drawing ≡ drawing_within national layout scope)) }
-    // `None` means that faults were reported.
+    // If the result is `None`, at least one fault was reported.
     ensures some { result ≡ Ok None →
         ReportsOfFile D.is_reported audience.old audience.new }
     ensures any { IfOk result (λ found. IfSome found (λ _.
         ReportsAnyOfFile D.is_reported audience.old audience.new)) }
     ensures stopped { D.has_stopped audience.new ≡ true → result ≡ Ok None }
-    // Whether or not the source's bytes are known, faults may have been reported before it failed.
+    // Even if the source's bytes are unknown: faults may have been reported before an error.
     ensures some_before { IfErr result (λ _. ReportsSome D.is_reported audience.old audience.new) }
-    // A failed read has the block of the byte that could not be read.
+    // If the source failed, the error has the block of the byte that could not be read.
     ensures read { IfErr result (λ f. is_load_read f ≡ true →
         FailsReporting (drawing_within national layout scope)
         (S.remaining source.old) (S.remaining source.new)
@@ -106,8 +108,8 @@ pub fn load_all<S: Source, D: Audience<LoadFault>>(
     }
 }
 
-/// Loads the reliable subtitles of an STL file into any memory, and reports every fault. `load_all`
-/// does this with the program's own memory.
+/// Loads the reliable subtitles of an STL file into memory of any allocator, and reports every
+/// fault. `load_all` does this with the program's own memory.
 ///
 /// # Errors
 ///
@@ -120,7 +122,7 @@ pub fn load_all_in<A: Allocator + Copy, S: Source, D: Audience<LoadFault>>(
 ) -> Result<Option<Kept<A>>, LoadFault>
     requires count { CanFail (S.failure_count source.old) }
     requires listens { D.has_stopped audience.old ≡ false }
-    // If the source's bytes are known, they determine the result and the reports.
+    // If the source's bytes are known, the bytes determine the result and the reports.
     ensures exact { IfKnown (S.remaining source.old) (λ bytes. LoadsAll drawing bytes
         D.is_reported audience.old audience.new (D.has_stopped audience.new) result) }
     ensures programme { IfOk result (λ found.
@@ -173,7 +175,7 @@ pub fn load_all_in<A: Allocator + Copy, S: Source, D: Audience<LoadFault>>(
     }
 }
 
-// Reports the fault that ends reading. If the source failed, returns that as an error instead.
+// Reports the fault that ends reading. If the fault is `Read`, returns it as an error instead.
 fn report_end<D: Audience<LoadFault>>(
     fault: StlFault,
     block: u32,
@@ -191,13 +193,14 @@ fn report_end<D: Audience<LoadFault>>(
     if let LoadFaultKind::File(StlFault::Read) = kind {
         return Err(fault);
     }
-    // Nothing is reported after it, so it doesn't matter whether the audience stops.
+    // No report follows the fault that ends reading, so it doesn't matter whether the audience
+    // stops.
     let _ = audience.report(fault);
     Ok(())
 }
 
-// Reports the faults of a subtitle that follows one with the times `before` and ends at `block`.
-// Returns whether there is none.
+// Reports the faults of a subtitle that ends at `block`, after a subtitle with the times `before`.
+// Returns whether the subtitle has no fault.
 fn report_faults<D: Audience<LoadFault>>(
     drawing: &Drawing,
     before: Option<Times>,
@@ -223,7 +226,7 @@ fn report_faults<D: Audience<LoadFault>>(
     Ok(in_order && drawn)
 }
 
-// Reports a fault, if there is one. Returns whether there is none.
+// Reports the fault `kind`, if any. Returns whether there is no fault.
 fn report_fault<D: Audience<LoadFault>>(
     kind: Option<LoadFaultKind>,
     block: u32,
@@ -245,7 +248,7 @@ fn report_fault<D: Audience<LoadFault>>(
     }
 }
 
-// Returns the first fault of drawing a subtitle.
+// Returns the first fault of drawing a subtitle, or `None` if it can be drawn.
 fn row_fault(subtitle: &Subtitle, drawing: &Drawing) -> Option<LoadFaultKind>
     ensures { first_alone result ≡ row_faults (drawn drawing.now subtitle.now) }
 {

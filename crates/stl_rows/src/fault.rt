@@ -1,31 +1,31 @@
-//! Faults of drawing a subtitle and of loading a file.
+//! Faults of drawing a subtitle and of loading a subtitle file.
 
 ghost use Rattle.std.specs.Prelude.{◌≡◌};
 
 use stl_file::StlFault;
 use sub_io::FaultCode;
 
-/// A fault in the text of a subtitle, in the order in which they are reported.
+/// A fault in the text of a subtitle. The order of the variants is the order of reports.
 #[derive(Clone, Copy, Debug, PartialEq, Eq)]
 pub enum RowFaultKind {
-    /// 50: a byte without a cell in the national option's character set.
+    /// Code 50: a byte without a cell in the national option's character set.
     Character,
-    /// 51: an unsupported control code, 00 to 1F or 80 to 9F.
+    /// Code 51: an unsupported control code, 00 to 1F or 80 to 9F.
     Control,
-    /// 52: a prepared line of more than 40 cells.
+    /// Code 52: a prepared line of more than 40 cells.
     RowTooLong,
-    /// 53: a line that isn't empty, below row 23.
+    /// Code 53: a line that isn't empty, below row 23.
     PastBottom,
-    /// 54: a line with double height in row 23.
+    /// Code 54: a line with double height in row 23.
     DoubleRow,
-    /// 55: a line that isn't empty, directly under a line with double height.
+    /// Code 55: a line that isn't empty, directly under a line with double height.
     Hidden,
 }
 
 impl RowFaultKind {
     ghost use Rattle.stl_rows.specs.Fault.{row_code};
 
-    /// Returns the number and the name of the fault in reports (own).
+    /// Returns the number and the name of the fault for reports (own).
     pub fn code(self) -> FaultCode
         ensures { result ≡ row_code self }
     {
@@ -40,35 +40,35 @@ impl RowFaultKind {
     }
 }
 
-/// Why a subtitle cannot be drawn.
+/// The reason why a subtitle cannot be drawn.
 #[derive(Clone, Copy, Debug, PartialEq, Eq)]
 pub struct RowFault {
-    /// The fault.
+    /// The kind of the fault in the subtitle's text.
     pub kind: RowFaultKind,
-    /// Its position: for `Character` and `Control` the index of the byte in the joined text,
-    /// otherwise the number of the line; both from 0.
+    /// The position of the fault: for `Character` and `Control` the index of the byte in the joined
+    /// text, otherwise the number of the line; both counted from 0.
     pub at: u16,
 }
 
-/// A fault of a subtitle file, in the order in which they are reported for one block.
+/// A fault of a subtitle file. The order of the variants is the order of reports for one block.
 #[derive(Clone, Copy, Debug, PartialEq, Eq)]
 pub enum LoadFaultKind {
-    /// 10 to 26: the file is invalid or not supported, or could not be read.
+    /// Codes 10 to 26: the file is invalid or not supported, or could not be read.
     File(StlFault),
-    /// 56: a TCI before the TCI of the previous subtitle.
+    /// Code 56: the TCI of a subtitle is before the TCI of the previous subtitle.
     OutOfOrder,
-    /// 57: a TCI before the TCO of the previous subtitle.
+    /// Code 57: the TCI of a subtitle is before the TCO of the previous subtitle.
     Overlap,
-    /// 50 to 55: the subtitle cannot be drawn.
+    /// Codes 50 to 55: the subtitle cannot be drawn.
     Row(RowFault),
-    /// 58: the memory for the subtitle could not be allocated.
+    /// Code 58: the memory for the subtitle could not be allocated.
     Memory,
 }
 
 impl LoadFaultKind {
     ghost use Rattle.stl_rows.specs.Fault.{load_code};
 
-    /// Returns the number and the name of the fault in reports (own).
+    /// Returns the number and the name of the fault for reports (own).
     pub fn code(self) -> FaultCode
         ensures { result ≡ load_code self }
     {
@@ -82,12 +82,12 @@ impl LoadFaultKind {
     }
 }
 
-/// Why a file was not loaded.
+/// The reason why a subtitle file was not loaded.
 #[derive(Clone, Copy, Debug, PartialEq, Eq)]
 pub struct LoadFault {
-    /// The TTI block, counted from 1; 0 for the GSI block. For a subtitle's own faults, its last
-    /// block.
+    /// The number of the TTI block with the fault, counted from 1; 0 for the GSI block. A fault of
+    /// a subtitle's times or drawing has the subtitle's last block.
     pub block: u32,
-    /// The fault.
+    /// The kind of the fault in the subtitle file.
     pub kind: LoadFaultKind,
 }

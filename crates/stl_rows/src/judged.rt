@@ -1,4 +1,4 @@
-//! Programmes of the reliable subtitles of a file that has rejected ones.
+//! Programmes of the reliable subtitles of a file that also has unreliable ones.
 
 ghost use Rattle.std.specs.Prelude.{◌≡◌};
 ghost use Rattle.std.specs.List.{list_any};
@@ -12,15 +12,16 @@ use crate::programme::Programme;
 use std::alloc::Global;
 use std::marker::Model;
 
-/// The reliable subtitles of a file, and the gaps between them that contain other subtitles.
+/// The reliable subtitles of a file, and the gaps between them that contain unreliable subtitles.
 ///
-/// Created by `load_all`. The model has the programme, a bit for each of its subtitles in order
-/// that says whether another one precedes it, and whether one follows the last.
+/// Created by `load_all`. The model has the programme; for each of its subtitles in order, a bit
+/// that says whether an unreliable subtitle directly precedes it; and whether an unreliable
+/// subtitle follows the last.
 #[derive(Drop)]
 pub struct JudgedProgramme {
     programme: Programme,
-    // The bits from the first subtitle on. If bits are missing, no other subtitle precedes the
-    // rest.
+    // For each subtitle in order, whether an unreliable subtitle directly precedes it. A missing
+    // bit means false.
     after_other: Vec<bool>,
     is_before_other: bool,
 }
@@ -37,10 +38,10 @@ impl Model for JudgedProgramme {
     } };
 }
 
-/// A programme against which a transmission is checked, with the gaps that contain other subtitles:
-/// borrowed from a complete programme, or from one with rejected subtitles.
+/// A programme against which a transmission is checked, with the gaps that contain unreliable
+/// subtitles: borrowed from a complete programme, or from a programme of reliable subtitles.
 ///
-/// Its model is that of a `JudgedProgramme`.
+/// The model is the model of a `JudgedProgramme`.
 #[derive(Drop)]
 pub struct Judging<'a> {
     programme: &'a Programme,
@@ -86,7 +87,7 @@ impl JudgedProgramme {
         &self.programme
     }
 
-    /// Borrows it to check a transmission.
+    /// Borrows the programme to check a transmission against it.
     pub fn judging(&self) -> Judging<'_>
         ensures { result ≡ self.now }
     {
@@ -99,7 +100,7 @@ impl JudgedProgramme {
 }
 
 impl<'a> Judging<'a> {
-    /// Checks a transmission against a programme without rejected subtitles.
+    /// Borrows a programme in which all subtitles of the file are reliable.
     pub fn known(programme: &'a Programme) -> Judging<'a>
         ensures { result ≡ known programme.now }
     {
@@ -117,15 +118,15 @@ impl<'a> Judging<'a> {
         self.programme
     }
 
-    /// Returns whether there is another subtitle anywhere, so some of the file was rejected.
+    /// Returns whether the file has an unreliable subtitle.
     pub fn has_refused(&self) -> bool
         ensures { result ≡ has_refused self.now }
     {
         self.is_before_other || is_one_set(self.after_other)
     }
 
-    /// Returns whether the expected page is unknown at a frame: another subtitle lies between the
-    /// reliable ones before and after it.
+    /// Returns whether the expected page is unknown at a frame: the frame is in a gap between
+    /// reliable subtitles that contains an unreliable one.
     ///
     /// Uses binary search.
     pub fn is_undecided(&self, frame: u32) -> bool
@@ -136,14 +137,14 @@ impl<'a> Judging<'a> {
     }
 }
 
-// Returns whether a bit is set.
+// Returns whether any bit in the list is set.
 fn is_one_set(bits: &[bool]) -> bool
     ensures { result ≡ list_any (λ bit. bit) bits.now }
 {
     bits.iter().any(|bit| *bit)
 }
 
-/// In a programme of a file without rejected subtitles, the expected page is known at every frame.
+/// If all subtitles of a file are reliable, the expected page is known at every frame.
 #[tactic(auto, using(crate::proofs::JudgedLemmas::all_known))]
 pub fn law_of_known()
     ensures { LawOfKnown }

@@ -1,4 +1,4 @@
-//! The subtitles kept while a file is read.
+//! The reliable subtitles kept while a file is read.
 
 ghost use Rattle.std.specs.Prelude.{◌≡◌, [], true, if◌then◌else◌, IfErr, IfSome, None, OnOk, Some};
 ghost use Rattle.stl_rows.specs.Judged.{are_in_order, with_bits};
@@ -15,16 +15,17 @@ use stl_file::Subtitle;
 
 /// The reliable subtitles among those read so far.
 ///
-/// The model has these subtitles, a bit for each that says whether another subtitle of the file
-/// precedes it, and whether one follows the last.
+/// The model has the subtitles; for each, a bit that says whether an unreliable subtitle of the
+/// file directly precedes it; and whether an unreliable subtitle follows the last.
 #[derive(Drop)]
 pub struct Kept<A: Allocator + Copy> {
     pub(crate) subtitles: Cues<A>,
-    // The bits from the first subtitle on, up to the last one that is set.
+    // For each subtitle in order, whether an unreliable subtitle directly precedes it, up to the
+    // last bit that is set.
     pub(crate) after_other: Vec<bool, A>,
-    // Another subtitle follows the last.
+    // Whether an unreliable subtitle follows the last kept one.
     pub(crate) is_before_other: bool,
-    // The last one is the subtitle with whose times the next are compared.
+    // Whether the times of the next subtitle are compared with those of the last kept one.
     pub(crate) is_latest: bool,
 }
 
@@ -41,7 +42,7 @@ impl<A: Allocator + Copy> Model for Kept<A> {
     } };
 }
 
-// Sets the bit number `at`, and fills missing bits before it.
+// Sets the bit number `at`, and fills the missing bits before it with false.
 fn push_bit<A: Allocator + Copy>(bits: &mut Vec<bool, A>, at: usize) -> Result<(), LoadFaultKind>
     ensures bits { OnOk result (bits.new.items ≡ bits_after at true bits.old.items) }
     ensures memory { IfErr result (λ kind. kind ≡ Memory) }
@@ -55,7 +56,7 @@ fn push_bit<A: Allocator + Copy>(bits: &mut Vec<bool, A>, at: usize) -> Result<(
     }
 }
 
-// Returns whether no subtitle starts before an earlier one has ended.
+// Returns whether no subtitle starts before the TCO of an earlier one.
 fn are_in_order<A: Allocator + Copy>(subtitles: &Cues<A>) -> bool
     ensures { result ≡ are_in_order (with_bits subtitles.now []) }
 {
@@ -73,7 +74,7 @@ fn are_in_order<A: Allocator + Copy>(subtitles: &Cues<A>) -> bool
 }
 
 impl<A: Allocator + Copy> Kept<A> {
-    // Creates the state before any subtitle.
+    // Creates the state before the first subtitle of a file.
     pub(crate) fn new(alloc: A) -> Kept<A>
         ensures { result ≡ nothing_kept }
     {
@@ -85,14 +86,14 @@ impl<A: Allocator + Copy> Kept<A> {
         }
     }
 
-    // Counts a rejected subtitle.
+    // Notes that the file has a rejected subtitle at this point.
     pub(crate) fn refuse(&mut self)
         ensures { self.new ≡ refused_one self.old }
     {
         self.is_before_other = true;
     }
 
-    // Appends a subtitle.
+    // Appends a reliable subtitle.
     fn push(&mut self, subtitle: &Subtitle) -> Result<(), LoadFaultKind>
         ensures kept { OnOk result (self.new ≡ with_one subtitle.now self.old) }
         ensures memory { IfErr result (λ kind. kind ≡ Memory) }
@@ -108,7 +109,7 @@ impl<A: Allocator + Copy> Kept<A> {
         Ok(())
     }
 
-    // Removes the last subtitle, which is not reliable.
+    // Removes the last kept subtitle, which is not reliable.
     fn pop(&mut self)
         ensures { self.new ≡ without_last self.old }
     {
@@ -117,8 +118,9 @@ impl<A: Allocator + Copy> Kept<A> {
         self.after_other.truncate(left);
     }
 
-    // Takes the next subtitle of the file. `in_order`: its times are in order with those of the one
-    // before; `clean`: it has no fault. If the times are not in order, neither of the two is kept.
+    // Takes the next subtitle of the file. `clean`: the subtitle has no fault. `in_order`: its
+    // times are in order with those of the previous subtitle; if they are not, neither of the two
+    // is kept.
     pub(crate) fn put(
         &mut self,
         in_order: bool,
@@ -139,15 +141,15 @@ impl<A: Allocator + Copy> Kept<A> {
         Ok(())
     }
 
-    // Returns whether these are all subtitles of the file.
+    // Returns whether all subtitles of the file are kept.
     fn are_all_kept(&self) -> bool
         ensures { result ≡ are_all_kept self.now }
     {
         self.after_other.is_empty() && !self.is_before_other
     }
 
-    // Returns whether a transmission can be checked against these subtitles: they are all of the
-    // file, or at least one and in order.
+    // Returns whether a transmission can be checked against the kept subtitles: they are all
+    // subtitles of the file, or at least one, without overlap.
     fn is_enough(&self) -> bool
         ensures { result ≡ is_enough self.now }
     {
@@ -160,14 +162,14 @@ impl<A: Allocator + Copy> Kept<A> {
         are_in_order(&self.subtitles)
     }
 
-    // Returns the subtitles if a transmission can be checked against them.
+    // Returns the kept subtitles if a transmission can be checked against them.
     pub(crate) fn if_enough(self) -> Option<Self>
         ensures { result ≡ (if is_enough self then Some self else None) }
     {
         if self.is_enough() { Some(self) } else { None }
     }
 
-    // Returns only the subtitles.
+    // Returns the kept subtitles without their bits.
     pub(crate) fn into_subtitles(self) -> Cues<A>
         ensures { result ≡ self.records }
     {

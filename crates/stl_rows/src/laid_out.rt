@@ -22,10 +22,10 @@ use crate::text_code::{TextCode, text_code_at};
 use arrayvec::ArrayVec;
 use ttx_page::Page;
 
-// The bytes of a text, or its cells and the new lines between them.
+// The bytes of a text, or the cells of a text with 8A for each new line.
 type TextCells = ArrayVec<u8, 1008>;
 
-// Replaces the bytes of a text that `strip` names by 80, which has no cell.
+// Replaces the bytes of a text that the layout item `strip` names by 80, a byte without a cell.
 fn unstripped(items: &LayoutItems, text: &[u8]) -> TextCells
     requires { length text.now ≤ 1008 }
     ensures value { result.items ≡ unstripped items.now text.now }
@@ -38,7 +38,7 @@ fn unstripped(items: &LayoutItems, text: &[u8]) -> TextCells
     bytes
 }
 
-// Decodes the cells of a text and the new lines between them.
+// Decodes a text into its cells, with 8A for each new line.
 fn read_cells(national: National, text: &[u8], cells: &mut TextCells) -> Result<(), RowFault>
     requires none { cells.old.items ≡ [] }
     requires short { length text.now ≤ 1008 }
@@ -66,7 +66,7 @@ fn read_cells(national: National, text: &[u8], cells: &mut TextCells) -> Result<
     Ok(())
 }
 
-// Returns the first line of these cells, and the cells after the new line that ends it.
+// Returns the first line of the cells, and the cells after the new line that ends it, if any.
 fn first_line(cells: &[u8]) -> (&[u8], Option<&[u8]>)
     ensures lines { cut_lines cells.now
         ≡ result.0.now ∷ option_map_or (λ more. cut_lines more.now) result.1 [] }
@@ -85,7 +85,7 @@ fn first_line(cells: &[u8]) -> (&[u8], Option<&[u8]>)
     (cells, None)
 }
 
-// Returns the depth of the last line that is not empty, with line 0 at depth 0.
+// Returns the depth of the last line that is not empty, if line 0 has depth 0.
 fn last_depth(items: &LayoutItems, cells: &[u8]) -> u16
     requires { length cells.now ≤ 1008 }
     ensures value { result ≡ last_depth items.now 0 0 (prepared_cut items.now cells.now) }
@@ -112,7 +112,7 @@ fn last_depth(items: &LayoutItems, cells: &[u8]) -> u16
     }
 }
 
-// Returns the number of rows that are subtracted from the depth of each line.
+// Returns the number of rows to subtract from the depth of each line.
 fn rows_off(items: &LayoutItems, cells: &[u8]) -> u16
     requires { length cells.now ≤ 1008 }
     ensures value { result ≡ rows_off items.now (prepared_cut items.now cells.now) }
@@ -126,14 +126,14 @@ fn rows_off(items: &LayoutItems, cells: &[u8]) -> u16
     }
 }
 
-// The position of a line.
+// The position of a line on the page.
 #[derive(Clone, Copy)]
 struct Place {
-    // Its number among all lines.
+    // The number of the line among all lines of the subtitle, counted from 0.
     number: u16,
-    // Its row before the subtraction.
+    // The row of the line before `off` rows are subtracted.
     depth: u16,
-    // The line before it has double height.
+    // Whether the line directly above has double height.
     is_under_double: bool,
 }
 
@@ -191,7 +191,7 @@ impl Place {
     }
 }
 
-// Draws a line without a fault in its row.
+// Draws a line without a fault in its row of the page.
 #[tactic(auto, unfolding(crate::specs::LineByLayout::page_with))]
 fn put_line(items: &LayoutItems, jc: u8, off: u16, place: &Place, line: &[u8], page: &mut Page)
     requires sound { fault_at items.now off place.now line.now ≡ None }
@@ -205,7 +205,7 @@ fn put_line(items: &LayoutItems, jc: u8, off: u16, place: &Place, line: &[u8], p
     page.set_row(row as u8, &codes_from(start_by(items, jc, line), line));
 }
 
-// Draws the lines of these cells on a blank page.
+// Draws the lines of the cells on a blank page.
 fn draw_lines(
     items: &LayoutItems,
     jc: u8,

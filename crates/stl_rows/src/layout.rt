@@ -1,4 +1,4 @@
-//! Layouts: how a broadcaster draws its texts.
+//! Layouts: how a broadcaster draws the texts of subtitles.
 
 ghost use Rattle.std.specs.Prelude.{◌≡◌};
 ghost use Rattle.stl_rows.specs.Layout.{attribute_code, attribute_of, default_items};
@@ -11,37 +11,37 @@ use stl_file::Scope;
 /// A spacing attribute that a layout may add to a line (EN 300 706, spacing attributes).
 #[derive(Clone, Copy, Debug, PartialEq, Eq)]
 pub(crate) enum Attribute {
-    /// 01: alpha red.
+    /// Code 01: alpha red.
     AlphaRed = 1,
-    /// 02: alpha green.
+    /// Code 02: alpha green.
     AlphaGreen = 2,
-    /// 03: alpha yellow.
+    /// Code 03: alpha yellow.
     AlphaYellow = 3,
-    /// 04: alpha blue.
+    /// Code 04: alpha blue.
     AlphaBlue = 4,
-    /// 05: alpha magenta.
+    /// Code 05: alpha magenta.
     AlphaMagenta = 5,
-    /// 06: alpha cyan.
+    /// Code 06: alpha cyan.
     AlphaCyan = 6,
-    /// 07: alpha white.
+    /// Code 07: alpha white.
     AlphaWhite = 7,
-    /// 08: flash.
+    /// Code 08: flash.
     Flash = 8,
-    /// 09: steady.
+    /// Code 09: steady.
     Steady = 9,
-    /// 0A: end box.
+    /// Code 0A: end box.
     EndBox = 10,
-    /// 0B: start box.
+    /// Code 0B: start box.
     StartBox = 11,
-    /// 0C: normal height.
+    /// Code 0C: normal height.
     NormalHeight = 12,
-    /// 0D: double height.
+    /// Code 0D: double height.
     DoubleHeight = 13,
 }
 
 #[tactic(auto, unfolding(crate::specs::Layout::attribute_of, crate::specs::Layout::attribute_code))]
 impl Attribute {
-    // Returns the attribute with this code.
+    // Returns the spacing attribute with this code, or `None` if a layout may not add the code.
     pub(crate) fn of(code: u8) -> Option<Attribute>
         ensures { result ≡ attribute_of code }
     {
@@ -63,7 +63,7 @@ impl Attribute {
         }
     }
 
-    // Returns its code.
+    // Returns the code of the spacing attribute, 01 to 0D.
     pub(crate) fn code(self) -> u8
         ensures { result ≡ attribute_code self }
     {
@@ -71,47 +71,49 @@ impl Attribute {
     }
 }
 
-/// The values of a layout's items (own). Codes in a list come first; `None` is no code.
+/// The values of a layout's items (own). A list of codes is filled from the front; `None` is an
+/// empty place.
 #[derive(Clone, Copy, Debug)]
 pub(crate) struct LayoutItems {
-    /// `strip`: the bytes, 00 to 1F, that have no cell.
+    /// `strip`: whether each byte 00 to 1F of a text is dropped, so has no cell.
     pub(crate) strip: [bool; 32],
-    /// `before`, up to its `*`: codes before a line's own leading codes.
+    /// `before`, up to its `*`: codes to add before a line's own leading codes.
     pub(crate) ahead: [Option<Attribute>; 6],
-    /// `before`, after its `*`: codes after a line's own leading codes.
+    /// `before`, after its `*`: codes to add after a line's own leading codes.
     pub(crate) following: [Option<Attribute>; 6],
-    /// `after`: codes at the end of a line.
+    /// `after`: codes to add at the end of a line.
     pub(crate) after: [Option<Attribute>; 4],
-    /// `fit`: only as many of those at the end as there is room for.
+    /// `fit`: whether only as many codes of `after` are added as there is room for.
     pub(crate) fit: bool,
-    /// `white`: a line without a colour among its leading codes gets 07 there.
+    /// `white`: whether a line without a colour among its leading codes gets 07 (alpha white) after
+    /// them.
     pub(crate) white: bool,
-    /// `trim`: spaces at both ends of a line are removed.
+    /// `trim`: whether spaces at both ends of a line are removed.
     pub(crate) trim: bool,
-    /// `text`: codes at both ends of a line do not count for its column.
+    /// `text`: whether the codes at both ends of a line do not count for its column.
     pub(crate) text: bool,
-    /// `up`: half a column is rounded up.
+    /// `up`: whether half a column is rounded up.
     pub(crate) up: bool,
-    /// `left`: free columns to the left of a left-aligned line.
+    /// `left`: the number of free columns to the left of a left-aligned line.
     pub(crate) left: u8,
-    /// `right`: free columns to the right of a right-aligned line.
+    /// `right`: the number of free columns to the right of a right-aligned line.
     pub(crate) right: u8,
-    /// `free`: the JC used for JC 0.
+    /// `free`: the JC to use for a subtitle with JC 0.
     pub(crate) free: u8,
-    /// `double`: lines are two rows apart.
+    /// `double`: whether lines are two rows apart.
     pub(crate) double: bool,
-    /// `pack`: empty lines take no row.
+    /// `pack`: whether empty lines take no row.
     pub(crate) pack: bool,
-    /// `last`: VP is the row of the last line.
+    /// `last`: whether VP is the row of the last line.
     pub(crate) last: bool,
-    /// `row`: how many rows the lines are moved down; 0 if they are moved up.
+    /// `row`: the number of rows that all lines are moved down; 0 if they are moved up.
     pub(crate) lower: u8,
-    /// `row`: how many rows the lines are moved up; 0 if they are moved down.
+    /// `row`: the number of rows that all lines are moved up; 0 if they are moved down.
     pub(crate) higher: u8,
 }
 
 impl LayoutItems {
-    // Returns the default items.
+    // Returns the default layout items.
     #[tactic(auto, unfolding(crate::specs::Layout::default_items))]
     pub(crate) fn new() -> LayoutItems
         ensures { result ≡ default_items }
@@ -139,7 +141,7 @@ impl LayoutItems {
         }
     }
 
-    // Returns whether a byte of a text is stripped, so has no cell.
+    // Returns whether a byte of a text is dropped by `strip`, so has no cell.
     pub(crate) fn strips(&self, byte: u8) -> bool
         ensures { result ≡ strips self.now byte }
     {
@@ -147,14 +149,14 @@ impl LayoutItems {
     }
 }
 
-/// How a broadcaster draws its texts: the codes that its inserter adds to a line, and the line's
-/// row and column.
+/// How a broadcaster draws the texts of subtitles: the codes that the inserter adds to a line, and
+/// the line's row and column.
 ///
 /// Created from a text by `parse`. By default a line has a box of its own, is one row below the
-/// line before, and all its cells count for its column (own). It allocates no memory.
+/// line before, and all its cells count for its column (own). A layout allocates no memory.
 #[derive(Clone, Copy, Debug)]
 pub struct Layout {
-    // `None` if no item was given.
+    // The items of the layout; `None` for the default layout.
     pub(crate) items: Option<LayoutItems>,
 }
 
@@ -166,20 +168,20 @@ impl Default for Layout {
     }
 }
 
-/// How a subtitle file becomes pages: the scope of its subtitles, and how their texts are drawn, by
-/// a national option and a layout.
+/// How a subtitle file becomes pages: the scope of its subtitles, and the national option and the
+/// layout that draw the texts.
 #[derive(Clone, Copy, Debug)]
 pub struct Drawing {
-    /// The national option.
+    /// The national option, which selects the character set of the texts.
     pub national: National,
-    /// The layout.
+    /// The layout, which adds codes to the lines and selects their rows and columns.
     pub layout: Layout,
-    /// The scope of the file. A drawn page does not depend on it.
+    /// The scope: which subtitles of the file are read. A drawn page does not depend on the scope.
     pub scope: Scope,
 }
 
 impl Drawing {
-    /// Creates a drawing from its parts.
+    /// Creates a drawing from a national option, a layout and a scope.
     pub fn new(national: National, layout: Layout, scope: Scope) -> Drawing
         ensures { result ≡ drawing_within national layout scope }
     {

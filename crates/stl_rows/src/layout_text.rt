@@ -1,4 +1,4 @@
-//! Layouts as users type them.
+//! Parses layouts as users type them.
 
 ghost use Rattle.std.specs.Prelude.{◌≡◌, ◌+◌, ◌<◌, ◌≤◌, ◌∷◌, [], ◌==◌, IfSome, length, option_map};
 ghost use Rattle.std.specs.Prelude.{replicate};
@@ -16,7 +16,7 @@ ghost use Rattle.stl_rows.specs.Layout.{default_items, no_codes};
 
 use crate::layout::{Attribute, Layout, LayoutItems};
 
-// Returns the text before the first `mark`, and the text after it, if there is one.
+// Returns the text before the first `mark`, and the text after it, if the text has a `mark`.
 #[tactic(auto, unfolding(crate::specs::LayoutText::cut_at))]
 fn cut_at(text: &str, mark: char) -> (&str, Option<&str>)
     requires { mark < 128 }
@@ -28,7 +28,7 @@ fn cut_at(text: &str, mark: char) -> (&str, Option<&str>)
     }
 }
 
-// Returns the value of a decimal digit.
+// Returns the value of a decimal digit in ASCII, or `None` for any other byte.
 fn decimal_digit(byte: u8) -> Option<u8>
     ensures value { result ≡ decimal_digit byte }
     ensures small { IfSome result (λ n. n < 10) }
@@ -39,7 +39,7 @@ fn decimal_digit(byte: u8) -> Option<u8>
     }
 }
 
-// Parses one or two decimal digits, a number from `least` to `most`.
+// Parses one or two decimal digits as a number from `least` to `most`.
 #[tactic(auto, unfolding(crate::specs::LayoutText::number_within))]
 fn number_within(least: u8, most: u8, text: &[u8]) -> Option<u8>
     ensures { result ≡ number_within least most text.now }
@@ -60,7 +60,7 @@ fn number_within(least: u8, most: u8, text: &[u8]) -> Option<u8>
     }
 }
 
-// Parses a number of rows: how many down and how many up.
+// Parses the value of the layout item `row`: how many rows down, and how many rows up.
 #[tactic(auto, unfolding(crate::specs::LayoutText::rows_of_text))]
 fn rows_of_text(text: &[u8]) -> Option<(u8, u8)>
     ensures { result ≡ rows_of_text text.now }
@@ -74,7 +74,8 @@ fn rows_of_text(text: &[u8]) -> Option<(u8, u8)>
     Some((lower, 0))
 }
 
-// Returns the value of a hexadecimal digit of either case.
+// Returns the value of a hexadecimal digit in ASCII, upper or lower case, or `None` for any other
+// byte.
 #[tactic(auto, unfolding(crate::specs::LayoutText::hex_digit_value))]
 fn hex_digit_value(byte: u8) -> Option<u8>
     ensures value { result ≡ hex_digit_value byte }
@@ -97,7 +98,7 @@ fn byte_of_digits(high: u8, low: u8) -> Option<u8>
     Some(16 * high + low)
 }
 
-// Parses pairs of hexadecimal digits as codes.
+// Parses pairs of hexadecimal digits as spacing attributes, at most `N`.
 fn codes_of_text<const N: usize>(text: &[u8]) -> Option<[Option<Attribute>; N]>
     ensures { result ≡ codes_of_text N text.now }
 {
@@ -120,7 +121,8 @@ fn codes_of_text<const N: usize>(text: &[u8]) -> Option<[Option<Attribute>; N]>
     Some(places)
 }
 
-// Parses pairs of hexadecimal digits as bytes, 00 to 1F, without duplicates.
+// Parses the value of the layout item `strip`: pairs of hexadecimal digits, 00 to 1F, without
+// duplicates.
 fn stripped_of_text(text: &[u8]) -> Option<[bool; 32]>
     ensures { result ≡ stripped_with (replicate 32 false) text.now }
 {
@@ -140,7 +142,8 @@ fn stripped_of_text(text: &[u8]) -> Option<[bool; 32]>
     Some(strip)
 }
 
-// Parses `before`: the codes before and after a line's own leading codes.
+// Parses the value of the layout item `before`: the codes before and after a line's own leading
+// codes.
 #[tactic(auto, unfolding(crate::specs::LayoutText::before_of_text))]
 fn before_of_text(text: &str) -> Option<([Option<Attribute>; 6], [Option<Attribute>; 6])>
     ensures { result ≡ before_of_text text.now }
@@ -158,7 +161,7 @@ fn before_of_text(text: &str) -> Option<([Option<Attribute>; 6], [Option<Attribu
     }
 }
 
-// Sets the item with this name, which has no value, and returns its number.
+// Sets the layout item with this name, which takes no value, and returns the item's number.
 #[tactic(auto, unfolding(crate::specs::LayoutText::flag_set))]
 fn set_flag(items: &mut LayoutItems, name: &str) -> Option<usize>
     ensures value { option_map (λ n. (n, items.new)) result ≡ flag_set items.old name.now }
@@ -201,7 +204,7 @@ fn set_flag(items: &mut LayoutItems, name: &str) -> Option<usize>
     }
 }
 
-// Sets the item with this name to a decimal value, and returns its number.
+// Sets the layout item with this name to a decimal value, and returns the item's number.
 #[tactic(auto, unfolding(crate::specs::LayoutText::number_set))]
 fn set_number(items: &mut LayoutItems, name: &str, value: &[u8]) -> Option<usize>
     ensures value { option_map (λ n. (n, items.new)) result
@@ -231,7 +234,7 @@ fn set_number(items: &mut LayoutItems, name: &str, value: &[u8]) -> Option<usize
     }
 }
 
-// Sets the item with this name to this value, and returns its number.
+// Sets the layout item with this name to a value, and returns the item's number.
 #[tactic(auto, unfolding(crate::specs::LayoutText::value_set))]
 fn set_value(items: &mut LayoutItems, name: &str, value: &str) -> Option<usize>
     ensures value { option_map (λ n. (n, items.new)) result
@@ -257,7 +260,7 @@ fn set_value(items: &mut LayoutItems, name: &str, value: &str) -> Option<usize>
     }
 }
 
-// Sets the item of a text, and returns its number.
+// Sets the layout item that a text names, and returns the item's number.
 #[tactic(auto, unfolding(crate::specs::LayoutText::item_set))]
 fn set_item(items: &mut LayoutItems, text: &str) -> Option<usize>
     ensures value { option_map (λ n. (n, items.new)) result ≡ item_set items.old text.now }
@@ -270,7 +273,7 @@ fn set_item(items: &mut LayoutItems, text: &str) -> Option<usize>
     }
 }
 
-// Returns the text before the first comma, and the text after it, if there is one.
+// Returns the text before the first comma, and the text after it, if the text has a comma.
 fn first_text(text: &str) -> (&str, Option<&str>)
     ensures texts { slice_split (λ c. c == 0x2C) text.now ≡ result.0.now
         ∷ option_map_or (λ more. slice_split (λ c. c == 0x2C) more.now) result.1 [] }
@@ -280,7 +283,7 @@ fn first_text(text: &str) -> (&str, Option<&str>)
     cut_at(text, ',')
 }
 
-// Parses the items of a text, without duplicates.
+// Parses the items of a layout, without duplicates.
 fn items_of_text(text: &str) -> Option<LayoutItems>
     ensures { items_set default_items (replicate 15 false) (slice_split (λ c. c == 0x2C) text.now)
         ≡ result }

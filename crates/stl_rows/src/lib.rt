@@ -1,7 +1,7 @@
-//! Turns subtitle texts into Teletext rows: drawn pages, and programmes of them.
+//! Turns subtitle texts into Teletext rows: drawn pages, and programmes of subtitles.
 //!
 //! A subtitle file (EBU Tech 3264) is loaded as a programme, which returns the expected page at
-//! each frame and the next frame at which it can change:
+//! each frame and the next frame at which the expected page can change:
 //!
 //! ```text
 //! let programme = load(alloc, &mut source, National::English, Layout::default())?;
@@ -10,7 +10,8 @@
 //! ```
 //!
 //! The crate builds on `stl_file`, which reads the subtitles, and on `ttx_page`, whose pages it
-//! draws. `sub_plan` makes schedules of programmes, `sub_check` checks transmissions against them.
+//! draws. `sub_plan` makes schedules of programmes, `sub_check` checks transmissions against
+//! programmes.
 #![tactic(auto)]
 
 mod cues;

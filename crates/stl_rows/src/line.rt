@@ -1,4 +1,4 @@
-//! Lines of cells: preparing a line, and the row that shows it.
+//! Lines of cells: the prepared form of a line, and the row that shows the line.
 
 ghost use Rattle.std.specs.Prelude.{◌≡◌, ◌+◌, ◌≤◌, ◌++◌, length};
 ghost use Rattle.ttx_page.specs.Page.{AreCodes};
@@ -7,7 +7,6 @@ ghost use Rattle.stl_rows.specs.PreparedLine.{row_from};
 
 use arrayvec::ArrayVec;
 
-// Appends cells to a line.
 fn append(line: &mut ArrayVec<u8, 40>, cells: &[u8])
     requires { length line.old.items + length cells.now ≤ 40 }
     ensures { line.new.items ≡ line.old.items ++ cells.now }
@@ -24,7 +23,7 @@ fn has_start_box(line: &[u8]) -> bool
     line.iter().any(|c| *c == 0x0B)
 }
 
-/// Prepares a line of cells: puts it in a box if it isn't empty and has none.
+/// Prepares a line of cells: adds a box if the line isn't empty and has no start box.
 #[tactic(auto, unfolding(crate::specs::Line::prepared))]
 pub(crate) fn prepare(cells: &[u8]) -> ArrayVec<u8, 40>
     requires few { length (prepared cells.now) ≤ 40 }
@@ -43,7 +42,7 @@ pub(crate) fn prepare(cells: &[u8]) -> ArrayVec<u8, 40>
     line
 }
 
-// Returns the column at which a line starts.
+// Returns the column at which a line of `len` cells starts.
 fn start_of(jc: u8, len: usize) -> usize
     requires { len ≤ 40 }
     ensures value { result ≡ start_column jc len }
@@ -56,7 +55,7 @@ fn start_of(jc: u8, len: usize) -> usize
     }
 }
 
-/// Returns the 40 codes of the row that shows a line from a column on.
+/// Returns the 40 codes of the row that shows a line from column `start` on.
 pub(crate) fn codes_from(start: usize, line: &[u8]) -> [u8; 40]
     requires room { start + length line.now ≤ 40 }
     requires codes { AreCodes line.now }

@@ -24,16 +24,18 @@ use sub_io::{FirstReported, Source};
 
 /// Loads the subtitles of an STL file, to be drawn with a national option and a layout.
 ///
-/// Subtitles outside the scope are skipped. Takes 24 bytes plus its text in memory for each
-/// subtitle, and reads to the end of the source.
+/// Subtitles outside the scope are skipped. Each subtitle takes 24 bytes plus its text in memory.
+/// The source is read to its end.
 ///
 /// # Errors
 ///
-/// Returns the first fault by block. For block 0 it is a fault of the GSI block. For each TTI block
-/// it is a fault of the file, `File`; for a subtitle's last block then `OutOfOrder`, `Overlap`, the
-/// fault of `draw` as `Row`, and `Memory` if the memory for it cannot be allocated. Returns `File`
-/// with `Read` if the source fails before any other fault is found, at the block of the byte that
-/// could not be read.
+/// Returns the first fault by block:
+///
+/// - `File` for a fault of the GSI block (block 0) or of a TTI block;
+/// - then, for a subtitle's last block, `OutOfOrder`, `Overlap`, or the fault of `draw` as `Row`;
+/// - `Memory` if the memory for a subtitle without faults cannot be allocated;
+/// - `File` with `Read` if the source fails before any other fault is found, at the block of the
+///   byte that could not be read.
 pub fn load<S: Source>(
     alloc: Global,
     source: &mut S,
@@ -42,7 +44,7 @@ pub fn load<S: Source>(
     scope: Scope,
 ) -> Result<Programme, LoadFault>
     requires { CanFail (S.failure_count source.old) }
-    // If the source's bytes are known, they determine the programme and the fault.
+    // If the source's bytes are known, the bytes determine the programme or the fault.
     ensures exact { IfKnown (S.remaining source.old) (λ bytes.
         IfOk result (λ programme.
         loaded (drawing_within national layout scope) bytes ≡ Ok programme)) }
@@ -55,7 +57,8 @@ pub fn load<S: Source>(
         IsProgramme programme.drawing programme.records) }
     ensures drawing { IfOk result (λ programme.
         programme.drawing ≡ drawing_within national layout scope) }
-    // A failed read has the block of the byte that could not be read, and no fault comes before it.
+    // If the source failed, the error has the block of the byte that could not be read, and no
+    // fault comes before that block.
     ensures read { IfErr result (λ f. is_load_read f ≡ true →
         FailsLoading (drawing_within national layout scope)
         (S.remaining source.old) (S.remaining source.new) f.block) }
@@ -68,8 +71,8 @@ pub fn load<S: Source>(
     }
 }
 
-/// Loads the subtitles of an STL file into any memory. `load` does this with the program's own
-/// memory.
+/// Loads the subtitles of an STL file into memory of any allocator. `load` does this with the
+/// program's own memory.
 ///
 /// # Errors
 ///
@@ -101,24 +104,24 @@ pub fn load_in<A: Allocator + Copy, S: Source>(
     }
 }
 
-/// Bytes are loaded exactly if they are a subtitle file whose subtitles are in order, disjoint and
-/// drawable, and the programme consists of these.
+/// Bytes are loaded as a programme if and only if they are a subtitle file whose subtitles do not
+/// overlap and can all be drawn, and the programme consists of these subtitles.
 pub fn law_of_loading()
     ensures { LawOfLoading }
 {
     law_of_files();
 }
 
-/// The faults and subtitles of a part of a file are those of the file without the blocks of all
-/// other subtitles, apart from block numbers.
+/// The faults and subtitles of a part of a file are those of the file from which the blocks of all
+/// other subtitles were removed, apart from block numbers.
 pub fn law_of_parts()
     ensures { LawOfParts }
 {
     law_of_scope();
 }
 
-/// Each reliable subtitle can be drawn, even if others were rejected. If none was rejected, all are
-/// reliable, and the expected page is known at every frame.
+/// Each reliable subtitle can be drawn, even if other subtitles were rejected. If a file has no
+/// faults, all its subtitles are reliable, and the expected page is known at every frame.
 pub fn law_of_judged()
     ensures drawn { LawOfJudged }
     ensures decided { LawOfDecided }

@@ -1,4 +1,4 @@
-//! National options.
+//! National options: the character sets of Teletext pages.
 
 ghost use Rattle.std.specs.Prelude.{◌≡◌, ◌↔◌, Some, option_map};
 ghost use Rattle.std.specs.List.{find};
@@ -9,39 +9,40 @@ ghost use Rattle.stl_rows.specs.SubSets.{cell_in, has_bytes, option_named, sub_s
 use crate::sub_sets::{NationalCharacter, SUB_SETS, SubSet};
 
 /// A national option character sub-set of EN 300 706 (header bits C12 to C14), and with it the
-/// character set for reading texts. It is named after one of its languages.
+/// character set for reading texts. Each option is named after one of its languages.
 #[derive(Clone, Copy, Debug, PartialEq, Eq)]
 pub enum National {
-    /// English.
+    /// The sub-set for English.
     English,
-    /// German.
+    /// The sub-set for German.
     German,
-    /// Swedish, Finnish and Hungarian.
+    /// The sub-set for Swedish, Finnish and Hungarian.
     Swedish,
-    /// Italian.
+    /// The sub-set for Italian.
     Italian,
-    /// French.
+    /// The sub-set for French.
     French,
-    /// Portuguese and Spanish.
+    /// The sub-set for Portuguese and Spanish.
     Spanish,
-    /// Czech and Slovak.
+    /// The sub-set for Czech and Slovak.
     Czech,
 }
 
-/// The control bits of a page header that select its national option character sub-set.
+/// The control bits C12 to C14 of a page header, which select the page's national option character
+/// sub-set.
 #[derive(Clone, Copy, Debug, PartialEq, Eq)]
 pub struct NationalBits {
-    /// The first bit.
+    /// C12, the first bit of the national option.
     pub c12: bool,
-    /// The second bit.
+    /// C13, the second bit of the national option.
     pub c13: bool,
-    /// The third bit.
+    /// C14, the third bit of the national option.
     pub c14: bool,
 }
 
 impl National {
-    /// Parses the name of an option in lower case: `english`, `german`, `swedish`, `italian`,
-    /// `french`, `spanish` or `czech`. Returns `None` for any other text.
+    /// Parses the name of a national option in lower case: `english`, `german`, `swedish`,
+    /// `italian`, `french`, `spanish` or `czech`. Returns `None` for any other text.
     #[tactic(auto, unfolding(crate::specs::SubSets::option_named, crate::specs::SubSets::sub_set))]
     pub fn parse(text: &str) -> Option<National>
         ensures value { result ≡ option_named text.now }
@@ -50,7 +51,7 @@ impl National {
         option_in(&SUB_SETS, text)
     }
 
-    /// Returns C12, C13 and C14 for the page headers of this option.
+    /// Returns C12, C13 and C14 for the page headers of this national option.
     #[tactic(auto, unfolding(crate::specs::SubSets::sub_set))]
     pub fn bits(self) -> NationalBits
         ensures { result ≡ (sub_set self).bits }
@@ -58,7 +59,7 @@ impl National {
         SUB_SETS[self as usize].bits
     }
 
-    /// Returns the characters of the option, by their places in the code table.
+    /// Returns the characters of the national option, by their places in the code table.
     #[tactic(auto, unfolding(crate::specs::SubSets::sub_set))]
     pub(crate) fn characters(self) -> &'static [NationalCharacter]
         ensures { result.now ≡ (sub_set self).characters }
@@ -77,7 +78,7 @@ impl NationalCharacter {
     }
 }
 
-// Returns the option of the first of these rows whose name is `text`.
+// Returns the national option of the first row of the table whose name is `text`.
 fn option_in(rows: &[SubSet], text: &str) -> Option<National>
     ensures { result ≡ option_map (λ (r : SubSet). r.national)
         (find (λ (r : SubSet). bytes_eq r.word.now text.now) rows.now) }
@@ -90,8 +91,8 @@ fn option_in(rows: &[SubSet], text: &str) -> Option<National>
     None
 }
 
-/// Returns the cell of the character for a byte, after a diacritical mark or alone. Returns `None`
-/// if these characters do not contain it.
+/// Returns the cell of the character with this byte and this diacritical mark, or none. Returns
+/// `None` if no character matches.
 pub(crate) fn cell_in(characters: &[NationalCharacter], mark: Option<u8>, byte: u8) -> Option<u8>
     ensures { result ≡ cell_in characters.now mark byte }
 {

@@ -13,7 +13,7 @@ ghost use Rattle.stl_rows.specs.TextCode.{is_within};
 use crate::layout::{Attribute, LayoutItems};
 use arrayvec::ArrayVec;
 
-/// The cells of a prepared line: those of a text, at most 1008, and those that a layout adds.
+/// The cells of a prepared line: at most 1008 cells of a text, and the codes that a layout adds.
 pub(crate) type LineCells = ArrayVec<u8, 1025>;
 
 // Returns whether a code is in the range from `first` to `last`.
@@ -23,7 +23,7 @@ fn is_within(first: u8, last: u8, code: u8) -> bool
     first <= code && code <= last
 }
 
-// Returns how many cells at the front of a line are in a range of codes.
+// Returns the number of cells at the start of a line that are in a range of codes.
 fn leading(first: u8, last: u8, cells: &[u8]) -> usize
     ensures value { result ≡ leading first last cells.now }
     ensures within { result ≤ length cells.now }
@@ -38,7 +38,7 @@ fn leading(first: u8, last: u8, cells: &[u8]) -> usize
     count
 }
 
-// Returns how many cells at the end of a line are in a range of codes.
+// Returns the number of cells at the end of a line that are in a range of codes.
 fn trailing(first: u8, last: u8, cells: &[u8]) -> usize
     ensures value { result ≡ trailing first last cells.now }
     ensures within { result ≤ length cells.now }
@@ -78,7 +78,7 @@ fn has_colour(cells: &[u8]) -> bool
     cells.iter().any(|c| is_within(0x01, 0x07, *c))
 }
 
-// Appends cells to a line.
+// Appends cells to a prepared line.
 fn push_cells(line: &mut LineCells, cells: &[u8])
     requires { length line.old.items + length cells.now ≤ 1025 }
     ensures value { line.new.items ≡ line.old.items ++ cells.now }
@@ -88,7 +88,7 @@ fn push_cells(line: &mut LineCells, cells: &[u8])
     prove!(added.is_ok());
 }
 
-// Appends codes to a line.
+// Appends spacing attributes of a layout to a prepared line.
 fn push_codes(line: &mut LineCells, codes: &[Option<Attribute>])
     requires { length line.old.items + length codes.now ≤ 1025 }
     ensures value { line.new.items ≡ line.old.items ++ codes_of_places codes.now }
@@ -119,7 +119,7 @@ fn push_headed(line: &mut LineCells, items: &LayoutItems, cells: &[u8])
     push_cells(line, rest);
 }
 
-// Builds a line from cells and all codes that a layout adds. An empty line gets none.
+// Builds a line from cells and all codes that a layout adds. An empty line gets no codes.
 #[tactic(auto, unfolding(crate::specs::PreparedLine::framed))]
 fn push_framed(line: &mut LineCells, items: &LayoutItems, cells: &[u8])
     requires none { line.old.items ≡ [] }
@@ -160,7 +160,8 @@ pub(crate) fn is_double(line: &[u8]) -> bool
     has(line, 0x0D)
 }
 
-// Returns how many cells at the front and the end do not count for the line's column.
+// Returns the numbers of cells at the start and at the end of a line that do not count for the
+// line's column.
 fn uncounted(items: &LayoutItems, line: &[u8]) -> (usize, usize)
     ensures value { result ≡ uncounted items.now line.now }
     ensures ahead { result.0 ≤ length line.now }
@@ -176,15 +177,16 @@ fn uncounted(items: &LayoutItems, line: &[u8]) -> (usize, usize)
     (ahead, trailing(0, 0x1F, line))
 }
 
-// Returns the JC to use for that of a subtitle.
+// Returns the JC to use: the value of the layout item `free` for JC 0, otherwise the subtitle's own
+// JC.
 fn jc_read(items: &LayoutItems, jc: u8) -> u8
     ensures { result ≡ jc_read items.now jc }
 {
     if jc == 0 { items.free } else { jc }
 }
 
-// Returns the column at which a line should start; `width` of its cells count, after `ahead`
-// others.
+// Returns the column at which a line should start, if `width` cells of the line count, after
+// `ahead` cells that do not.
 fn wanted_column(items: &LayoutItems, jc: u8, ahead: usize, width: usize) -> usize
     requires ahead { ahead ≤ 40 }
     requires width { width ≤ 40 }
@@ -198,7 +200,8 @@ fn wanted_column(items: &LayoutItems, jc: u8, ahead: usize, width: usize) -> usi
     }
 }
 
-/// Returns the column at which a prepared line starts, so that it fits in its row.
+/// Returns the column at which a prepared line starts. A line that would not fit in its row is
+/// moved left.
 #[tactic(auto, unfolding(crate::specs::PreparedLine::start_by))]
 pub(crate) fn start_by(items: &LayoutItems, jc: u8, line: &[u8]) -> usize
     requires { length line.now ≤ 40 }

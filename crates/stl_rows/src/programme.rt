@@ -1,4 +1,5 @@
-//! Programmes: subtitles in order, the expected page at a frame, and the cues at which it changes.
+//! Programmes: subtitles without overlap, the expected page at a frame, and the cues at which the
+//! page changes.
 
 ghost use Rattle.std.specs.Prelude.{◌≡◌, ℕ, ◌-◌, ◌<◌, ◌≤◌, ◌↔◌, [], IsTrue, MatchOption, false};
 ghost use Rattle.std.specs.Prelude.{length};
@@ -20,7 +21,7 @@ use std::marker::Model;
 use stl_file::Subtitle;
 use ttx_page::Page;
 
-/// Subtitles in order and disjoint, all of which can be drawn.
+/// Subtitles that are in order, do not overlap, and can all be drawn.
 ///
 /// Created by `load`. The model has the drawing and the list of subtitles.
 #[derive(Drop)]
@@ -39,7 +40,7 @@ impl Model for Programme {
     ghost invariant = { λ p. IsProgramme p.drawing p.subtitles };
 }
 
-// Returns the first subtitle whose TCO is after a frame, by binary search.
+// Returns the index of the first subtitle whose TCO is after a frame, by binary search.
 fn first_after(drawing: &Drawing, subtitles: &Cues<Global>, frame: u32) -> usize
     requires { IsProgramme drawing.now subtitles.now }
     ensures bound { result ≤ length subtitles.now }
@@ -51,7 +52,7 @@ fn first_after(drawing: &Drawing, subtitles: &Cues<Global>, frame: u32) -> usize
     subtitles.ended_by(frame)
 }
 
-// Returns whether a subtitle is the first whose TCO is after a frame.
+// Returns whether the subtitle with the index `at` is the first whose TCO is after a frame.
 fn is_first_after(drawing: &Drawing, subtitles: &Cues<Global>, frame: u32, at: usize) -> bool
     requires { IsProgramme drawing.now subtitles.now }
     ensures bound { IsTrue result → at < length subtitles.now }
@@ -74,8 +75,8 @@ fn is_first_after(drawing: &Drawing, subtitles: &Cues<Global>, frame: u32, at: u
     }
 }
 
-// Returns the first subtitle whose TCO is after a frame. Tries `guess` and the next one before a
-// binary search.
+// Returns the index of the first subtitle whose TCO is after a frame. Tries `guess` and the next
+// index before a binary search.
 fn first_after_near(drawing: &Drawing, subtitles: &Cues<Global>, frame: u32, guess: usize) -> usize
     requires { IsProgramme drawing.now subtitles.now }
     ensures bound { result ≤ length subtitles.now }
@@ -96,7 +97,7 @@ fn first_after_near(drawing: &Drawing, subtitles: &Cues<Global>, frame: u32, gue
     first_after(drawing, subtitles, frame)
 }
 
-// Draws the expected page at a frame, and returns the next cue after it and the index of the
+// Draws the expected page at a frame. Returns the next cue after the frame, and the index of the
 // subtitle found.
 fn draw_near(
     drawing: &Drawing,
@@ -125,7 +126,7 @@ fn draw_near(
     (Some(tco), at)
 }
 
-// Returns the next cue after a frame.
+// Returns the next cue (TCI or TCO) after a frame.
 fn edge_after(drawing: &Drawing, subtitles: &Cues<Global>, frame: u32) -> Option<u32>
     requires { IsProgramme drawing.now subtitles.now }
     ensures { ReportsNextEdge subtitles.now frame result }
@@ -157,7 +158,7 @@ fn tco_before(subtitles: &Cues<Global>, at: usize) -> Option<u32>
     Some(tco)
 }
 
-// Returns the last cue up to a frame.
+// Returns the last cue (TCI or TCO) at or before a frame.
 fn edge_until(drawing: &Drawing, subtitles: &Cues<Global>, frame: u32) -> Option<u32>
     requires { IsProgramme drawing.now subtitles.now }
     ensures { ReportsLastEdge subtitles.now frame result }
@@ -174,7 +175,7 @@ fn edge_until(drawing: &Drawing, subtitles: &Cues<Global>, frame: u32) -> Option
     tco_before(subtitles, at)
 }
 
-// Returns the TCI of the subtitle that ends at a frame.
+// Returns the TCI of the subtitle whose TCO is the frame.
 fn tci_ending_at(drawing: &Drawing, subtitles: &Cues<Global>, frame: u32) -> Option<u32>
     requires { IsProgramme drawing.now subtitles.now }
     ensures { result ≡ tci_of_ending subtitles.now frame }
@@ -194,7 +195,7 @@ fn tci_ending_at(drawing: &Drawing, subtitles: &Cues<Global>, frame: u32) -> Opt
     Some(subtitle.tci().frame())
 }
 
-// Returns the bit of a subtitle by its index; `false` if it is missing.
+// Returns the bit of the subtitle with the index `at`; `false` if the bit is missing.
 fn bit_at(bits: &[bool], at: usize) -> bool
     ensures { result ≡ slice_index_or bits.now at false }
 {
@@ -232,7 +233,7 @@ fn is_undecided_at(
 }
 
 impl Programme {
-    // Creates a programme of these subtitles.
+    // Creates a programme of the subtitles.
     pub(crate) fn of(drawing: Drawing, subtitles: Cues<Global>) -> Programme
         requires { IsProgramme drawing subtitles }
         ensures { result ≡ record { drawing = drawing; records = subtitles } }
@@ -255,7 +256,7 @@ impl Programme {
         self.subtitles.is_empty()
     }
 
-    /// Returns a subtitle by its index, from 0 and below `len`.
+    /// Returns the subtitle with the index `i`, counted from 0 and below `len`.
     pub fn subtitle(&self, i: usize) -> Subtitle
         requires { i < length self.now.records }
         ensures { slice_get self.now.records i ≡ Some result }
@@ -279,7 +280,7 @@ impl Programme {
         Some(self.subtitles.last()?.tco().frame())
     }
 
-    /// Returns the national option with which it was loaded.
+    /// Returns the national option with which the programme was loaded.
     pub fn national(&self) -> National
         ensures value { result ≡ self.now.drawing.national }
         ensures programme { IsProgramme self.now.drawing self.now.records }
@@ -287,7 +288,7 @@ impl Programme {
         self.drawing.national
     }
 
-    /// Returns the layout with which it was loaded.
+    /// Returns the layout with which the programme was loaded.
     pub fn layout(&self) -> Layout
         ensures value { result ≡ self.now.drawing.layout }
         ensures programme { IsProgramme self.now.drawing self.now.records }
@@ -295,10 +296,10 @@ impl Programme {
         self.drawing.layout
     }
 
-    /// Draws the expected page at a frame: that of the subtitle whose TCI is at or before the frame
-    /// and whose TCO is after it; blank if there is none.
+    /// Draws the expected page at a frame: the page of the subtitle whose TCI is at or before the
+    /// frame and whose TCO is after it; blank if no such subtitle exists.
     ///
-    /// Finds the subtitle by binary search. Each call draws the page, so call it at cues
+    /// Finds the subtitle by binary search. Each call draws the page, so call `due_page` at cues
     /// (`next_edge`) and keep the page in between.
     pub fn due_page(&self, frame: u32) -> Page
         ensures value { result ≡ due self.now.drawing self.now.records frame }
@@ -309,11 +310,11 @@ impl Programme {
         page
     }
 
-    /// Draws the expected page at a frame over another page, and returns the next cue (`next_edge`)
-    /// and the `guess` for the next call.
+    /// Draws the expected page at a frame over the contents of `page`. Returns the next cue
+    /// (`next_edge`) and the `guess` for the next call.
     ///
-    /// Any `guess` is valid; start with 0. With the one from a call for a frame shortly before, no
-    /// search is needed.
+    /// Any `guess` is valid; start with 0. If the frame is shortly after that of the previous call,
+    /// the returned `guess` saves the binary search.
     pub fn draw_due(&self, frame: u32, guess: usize, page: &mut Page) -> (Option<u32>, usize)
         ensures page { page.new ≡ due self.now.drawing self.now.records frame }
         ensures edge { ReportsNextEdge self.now.records frame result.0 }
@@ -324,7 +325,7 @@ impl Programme {
 
     /// Returns the first TCI or TCO after a frame, by binary search.
     ///
-    /// Returns `None` if there is none.
+    /// Returns `None` if no TCI or TCO is after the frame.
     pub fn next_edge(&self, frame: u32) -> Option<u32>
         ensures value { ReportsNextEdge self.now.records frame result }
         ensures programme { IsProgramme self.now.drawing self.now.records }
@@ -332,9 +333,10 @@ impl Programme {
         edge_after(&self.drawing, &self.subtitles, frame)
     }
 
-    /// Returns the last TCI or TCO at or before a frame, by binary search.
+    /// Returns the last TCI or TCO at or before a frame, by binary search. The expected page does
+    /// not change between the returned frame and `frame`.
     ///
-    /// Returns `None` if there is none. The expected page is the same from there to the frame.
+    /// Returns `None` if each TCI is after the frame.
     pub fn last_edge(&self, frame: u32) -> Option<u32>
         ensures value { ReportsLastEdge self.now.records frame result }
         ensures programme { IsProgramme self.now.drawing self.now.records }
@@ -342,9 +344,9 @@ impl Programme {
         edge_until(&self.drawing, &self.subtitles, frame)
     }
 
-    /// Finds the subtitle whose TCO is this frame, by binary search, and returns its TCI.
+    /// Finds the subtitle whose TCO is the frame, by binary search, and returns its TCI.
     ///
-    /// Returns `None` if no subtitle ends there. At most one does.
+    /// Returns `None` if no subtitle ends at the frame. At most one subtitle does.
     pub fn tci_of_ending(&self, frame: u32) -> Option<u32>
         ensures value { result ≡ tci_of_ending self.now.records frame }
         ensures programme { IsProgramme self.now.drawing self.now.records }
@@ -352,8 +354,8 @@ impl Programme {
         tci_ending_at(&self.drawing, &self.subtitles, frame)
     }
 
-    // Returns whether the expected page is unknown at a frame, given the positions of other
-    // subtitles.
+    // Returns whether the expected page is unknown at a frame, given which subtitles have an
+    // unreliable one before them.
     #[tactic(auto, unfolding(crate::specs::Judged::is_undecided_in))]
     pub(crate) fn is_undecided(
         &self,
@@ -378,13 +380,14 @@ impl Programme {
     }
 }
 
-/// Among subtitles in order, one whose time includes a frame is shown there.
+/// The expected page at a frame is the page of the subtitle whose TCI is at or before the frame and
+/// whose TCO is after it.
 #[tactic(auto, using(crate::proofs::DuePageLemmas::due_is_shown))]
 pub fn law_of_due_subtitles()
     ensures { LawOfDueSubtitles }
 {}
 
-/// If each subtitle starts later or has ended, the expected page is blank.
+/// If each subtitle starts after the frame or has ended by then, the expected page is blank.
 #[tactic(auto, using(crate::proofs::DuePageLemmas::none_is_blank))]
 pub fn law_of_blank_pages()
     ensures { LawOfBlankPages }
@@ -402,7 +405,7 @@ pub fn law_of_last_row()
     ensures { LawOfLastRow }
 {}
 
-/// Each expected page is a page: 24 rows of 40 codes below 128.
+/// Each expected page is a valid page: 24 rows of 40 codes below 128.
 pub fn law_of_due_pages()
     ensures { LawOfDuePages }
 {}

@@ -1,4 +1,4 @@
-//! A borrowed subtitle, either a `Subtitle` or one of a `Cues`.
+//! A borrowed subtitle: either a `Subtitle`, or an element of a `Cues`.
 
 ghost use Rattle.std.specs.Prelude.{◌≡◌};
 ghost use Rattle.stl_file.specs.Subtitle.{IsSubtitle};
@@ -45,7 +45,7 @@ impl<'a> Model for Record<'a> {
 }
 
 impl<'a> Record<'a> {
-    /// Borrows a subtitle.
+    /// Borrows a `Subtitle`.
     pub(crate) fn of(subtitle: &'a Subtitle) -> Record<'a>
         ensures { result ≡ subtitle.now }
     {
@@ -60,7 +60,7 @@ impl<'a> Record<'a> {
         }
     }
 
-    /// Copies it to a `Subtitle`.
+    /// Copies the borrowed subtitle to a `Subtitle`.
     pub(crate) fn to_subtitle(&self) -> Subtitle
         ensures { result ≡ self.now }
     {
@@ -81,8 +81,7 @@ impl<'a> Record<'a> {
         self.tci
     }
 
-    /// Returns TCO, the time code of the first frame after it at which the subtitle is no longer
-    /// shown.
+    /// Returns TCO, the time code of the first frame at which the subtitle is no longer shown.
     pub(crate) fn tco(&self) -> TimeCode
         ensures value { result ≡ self.now.tco }
         ensures is { IsSubtitle self.now }
@@ -90,7 +89,7 @@ impl<'a> Record<'a> {
         self.tco
     }
 
-    /// Returns VP, the vertical position: the row of the first line, 1 to 23.
+    /// Returns VP, the vertical position: the row of the subtitle's first line, 1 to 23.
     pub(crate) fn vp(&self) -> u8
         ensures value { result ≡ self.now.vp }
         ensures is { IsSubtitle self.now }
@@ -106,7 +105,7 @@ impl<'a> Record<'a> {
         self.jc
     }
 
-    /// Returns the text of all blocks in the file's code, at most 1008 bytes.
+    /// Returns the text of all blocks of the subtitle in the file's code, at most 1008 bytes.
     pub(crate) fn text(&self) -> &'a [u8]
         ensures value { result.now ≡ self.now.text }
         ensures is { IsSubtitle self.now }

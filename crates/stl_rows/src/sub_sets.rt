@@ -1,37 +1,38 @@
 //! The table of the national options, one row each.
 //!
-//! The code table of level 1 (EN 300 706) has 13 places for a national option. These are the
-//! sub-sets of its default region, 0000, with one for each value of C12 to C14; 1 1 1 is reserved.
+//! The code table of level 1 (EN 300 706) has 13 places for a national option. The table has the
+//! sub-sets of the default region, 0000, one for each value of C12 to C14; 1 1 1 is reserved.
 
 use crate::national::{National, NationalBits};
 
-/// A character of a sub-set: its place in the code table, and its bytes in a text (EBU Tech 3264,
-/// code table 00, which is Latin and has the bytes of ISO 6937).
+/// A character of a national option: its place in the code table, and its bytes in a text (EBU Tech
+/// 3264, code table 00, which is Latin and has the bytes of ISO 6937).
 #[derive(Clone, Copy, Debug)]
 pub(crate) struct NationalCharacter {
-    /// The code of its cell.
+    /// The code of the character's cell on a page.
     pub(crate) cell: u8,
-    /// The diacritical mark before the byte, if there is one.
+    /// The diacritical mark before the character's byte, if it has one.
     pub(crate) mark: Option<u8>,
-    /// The byte; with a diacritical mark, that of the letter after it.
+    /// The byte of the character; after a diacritical mark, the byte of the letter.
     pub(crate) byte: u8,
 }
 
-/// A row of the table.
+/// A row of the table of national options.
 #[derive(Clone, Copy, Debug)]
 pub(crate) struct SubSet {
-    /// The option.
+    /// The national option of the row.
     pub(crate) national: National,
-    /// The name of the option (own).
+    /// The name of the national option (own).
     pub(crate) word: &'static str,
-    /// C12, C13 and C14 of page headers.
+    /// The control bits C12, C13 and C14 of the option's page headers.
     pub(crate) bits: NationalBits,
-    /// The characters by place. A missing place cannot be reached by any text.
+    /// The characters of the option, by their places in the code table. A place that is missing
+    /// cannot be reached by any text.
     pub(crate) characters: &'static [NationalCharacter],
 }
 
-/// The rows, in the order of the options. The check computes them and compares them with those of
-/// the definition.
+/// The table of national options, in the order of `National`. The check computes the table and
+/// compares it with the definition.
 ///
 /// (own) lenient: both 24 and A4 are read as the dollar sign, whatever an edition of the code table
 /// says, since files in the field use both. In a sub-set without a dollar sign, neither byte is

@@ -8,21 +8,21 @@ ghost use Rattle.stl_rows.specs.TextCode.{HasSevenBits, is_common, text_codes};
 use crate::fault::RowFaultKind;
 use crate::national::{National, cell_in};
 
-/// The meaning of a byte of a text, or of a pair of bytes.
+/// The meaning of a byte of a subtitle's text, or of a pair of bytes.
 #[derive(Clone, Copy, Debug, PartialEq, Eq)]
 pub(crate) enum TextCode {
-    /// A cell with this code.
+    /// A cell with this code on the page.
     Cell(u8),
-    /// A byte without a cell.
+    /// A byte that has no cell on the page, such as italics on.
     NoCell,
-    /// The end of a line.
+    /// The byte 8A, which ends a line.
     NewLine,
-    /// A byte that is not allowed in a text.
+    /// A byte that a subtitle's text must not have, with the kind of fault.
     Refused(RowFaultKind),
 }
 
-// For each byte, whether its cell has its own number in every option. The check computes the
-// definition for all 256 bytes and compares.
+// For each byte, 1 if its cell has the byte's own number in every national option. The check
+// computes the definition for all 256 bytes and compares.
 #[rattlefmt::skip]
 const COMMON: [u8; 256] = [
     0, 1, 1, 1, 1, 1, 1, 1, 1, 1, 1, 1, 1, 1, 0, 0,
@@ -43,7 +43,7 @@ const COMMON: [u8; 256] = [
     0, 0, 0, 0, 0, 0, 0, 0, 0, 0, 0, 0, 0, 0, 0, 0,
 ];
 
-// Returns whether the cell of a byte has the byte's own number in every option.
+// Returns whether the cell of a byte has the byte's own number in every national option.
 #[inline(always)]
 #[tactic(auto, using(crate::proofs::TextCodeLemmas::common_by_table))]
 fn is_common(byte: u8) -> bool
@@ -52,7 +52,7 @@ fn is_common(byte: u8) -> bool
     COMMON[byte as usize] == 1
 }
 
-// Returns the cell of a single byte.
+// Returns the cell of a single byte, or `None` if the byte has no cell.
 #[inline(always)]
 #[tactic(auto, unfolding(crate::specs::TextCode::cell_of))]
 fn cell_of(national: National, byte: u8) -> Option<u8>
@@ -77,7 +77,8 @@ fn code_of_other(byte: u8) -> TextCode
     }
 }
 
-// Returns the cell of the two bytes at `at`, a diacritical mark and its letter.
+// Returns the cell of the two bytes at `at`, a diacritical mark and its letter, if the national
+// option has this character.
 #[inline(always)]
 #[tactic(auto, unfolding(crate::specs::TextCode::cell_of_pair))]
 fn cell_of_pair_at(national: National, text: &[u8], at: usize) -> Option<u8>
@@ -93,7 +94,7 @@ fn cell_of_pair_at(national: National, text: &[u8], at: usize) -> Option<u8>
     cell_in(national.characters(), Some(mark), text[at + 1])
 }
 
-/// Returns the text code at `at`, and the position after it.
+/// Returns the text code at position `at` of a text, and the position after it.
 #[inline(always)]
 #[tactic(auto, unfolding(crate::specs::TextCode::is_common))]
 pub(crate) fn text_code_at(national: National, text: &[u8], at: usize) -> (TextCode, usize)
@@ -106,7 +107,8 @@ pub(crate) fn text_code_at(national: National, text: &[u8], at: usize) -> (TextC
 {
     let byte = text[at];
 
-    // Tested first, since most bytes are common; none of them is a diacritical mark.
+    // Common bytes are tested first, since most bytes are common and no common byte is a
+    // diacritical mark.
     if is_common(byte) {
         return (TextCode::Cell(byte), at + 1);
     }

@@ -1,8 +1,8 @@
 //! Finds the first fault of a subtitle's text in one pass.
 //!
-//! One function reads a text to check it, another to draw it; both follow the same definition. A
-//! single function would draw a page for each subtitle that is loaded: 570 instructions in addition
-//! to the 390 for finding faults.
+//! One function reads a text to check it, another to draw it, and both implement the same
+//! definition. A single function would draw a page for each subtitle that is loaded: 570
+//! instructions in addition to the 390 for finding faults.
 
 ghost use Rattle.std.specs.Prelude.{◌≡◌, ◌<◌, ◌≤◌, length, IsOk, MatchOption, Err, None, false};
 ghost use Rattle.stl_rows.specs.DrawnPage.{drawn};
@@ -17,12 +17,13 @@ use crate::national::National;
 use crate::record::Record;
 use crate::text_code::{TextCode, text_code_at};
 
-// The current line: its number and row, and the properties of its cells on which faults depend.
+// The current line of a text: its number and row, and the properties of its cells that decide the
+// line's faults.
 #[derive(Clone, Copy)]
 struct OpenLine {
     number: u16,
     row: u16,
-    // The line before it has double height.
+    // Whether the line directly above has double height.
     is_under_double: bool,
     len: u16,
     is_boxed: bool,
@@ -30,7 +31,7 @@ struct OpenLine {
 }
 
 impl OpenLine {
-    // Creates the first line, in row VP.
+    // Creates the first line of a text, in row VP.
     fn first(vp: u8) -> OpenLine
         ensures { result ≡ empty_line 0 vp false }
     {
@@ -44,7 +45,7 @@ impl OpenLine {
         }
     }
 
-    // Adds a cell.
+    // Adds a cell to the line.
     fn push(&mut self, cell: u8)
         requires { self.old.len < 1008 }
         ensures { self.new ≡ with_cell self.old cell }
@@ -110,8 +111,8 @@ impl OpenLine {
     }
 }
 
-// Returns the first fault of a text whose first line is in row VP. A rejected byte is reported
-// before any fault of a line.
+// Returns the first fault of a text whose first line is in row VP. Rejected bytes are reported
+// before the faults of lines.
 fn fault_of_text(national: National, vp: u8, text: &[u8]) -> Option<RowFault>
     requires last { vp ≤ 23 }
     requires short { length text.now ≤ 1008 }
@@ -141,13 +142,14 @@ fn fault_of_text(national: National, vp: u8, text: &[u8]) -> Option<RowFault>
     line.first_fault(fault)
 }
 
-/// Returns the fault that prevents a subtitle from being drawn, or `None` if it can be drawn.
+/// Returns the fault that prevents a subtitle from being drawn, or `None` if the subtitle can be
+/// drawn.
 pub(crate) fn first_fault(subtitle: &Record<'_>, drawing: &Drawing) -> Option<RowFault>
     ensures { MatchOption result (IsOk (drawn drawing.now subtitle.now))
         (λ fault. drawn drawing.now subtitle.now ≡ Err fault) }
 {
     match &drawing.layout.items {
-        // One pass over the text, without storing cells.
+        // The default layout needs one pass over the text, without storing cells.
         None => fault_of_text(drawing.national, subtitle.vp(), subtitle.text()),
         Some(items) => match draw_by(drawing.national, items, subtitle) {
             Ok(_) => None,

@@ -1,4 +1,4 @@
-//! The start and the end of a subtitle.
+//! The times of a subtitle: TCI and TCO.
 
 ghost use Rattle.std.specs.Prelude.{◌≡◌};
 ghost use Rattle.stl_file.specs.Subtitle.{IsSubtitle};
@@ -8,17 +8,17 @@ ghost use Rattle.stl_rows.specs.TextCode.{first_of};
 use crate::fault::LoadFaultKind;
 use stl_file::Subtitle;
 
-/// The start and the end of a subtitle, as frames of the day.
+/// The TCI and the TCO of a subtitle, as frames of the day.
 #[derive(Clone, Copy)]
 pub(crate) struct Times {
-    // TCI.
+    // TCI, the first frame at which the subtitle is shown.
     pub(crate) tci: u32,
-    // TCO.
+    // TCO, the first frame at which the subtitle is no longer shown.
     pub(crate) tco: u32,
 }
 
 impl Times {
-    // Returns the times of a subtitle.
+    // Returns the TCI and the TCO of a subtitle.
     pub(crate) fn of(subtitle: &Subtitle) -> Times
         ensures value { result ≡ times_of subtitle.now }
         ensures subtitle { IsSubtitle subtitle.now }
@@ -29,7 +29,7 @@ impl Times {
         }
     }
 
-    // Returns the fault of these times after those of the previous subtitle.
+    // Returns the fault of these times, compared with those of the previous subtitle.
     pub(crate) fn fault_after(self, before: Option<Times>) -> Option<LoadFaultKind>
         ensures { result ≡ first_of (order_faults before self) }
     {

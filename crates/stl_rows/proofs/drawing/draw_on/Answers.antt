@@ -1,5 +1,5 @@
--- By the default layout, a subtitle that draws a page has no fault, and draws the page of its
--- lines: drawn-none, no_line_faults, drawn-page. By another layout it draws what the items say:
+-- `draw_on`: with the default layout, a subtitle without faults draws the page of its lines:
+-- drawn-none, no_line_faults, drawn-page. Another layout draws the subtitle by its items:
 -- drawn-some.
 use Rattle.std.proofs.Common.{arith}
 use Rattle.std.proofs.lemmas.Bool.Decides.{nat_tests}

@@ -1,4 +1,5 @@
--- At a cell, a new line or the end of the text: the lemmas of DrawnPageLemmas.
+-- `draw_text`: the page after a cell, a new line or the end of the text, by the lemmas of
+-- DrawnPageLemmas.
 use Rattle.std.proofs.Common.{arith, length-append, ◌∷◌, ◌++◌, []}
 use Rattle.std.proofs.lemmas.Bool.Decides.{nat_tests}
 use Rattle.stl_rows.proofs.DrawnPageLemmas.{is_drawn-end, is_drawn-fits, is_drawn-next}

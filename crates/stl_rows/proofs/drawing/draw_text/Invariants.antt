@@ -1,5 +1,5 @@
--- The lines that have ended are on the page; the others are those of the cells so far and of the
--- rest of the text.
+-- Loop invariant of `draw_text`: the page shows the complete lines so far; the cells of the current
+-- line and the rest of the text are still to be drawn.
 use Rattle.std.proofs.Common.{ℕ, ◌+◌, ◌-◌, ◌<◌, ◌≤◌, [], length, drop, slice_index}
 use Rattle.stl_rows.specs.LineByLine.{prepared_lines}
 use Rattle.stl_rows.specs.TextCode.{text_codes}

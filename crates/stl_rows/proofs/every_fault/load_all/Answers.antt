@@ -1,4 +1,4 @@
--- The kept subtitles are those used for checking.
+-- `load_all`: the kept subtitles are the programme against which a transmission is checked.
 use Rattle.std.proofs.Common.{sym}
 use Rattle.stl_rows.proofs.every_fault.load_all.Goals as goal
 

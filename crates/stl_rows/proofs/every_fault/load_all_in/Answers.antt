@@ -1,4 +1,4 @@
--- The faults reported so far and those of the rest, in each iteration and at each return:
+-- The faults reported so far and the faults of the rest, in each iteration and at each return:
 -- goes_on-next, reports-end, reports-stop, fails-next; and the subtitles used for checking:
 -- judges-enough, judges-not, judges-broken.
 use Rattle.std.proofs.Common.{◌∙◌, ◌++◌, ◌<◌, refl, rules, sym, [], ◌∷◌, map, arith}

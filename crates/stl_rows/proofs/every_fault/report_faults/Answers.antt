@@ -1,4 +1,5 @@
--- The audience said stop at the subtitle's last fault: stops-last.
+-- If the audience stops at a subtitle's last fault, all faults of the subtitle were reported:
+-- stops-last.
 use Rattle.std.proofs.Common.{arith}
 use Rattle.std.proofs.lemmas.Bool.Decides.{nat_tests}
 use Rattle.stl_rows.proofs.LoadingLemmas.{stops-last}

@@ -1,4 +1,4 @@
--- The result for the remaining lines is that for all.
+-- Loop invariant: the last depth of the remaining lines is the last depth of all lines.
 use Rattle.std.proofs.Common.{◌≡◌, ◌+◌, ◌*◌, ◌≤◌, length}
 use Rattle.stl_rows.specs.DrawnPage.{last_depth, pitch}
 use Rattle.stl_rows.specs.LineByLayout.{prepared_cut}

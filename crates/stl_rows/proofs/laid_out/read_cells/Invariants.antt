@@ -1,4 +1,5 @@
--- The cells so far and those of the rest are all cells.
+-- Loop invariant: the cells so far, followed by the cells of the rest of the text, are all cells of
+-- the text.
 use Rattle.std.proofs.Common.{◌≡◌, ◌-◌, ◌≤◌, ◌++◌, length, drop}
 use Rattle.stl_rows.specs.LineByLayout.{flat_codes}
 use Rattle.stl_rows.specs.TextCode.{refused_codes, text_codes}

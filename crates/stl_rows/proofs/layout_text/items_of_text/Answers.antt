@@ -1,4 +1,4 @@
--- One more item: items_set-more and the like.
+-- `items_of_text`: parsing one more item, as items_set-more.
 use Rattle.std.proofs.Common.{arith}
 use Rattle.std.proofs.lemmas.Bool.Decides.{nat_tests}
 use Rattle.std.proofs.lemmas.List.{length-set}

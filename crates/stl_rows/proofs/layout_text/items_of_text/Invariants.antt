@@ -1,4 +1,5 @@
--- The rest of the text, with the items so far, gives the result for all.
+-- Loop invariant: parsing the rest of the text, with the items so far, gives the result for the
+-- whole text.
 use Rattle.std.proofs.Common.{◌≡◌, ◌==◌, false, length, replicate}
 use Rattle.std.specs.List.{slice_split}
 use Rattle.std.specs.Str.{IsUtf8}

@@ -1,4 +1,4 @@
--- One more pair of digits: stripped_with-more and the like.
+-- `stripped_of_text`: parsing one more pair of digits, as stripped_with-more.
 use Rattle.std.proofs.Common.{arith}
 use Rattle.std.proofs.lemmas.Bool.Decides.{nat_tests}
 use Rattle.std.proofs.lemmas.List.{length-set}

@@ -1,4 +1,5 @@
--- The line is put on a row of spaces: row_from-put, row_from-codes.
+-- `codes_from`: copying a line onto a row of spaces gives the row that shows the line:
+-- row_from-put, row_from-codes.
 use Rattle.std.proofs.Common.{arith}
 use Rattle.std.proofs.lemmas.Bool.Decides.{nat_tests}
 use Rattle.stl_rows.proofs.LineLemmas.{row_from-codes, row_from-put}

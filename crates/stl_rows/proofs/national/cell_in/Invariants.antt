@@ -1,4 +1,5 @@
--- The characters so far do not match, so the rest decide.
+-- Loop invariant: the characters so far do not match, so the result depends only on the other
+-- characters.
 use Rattle.std.proofs.Common.{◌≡◌, drop}
 use Rattle.stl_rows.specs.SubSets.{cell_in}
 use Rattle.stl_rows.proofs.national.cell_in.Given as goal

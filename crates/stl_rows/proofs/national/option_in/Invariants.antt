@@ -1,4 +1,5 @@
--- None of the rows so far has the word, so the rest decide.
+-- Loop invariant: the rows so far do not have the name, so the result depends only on the other
+-- rows.
 use Rattle.std.proofs.Common.{◌≡◌, drop, find}
 use Rattle.std.specs.Str.{bytes_eq}
 use Rattle.stl_rows.specs.declared.sub_sets.SubSet.{SubSet}

@@ -1,4 +1,5 @@
--- The codes added so far and the remaining ones are all codes.
+-- Loop invariant: the codes added so far, followed by the remaining ones, are all codes of the
+-- list.
 use Rattle.std.proofs.Common.{◌≡◌, ◌+◌, ◌≤◌, ◌++◌, length, drop}
 use Rattle.stl_rows.specs.Layout.{codes_of_places}
 use Rattle.stl_rows.proofs.prepared_line.push_codes.Given as goal

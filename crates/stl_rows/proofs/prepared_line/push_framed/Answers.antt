@@ -1,5 +1,5 @@
--- With `fit`, codes are added to a line as far as there is room: framed-fits; without it, all are:
--- framed-all.
+-- `push_framed`: with `fit`, only the codes that fit are added, framed-fits; without `fit`, all
+-- codes are added, framed-all.
 use Rattle.std.proofs.Common.{arith}
 use Rattle.std.proofs.lemmas.Bool.Decides.{nat_tests}
 use Rattle.stl_rows.proofs.PreparedLineLemmas.{framed-all, framed-fits}

@@ -1,4 +1,5 @@
--- The cell before these is not between the two codes: trailing_at; or all cells are: trailing_all.
+-- `trailing`: the count ends at a cell outside the range of codes, trailing_at, or at the start of
+-- the line, trailing_all.
 use Rattle.std.proofs.Common.{arith}
 use Rattle.std.proofs.lemmas.Bool.Decides.{nat_tests}
 use Rattle.stl_rows.proofs.PreparedLineLemmas.{trailing_all, trailing_at}

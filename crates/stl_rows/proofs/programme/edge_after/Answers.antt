@@ -1,4 +1,4 @@
--- The cue belongs to the first subtitle whose TCO is after the frame: next_edge-tci,
+-- The next cue is the TCI or TCO of the first subtitle whose TCO is after the frame: next_edge-tci,
 -- next_edge-tco.
 use Rattle.std.proofs.Common.{arith, rules}
 use Rattle.stl_rows.proofs.DuePageLemmas.{next_edge-tci, next_edge-tco}

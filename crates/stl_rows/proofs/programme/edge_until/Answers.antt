@@ -1,5 +1,5 @@
--- The cue belongs to the first subtitle whose TCO is after the frame, or to the one before it:
--- last_edge-tci, last_edge-gap.
+-- The last cue is the TCI of the first subtitle whose TCO is after the frame, or the TCO of the
+-- subtitle before it: last_edge-tci, last_edge-gap.
 use Rattle.std.proofs.Common.{arith, rules}
 use Rattle.stl_rows.proofs.DuePageLemmas.{last_edge-gap, last_edge-tci, starts_after}
 use Rattle.stl_rows.proofs.programme.edge_until.Goals as goal

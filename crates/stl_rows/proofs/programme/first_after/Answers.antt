@@ -1,4 +1,5 @@
--- The TCOs of a programme rise, so a binary search finds it: tco_rises.
+-- The TCOs of a programme do not decrease, so a binary search finds the first TCO after a frame:
+-- tco_rises.
 use Rattle.stl_rows.proofs.DuePageLemmas.{tco_rises}
 use Rattle.stl_rows.proofs.programme.first_after.Goals as goal
 

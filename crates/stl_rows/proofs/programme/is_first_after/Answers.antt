@@ -1,4 +1,5 @@
--- The one before it has ended, and it has not: ended-until, left-from.
+-- `is_first_after`: the previous subtitle has ended by the frame, and this one has not:
+-- ended-until, left-from.
 use Rattle.std.proofs.Common.{arith}
 use Rattle.std.proofs.lemmas.Bool.Decides.{nat_tests}
 use Rattle.stl_rows.proofs.DuePageLemmas.{ended-until, left-from}

@@ -1,4 +1,4 @@
--- The subtitle that ends at a frame is the first whose TCO is after the frame before.
+-- The subtitle that ends at a frame is the first subtitle whose TCO is after the previous frame.
 use Rattle.std.proofs.Common.{arith, rules, ◌-◌, ◌∙◌, ap, Some}
 use Rattle.stl_rows.proofs.DuePageLemmas.{ends-next, none_ends, none_ends-next}
 use Rattle.stl_rows.proofs.programme.tci_ending_at.Goals as goal

@@ -1,4 +1,4 @@
--- The texts before stay where they were, and the new one is the last: subtitles_kept,
+-- Appending a text changes no earlier text, and the new subtitle is the last: subtitles_kept,
 -- subtitles_added.
 use Rattle.std.proofs.Common.{◌≡◌, ◌∙◌, ◌++◌, ◌∷◌, [], ap, map}
 use Rattle.stl_rows.specs.Cues.{subtitle_in}

@@ -1,4 +1,4 @@
--- The first `n` cues are those of the first `n` subtitles.
+-- The first `n` cues are the cues of the first `n` subtitles.
 use Rattle.std.proofs.Common.{ap, ◌∙◌, sym, take, map}
 use Rattle.std.proofs.lemmas.List.{take-map}
 use Rattle.stl_rows.specs.Cues.{subtitle_in}

@@ -1,4 +1,4 @@
--- The cues are the records of the programme.
+-- `draw_due`: the subtitles in the list of cues are the records of the programme.
 use Rattle.std.proofs.Common.{ap, subst}
 use Rattle.stl_rows.specs.DuePage.{ReportsNextEdge}
 use Rattle.stl_rows.proofs.programme.Programme.draw_due.Goals as goal

@@ -1,4 +1,4 @@
--- The cues are the records of the programme.
+-- `last_edge`: the subtitles in the list of cues are the records of the programme.
 use Rattle.std.proofs.Common.{ap, subst}
 use Rattle.stl_rows.specs.DuePage.{ReportsLastEdge}
 use Rattle.stl_rows.proofs.programme.Programme.last_edge.Goals as goal

@@ -1,4 +1,4 @@
--- The cues are the records of the programme.
+-- `next_edge`: the subtitles in the list of cues are the records of the programme.
 use Rattle.std.proofs.Common.{ap, subst}
 use Rattle.stl_rows.specs.DuePage.{ReportsNextEdge}
 use Rattle.stl_rows.proofs.programme.Programme.next_edge.Goals as goal
