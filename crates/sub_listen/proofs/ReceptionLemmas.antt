@@ -1,5 +1,5 @@
--- What arrives of lists of packets and is used, and the first packet that is listed as lost but may
--- not be: for `hear_units`, `first_lost_header` and the exits of `listen`.
+-- The packets that arrive of joined lists and are used, and the first packet that is listed as lost
+-- but must not be: for `hear_units`, `first_lost_header` and the exits of `listen`.
 use Rattle.std.proofs.Common.{◌≡◌, ℕ, ◌+◌, ◌<◌, ◌&&◌, true, false, not, List, [], ◌∷◌, ◌++◌, length}
 use Rattle.std.proofs.Common.{get_or, drop, Option, Some, None, option_map, refl, sym, ap, ◌∙◌}
 use Rattle.std.proofs.Common.{arith}
@@ -12,9 +12,6 @@ use Rattle.sub_listen.specs.Reception.{Reception, as_heard, as_received, first_l
 use Rattle.sub_listen.specs.Reception.{may_be_lost_at}
 use Rattle.sub_request.specs.declared.listening.Listening.{Listening}
 
--- ---- packets that are used
-
--- What arrives of two joined lists of packets.
 as_received-append : (r : Reception) (number : ℕ) (first more : List (List ℕ))
     → as_received r number (first ++ more)
     ≡ as_received r number first ++ as_received r (number + length first) more
@@ -30,25 +27,20 @@ as_received-append r number (p ∷ ps) more =
       false,
     )
 
--- What is used of two joined lists of packets.
 pub as_heard-append : (l : Listening) (number : ℕ) (first more : List (List ℕ))
     → as_heard l number (first ++ more)
     ≡ as_heard l number first ++ as_heard l (number + length first) more
 as_heard-append l number first more =
     grind (arith, as_received-append, filter-append)
 
--- ---- packet by packet
-
--- The remaining packets, after one more. For `hear_units`.
 pub next_packet : (ps : List (List ℕ)) (k : ℕ) (p : List ℕ)
     → k < length ps
     → p ≡ get_or ps k []
     → drop k ps ≡ p ∷ drop (k + 1) ps
 next_packet ps k p l is = drop_more ps k [] l ∙ ap (λ (x : List ℕ). x ∷ drop (k + 1) ps) (sym is)
 
--- ---- the first packet that is listed as lost but may not be
+-- ---- the first packet that is listed as lost but must not be
 
--- If no packet is listed as lost, there is none. For `first_lost_header`.
 pub first_lost_header-none : (r : Reception) (number : ℕ) (packets : List (List ℕ))
     → r.lost ≡ []
     → first_lost_header r number packets ≡ None
@@ -65,7 +57,6 @@ first_lost_header-none r number (packet ∷ packets) e =
       first_lost_header-none r (number + 1) packets e,
     )
 
--- Places, counted from an earlier packet.
 place_on : (k : ℕ) (found : Option ℕ)
     → option_map (λ place. place + k) (option_map (λ place. place + 1) found)
     ≡ option_map (λ place. place + (k + 1)) found
@@ -76,14 +67,12 @@ module _ (r : Reception) (number : ℕ) (ps : List (List ℕ)) (k : ℕ) (p : Li
     (l : k < length ps) (is : p ≡ get_or ps k [])
     (left : first_lost_header r number ps
     ≡ option_map (λ place. place + k) (first_lost_header r (number + k) (drop k ps))) where
-  -- The packet is listed as lost but may not be. For `first_lost_header`.
   pub lost_here : (is_lost r (number + k) && not (may_be_lost_at (address p))) ≡ true
       → Some k ≡ first_lost_header r number ps
   lost_here lost =
       let on : 0 + k ≡ k = omega arith in
       sym (left ∙ rw (next_packet ps k p l is, lost) (ap Some on))
 
-  -- It is not lost, or may be. For `first_lost_header`.
   pub lost_later : (is_lost r (number + k) && not (may_be_lost_at (address p))) ≡ false
       → first_lost_header r number ps
       ≡ option_map (λ place. place + (k + 1)) (first_lost_header r (number + (k + 1))

@@ -1,4 +1,4 @@
--- What is run is a receiver of those that may forget, and one of the relation unless it starts
+-- What `listen` runs is a receiver that may forget the page, and a model receiver unless it starts
 -- again, with a screen or without: `law_of_listening`.
 use Rattle.std.proofs.lemmas.Bool.Decides.{nat_tests}
 use Rattle.std.proofs.Common.{◌≡◌, ◌∙◌, ℕ, Bool, true, false, List, [], ◌∷◌, ap, arith}
@@ -12,7 +12,6 @@ use Rattle.ttx_page.proofs.RunLemmas.{RunsBy-as}
 use Rattle.sub_listen.specs.Reception.{LawOfListening, TakesPacket, begins_anew}
 
 module _ (asks_complete anew : Bool) (leaves : ℕ → ℕ) (w : PageIdValue) where
-  -- Unless the receiver starts again, a packet is a step of the relation.
   steps :
       anew ≡ false
       → (old : Display) (packet : List ℕ) (new : Display)
@@ -20,7 +19,6 @@ module _ (asks_complete anew : Bool) (leaves : ℕ → ℕ) (w : PageIdValue) wh
       → Step w old.held packet new.held
   steps keeps old packet new takes = let step = takes.step in grind (arith, nat_tests)
 
-  -- It is a step of a receiver that may forget.
   forgets :
       (old : Display) (packet : List ℕ) (new : Display)
       → TakesPacket asks_complete anew leaves w old packet new
@@ -28,7 +26,6 @@ module _ (asks_complete anew : Bool) (leaves : ℕ → ℕ) (w : PageIdValue) wh
   forgets old packet new takes =
       let step = takes.step in grind (arith, nat_tests, cell-blank)
 
-  -- A screen that waits is one that a receiver may have.
   shows_at :
       asks_complete ≡ true
       → (old : Display) (packet : List ℕ) (new : Display)
@@ -43,7 +40,6 @@ module _ (asks_complete anew : Bool) (leaves : ℕ → ℕ) (w : PageIdValue) wh
         stays = grind (arith, nat_tests);
       }
 
-  -- Without one the screen stays as it is.
   stays :
       asks_complete ≡ false
       → (packets : List (List ℕ)) (old new : Display)

@@ -39,7 +39,7 @@ use Rattle.sub_rules.specs.declared.fault.CheckFault.TheVariants as check
 use Rattle.sub_listen.specs.declared.listening.ListenFault.{ListenFault}
 use Rattle.sub_listen.specs.declared.listening.ListenFault.TheVariants as fault
 
--- The run up to n frames, and the rest of the file.
+-- The run of the receiver for the first n frames, and the rest of the file.
 pub record Reaches
     (leaves : ℕ → ℕ) (l : Listening) (frames : Transmission) (unread : Option Unread)
     (w : PageIdValue) (old : Display) (remaining : Option (List ℕ)) (n number sent least : ℕ)
@@ -57,7 +57,6 @@ pub record Reaches
   pub sent_is : sent ≡ sent_in_frame l.options.within frames n
   pub least_is : least ≡ least_frame l.options.within frames n
 
--- The number of a PES packet's first packet in its frame, from the state after the one before.
 first_packet_number_is :
     (within : ℕ) (frames : Transmission) (n sent least frame : ℕ)
     → sent ≡ sent_in_frame within frames n
@@ -69,7 +68,6 @@ first_packet_number_is within frames zero sent least frame sent_is least_is fram
 first_packet_number_is within frames (suc n) sent least frame sent_is least_is frame_is =
     grind (arith, nat_tests)
 
--- The number of packets of the frame, after one more PES packet.
 sent_next :
     (within : ℕ) (frames : Transmission) (n before : ℕ) (packets : List (List ℕ))
     → before ≡ first_in_frame within frames n
@@ -78,7 +76,6 @@ sent_next :
 sent_next within frames n before packets before_is packets_are =
     rw add-one (grind (arith, nat_tests))
 
--- The source failed after the packets that were received.
 pub fails_listening : (l : Listening) (n : ℕ) (f : CheckFault) (old mid new : Option (List ℕ))
     → TakesPackets n old mid
     → (is_pes_read f ≡ true → f ≡ check.Pes n pes.Read)
@@ -100,7 +97,6 @@ module _
         (reached : Reaches leaves l frames unread w old remaining n number sent least now)
         (left : Option (List ℕ))
       where
-        -- Reception ends here.
         ends_so :
             (result : Result (Unit {0}) ListenFault)
             → MatchResult result (λ _. EndsAfter l frames unread n) (RefusesAfter l frames unread n)
@@ -111,7 +107,6 @@ module _
           stops = stops;
         }
 
-        -- The file ends.
         pub ends_at_end :
             (v : PesValue)
             → ReportsNext (clock_of l.options) n reached.rest v (Ok None)
@@ -123,7 +118,7 @@ module _
             ends_so (Ok tt) (inl (omega (arith, at.0), at.1))
             (λ more. absurd (omega (arith, more, at.0)))
 
-        -- It can't be read on.
+        -- If the file can't be read on, reception ends with the fault of the next PES packet.
         pub ends_unread :
             (v : PesValue) (answer : Result (Option NextPesPacket) CheckFault) (f : CheckFault)
             → ReportsNext (clock_of l.options) n reached.rest v answer
@@ -157,7 +152,8 @@ module _
                 reads_next (clock_of l.options) n reached.rest frames unread v sending
                 reached.left is
 
-            -- Its next frame is not after the one before.
+            -- If the next frame is not after the frame before, reception ends with the fault
+            -- `Order`.
             pub ends_order :
                 frame < least
                 → HearsFile leaves l frames unread reported left w old now
@@ -168,7 +164,7 @@ module _
                 ends_so (Err (fault.File (check.Order n))) (refl, next.sent.there, omega arith)
                 (λ there. taken)
 
-            -- Its next frame is after TIME.
+            -- If the next frame is after TIME, reception ends without a fault.
             pub ends_late :
                 least ≤ frame
                 → l.at < frame
@@ -178,7 +174,6 @@ module _
                 let least_is = reached.least_is in
                 ends_so (Ok tt) (inr (next.sent.there, omega arith, omega arith)) (λ there. taken)
 
-            -- The number, within its frame, of its first packet.
             first_is :
                 (before : ℕ)
                 → before ≡ cond (not (l.options.within == 0) && (frame == least)) sent 0
@@ -188,7 +183,8 @@ module _
                 ∙ first_packet_number_is l.options.within frames n sent least frame reached.sent_is
                 reached.least_is next.sent.frame_is
 
-            -- One of its page headers is lost.
+            -- If a page header of the next frame is listed as lost, reception ends with the fault
+            -- `LostHeader`.
             pub ends_lost :
                 (before place : ℕ)
                 → before ≡ cond (not (l.options.within == 0) && (frame == least)) sent 0
@@ -205,7 +201,6 @@ module _
                 (grind (arith, next.sent.there, next.sent.frame_is, next.sent.packets_are))
                 (λ there. taken)
 
-            -- The frame is received.
             pub reaches_next :
                 (before : ℕ) (after : Display)
                 → before ≡ cond (not (l.options.within == 0) && (frame == least)) sent 0

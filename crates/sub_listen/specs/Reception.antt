@@ -1,5 +1,5 @@
--- What arrives of the packets of a file: some are skipped, some are lost, and bits are flipped
--- (own); and what the receiver uses of that. Packets are numbered from 0 over the whole file.
+-- The packets of a file that arrive: some packets are skipped, some are lost, and bits are flipped
+-- (own); and the packets that the receiver uses. Packets are numbered from 0 over the whole file.
 use Rattle.std.specs.Prelude.{◌≡◌, ℕ, ◌+◌, Bool, true, false, not, ◌&&◌, List, [], ◌∷◌}
 use Rattle.std.specs.Prelude.{MatchBool, Option, Some, None, option_map}
 use Rattle.std.specs.Prelude.{if◌then◌else◌, ◌==◌, nat_le}
@@ -19,14 +19,14 @@ use Rattle.sub_request.specs.declared.listening.ReceiverKind.{ReceiverKind}
 use Rattle.sub_request.specs.declared.listening.ReceiverKind.TheVariants.{Anew, Blank}
 use Rattle.sub_request.specs.declared.listening.ReceiverKind.TheVariants.{DropRow, Keep}
 
--- The part of a request about packets: how many are skipped, which are lost, which bits are
--- flipped.
+-- The requested bit errors and losses: the number of packets to skip, the numbers of lost packets,
+-- and the bits to flip.
 pub record Reception : Type 0 where
   pub skip : ℕ
   pub lost : List ℕ
   pub flips : List Flip
 
--- That part of a request for a run of `listen`.
+-- The bit errors and losses of a request for `listen`.
 abbrev pub reception_of : Listening → Reception
 reception_of l = record { skip = l.skip; lost = l.lost.items; flips = l.flips.items }
 
@@ -38,7 +38,7 @@ is_lost r number = nat_le r.skip number && list_any (λ n. n == number) r.lost
 abbrev pub is_heard : Reception → ℕ → Bool
 is_heard r number = nat_le r.skip number && not (list_any (λ n. n == number) r.lost)
 
--- What arrives of packets of which the first has this number.
+-- The packets that arrive of a list of packets, the first of which is packet `number` of the file.
 abbrev pub as_received : Reception → ℕ → List (List ℕ) → List (List ℕ)
 as_received r number [] = []
 as_received r number (packet ∷ packets) =
@@ -46,27 +46,27 @@ as_received r number (packet ∷ packets) =
     then with_flips r.flips number packet ∷ as_received r (number + 1) packets
     else as_received r (number + 1) packets
 
--- Whether a receiver of page w uses a packet that arrives: one that drops rows ignores a row of its
--- page with a byte of even parity.
+-- A receiver of page w uses the packet when it arrives; a receiver that drops rows ignores a row of
+-- its page with a byte of even parity.
 abbrev pub is_taken : ReceiverKind → PageIdValue → List ℕ → Bool
 is_taken DropRow w packet = not (is_dropped w packet)
 is_taken _ w packet = true
 
--- What the receiver uses of packets of which the first has this number: those that arrive, without
--- the rows that it drops.
+-- The packets that the receiver uses of a list of packets, the first of which is packet `number` of
+-- the file: those that arrive, without the rows that the receiver drops.
 abbrev pub as_heard : Listening → ℕ → List (List ℕ) → List (List ℕ)
 as_heard l number packets =
     filter (is_taken l.receiver l.options.page) (as_received (reception_of l) number packets)
 
--- The code that a receiver leaves in a cell whose byte has even parity, given the code that was
--- there. One that drops rows uses no row with such a byte.
+-- The code that a receiver leaves in a cell whose byte has even parity, given the code of the cell
+-- before. A receiver that drops rows uses no row with such a byte.
 abbrev pub left_by : ReceiverKind → ℕ → ℕ
 left_by Keep = λ was. was
 left_by Blank = λ was. space
 left_by DropRow = λ was. was
 left_by Anew = λ was. space
 
--- Whether a receiver starts again at each header of its page.
+-- The receiver starts again at each header of its page.
 abbrev pub begins_anew : ReceiverKind → Bool
 begins_anew Anew = true
 begins_anew _ = false
@@ -76,18 +76,19 @@ pub record TakesPacket
     (asks_complete anew : Bool) (leaves : ℕ → ℕ) (w : PageIdValue)
     (old : Display) (packet : List ℕ) (new : Display)
     : Type 0 where
-  -- The page goes by a step of the receiver relation, with its choice for each byte of even parity.
-  -- But a receiver that starts again is open with a blank page after each header of its page.
+  -- The page changes by a step of the model receiver (`Step`), with a fixed choice for each byte of
+  -- even parity. But a receiver that starts again has an open blank page after each header of its
+  -- page.
   pub step :
       MatchBool (anew && is_this_page (kind w packet))
       (new.held ≡ record { heard = true; is_open = true; page = blank })
       (Step w old.held packet new.held)
   pub cells : LeavesCells leaves w old.held packet new.held
-  -- If complete pages are required it has a screen that waits for the end of a page; otherwise the
-  -- screen stays as it is.
+  -- If complete pages are required the receiver has a screen that shows a page when it ends;
+  -- otherwise the screen does not change.
   pub screen : new.screen ≡ (if asks_complete then screen_after old new.held else old.screen)
 
--- The receiver uses these packets, one after another.
+-- The receiver uses the packets of a list, one after another.
 abbrev pub RunsThrough :
     Listening → (ℕ → ℕ) → PageIdValue → Display → List (List ℕ) → Display → Type 0
 RunsThrough l leaves w old packets new =
@@ -98,7 +99,7 @@ abbrev pub may_be_lost_at : Option PacketAddress → Bool
 may_be_lost_at None = false
 may_be_lost_at (Some a) = not (a.packet_number == 0)
 
--- The first of these packets that is listed as lost but may not be, by its place among them.
+-- The place, in a list of packets, of the first packet that is listed as lost but must not be.
 abbrev pub first_lost_header : Reception → ℕ → List (List ℕ) → Option ℕ
 first_lost_header r number [] = None
 first_lost_header r number (packet ∷ packets) =
@@ -106,10 +107,10 @@ first_lost_header r number (packet ∷ packets) =
     then Some 0
     else option_map (λ place. place + 1) (first_lost_header r (number + 1) packets)
 
--- What is run is a receiver of those that may forget, starting again if that was requested;
--- otherwise it is a receiver of the relation. If complete pages are required it has a screen,
--- otherwise the screen stays. So what is proved of every receiver is proved of the output of
--- `listen`.
+-- `listen` runs a receiver that may forget the page at repeats, and that starts again at each
+-- header if that was requested; otherwise the receiver follows the model `Hears`. If complete pages
+-- are required the receiver has a screen; otherwise the screen does not change. So everything that
+-- is proved of all receivers is proved of the output of `listen`.
 abbrev pub LawOfListening : Type 0
 LawOfListening =
     (l : Listening) (leaves : ℕ → ℕ) (w : PageIdValue) (packets : List (List ℕ))

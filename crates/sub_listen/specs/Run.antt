@@ -24,20 +24,20 @@ use Rattle.sub_request.specs.declared.listening.Listening.{Listening}
 
 -- ---- faults
 
--- The source failed.
+-- The source failed to read.
 abbrev pub is_failed_read : ListenFault → Bool
 is_failed_read (fault.File f) = is_pes_read f
 is_failed_read (fault.LostHeader frame packet) = false
 
--- The fault is one of a subtitle file, which is not read here.
+-- The fault is a fault of a subtitle file, which `listen` does not read.
 abbrev pub is_stl_fault : ListenFault → Bool
 is_stl_fault (fault.File f) = is_subtitle_fault f
 is_stl_fault (fault.LostHeader frame packet) = false
 
 -- ---- the frames that are received
 
--- The least frame that a PES packet may have after one of this frame: the next one if `within` is
--- 0, otherwise the same.
+-- The least frame that a PES packet may have after a PES packet of frame `frame`: the next frame if
+-- `within` is 0, otherwise the same frame.
 abbrev pub least_after : ℕ → ℕ → ℕ
 least_after within frame = if within == 0 then frame + 1 else frame
 
@@ -46,13 +46,14 @@ abbrev pub least_frame : ℕ → Transmission → ℕ → ℕ
 least_frame within frames zero = 0
 least_frame within frames (suc i) = least_after within (frame_at frames i)
 
--- `within` is not 0, and PES packet i of the list belongs to the frame of the one before.
+-- PES packet i of the list belongs to the frame of the PES packet before, and `within` is not 0.
 abbrev pub is_of_same_frame : ℕ → Transmission → ℕ → Bool
 is_of_same_frame within frames zero = false
 is_of_same_frame within frames (suc i) =
     not (within == 0) && (frame_at frames (suc i) == frame_at frames i)
 
--- How many packets of the frame of the last PES packet are in the first n PES packets of the list.
+-- The number of Teletext packets, in the first n PES packets of the list, that belong to the frame
+-- of the last of these PES packets.
 abbrev pub sent_in_frame : ℕ → Transmission → ℕ → ℕ
 sent_in_frame within frames zero = 0
 sent_in_frame within frames (suc i) =
@@ -68,15 +69,15 @@ first_in_frame within frames i =
 abbrev pub first_packet_number : Transmission → ℕ → ℕ
 first_packet_number frames i = length (packets_before frames i)
 
--- The first packet of PES packet i that is listed as lost but may not be, by its number within its
--- frame.
+-- The number, within its frame, of the first Teletext packet of PES packet i that is listed as lost
+-- but must not be.
 abbrev pub lost_header : Listening → Transmission → ℕ → Option ℕ
 lost_header l frames i =
     option_map (λ place. first_in_frame l.options.within frames i + place)
     (first_lost_header (reception_of l) (first_packet_number frames i) (packets_of_frame frames i))
 
--- Frame i of the list is received: it is after the one before (not before it, if `within` is not
--- 0), not after TIME, and none of its page headers is listed as lost.
+-- Frame i of the list is received: it is after the frame before (or the same frame, if `within` is
+-- not 0), not after TIME, and none of its page headers is listed as lost.
 pub record IsHeard (l : Listening) (frames : Transmission) (i : ℕ) : Type 0 where
   pub there : i < length frames
   pub rises : least_frame l.options.within frames i ≤ frame_at frames i
@@ -96,9 +97,9 @@ EndsAfter l frames unread n =
     ⊎ ((n < length frames) × (least_frame l.options.within frames n ≤ frame_at frames n)
     × (l.at < frame_at frames n))
 
--- After n frames the file is refused for this fault: it can't be read on, its next frame is not
--- after the one before (before it, if `within` is not 0), or a page header of the next frame is
--- listed as lost.
+-- After n frames the file is refused for a fault: the file can't be read on, its next frame is not
+-- after the frame before (or is before it, if `within` is not 0), or a page header of the next
+-- frame is listed as lost.
 abbrev pub RefusesAfter : Listening → Transmission → Option Unread → ℕ → ListenFault → Type 0
 RefusesAfter l frames unread n (fault.File (check.Order index)) =
     (index ≡ n) × (n < length frames)
@@ -113,7 +114,8 @@ RefusesAfter l frames unread n f =
     (u : Unread) × (n ≡ length frames) × (unread ≡ Some u)
     × (f ≡ fault.File (unread_fault n (Some u)))
 
--- The source failed at a PES packet: those before it were consumed, and their frames were received.
+-- The source failed at a PES packet: the PES packets before it were consumed, and their frames were
+-- received.
 pub record FailsListening (l : Listening) (known left : Option (List ℕ)) (f : ListenFault) : Type 0
   where
     pub index : ℕ
@@ -126,8 +128,8 @@ pub record FailsListening (l : Listening) (known left : Option (List ℕ)) (f : 
 
 -- ---- the run of a receiver
 
--- The run of a receiver that leaves the code `leaves` in a cell whose byte has even parity: it goes
--- through what it uses of the packets up to TIME, or the file is refused.
+-- The run of a receiver that leaves the code `leaves` in a cell whose byte has even parity: the
+-- receiver uses the packets up to TIME that reach it, or the file is refused.
 pub record Runs
     (leaves : ℕ → ℕ) (l : Listening) (frames : Transmission) (unread : Option Unread)
     (w : PageIdValue) (old new : Display) (result : Result (Unit {0}) ListenFault)
@@ -140,12 +142,12 @@ pub record Runs
   pub ends :
       MatchResult result (λ _. EndsAfter l frames unread n) (RefusesAfter l frames unread n)
 
--- The same with the bytes of the source: `known` before, `left` afterwards.
+-- The run of a receiver with the bytes of the source: `known` before the run, `left` afterwards.
 pub record HearsFile
     (leaves : ℕ → ℕ) (l : Listening) (frames : Transmission) (unread : Option Unread)
     (known left : Option (List ℕ)) (w : PageIdValue) (old new : Display)
     (result : Result (Unit {0}) ListenFault)
     : Type 0 where
   pub runs : Runs leaves l frames unread w old new result
-  -- If there is a frame after those that are received, nothing was read after its PES packet.
+  -- If a frame follows those that are received, nothing was read after its PES packet.
   pub stops : runs.n < length frames → TakesPackets (runs.n + 1) known left

@@ -1,10 +1,10 @@
 //! Simulates one receiver of a PES file, with the bit errors and lost packets of a request.
 //!
 //! `sub_rules` defines how a PES file is read, `sub_request` what is requested, and `ttx_page` the
-//! receivers. Nothing is checked here.
+//! receivers. This crate checks no rules.
 //!
 //! ```text
-//! listen(&mut receiver, &mut source, &listening)?; // the receiver has decoded the file
+//!  listen(&mut receiver, &mut source, &listening)?; // the receiver has decoded the file
 //! ```
 #![tactic(auto)]
 

@@ -20,17 +20,18 @@ use sub_rules::{CheckFault, NextPesPacket, next_pes_packet};
 use ttx_page::{Page, Receiver};
 use ttx_pes::{ComparingReader, FilePesPackets, PesPackets};
 
-/// Why a PES file can't be received.
+/// Why a PES file can't be passed to a receiver to its end.
 #[derive(Clone, Copy, Debug, PartialEq, Eq)]
 pub enum ListenFault {
-    /// It can't be read on, or a frame is not after the one before: the fault that `check` reports.
+    /// The file can't be read on, or a frame is not after the frame before. Holds the fault that
+    /// `check` reports.
     File(CheckFault),
-    /// A packet that is listed as lost is a page header, or has no address.
+    /// A packet that is listed as lost is a page header, or has no address, so it must not be lost.
     LostHeader {
-        /// The frame of the day.
+        /// The frame of the day, counted from 0, to which the packet belongs.
         frame: u32,
         /// The number of the packet, counted from 0 among the Teletext units of its PES packet; if
-        /// `within` is not 0, of the PES packets of its frame.
+        /// `within` is not 0, among those of all PES packets of its frame.
         packet: u32,
     },
 }
@@ -58,18 +59,18 @@ impl From<CheckFault> for ListenFault {
 }
 
 /// Passes the PES packets of a file, up to the frame `at`, to a receiver with a screen. The screen
-/// is left as it is unless complete pages are required.
+/// does not change unless complete pages are required.
 ///
 /// The receiver gets the packets as they are read, with their bit errors, except for skipped and
-/// lost packets and the rows that it drops. Nothing is read after the first PES packet after that
-/// frame; faults of that PES packet itself are still returned. If `within` is not 0, consecutive
-/// PES packets may belong to one frame, and each is received.
+/// lost packets and the rows that the receiver drops. Nothing is read beyond the first PES packet
+/// after frame `at`; faults of that PES packet itself are still returned. If `within` is not 0,
+/// consecutive PES packets may belong to one frame, and each is received.
 ///
 /// # Errors
 ///
-/// For each PES packet in turn, returns `File` with the fault that `check` reports if it can't read
-/// on there, or with `Order`; `LostHeader` if a page header of it, or a packet without an address,
-/// is listed as lost.
+/// For each PES packet in turn, returns `File` with the fault that `check` reports if the file
+/// can't be read on, or with `Order`; `LostHeader` if a page header in the PES packet, or a packet
+/// without an address, is listed as lost.
 pub fn listen<R: Receiver + Drop, S: Source>(
     receiver: &mut R,
     screen: &mut Option<Page>,
@@ -95,8 +96,8 @@ pub fn listen<R: Receiver + Drop, S: Source>(
     listen_pes_packets(receiver, screen, &mut pes_packets, listening)
 }
 
-/// Passes the PES packets of a file to a receiver with a screen, as `listen` does those of a
-/// source.
+/// Passes PES packets, up to the frame `at`, to a receiver with a screen, as `listen` does for the
+/// PES packets of a source.
 ///
 /// # Errors
 ///
@@ -160,8 +161,9 @@ pub fn listen_pes_packets<R: Receiver + Drop, P: PesPackets>(
     }
 }
 
-// Returns the number, within its frame, of the first packet of a PES packet. `sent` packets belong
-// to the frame of the PES packet before, after which the least frame is `least`.
+// Returns the number, within its frame, of the first packet of a PES packet. `sent` packets have
+// been sent in the frame of the PES packet before, and `least` is the least frame that may follow
+// that PES packet.
 fn first_in_frame(within: u64, frame: u32, least: u32, sent: u32) -> u32
     ensures value { result ≡ (if not (within == 0) && (frame == least) then sent else 0) }
     ensures most { result ≤ sent }
@@ -173,7 +175,7 @@ fn first_in_frame(within: u64, frame: u32, least: u32, sent: u32) -> u32
     }
 }
 
-// Returns the least frame that a PES packet may have after one of this frame.
+// Returns the least frame that a PES packet may have after a PES packet of frame `frame`.
 fn least_after(within: u64, frame: u32) -> u32
     requires { frame < u32.MAX }
     ensures value { result ≡ least_after within frame }

@@ -1,5 +1,5 @@
-//! What a receiver gets of the packets of a file: skipped packets, lost packets, bit errors,
-//! dropped rows, and headers at which it starts again.
+//! The packets of a file that reach a receiver: skipped packets, lost packets, bit errors, dropped
+//! rows, and headers at which the receiver starts again.
 ghost use Rattle.std.specs.Prelude.{◌≡◌, ℕ, ◌+◌, ◌-◌, ◌^◌, ◌<◌, ◌≤◌, ◌&&◌, ◌∷◌, List};
 ghost use Rattle.std.specs.Prelude.{IfSome, IsTrue, length, not, true};
 ghost use Rattle.std.specs.List.{filter};
@@ -19,8 +19,8 @@ use ttx_packet::{Packet, PageId, SentPacket};
 use ttx_page::{PacketKind, Page, Receiver, is_dropped, show};
 use ttx_pes::SentUnits;
 
-/// Returns the first packet of a PES packet that is listed as lost but may not be, since it is a
-/// page header or has no address. `number` is that of the first packet.
+/// Returns the first packet of a PES packet that is listed as lost but must not be, since it is a
+/// page header or has no address. `number` is the number of the first packet in the file, from 0.
 pub fn first_lost_header(listening: &Listening, number: u64, units: &SentUnits<'_>) -> Option<u32>
     requires few { length units.now ≤ most_units }
     requires number { number + most_units < u64.MAX }
@@ -40,7 +40,7 @@ pub fn first_lost_header(listening: &Listening, number: u64, units: &SentUnits<'
 }
 
 /// Passes the packets of a PES packet to a receiver, with its screen if complete pages are
-/// required. `number` is that of the first packet.
+/// required. `number` is the number of the first packet in the file, from 0.
 pub fn hear_units<R: Receiver + Drop>(
     receiver: &mut R,
     screen: &mut Option<Page>,
@@ -62,7 +62,7 @@ pub fn hear_units<R: Receiver + Drop>(
     }
 }
 
-// Passes one packet to a receiver. The contract allows the packets after it to continue from there.
+// Passes one packet to a receiver. The contract is such that the packets after it can be added.
 fn hear_packet<R: Receiver + Drop>(
     receiver: &mut R,
     screen: &mut Option<Page>,
@@ -85,7 +85,7 @@ fn hear_packet<R: Receiver + Drop>(
     }
 }
 
-// Passes a packet that arrives to a receiver, unless it drops the packet.
+// Passes a packet that arrives to a receiver, unless the receiver drops the packet.
 #[inline(always)]
 fn take<R: Receiver + Drop>(
     receiver: &mut R,
@@ -107,18 +107,18 @@ fn take<R: Receiver + Drop>(
         return;
     }
     if is_beginning(listening.receiver, receiver.watched(), packet) {
-        // The screen stays as it is: no page has ended.
+        // The screen does not change: the header ends no page.
         begin_anew(receiver, packet);
     } else if listening.options.asks_complete() {
         show(receiver, screen, packet);
     } else {
-        // The screen stays as it is: nobody looks at it, so no page is copied.
+        // The screen does not change: complete pages are not required, so no page is copied.
         receiver.hear(packet);
     }
 }
 
-// Returns whether the receiver uses a packet that arrives: one that drops rows ignores a row with a
-// byte of even parity.
+// Returns whether the receiver uses a packet that arrives: a receiver that drops rows ignores a row
+// with a byte of even parity.
 fn is_taken(listening: &Listening, packet: &Packet) -> bool
     ensures { result ≡ is_taken listening.now.receiver listening.now.options.page packet.now }
 {
@@ -128,8 +128,8 @@ fn is_taken(listening: &Listening, packet: &Packet) -> bool
     }
 }
 
-// Returns whether a receiver starts again at the packet: the request asks for it, and the packet is
-// a header of its page.
+// Returns whether a receiver starts again at the packet: the request asks for this kind of
+// receiver, and the packet is a header of its page.
 fn is_beginning(receiver: ReceiverKind, page_id: PageId, packet: &Packet) -> bool
     ensures { result ≡ (begins_anew receiver && is_this_page (kind page_id packet.now)) }
 {
@@ -149,8 +149,8 @@ fn is_header(page_id: PageId, packet: &Packet) -> bool
     }
 }
 
-// Passes a header of its page to a receiver that starts again, as if just tuned in with a blank
-// page.
+// Passes a header of its page to a receiver that starts again, as if it had just been tuned in with
+// a blank page.
 fn begin_anew<R: Receiver + Drop>(receiver: &mut R, header: &Packet)
     requires header { IsTrue (is_this_page (kind (R.tuned_to receiver.old) header.now)) }
     ensures state { R.state receiver.new
@@ -161,7 +161,7 @@ fn begin_anew<R: Receiver + Drop>(receiver: &mut R, header: &Packet)
     receiver.hear(header);
 }
 
-// Returns whether a packet is listed as lost but may not be.
+// Returns whether a packet is listed as lost but must not be.
 fn is_lost_header(listening: &Listening, number: u64, packet: &SentPacket<'_>) -> bool
     ensures { result
         ≡ (is_lost (reception_of listening.now) number
@@ -170,14 +170,14 @@ fn is_lost_header(listening: &Listening, number: u64, packet: &SentPacket<'_>) -
     is_lost(listening, number) && !may_be_lost(&packet.packet())
 }
 
-// Returns whether a packet is lost.
+// Returns whether packet `number` of the file is lost: it is listed as lost, and not skipped.
 fn is_lost(listening: &Listening, number: u64) -> bool
     ensures { result ≡ is_lost (reception_of listening.now) number }
 {
     listening.skip <= number && listening.lost.contains(&number)
 }
 
-// Returns whether a packet arrives: it is neither skipped nor lost.
+// Returns whether packet `number` of the file arrives: it is neither skipped nor lost.
 fn is_heard(listening: &Listening, number: u64) -> bool
     ensures { result ≡ is_heard (reception_of listening.now) number }
 {
@@ -194,7 +194,7 @@ fn may_be_lost(packet: &Packet) -> bool
     }
 }
 
-// Returns a packet with its bit errors.
+// Returns packet `number` of the file with its bit errors.
 fn flipped(flips: &[Flip], number: u64, packet: &Packet) -> Packet
     ensures { result ≡ with_flips flips.now number packet.now }
 {
@@ -205,7 +205,7 @@ fn flipped(flips: &[Flip], number: u64, packet: &Packet) -> Packet
     Packet::new(bytes)
 }
 
-// Flips a bit, if the flip belongs to this packet.
+// Flips a bit, if the flip belongs to packet `number` of the file.
 fn flip_bit(flip: &Flip, number: u64, bytes: &mut [u8; 42])
     ensures { bytes.new ≡ with_flip flip.now number bytes.old }
 {
@@ -214,7 +214,7 @@ fn flip_bit(flip: &Flip, number: u64, bytes: &mut [u8; 42])
     }
 }
 
-// Returns the value of a bit of a byte: bit 1 is the lowest.
+// Returns the value of bit 1 to 8 of a byte: bit 1 is the lowest.
 fn bit_value(bit: u8) -> u8
     requires { (1 ≤ bit) × (bit ≤ 8) }
     ensures { result ≡ 2 ^ (bit - 1) }

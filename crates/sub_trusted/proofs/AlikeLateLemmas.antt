@@ -25,8 +25,8 @@ use Rattle.sub_laws.proofs.UnfinishedLemmas.{first_unfinished_end, first_unfinis
 use Rattle.sub_laws.proofs.UnfinishedLemmas.{first_unfinished_some}
 use Rattle.sub_laws.proofs.UnfinishedLemmas.{unfinished_at}
 
--- The criteria that know the due page at each frame: these pages, the TCI of the subtitle whose TCO
--- is a frame, the first TCI and the last TCO.
+-- The criteria that know the due page at each frame: the due pages, the TCI of the subtitle whose
+-- TCO is a frame, the first TCI and the last TCO.
 abbrev pub criteria_known : Criteria → (ℕ → Rows) → (ℕ → Option ℕ) → Option ℕ → Option ℕ → Criteria
 criteria_known g due ending first_in last_out =
     record g {
@@ -38,7 +38,7 @@ criteria_known g due ending first_in last_out =
       undecided = λ frame. false;
     }
 
--- They agree with the other criteria whenever those know the due page.
+-- The two sets of criteria agree at each frame whose due page the first set knows.
 pub record HasSameCriteria (g : Criteria) (due : ℕ → Rows) (ending : ℕ → Option ℕ) : Type 0 where
   pub due_is : (f : ℕ) → g.undecided f ≡ false → due f ≡ g.due f
   pub ending_is : (f : ℕ) → g.undecided f ≡ false → ending (f + 1) ≡ g.ending (f + 1)
@@ -55,7 +55,6 @@ module _ (g : Criteria) (due : ℕ → Rows) (ending : ℕ → Option ℕ) (firs
   abbrev h : Criteria
   h = criteria_known g due ending first_in last_out
 
-  -- If the due page is known, an end is unfinished for both or for neither.
   pub same_unfinished : (t : Transmission) (n f : ℕ) → g.undecided f ≡ false
       → is_unfinished h t n f ≡ is_unfinished g t n f
   unfolding is_incomplete
@@ -74,11 +73,10 @@ module _ (g : Criteria) (due : ℕ → Rows) (ending : ℕ → Option ℕ) (firs
     same_un : (f : ℕ) → g.undecided f ≡ false → un_known f ≡ un f
     same_un f known = rw (known, alike.due_is f known) refl
 
-    -- What is unfinished for the first is unfinished for the second.
     more_un : (f : ℕ) → un f ≡ true → un_known f ≡ true
     more_un f e = grind (arith, nat_tests, same_un, or_true)
 
-    -- The due page is known at the last frames up to f, as many as the page may be late by.
+    -- The due page is known at the last `within` frames up to f, and at f.
     abbrev pub IsKnownTo : ℕ → Type 0
     IsKnownTo f = (e : ℕ) → first ≤ e → e ≤ f → f ≤ e + g.within → g.undecided e ≡ false
 
@@ -138,7 +136,6 @@ module _ (g : Criteria) (due : ℕ → Rows) (ending : ℕ → Option ℕ) (firs
           ]
         ]
 
-    -- An end is late for both or for neither.
     late_same : (n f : ℕ) → IsEnd t n f → IsKnownTo f → is_late h t n f ≡ is_late g t n f
     unfolding is_late
     late_same n f end known =
@@ -198,7 +195,6 @@ module _ (g : Criteria) (due : ℕ → Rows) (ending : ℕ → Option ℕ) (firs
       content_too true so is e = rw so (wrong_too (rw is at e))
       content_too false so is e = rw so (unexpected_too (rw is at e))
 
-      -- If no fault is active for the first, none is for the second.
       pub equal_fault_free : IsEnd t n f → IsFaultFree g t n f → IsFaultFree h t n f
       unfolding is_gap is_incomplete is_silent
       equal_fault_free end fault_free =

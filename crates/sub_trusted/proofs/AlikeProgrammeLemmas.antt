@@ -16,14 +16,14 @@ use Rattle.sub_trusted.proofs.AlikeLateLemmas.{HasSameCriteria}
 use Rattle.sub_trusted.proofs.TrustedAlikeLemmas.{reported_too}
 
 module _ (undecided : ℕ → Bool) (f : ℕ) (known : undecided f ≡ false) where
-  -- A subtitle that is due only at other frames is not due here and does not end after this frame.
+  -- A subtitle that is due only at frames with an unknown due page is not due at frame f and does
+  -- not end after it.
   not_due : (t : SubtitleValue) → IsDueAmong undecided t → is_due f t ≡ false
   not_due t is = grind (arith, nat_tests)
 
   not_ended : (t : SubtitleValue) → IsDueAmong undecided t → ends_at (f + 1) t ≡ false
   not_ended t is = grind (arith, nat_tests)
 
-  -- So a search among all subtitles finds the same as one among the others.
   same_found : (test : SubtitleValue → Bool)
       → ((t : SubtitleValue) → IsDueAmong undecided t → test t ≡ false)
       → (judged all : List SubtitleValue) → HasOthers undecided judged all

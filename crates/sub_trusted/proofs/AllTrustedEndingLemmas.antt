@@ -50,9 +50,6 @@ use Rattle.sub_rules.specs.Trusted.{reports_none, reported_after}
 use Rattle.sub_rules.specs.Trusted.{reported_at, trusted, first_correct_of}
 use Rattle.std.specs.Option.{option_or}
 
--- ---- tests
-
--- The trusted frames of a run, reported if a condition holds.
 put_when : (c : Bool) (run whole : Option ℕ) (x from w : ℕ) → c ≡ true → run ≡ Some from
     → whole ≡ Some w
     → w < x
@@ -65,7 +62,6 @@ header_orders : (g : Criteria) (frames : Transmission) (n : ℕ)
 unfolding first_header_events is_order reports_order_fault
 header_orders g frames n = grind (arith, nat_tests)
 
--- The first frame that is not trusted at the end of a file is after the stretch.
 closing_past : (first_unfinished back : Option ℕ) (left : Bool) (last b : ℕ)
     → ((r : ℕ) → first_unfinished ≡ Some r → b < r)
     → (b < last → (r : ℕ) → back ≡ Some r → b < r)
@@ -74,13 +70,11 @@ closing_past : (first_unfinished back : Option ℕ) (left : Bool) (last b : ℕ)
     → b < unwrap_or first_unfinished (if left then unwrap_or back last else suc last)
 closing_past first_unfinished back left last b h k low unread = grind (arith, nat_tests)
 
--- The page was right within a run that exists.
 in_run : (run whole : Option ℕ) (w : ℕ) → (if is_none run then None else whole) ≡ Some w
     → (from : ℕ) × (run ≡ Some from) × (whole ≡ Some w)
 in_run None whole w e = absurd (none-some w e)
 in_run (Some from) whole w e = (from, refl, e)
 
--- A run continues at the end of a frame with a header, or begins there.
 run_there : (run : Option ℕ) (has : Bool) (f : ℕ) → has ≡ true
     → ((from : ℕ) → run ≡ Some from → from ≤ f)
     → (from : ℕ) × (from ≤ f) × (option_or run (if has then Some f else None) ≡ Some from)
@@ -98,7 +92,7 @@ module _ (g : Criteria) (frames : Transmission) (a b i : ℕ)
   abbrev OpenHere : ℕ → List CheckStep → Type 0
   OpenHere n t = Open g frames a b i fits n (packets_of_frame frames n) t
 
-  -- The end of frame n was checked.
+  -- The end of frame n was checked, and the stretch is still on its way to be reported.
   record Finishing (n : ℕ) (t : List CheckStep) : Type 0 where
     follows : Follow n (frame_at frames n + 1) t
     clean : i ≤ n → stays_fault_free t ≡ true
@@ -106,8 +100,6 @@ module _ (g : Criteria) (frames : Transmission) (a b i : ℕ)
         (active_faults_at g frames (suc n) (frame_at frames n)) ≡ true
     own : i ≡ n → b ≤ frame_at frames n → first_unfinished_of t ≡ None
     low : (from : ℕ) → run_of t ≡ Some from → from ≤ frame_at frames n
-
-  -- ---- its end
 
   abbrev has : ℕ → Bool
   has n = holds_beginning g.watched.keeps (kind g.watched.page) (packets_of_frame frames n)
@@ -118,14 +110,12 @@ module _ (g : Criteria) (frames : Transmission) (a b i : ℕ)
   here : (n : ℕ) → i ≡ n → frame_at frames i ≡ frame_at frames n
   here n same = ap (frame_at frames) same
 
-  -- No fault was active before it if there is a run.
   active_before_own : (n from : ℕ) (t : List CheckStep) → n < length frames
       → Opens g frames 0 n (packets_of_frame frames n) t
       → run_of t ≡ Some from
       → has_no_active_faults (active_faults_before g frames n (frame_at frames n)) ≡ true
   active_before_own n from t there opens is = grind (arith, nat_tests, up_of, no_faults_before)
 
-  -- The end before it.
   end_before_own : (n : ℕ) (t : List CheckStep) → n < length frames → OpenHere n t → i < n
       → IsEnd (rising_part frames) n (frame_at frames n - 1)
   end_before_own n t there (opens, sending) l =
@@ -135,8 +125,6 @@ module _ (g : Criteria) (frames : Transmission) (a b i : ℕ)
       end_back frames n (frame_at frames n) h.some (in_part g frames a b i fits n there h)
       (omega arith) (omega arith)
 
-  -- The state after its reports, if they do not cast doubt on a frame; before the header's frame,
-  -- in any case.
   finishing : (n : ℕ) (t u v : List CheckStep) → n < length frames → OpenHere n t
       → Looks g frames (suc n) (frame_at frames n) t u
       → Backs g frames n (frame_at frames n) u
@@ -241,8 +229,6 @@ module _ (g : Criteria) (frames : Transmission) (a b i : ℕ)
             (omega arith))))
       ]
 
-  -- ---- the frame ends
-
   ended_now : (n : ℕ) (t : List CheckStep) → Finishing n t
       → Follow (suc n) (frame_at frames (suc n - 1) + 1)
       (Ends (frame_at frames n) (has n) (fault_free_at n) ∷ t)
@@ -336,8 +322,6 @@ module _ (g : Criteria) (frames : Transmission) (a b i : ℕ)
           (emitted t es) (λ fault_free kept. kept))
           (sending_emits g frames a b i fits n t es sending (header_orders g frames n)
           (λ same. none) (λ l x invalidation. absurd (none-some x (sym none ∙ invalidation))))
-
-  -- ---- the end of the file
 
   pub closing_reported : (pes : ℕ) (t : List CheckStep)
       → Past g frames a b i fits (length frames) t

@@ -33,27 +33,22 @@ use Rattle.sub_rules.specs.Trusted.{first_correct_of}
 use Rattle.sub_rules.specs.declared.active_faults.ActiveFaults.{ActiveFaults}
 use Rattle.std.specs.Option.{option_or}
 
--- ---- tests
-
--- The page was already right within the run.
 pub correct_kept : (whole first_unfinished : Option ℕ) (f w : ℕ) → whole ≡ Some w
     → option_or whole (correct_at f first_unfinished) ≡ Some w
 correct_kept whole first_unfinished f w e = grind (arith, nat_tests)
 
--- Or it is now.
 pub correct_now : (whole first_unfinished : Option ℕ) (f : ℕ) → first_unfinished ≡ None
     → ((w : ℕ) → whole ≡ Some w → w ≤ f)
     → (w : ℕ) × (w ≤ f) × (option_or whole (correct_at f first_unfinished) ≡ Some w)
 correct_now (Some w) first_unfinished f none low = (w, low w refl, refl)
 correct_now None first_unfinished f none low = (f, le_refl f, rw none refl)
 
--- It has been wrong since a frame after b, at the end of a later one.
 late_past : (late : Bool) (first_unfinished : Option ℕ) (f b : ℕ) → b < f
     → ((r : ℕ) → first_unfinished ≡ Some r → b < r)
     → b < unwrap_or (if late then first_unfinished else None) f
 late_past late first_unfinished f b past h = grind (arith, nat_tests)
 
--- No report at an end is about the order of frames.
+-- The reports at the end of a frame never are about the order of frames.
 pub end_orders : (old : ActiveFaults) (before : ℕ) (new : ActiveFaults) (f : ℕ)
     → list_any is_order (end_events old before new f) ≡ false
 unfolding is_order reports_order_fault
@@ -62,11 +57,10 @@ end_orders old before new f =
 
 module _ (g : Criteria) (frames : Transmission) (a b i : ℕ)
     (fits : Fits g frames a b i) where
-  -- The frame of the header.
   abbrev pub top : ℕ
   top = frame_at frames i
 
-  -- The first n frames have ended, and so have the ends before frame p.
+  -- The first n frames have ended, and so have all frames of the day before frame p.
   pub record Follows (n p : ℕ) (t : List CheckStep) : Type 0 where
     pub rises : n ≤ i → rose t ≡ true
     pub run : i < n → (from : ℕ) × (from ≤ top) × (run_of t ≡ Some from)
@@ -80,7 +74,6 @@ module _ (g : Criteria) (frames : Transmission) (a b i : ℕ)
       → Follows n q t
   follows_to n p q t follows same = grind (arith, nat_tests)
 
-  -- The same after events that cast doubt on no frame.
   pub follows_emitted : (n p : ℕ) (t u : List CheckStep) (es : List Event) → Follows n p t
       → AreEmitted t u es
       → (n ≤ i → list_any is_order es ≡ false)
@@ -120,10 +113,8 @@ module _ (g : Criteria) (frames : Transmission) (a b i : ℕ)
             (λ l. absurd (omega arith)))
       ]
 
-  -- ---- an end
-
-  -- If the page has been wrong up to the end before one after the stretch, it has been so since a
-  -- frame after the stretch.
+  -- If the page has been wrong up to the end before a frame after the stretch, it was first wrong
+  -- in a frame after the stretch.
   pub back_after : (n f r : ℕ) (u : List CheckStep) → Backs g frames n f u → 0 < n
       → IsEnd (rising_part frames) n (f - 1)
       → b < f
@@ -132,7 +123,6 @@ module _ (g : Criteria) (frames : Transmission) (a b i : ℕ)
   back_after n f r u backs some end past is =
       fits.back n (f - 1) r end (omega arith) (sym (before_is g frames n f some) ∙ backs r is)
 
-  -- The state after the end of frame f was checked, with the packets of m frames.
   pub end_follows : (n m f q : ℕ) (t u : List CheckStep) → Looks g frames m f t u
       → Backs g frames n f u
       → f + 1 ≡ q
@@ -177,7 +167,7 @@ module _ (g : Criteria) (frames : Transmission) (a b i : ℕ)
             | inr (none, here) ↦ omega arith
           ]
 
-  -- Its reports cast doubt only on frames after the stretch.
+  -- The reports at an end after the stretch cast doubt only on frames after the stretch.
   pub end_past : (n m f x : ℕ) (t u : List CheckStep) → Looks g frames m f t u
       → Backs g frames n f u
       → 0 < n

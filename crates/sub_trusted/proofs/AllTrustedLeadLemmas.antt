@@ -16,9 +16,7 @@ use Rattle.sub_rules.specs.Trusted.{CheckStep, at_pes, back_of, invalidated_by, 
 use Rattle.sub_rules.specs.Trusted.{reported_after, reported_at, trusted, trusted_up_to}
 use Rattle.sub_rules.specs.Trusted.{first_correct_of}
 
--- ---- the report of a run
-
--- The trusted frames of a run before frame x, if the page was right in it.
+-- If the page was right in a run, the frames of the run before frame x are reported as trusted.
 pub put_reported : (run whole : Option ℕ) (x from w : ℕ) → run ≡ Some from → whole ≡ Some w → w < x
     → Contains (trusted run whole x) (Trusted from (x - 1))
 put_reported run whole x from w run_is first_correct_is l =
@@ -40,7 +38,6 @@ or_some d rest x y some e = grind (arith, nat_tests)
 pub kept_on : (run d : Option ℕ) (from : ℕ) → d ≡ None → run ≡ Some from → kept run d ≡ Some from
 kept_on run d from none is = grind (arith, nat_tests)
 
--- It is reported with the first event that casts doubt on a frame.
 pub emitted_reported : (t : List CheckStep) (es : List Event) (x from w : ℕ) → invalidation_of t es
     ≡ Some x
     → run_of t ≡ Some from
@@ -73,14 +70,12 @@ emitted_reported t (e ∷ es) x from w is run whole l =
         (put_up_to t (invalidated_by t e) x from w
         (or_some (invalidated_by t e) (invalidation_of t es) x y some is) run whole l))
 
--- ---- steps
-
 module _ (top b : ℕ) where
-  -- Frames up to b, from one that is not after this one, are reported as trusted.
+  -- The frames `top` to b are reported as trusted, in one event that begins at `top` or earlier.
   abbrev pub IsReported : List Event → Type 0
   IsReported es = (from : ℕ) × (to : ℕ) × (from ≤ top) × (b ≤ to) × Contains es (Trusted from to)
 
-  -- The steps report them, or the state afterwards has this property.
+  -- The steps report the frames `top` to b as trusted, or the state afterwards has the property S.
   abbrev pub Leads : (List CheckStep → Type 0) → List CheckStep → List CheckStep → Type 0
   Leads S t ms = IsReported (reported_after t ms) ⊎ S (past_after t ms)
 
@@ -119,7 +114,6 @@ module _ (top b : ℕ) where
     | inr u ↦ inr (subst U (sym (past_after-append t xs ys)) u)
   ]
 
-  -- Another property after these steps.
   pub Leads-both : (A S : List CheckStep → Type 0) (t : List CheckStep) (ms : List CheckStep)
       → A (past_after t ms)
       → Leads S t ms

@@ -38,14 +38,12 @@ use Rattle.sub_rules.specs.Trusted.{CheckStep, back_of, is_emitted, last_begun, 
 use Rattle.sub_rules.specs.Trusted.{first_unfinished_of}
 use Rattle.sub_rules.specs.Trusted.{reports_none, reported_after, reported_at, first_correct_of}
 
--- ---- there is any report
-
 nothing_of : (reported : List Event) → reported ≡ []
     → all_announced no_run reported ++ ended_run (skipped_after_all no_run reported) ≡ []
 unfolding all_announced skipped_after_all
 nothing_of reported none = grind (arith, nat_tests)
 
--- The end of the file reports nothing if nothing was reported and nothing follows.
+-- The end of the file reports nothing if nothing was reported before and nothing follows.
 closing_silent : (g : Criteria) (frames : Transmission) (pes n : ℕ) (t : List CheckStep)
     → (list_any is_emitted t
     || (g.any_refused || not (reports_none (closing_of_pes_packets g frames pes n)))) ≡ false
@@ -58,7 +56,6 @@ module _ (g : Criteria) (pes_packets : List PesPacket) (a b i : ℕ)
   abbrev frames : Transmission
   frames = sent_by_pes_packets g pes_packets
 
-  -- No skipped PES packet may have been sent in the stretch, packet by packet.
   outside_of : (sent : Transmission) (ahead : List PesPacket)
       → ((earlier later : List PesPacket) (u : Unread)
       → ahead ≡ earlier ++ Skipped u ∷ later
@@ -92,12 +89,11 @@ module _ (g : Criteria) (pes_packets : List PesPacket) (a b i : ℕ)
   abbrev close : List CheckStep
   close = steps_of_closing g frames (length pes_packets) (length frames)
 
-  -- The steps of the PES packets.
   goes : Leads (top g frames a b i fit) b (PastAt g frames a b i fit (length frames))
       [] steps
   goes = pes_packets_lead g frames a b i fit pes_packets refl outside
 
-  -- Something is reported at the end of the file, or was before.
+  -- Something is reported at the end of the file, or was reported before.
   abbrev reports : List CheckStep → Bool
   reports t =
       list_any is_emitted t
@@ -135,7 +131,6 @@ module _ (g : Criteria) (pes_packets : List PesPacket) (a b i : ℕ)
           (closing_reported g frames a b i fit (length pes_packets) (past_after [] steps) past
           anything)
 
-  -- There is a report of the PES file, or of refused subtitles.
   anything_reports : IsAnythingReported g pes_packets → reports (past_after [] steps) ≡ true
   unfolding all_of_pes_packets reported_of_pes_packets
   anything_reports (inl something) =
@@ -158,8 +153,6 @@ module _ (g : Criteria) (pes_packets : List PesPacket) (a b i : ℕ)
             (contains-announced no_run reported from to
             (subst (λ (l : List Event). Contains l (Trusted from to)) (sym same) c)),
       )
-
--- ---- the law
 
 pub law_of_all_trusted : LawOfAllTrusted
 law_of_all_trusted g pes_packets a b i can there low high header anything =

@@ -35,14 +35,13 @@ module _ (g : Criteria) (frames : Transmission) (a b i : ℕ)
   abbrev OpenAt : ℕ → List (List ℕ) → List CheckStep → Type 0
   OpenAt n packets t = Open g frames a b i fits n packets t
 
-  -- A skipped PES packet after these frames may not have been sent in the stretch.
+  -- A skipped PES packet that follows the frames `sent` may not have been sent in the stretch.
   abbrev pub Outside : Transmission → Type 0
   Outside sent =
       0 < length sent
       → length sent ≤ risen frames
       → (end_frame sent < a) ⊎ (b < end_frame sent)
 
-  -- The number of the PES packet does not matter.
   follows_at : (n p pes : ℕ) (t : List CheckStep) → Follows g frames a b i fits n p t
       → Follows g frames a b i fits n p (AtPes pes ∷ t)
   unfolding run_of first_correct_of first_unfinished_of back_of reports_order_fault
@@ -65,7 +64,6 @@ module _ (g : Criteria) (frames : Transmission) (a b i : ℕ)
     },
   )
 
-  -- The steps of a frame, or of a skipped PES packet.
   steps :
       Steps (List CheckStep) reported_of g frames (Leads (top g frames a b i fits) b) PastAt OpenAt
       Outside
@@ -88,12 +86,10 @@ module _ (g : Criteria) (frames : Transmission) (a b i : ℕ)
         (outside (omega arith) (omega arith))) open_here;
   }
 
-  -- Before the first PES packet.
   starts : PastAt 0 []
   unfolding run_of first_correct_of last_begun first_unfinished_of late_of back_of stays_fault_free
   starts = grind (arith, nat_tests)
 
-  -- The steps of PES packets.
   pub pes_packets_lead : (pes_packets : List PesPacket)
       → joined_after g.within [] (frames_of pes_packets) ≡ frames
       → EachSkipped g.within Outside [] pes_packets

@@ -47,8 +47,6 @@ use Rattle.sub_rules.specs.Trusted.{CheckStep, back_of, last_begun, late_of, run
 use Rattle.sub_rules.specs.Trusted.{first_unfinished_of}
 use Rattle.sub_rules.specs.Trusted.{stays_fault_free, reports_order_fault, first_correct_of}
 
--- ---- events that are not about the order
-
 rule_order : (frame k : ℕ) (r : PacketRule) → is_order (Reported (packet_fault r frame k)) ≡ false
 unfolding is_order reports_order_fault
 rule_order frame k r = grind (arith, nat_tests)
@@ -71,7 +69,7 @@ pub skipped_orders : (pes : ℕ) (u : Unread)
 unfolding is_order reports_order_fault
 skipped_orders pes u = grind (arith, nat_tests)
 
--- Rising frames have no report about their order, and none is in doubt for it.
+-- Rising frames have no report about their order, so no frame is in doubt for its order.
 order_orders : (g : Criteria) (frames : Transmission) (n : ℕ)
     → (0 < n → frame_at frames (n - 1) < frame_at frames n)
     → list_any is_order (order_events g frames n) ≡ false
@@ -84,14 +82,13 @@ order_silent : (g : Criteria) (frames : Transmission) (n : ℕ) → 0 < n
 unfolding order_events
 order_silent g frames n some up = grind (arith, nat_tests)
 
--- A frame is clean as long as none is in doubt.
+-- A frame is clean as long as no frame is in doubt.
 pub clean_still : (clean : Bool) (d : Option ℕ) → clean ≡ true → d ≡ None
     → (clean && is_none d) ≡ true
 clean_still clean d is none = rw (is, none) refl
 
 -- ---- packets of a frame
 
--- Some packets after the first of a frame and before the rest of it.
 keeps_part : (w : Watched) (before xs ys zs : List (List ℕ))
     → KeepsAll w before (xs ++ ys ++ zs)
     → KeepsAll w (before ++ xs) ys
@@ -120,9 +117,7 @@ module _ (g : Criteria) (frames : Transmission) (a b i : ℕ)
   abbrev Lead : (List CheckStep → Type 0) → List CheckStep → List CheckStep → Type 0
   Lead S t ms = Leads (top g frames a b i fits) b S t ms
 
-  -- ---- the ends of frames of the day before a frame
-
-  -- The run consists of frames that rise up to frame n.
+  -- The frames of the run rise up to frame n.
   up_here : (n x p : ℕ) (t : List CheckStep) → Keeps g frames 0 n x t
       → (rose t ≡ true → RiseTo frames (suc n))
       → Follow n p t
@@ -175,7 +170,7 @@ module _ (g : Criteria) (frames : Transmission) (a b i : ℕ)
           up_here n (latest frames n + suc k) (latest frames n + suc k) t arrives.keeps
           arrives.rises follows below
 
-  -- The first k of them have ended.
+  -- The first k frames of the day before frame n of the list have ended.
   abbrev Arriving : ℕ → ℕ → List CheckStep → Type 0
   Arriving n k u = Arrives g frames 0 n k u × Follow n (latest frames n + suc k) u
 
@@ -191,9 +186,7 @@ module _ (g : Criteria) (frames : Transmission) (a b i : ℕ)
       (gaps_lead n k t there (omega arith) arriving)
       (λ u so. gap_leads n k u there (omega arith) so.0 so.1)
 
-  -- ---- before the packets of a frame
-
-  -- The first n frames have ended.
+  -- The first n frames of the list have ended.
   abbrev pub Past : ℕ → List CheckStep → Type 0
   Past n u = Closed g frames 0 n u × Follow n (frame_at frames (n - 1) + 1) u
 
@@ -241,17 +234,15 @@ module _ (g : Criteria) (frames : Transmission) (a b i : ℕ)
                 )
           ]
 
-  -- Frame n is being sent.
+  -- Frame n of the list is being sent.
   pub record Sending (n : ℕ) (t : List CheckStep) : Type 0 where
     pub follows : Follow n (frame_at frames n) t
     pub clean : i ≤ n → stays_fault_free t ≡ true
     pub back : i < n → b < frame_at frames n → (r : ℕ) → back_of t ≡ Some r → b < r
 
-  -- So are these packets of it so far.
   abbrev pub Open : ℕ → List (List ℕ) → List CheckStep → Type 0
   Open n packets u = Opens g frames 0 n packets u × Sending n u
 
-  -- Since which frame the page has been wrong before frame n.
   abbrev before_it : ℕ → Option ℕ
   before_it n = first_unfinished_before g frames n (frame_at frames n)
 
@@ -338,8 +329,6 @@ module _ (g : Criteria) (frames : Transmission) (a b i : ℕ)
       Leads-cons (top g frames a b i fits) b (Open n []) v (Begins (frame_at frames n))
       (steps_before g (before_it n)) (begins_open n v there here))
 
-  -- ---- while it is being sent
-
   pub sending_emits : (n : ℕ) (t : List CheckStep) (es : List Event) → Sending n t
       → list_any is_order es ≡ false
       → (i ≡ n → invalidation_of t es ≡ None)
@@ -384,7 +373,6 @@ module _ (g : Criteria) (frames : Transmission) (a b i : ℕ)
             })
       ]
 
-  -- The state while a frame after that of the header is being sent.
   pub later_in : (n : ℕ) (packets : List (List ℕ)) (t : List CheckStep) → n < length frames
       → Open n packets t
       → i < n
@@ -439,7 +427,6 @@ module _ (g : Criteria) (frames : Transmission) (a b i : ℕ)
           (subst (λ (ps : List (List ℕ)). KeepsAll g.watched (packets_before frames n) ps) whole
           (fits.packets n in_it low high))
 
-  -- A PES packet is skipped before the next frame comes.
   pub skipped_past : (n pes : ℕ) (u : Unread) (t : List CheckStep) → n ≤ length frames
       → (0 < n → n ≤ risen frames → (frame_at frames (n - 1) < a) ⊎ (b < frame_at frames (n - 1)))
       → Past n t
@@ -467,7 +454,6 @@ module _ (g : Criteria) (frames : Transmission) (a b i : ℕ)
         )
       ]))
 
-  -- Or while one is being sent.
   pub skipped_leads : (n pes : ℕ) (packets : List (List ℕ)) (u : Unread) (t : List CheckStep)
       → n < length frames
       → (n < risen frames → (frame_at frames n < a) ⊎ (b < frame_at frames n))

@@ -30,14 +30,10 @@ use Rattle.sub_laws.proofs.UnfinishedLemmas.{first_unfinished_end, unfinished_at
 use Rattle.sub_laws.proofs.UnfinishedLemmas.{unfinished_is}
 use Rattle.sub_rules.specs.Trusted.{has_no_active_faults}
 
--- ---- ends of the rising part
-
 module _ (frames : Transmission) where
-  -- The end of one of its frames.
   pub own_in : (k : ℕ) → k < risen frames → IsEnd (rising_part frames) (suc k) (frame_at frames k)
   own_in k l = grind (arith, nat_tests, part_length, frame_at-take, risen)
 
-  -- The end of a frame of the day between two of them.
   pub gap_in : (n f : ℕ) → 0 < n → n < risen frames → frame_at frames (n - 1) < f
       → f < frame_at frames n
       → IsEnd (rising_part frames) n f
@@ -58,7 +54,6 @@ module _ (frames : Transmission) where
         ),
       )
 
-  -- The end before one of the day after the first n of them, up to the next one's own.
   pub end_back : (n f : ℕ) → 0 < n → n < risen frames → frame_at frames (n - 1) < f
       → f ≤ frame_at frames n
       → IsEnd (rising_part frames) n (f - 1)
@@ -70,8 +65,6 @@ module _ (frames : Transmission) where
         subst (λ k. IsEnd (rising_part frames) k (f - 1)) size
         (subst (IsEnd (rising_part frames) (suc (n - 1))) at (own_in (n - 1) (omega arith)))
   ]
-
--- ---- the properties of the stretch
 
 -- Frame i of the list is in a stretch that can stay.
 pub record Fits (g : Criteria) (frames : Transmission) (a b i : ℕ) : Type 0 where
@@ -151,7 +144,8 @@ module _ (g : Criteria) (pes_packets : List PesPacket) (a b : ℕ) (can : CanSta
         sym (ap (λ (fs : Transmission). unfinished_since g fs n f) (take-append-drop m frames))
         ∙ unfinished_since-prefix g g.unread part (drop m frames) n f (omega arith)
 
-    -- If `within` is 0, the last frame is finished, since no fault is active at its end.
+    -- If `within` is 0, the last frame of the stretch is finished, since no fault is active at its
+    -- end.
     at_once_finished : (n f : ℕ) → (g.within == 0) ≡ true
         → active_faults_at g part n f ≡ no_active_faults
         → is_unfinished g part n f ≡ false
@@ -168,7 +162,6 @@ module _ (g : Criteria) (pes_packets : List PesPacket) (a b : ℕ) (can : CanSta
               (no_active_faults_is _ (can.fault_free n b end order (omega arith)))
         ]
 
-    -- The end of its last frame is finished.
     last_finished : unfinished_at g part up b ≡ false
     last_finished =
         let first = first-same part in

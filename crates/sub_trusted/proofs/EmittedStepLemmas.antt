@@ -18,39 +18,37 @@ use Rattle.sub_rules.specs.Trusted.{current_pes, run_of, first_unfinished_of, st
 use Rattle.sub_rules.specs.Trusted.{reports_order_fault, reported_after}
 use Rattle.sub_rules.specs.Trusted.{reported_at, trusted, trusted_up_to, first_correct_of}
 
--- The frames have risen so far.
+-- The frames have risen in all steps so far.
 abbrev pub rose : List CheckStep → Bool
 rose t = not (list_any reports_order_fault t)
 
--- The frame that is no longer trusted after the first of these events that casts doubt on one.
+-- The first frame that is no longer trusted after one of the events casts doubt on a frame.
 abbrev pub invalidation_of : List CheckStep → List Event → Option ℕ
 invalidation_of t es = first_found (invalidated_by t) es
 
--- The first frame that is not reported as trusted when this one is no longer trusted.
+-- The first frame that is not reported as trusted when frame x is no longer trusted.
 abbrev pub back_to : List CheckStep → ℕ → ℕ
 back_to t x = unwrap_or (back_of t) x
 
--- It is not after a frame if neither that one nor those with a wrong page are.
 pub back_low : (t : List CheckStep) (x b : ℕ) → x ≤ b
     → ((r : ℕ) → back_of t ≡ Some r → r ≤ b)
     → back_to t x ≤ b
 back_low t x b low h = grind (arith, nat_tests)
 
--- It is after a frame if they are.
 pub back_past : (t : List CheckStep) (x b : ℕ) → b < x
     → ((r : ℕ) → back_of t ≡ Some r → b < r)
     → b < back_to t x
 back_past t x b past h = grind (arith, nat_tests)
 
--- The run after a frame is in doubt.
+-- The run after an event: the run ends if a frame is in doubt.
 abbrev pub kept : Option ℕ → Option ℕ → Option ℕ
 kept run d = if is_none d then run else None
 
--- The event is about the order.
+-- The event reports that frames are not in rising order.
 unfoldable pub is_order : Event → Bool
 is_order e = reports_order_fault (Emits e)
 
--- The steps after others, when these events are reported.
+-- The state after the events `es` were reported.
 pub record AreEmitted (t u : List CheckStep) (es : List Event) : Type 0 where
   pub run_is : run_of u ≡ kept (run_of t) (invalidation_of t es)
   pub first_correct_is : first_correct_of u ≡ first_correct_of t
@@ -61,7 +59,6 @@ pub record AreEmitted (t u : List CheckStep) (es : List Event) : Type 0 where
   pub rises_is : rose u ≡ (rose t && not (list_any is_order es))
   pub clean_is : stays_fault_free u ≡ (stays_fault_free t && is_none (invalidation_of t es))
 
--- What an event casts doubt on does not depend on the events before it.
 invalidated_same : (t : List CheckStep) (e x : Event) → invalidated_by (Emits e ∷ t) x ≡
     invalidated_by t x
 unfolding invalidated_by last_begun late_of
@@ -79,12 +76,12 @@ unfolding past_after run_of first_correct_of last_begun first_unfinished_of late
 emitted t [] = grind (arith, nat_tests)
 emitted t (e ∷ es) = grind (arith, nat_tests, invalidation_after, (emitted (Emits e ∷ t) es))
 
--- If a run is left, it was there before, and no frame is in doubt.
+-- If the run continues after an event, it existed before, and no frame is in doubt.
 pub kept_some : (run d : Option ℕ) (from : ℕ) → kept run d ≡ Some from
     → (run ≡ Some from) × (d ≡ None)
 kept_some run d from e = grind (arith, nat_tests)
 
--- An event about the order ends a run.
+-- A report about the order of frames ends a run.
 order_invalidated : (t : List CheckStep) (e : Event) → invalidated_by t e ≡ None → is_order e ≡
     false
 unfolding is_order reports_order_fault invalidated_by
@@ -96,27 +93,24 @@ orders_invalidated t [] none = refl
 orders_invalidated t (e ∷ es) none = grind
     (arith, nat_tests, order_invalidated, (orders_invalidated t es))
 
--- ---- the trusted frames of steps
-
--- The state after the next PES packet was named.
+-- The steps with one more step that names the next PES packet.
 abbrev pub reported_of : ℕ → List CheckStep → List CheckStep
 reported_of pes t = AtPes pes ∷ t
 
 module _ (P : ℕ → ℕ → Type 0) where
-  -- The number of the PES packet does not matter.
   on_at : (pes : ℕ) (e : Event) → OnTrusted P e → OnTrusted P (at_pes pes e)
   unfolding at_pes
   on_at pes (Trusted from to) p = p
   on_at pes e p = tt
 
-  -- The trusted frames of a run before frame x.
+  -- A property of the trusted frames of a run before frame x, if the run has any.
   pub each_put : (run whole : Option ℕ) (x : ℕ)
       → ((from w : ℕ) → run ≡ Some from → whole ≡ Some w → w < x → P from (x - 1))
       → EachTrusted P (trusted run whole x)
   each_put run whole x h1 = grind (arith, nat_tests, ltb-true)
 
-  -- The property holds for steps with events if it holds for the events, and for the run up to the
-  -- frame in doubt.
+  -- The property holds for the trusted frames that the events report and for the run up to the
+  -- frame in doubt, so it holds for the steps with these events.
   each_emitted : (t : List CheckStep) (es : List Event) → EachTrusted P es
       → ((x from w : ℕ)
       → invalidation_of t es ≡ Some x
@@ -148,7 +142,8 @@ module _ (P : ℕ → ℕ → Type 0) where
           each_put (run_of t) (first_correct_of t) (back_to t x)
           (λ from w run whole l. let all = h x from w in grind arith)
 
-  -- The trusted frames that steps report have the property, and so has the state after them.
+  -- The trusted frames that the steps report have the property P, and the state afterwards has the
+  -- property S.
   pub record Goes (S : List CheckStep → Type 0) (t : List CheckStep) (ms : List CheckStep) : Type
       0 where
     pub each : EachTrusted P (reported_after t ms)
@@ -158,7 +153,6 @@ module _ (P : ℕ → ℕ → Type 0) where
   unfolding reported_after past_after
   Goes-nil S t s = record { each = All-nil (OnTrusted P); after = s }
 
-  -- A step without events.
   pub Goes-cons : (S : List CheckStep → Type 0) (t : List CheckStep) (m : CheckStep)
       (ms : List CheckStep)
       → reported_at t m ≡ []
@@ -167,7 +161,6 @@ module _ (P : ℕ → ℕ → Type 0) where
   unfolding reported_after past_after
   Goes-cons S t m ms none rest = record { each = rw none rest.each; after = rest.after }
 
-  -- A step that names a PES packet.
   pub Goes-pes : (S : List CheckStep → Type 0) (t : List CheckStep) (pes : ℕ) (ms : List CheckStep)
       → Goes S (reported_of pes t) ms
       → Goes S t (AtPes pes ∷ ms)
@@ -188,7 +181,6 @@ module _ (P : ℕ → ℕ → Type 0) where
         after = subst U (sym (past_after-append t xs ys)) next.after;
       }
 
-  -- Steps with events.
   pub Goes-emits : (S : List CheckStep → Type 0) (t : List CheckStep) (es : List Event)
       → EachTrusted P es
       → ((x from w : ℕ)

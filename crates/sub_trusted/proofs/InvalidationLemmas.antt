@@ -18,17 +18,16 @@ use Rattle.sub_rules.proofs.AnyReportedLemmas.{is_foreign}
 use Rattle.sub_rules.proofs.PacketLists.{Each-map, Each-none}
 use Rattle.sub_rules.specs.PesPacketEvents.{SkippedRun}
 
--- A property of the first and last trusted frame, if the event reports some.
+-- A property of the first and last trusted frame, if the event reports trusted frames.
 abbrev pub OnTrusted : (ℕ → ℕ → Type 0) → Event → Type 0
 OnTrusted P (Trusted from to) = P from to
 OnTrusted P e = ⊤
 
 module _ (P : ℕ → ℕ → Type 0) where
-  -- It holds for each event.
+  -- The property holds for each event that reports trusted frames.
   abbrev pub EachTrusted : List Event → Type 0
   EachTrusted es = All (OnTrusted P) es
 
-  -- So it does if none reports trusted frames.
   pub each-own : (pes : ℕ) (es : List Event) → list_any (is_foreign pes) es ≡ false
       → EachTrusted es
   each-own pes es own =
@@ -39,7 +38,6 @@ module _ (P : ℕ → ℕ → Type 0) where
       other : (e : Event) → is_foreign pes e ≡ false → OnTrusted P e
       other e own = grind (arith, nat_tests)
 
-  -- The end of a run of skipped PES packets does not matter.
   pub each-ended : (run : SkippedRun) → EachTrusted (ended_run run)
   each-ended run = grind (arith, nat_tests, All-nil, All-cons)
 
@@ -55,14 +53,12 @@ module _ (P : ℕ → ℕ → Type 0) where
       reported true = All-nil (OnTrusted P)
       reported false = grind (arith, nat_tests, All-push, each-ended, All-head)
 
--- Each weaker property holds for each event, too.
 pub each-weaker : (P Q : ℕ → ℕ → Type 0) (es : List Event)
     → ((from to : ℕ) → P from to → Q from to)
     → EachTrusted P es
     → EachTrusted Q es
 each-weaker P Q es so = grind (arith, nat_tests)
 
--- The trusted frames are among them.
 pub contains-announced : (run : SkippedRun) (es : List Event) (from to : ℕ)
     → Contains es (Trusted from to) → Contains (all_announced run es) (Trusted from to)
 unfolding all_announced announced joins

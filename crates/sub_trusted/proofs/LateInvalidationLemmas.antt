@@ -38,9 +38,7 @@ use Rattle.sub_rules.specs.Trusted.{reports_order_fault}
 use Rattle.sub_rules.specs.declared.active_faults.ActiveFaults.{ActiveFaults}
 use Rattle.sub_trusted.proofs.EmittedStepLemmas.{is_order}
 
--- ---- packets
-
--- Packets after these break no rule that a receiver depends on.
+-- Packet k after the packets `before` breaks no rule that a receiver depends on.
 abbrev pub KeepsEach : Watched → List (List ℕ) → List (List ℕ) → ℕ → Type 0
 KeepsEach w before packets k =
     (r : PacketRule)
@@ -50,7 +48,6 @@ KeepsEach w before packets k =
 abbrev pub KeepsAll : Watched → List (List ℕ) → List (List ℕ) → Type 0
 KeepsAll w before packets = (k : ℕ) → k < length packets → KeepsEach w before packets k
 
--- Some packets followed by others.
 pub keeps_joined : (w : Watched) (before xs ys : List (List ℕ))
     → KeepsAll w before xs
     → KeepsAll w (before ++ xs) ys
@@ -74,8 +71,8 @@ keeps_joined w before xs ys one two k l r needed = elim (cases_lt k (length xs))
 module _ (t : List CheckStep) (w : Watched) (frame from : ℕ)
     (before packets : List (List ℕ))
   where
-    -- The frame of a packet is no longer trusted exactly if it breaks a rule that a receiver
-    -- depends on.
+    -- The frame of a packet is no longer trusted exactly if the packet breaks a rule that a
+    -- receiver depends on.
     rule_invalidation : (k : ℕ) (r : PacketRule)
         → invalidated_by t (Reported (packet_fault r frame k)) ≡ cond (is_needed r) (Some frame)
         None
@@ -95,7 +92,8 @@ module _ (t : List CheckStep) (w : Watched) (frame from : ℕ)
         (packet_found (invalidated_by t) (λ x. x ≡ frame) frame (from + k)
         (λ r x e. let is = rule_invalidation (from + k) r in grind (arith, nat_tests)) w _ _)
 
-    -- The reports of packets cast doubt on their frame exactly if they break such a rule.
+    -- The reports of packets cast doubt on their frame exactly if a packet breaks a rule that a
+    -- receiver depends on.
     pub packets_invalidation :
         Finds (invalidated_by t) (λ x. x ≡ frame) (KeepsAll w before packets)
         (KeepsAll w before packets)
@@ -108,7 +106,6 @@ module _ (t : List CheckStep) (w : Watched) (frame from : ℕ)
         (λ k l past. packet_invalidation k)
 
 module _ (P : ℕ → ℕ → Type 0) where
-  -- None of these reports is one of trusted frames.
   rules_own : (frame k : ℕ) (rs : List PacketRule)
       → EachTrusted P (map (λ (r : PacketRule). Reported (packet_fault r frame k)) rs)
   rules_own frame k [] = All-nil (OnTrusted P)
@@ -138,8 +135,6 @@ module _ (P : ℕ → ℕ → Type 0) where
   header_own g frames i =
       each-own P i (first_header_events g frames i) (grind (arith, nat_tests))
 
--- ---- numbers, and the first header
-
 module _ (t : List CheckStep) (g : Criteria) (frames : Transmission) where
   pub order_at : (i x : ℕ) → first_found (invalidated_by t) (order_events g frames i) ≡ Some x
       → x ≡ last_begun t
@@ -151,7 +146,7 @@ module _ (t : List CheckStep) (g : Criteria) (frames : Transmission) where
   unfolding first_header_events invalidated_by
   header_none i = grind (arith, nat_tests)
 
--- Without a report about its order a frame is after the one before.
+-- A frame without a report about its order is after the frame before.
 pub order_rises : (g : Criteria) (frames : Transmission) (i : ℕ)
     → list_any is_order (order_events g frames i) ≡ false
     → 0 < i
@@ -159,17 +154,15 @@ pub order_rises : (g : Criteria) (frames : Transmission) (i : ℕ)
 unfolding order_events is_order reports_order_fault
 order_rises g frames i none some = grind (arith, nat_tests)
 
--- A skipped PES packet casts doubt on the frame before it.
+-- A skipped PES packet casts doubt on the frame of the PES packet before it.
 pub skipped_at : (t : List CheckStep) (pes : ℕ) (u : Unread)
     → first_found (invalidated_by t) (Reported (unread_fault pes (Some u)) ∷ []) ≡ Some
     (last_begun t)
 unfolding invalidated_by
 skipped_at t pes u = grind (arith, nat_tests)
 
--- ---- an end
-
--- The report of a rule casts doubt on the frame of its end or, if that is late, on the one since
--- which the page has been wrong.
+-- The report of a rule casts doubt on the frame of its end or, if the page is overdue, on the frame
+-- from which on it has been wrong.
 end_rule_invalidates : (t : List CheckStep) (rule : EndRule) (f : ℕ) (cell : ℕ × ℕ)
     → invalidated_by t (Reported (end_fault rule f cell)) ≡ Some (unwrap_or (late_of t) f)
 unfolding invalidated_by
@@ -183,7 +176,6 @@ end_rule_invalidation : (t : List CheckStep) (rule : EndRule) (before f : ℕ)
 unfolding invalidated_by
 end_rule_invalidation t rule before f old new = grind (arith, nat_tests, end_rule_invalidates)
 
--- So do the reports at an end; if they do not, every active fault was active before.
 pub end_invalidation : (t : List CheckStep) (before f : ℕ) (old new : ActiveFaults)
     → Finds (invalidated_by t) (λ x. x ≡ unwrap_or (late_of t) f) (has_no_active_faults new ≡ true)
     (has_no_active_faults old ≡ true → has_no_active_faults new ≡ true) (end_events old before new
@@ -193,7 +185,6 @@ end_invalidation t before f old new =
     (end_found old before new f
     (λ rule. end_rule_invalidation t rule before f (broken_at rule old) (broken_at rule new)))
 
--- That frame is not after the end.
 pub late_low : (late : Bool) (first_unfinished : Option ℕ) (f : ℕ)
     → ((r : ℕ) → first_unfinished ≡ Some r → r ≤ f)
     → unwrap_or (if late then first_unfinished else None) f ≤ f
@@ -229,13 +220,13 @@ module _ (g : Criteria) (frames : Transmission) where
   in_frames zero r e = grind (arith, nat_tests, none-some)
   in_frames (suc i) r e = grind (arith, nat_tests, bound, in_gap, gap_bound, (in_frames i))
 
-  -- The first frame of the unfinished run at an end is not after it.
+  -- The first frame of the unfinished run at the end of frame f is not after f.
   first_unfinished_low : (n f r : ℕ) → unfinished_since g frames n f ≡ Some r → latest frames n ≤ f
       → r ≤ f
   unfolding unfinished_since
   first_unfinished_low n f r e l = grind (arith, nat_tests, in_gap, in_frames)
 
-  -- The first frame of the unfinished run at the end before is before it.
+  -- The first frame of the unfinished run at the end before frame f is before f.
   pub before_low : (n f r : ℕ) → first_unfinished_before g frames n f ≡ Some r
       → (0 < n → latest frames n < f)
       → (0 < n) × (r ≤ f)
@@ -248,11 +239,10 @@ module _ (g : Criteria) (frames : Transmission) where
   before_is zero f some = absurd (omega arith)
   before_is (suc n) f some = refl
 
-  -- That frame, if `within` is not 0, when ends are checked.
+  -- The first frame of the unfinished run that the steps of an end name: none if `within` is 0.
   abbrev pub seen_unfinished : ℕ → ℕ → Option ℕ
   seen_unfinished n f = if g.within == 0 then None else unfinished_since g frames n f
 
-  -- If there is one, it is that one.
   pub seen_is : (n f r : ℕ) → seen_unfinished n f ≡ Some r → unfinished_since g frames n f ≡ Some r
   seen_is n f r e = grind (arith, nat_tests)
 

@@ -66,7 +66,6 @@ module _ (g : Criteria) (due : ℕ → Rows) (ending : ℕ → Option ℕ) (firs
   some : 0 < risen frames
   some = let low = j_low g frames from to stays in omega arith
 
-  -- No fault is active at any of their ends.
   still : (n f : ℕ) → IsEnd part n f → from ≤ f → f ≤ to → IsFaultFree h part n f
   unfolding active_faults_at
   still n f end low high =
@@ -74,7 +73,6 @@ module _ (g : Criteria) (due : ℕ → Rows) (ending : ℕ → Option ℕ) (firs
       (fault_free.undecided n f end low high) end
       (no_active_faults_is _ (remains_fault_free g frames from to stays n f end low high))
 
-  -- They end before the last of the rising frames if another one follows.
   before_fall : risen frames < length frames → to < frame_at frames (risen frames - 1)
   before_fall more =
       let fits = count_most frames (length frames) stays.n stays.within stays.run.rises in
@@ -138,7 +136,6 @@ module _ (g : Criteria) (due : ℕ → Rows) (ending : ℕ → Option ℕ) (firs
           before_unread = λ u is. let past = before_unread u is in omega arith;
         }
 
-    -- So they are reported as trusted there, too.
     pub reported_too : all_of_pes_packets h pes_packets ≢ [] → AreTrusted h pes_packets from b
     reported_too something =
         let j : ℕ = stays.run.j in

@@ -34,10 +34,8 @@ use Rattle.sub_laws.specs.ReportedRepeats.{IsSufficientRepeats}
 use Rattle.sub_trusted.specs.TrustedFrames.{IsAsRead}
 use Rattle.sub_laws.proofs.TransmissionLemmas.{packets_between-split, packets_between-void}
 
--- ---- from the beginning of the text
-
 module _ (keeps : Bool) (kind_of : List ℕ → PacketKind) where
-  -- The packets before the last header that begins the text do not matter.
+  -- The packets before the last header that begins the text do not change the text.
   from-later : (before later : List (List ℕ))
       → holds_beginning keeps kind_of later ≡ true
       → from_beginning keeps kind_of (before ++ later) ≡ from_beginning keeps kind_of later
@@ -45,7 +43,7 @@ module _ (keeps : Bool) (kind_of : List ℕ → PacketKind) where
   from-later (x ∷ before) later e =
       grind (arith, nat_tests, list_any-append, (from-later before later e))
 
--- The text of the first packet of a row among these.
+-- The text of the first packet of a row in a list of packets.
 abbrev text_of : PageIdValue → List (List ℕ) → ℕ → ℕ → ℕ
 text_of page spanned row column =
     unwrap_or
@@ -53,7 +51,6 @@ text_of page spanned row column =
     space
 
 module _ (t u : Transmission) (a b : ℕ) (rising : IsRising t) (is : IsAsRead t u a b) where
-  -- From its first frame on.
   same_to : (n : ℕ) → a + n ≤ b + 1 → packets_between t a (a + n) ≡ packets_between u a (a + n)
   same_to zero high =
       packets_between-void t a (a + 0) (omega arith)
@@ -78,24 +75,18 @@ module _ (keeps : Bool) (programme : ProgrammeValue) (options : OptionsValue) (t
     low_too : first_frame u ≤ a
     low_too = let first = is.first in omega arith
 
-    -- A header that begins the text.
     pub beginning_too : a ≤ b → holds_beginning keeps (kind options.page) (packets_of u a) ≡ true
     beginning_too order = grind (arith, nat_tests)
 
-    -- A frame with a header of the page.
     pub header_too : (f : ℕ) → a ≤ f → f ≤ b → HoldsHeader options.page t f
         → HoldsHeader options.page u f
     header_too f low high holds = grind (arith, nat_tests)
 
-    -- The first one has a header.
     pub opens_too : a ≤ b → HoldsHeader options.page u a
     opens_too order =
         beginning_is_header (kind options.page) keeps (packets_of u a) (beginning_too order)
 
-    -- ---- the kept text, from the header on
-
     module _ (f : ℕ) (low : a ≤ f) (high : f ≤ b) where
-      -- What is on air from frame a on.
       abbrev first_unfinished : List (List ℕ)
       first_unfinished = packets_between t a (f + 1)
 
@@ -184,8 +175,6 @@ module _ (keeps : Bool) (programme : ProgrammeValue) (options : OptionsValue) (t
       open_too =
           rw (holds_t, holds_all u (packets_between u (first_frame u) a) all_u) unended_too
 
-    -- ---- sufficient conditions
-
     stretch_too : IsRepeatedStretch keeps t options a b → IsRepeatedStretch keeps u options a b
     stretch_too stretch = record {
       first = low_too;
@@ -219,12 +208,9 @@ module _ (keeps : Bool) (programme : ProgrammeValue) (options : OptionsValue) (t
       whole = λ at_once f low high. correct_too f low high (enough.whole at_once f low high);
     }
 
-    -- Pages stay complete.
     pub complete_too : CompleteWithin t options a b → CompleteWithin u options a b
     complete_too complete f low high held =
         sym (unended_too f low high) ∙ complete f low high (holds_t f low high)
-
-    -- ---- frames that are finished
 
     pub some_too : (one to : ℕ) → a ≤ one → to ≤ b
         → SomeFinishedBy keeps programme t options one to

@@ -36,14 +36,15 @@ use Rattle.sub_rules.specs.Trusted.{has_no_active_faults, stays_fault_free, repo
 use Rattle.sub_rules.specs.Trusted.{reported_at, correct_at}
 use Rattle.sub_rules.specs.Trusted.{first_correct_of}
 
--- The page was right within the run that is left at the end of a frame.
+-- If a run has a frame at whose end the page was right, that frame is the current one or was known
+-- before.
 correct_ended : (run whole first_unfinished : Option ℕ) (f w : ℕ)
     → option_or (if is_none run then None else whole) (correct_at f first_unfinished) ≡ Some w
     → ((first_unfinished ≡ None) × (f ≡ w)) ⊎ ((whole ≡ Some w) × (is_some run ≡ true))
 correct_ended run whole first_unfinished f w e = grind (arith, nat_tests)
 
 module _ (g : Criteria) (frames : Transmission) (base : ℕ) where
-  -- All packets of frame n were sent, and its end was checked.
+  -- All packets of frame n were sent, and the end of the frame was checked.
   record Ending (n : ℕ) (t : List CheckStep) : Type 0 where
     opens : Opens g frames base n (packets_of_frame frames n) t
     first_unfinished_is : first_unfinished_of t ≡ seen_unfinished g frames (suc n)
@@ -51,14 +52,12 @@ module _ (g : Criteria) (frames : Transmission) (base : ℕ) where
     first_unfinished : rose t ≡ true → (r : ℕ) → first_unfinished_of t ≡ Some r → r ≤ frame_at
         frames n
 
-  -- It has a header, and no fault is active at its end.
   abbrev has : ℕ → Bool
   has n = holds_beginning g.watched.keeps (kind g.watched.page) (packets_of_frame frames n)
 
   abbrev fault_free : ℕ → Bool
   fault_free n = has_no_active_faults (active_faults_at g frames (suc n) (frame_at frames n))
 
-  -- It ends.
   abbrev step : ℕ → CheckStep
   step n = Ends (frame_at frames n) (has n) (fault_free n)
 

@@ -38,7 +38,6 @@ module _ (programme : ProgrammeValue) (options : OptionsValue) (unread : Option 
     up : RiseTo part (length part)
     up = take_rises frames (risen frames) (risen_low frames) (part_rises frames)
 
-    -- The frames up to its end are some of those that rise.
     few : may.whole.n ≤ risen frames
     few =
         count_most frames (length frames) may.whole.n (may.whole.end).1 may.whole.rises
@@ -88,7 +87,6 @@ module _ (programme : ProgrammeValue) (options : OptionsValue) (unread : Option 
         (take-append-drop (risen frames) frames)
         ∙ rw some at seen
 
-    -- The due page is known there.
     known : undecided_within g part may.w ≡ false
     unfolding active_faults_at
     known =

@@ -25,33 +25,26 @@ use Rattle.sub_trusted.proofs.TrustedRunLemmas.{StaysTo}
 use Rattle.sub_rules.specs.Trusted.{has_no_active_faults}
 use Rattle.sub_rules.specs.declared.active_faults.ActiveFaults.{ActiveFaults}
 
--- ---- the rising part
-
 module _ (frames : Transmission) where
-  -- A frame is after the one before.
   rises_is : (i : ℕ) → 0 < i
       → Decides (rises_at frames i) (frame_at frames (i - 1) < frame_at frames i)
   unfolding rises_at
   rises_is i h1 = grind (arith, nat_tests)
 
-  -- The last of the first n frames is.
   rises_last : (n : ℕ) → RiseTo frames (suc n) → rises_at frames n ≡ true
   unfolding rises_at
   rises_last n h1 = grind (arith, nat_tests, rises_is)
 
-  -- How many of the first n frames come before the first one that is not.
   pub count_low : (n : ℕ) → rising_count frames n ≤ n
   unfolding rising_count
   count_low zero = omega arith
   count_low (suc n) = let rest = count_low n in grind (arith, nat_tests)
 
-  -- These rise.
   pub count_rises : (n : ℕ) → RiseTo frames (rising_count frames n)
   unfolding rising_count
   count_rises zero i a l = grind (arith, nat_tests)
   count_rises (suc n) i a l = grind (arith, nat_tests, rises_is, (count_rises n i a))
 
-  -- No more do.
   pub count_most : (n k : ℕ) → k ≤ n → RiseTo frames k → k ≤ rising_count frames n
   unfolding rising_count
   count_most zero k l rises = omega arith
@@ -64,7 +57,6 @@ module _ (frames : Transmission) where
         grind (arith, nat_tests, count_low)
   ]
 
-  -- How many frames rise.
   abbrev pub risen : ℕ
   risen = rising_count frames (length frames)
 
@@ -77,18 +69,16 @@ module _ (frames : Transmission) where
   pub part_rises : RiseTo frames risen
   part_rises = count_rises (length frames)
 
-  -- If the next frame is after the first n, which rise, it rises, too.
   pub rises_more : (n : ℕ) → n < length frames → RiseTo frames n
       → frame_at frames (n - 1) < frame_at frames n
       → n < risen
   rises_more n there rises up = grind (arith, nat_tests, count_most, cases_lt)
 
--- The last frame of the rising part.
 pub part_last : (frames : Transmission) → 0 < risen frames
     → last_frame (rising_part frames) ≡ frame_at frames (risen frames - 1)
 part_last frames some = take_last frames (risen frames) (risen_low frames) some
 
--- The active faults at an end depend only on the frames so far.
+-- The active faults at the end of a frame depend only on the frames so far.
 pub active_faults-take : (g : Criteria) (frames : Transmission) (m n f : ℕ) → 0 < m → m ≤ length
     frames
     → n ≤ m
@@ -108,7 +98,6 @@ module _ (g : Criteria) (frames : Transmission) (from to : ℕ)
   abbrev part : Transmission
   part = rising_part frames
 
-  -- The run's frames are among them.
   n_low : stays.n ≤ m
   n_low = count_most frames (length frames) stays.n stays.within stays.run.rises
 
@@ -118,11 +107,9 @@ module _ (g : Criteria) (frames : Transmission) (from to : ℕ)
   order : (i j : ℕ) → i ≤ j → j < m → frame_at frames i ≤ frame_at frames j
   order = rises_to frames m (part_rises frames)
 
-  -- Frames after the run are not before its end.
   later : (i : ℕ) → stays.n ≤ i → i < m → to + 1 ≤ frame_at frames i
   later i l high = grind (arith, nat_tests, risen_low, order, part_rises, before)
 
-  -- An end in it is one of the whole list, with no more frames than the run has.
   end_whole : (n f : ℕ) → IsEnd part n f → IsEnd frames n f
   end_whole n f h1 = grind (arith, nat_tests, part_length, risen_low, frame_at-take)
 
@@ -138,11 +125,9 @@ module _ (g : Criteria) (frames : Transmission) (from to : ℕ)
       (active_faults-take g frames m n f some (risen_low frames) (let l = n_low in omega arith))
       ∙ stays.ends n f (end_whole n f at) few low (omega arith)
 
-  -- It ends in this part.
   last_low : to ≤ frame_at frames (m - 1)
   last_low = grind (arith, nat_tests, cases_lt, risen_low, order, before, n_low, rises_more)
 
-  -- The frame of its header.
   pub j_low : stays.run.j < m
   j_low = let b = stays.run.below in let l = n_low in omega arith
 
@@ -171,7 +156,6 @@ module _ (g : Criteria) (frames : Transmission) (from to : ℕ)
   packets_fault_free r i k needed l below low high =
       grind (arith, nat_tests, cases_lt, later, order, j_low, part_rises)
 
-  -- There is no report of trusted frames that a receiver depends on.
   pub unreported : IsUnreported g part from to
   unreported = record {
     stretch = stretch;
@@ -190,7 +174,6 @@ module _ (g : Criteria) (frames : Transmission) (from to : ℕ)
         (no_active_faults_is _ (remains_fault_free n f at low high));
   }
 
-  -- The page is open at none of their ends.
   pub closed : AtEnds (λ n f. IsFalse (active_faults_at g part n f).incomplete) part from to
   closed n f at low high =
       ap (λ (s : ActiveFaults). s.incomplete)

@@ -32,45 +32,35 @@ use Rattle.sub_rules.specs.Trusted.{first_unfinished_of}
 use Rattle.sub_rules.specs.Trusted.{has_no_active_faults, stays_fault_free, reports_order_fault}
 use Rattle.sub_rules.specs.Trusted.{correct_at, first_correct_of}
 
--- ---- tests
-
--- If the first condition excludes the run, and there is one, the second holds.
 pub run_rises : (b : Bool) (run : Option ℕ) (from : ℕ) → (b ≡ false → run ≡ None) → run ≡ Some from
     → b ≡ true
 run_rises b run from h is = grind (arith, nat_tests)
 
--- The run that is left at the end of a frame was there before, or begins here.
 pub run_found : (clean none : Bool) (run : Option ℕ) (has : Bool) (f from : ℕ)
     → (if clean && none then option_or run (if has then Some f else None) else None) ≡ Some from
     → (clean ≡ true) × (none ≡ true)
     × ((run ≡ Some from) ⊎ ((run ≡ None) × (has ≡ true) × (f ≡ from)))
 run_found clean none run has f from e = grind (arith, nat_tests)
 
--- The first frame of the run at whose end the page was right is an earlier one, or this one.
 pub correct_found : (whole first_unfinished : Option ℕ) (f w : ℕ)
     → option_or whole (correct_at f first_unfinished) ≡ Some w
     → (whole ≡ Some w) ⊎ ((first_unfinished ≡ None) × (f ≡ w))
 correct_found whole first_unfinished f w e = grind (arith, nat_tests)
 
--- ---- if `within` is 0
-
--- No end is checked for lateness: the page is never wrong since a frame, and it was right in any
--- run.
+-- No end is checked for lateness since `within` is 0: no frame is noted from which on the page has
+-- been wrong, and in each run the page was right.
 pub record SeesNone (t : List CheckStep) : Type 0 where
   pub first_unfinished : first_unfinished_of t ≡ None
   pub late : late_of t ≡ None
   pub whole : is_some (run_of t) ≡ true → is_some (first_correct_of t) ≡ true
 
--- It was right in a run that continues or begins.
 pub correct_some : (whole first_unfinished : Option ℕ) (f : ℕ) → first_unfinished ≡ None
     → is_some (option_or whole (correct_at f first_unfinished)) ≡ true
 correct_some whole first_unfinished f none = grind (arith, nat_tests)
 
 module _ (g : Criteria) (frames : Transmission) where
-  -- ---- frames that may stay
-
   -- If `within` is not 0, the page was right at the end of frame w, which is not before the first
-  -- one of the run.
+  -- frame of the run.
   pub record IsCorrectFrom (from w : ℕ) : Type 0 where
     pub low : from ≤ w
     pub n : ℕ
@@ -78,26 +68,26 @@ module _ (g : Criteria) (frames : Transmission) where
     pub rises : RiseTo frames n
     pub finished : seen_unfinished g frames n w ≡ None
 
-  -- The frames from one to another may stay, and at the end of one of them the page was right.
+  -- The frames `from` to `to` may stay, and at the end of one of them the page was right.
   pub record MayStayCorrect (from to : ℕ) : Type 0 where
     pub stays : StaysTo g frames from to
     pub w : ℕ
     pub high : w ≤ to
     pub whole : IsCorrectFrom from w
 
-  -- A frame is after all of the first `base` frames of the list.
+  -- The frame `from` is after all of the first `base` frames of the list.
   abbrev pub IsAbove : ℕ → ℕ → Type 0
   IsAbove base from = (i : ℕ) → i < base → frame_at frames i < from
 
-  -- The frames from one to another may stay; they are after the first `base` frames of the list,
-  -- and if all frames rise they are before frame `late`.
+  -- The frames `from` to `to` may stay; they are after the first `base` frames of the list, and if
+  -- all frames rise they are before frame `late`.
   pub record MayStayBetween (base late from to : ℕ) : Type 0 where
     pub stands : MayStayCorrect from to
     pub above : IsAbove base from
     pub early : RiseTo frames (length frames) → to < late
 
-  -- These frames may be trusted up to the one before frame y; if they are all frames, up to the one
-  -- before frame `late`.
+  -- A run may be trusted up to the frame before y; if all frames rise, up to the frame before
+  -- `late`.
   pub record MayEnd (late n x y : ℕ) : Type 0 where
     pub within : n ≤ length frames
     pub low : y ≤ x
@@ -107,7 +97,6 @@ module _ (g : Criteria) (frames : Transmission) where
         ⊎ (y ≤ frame_at frames (n - 1))
     pub last : n ≡ length frames → y ≤ late
 
-  -- If all frames rise, such frames are before frame `late`.
   early_of : (late n x y : ℕ) → MayEnd late n x y → 0 < n → end_frame frames ≤ late
       → RiseTo frames (length frames)
       → y ≤ late
@@ -125,16 +114,13 @@ module _ (g : Criteria) (frames : Transmission) where
         | inr all ↦ may.last (omega arith)
       ]
 
-  -- ---- frames that rise
-
-  -- No frame is in doubt if the run is kept.
   pub calm : (t u : List CheckStep) (es : List Event) → AreEmitted t u es → (from : ℕ) → run_of u
       ≡ Some from
       → invalidation_of t es ≡ None
   calm t u es emitted from
       is = (kept_some (run_of t) (invalidation_of t es) from (sym emitted.run_is ∙ is)).1
 
-  -- An end up to which there are at most n frames is before frame n.
+  -- An end up to which at most n frames were sent is before frame n of the list.
   pub end_under : (n : ℕ) → RiseTo frames (suc n) → (m f : ℕ) → IsEnd frames m f → m ≤ n
       → f < frame_at frames n
   end_under n rises m f (some, within, inl is) l =
@@ -144,7 +130,7 @@ module _ (g : Criteria) (frames : Transmission) where
   end_under n rises m f (some, within, inr (there, high, low)) l =
       let up = rises_to frames (suc n) rises m n (omega arith) (omega arith) in omega arith
 
-  -- One up to which there are fewer is not after frame n - 1.
+  -- An end up to which fewer than n frames were sent is not after frame n - 1 of the list.
   pub end_few : (n : ℕ) → RiseTo frames n → (m f : ℕ) → IsEnd frames m f → m < n
       → f ≤ frame_at frames (n - 1)
   end_few n rises m f (some, within, inl is) l =
@@ -152,7 +138,7 @@ module _ (g : Criteria) (frames : Transmission) where
   end_few n rises m f (some, within, inr (there, high, low)) l =
       let up = rises_to frames n rises m (n - 1) (omega arith) (omega arith) in omega arith
 
-  -- The facts if a run is kept.
+  -- If a run continues, the frames rise up to frame n, and frame n - 1 is the latest one.
   pub record Up (n : ℕ) : Type 0 where
     pub some : 0 < n
     pub last : latest frames n ≡ frame_at frames (n - 1)
@@ -177,9 +163,7 @@ module _ (g : Criteria) (frames : Transmission) where
         ),
       )
 
-  -- ---- a frame of a run
-
-  -- Frame n can be one of a run: frames rise up to it, its packets keep the rules, and no fault is
+  -- Frame n can belong to a run: frames rise up to it, its packets keep the rules, and no fault is
   -- active at its end.
   pub record FaultFree (n : ℕ) : Type 0 where
     pub rises : RiseTo frames (suc n)
@@ -204,7 +188,6 @@ module _ (g : Criteria) (frames : Transmission) where
       let up = rises_to frames n run.rises run.j (n - 1) (omega arith) (omega arith) in
       omega arith
 
-  -- A run continues with it.
   pub run_more : (n from : ℕ) → FaultFree n → Run g frames n from
       → EndsFaultFree g frames n from (frame_at frames n)
       → Run g frames (suc n) from
@@ -226,7 +209,6 @@ module _ (g : Criteria) (frames : Transmission) where
     ];
   }
 
-  -- Or one begins with it.
   pub run_new : (n : ℕ) → FaultFree n
       → holds_beginning g.watched.keeps (kind g.watched.page) (packets_of_frame frames n) ≡ true
       → Run g frames (suc n) (frame_at frames n)
@@ -246,10 +228,8 @@ module _ (g : Criteria) (frames : Transmission) where
     ];
   }
 
--- ---- the state
-
 module _ (g : Criteria) (frames : Transmission) (base : ℕ) where
-  -- The run is one of the first n frames, after the first `base` of them; no fault is active at any
+  -- The run is within the first n frames, after the first `base` frames; no fault is active at any
   -- of its ends before frame x.
   pub record Keeps (n x : ℕ) (t : List CheckStep) : Type 0 where
     pub run : (from : ℕ) → run_of t ≡ Some from → Run g frames n from
@@ -261,7 +241,6 @@ module _ (g : Criteria) (frames : Transmission) (base : ℕ) where
     pub at_once : (g.within == 0) ≡ true → SeesNone t
     pub plain : goes_back g ≡ false → back_of t ≡ None
 
-  -- The same up to another frame, if no fault is active at the ends before that.
   pub keeps_to : (n x y : ℕ) (t : List CheckStep) → Keeps n x t
       → ((from : ℕ) → run_of t ≡ Some from → EndsFaultFree g frames n from y)
       → Keeps n y t
@@ -303,7 +282,6 @@ module _ (g : Criteria) (frames : Transmission) (base : ℕ) where
             omega arith;
       }
 
-  -- It also holds after events.
   pub keeps_emitted : (n x : ℕ) (t u : List CheckStep) (es : List Event) → Keeps n x t → AreEmitted
       t u es
       → Keeps n x u
@@ -341,9 +319,7 @@ module _ (g : Criteria) (frames : Transmission) (base : ℕ) where
           let orders = orders_invalidated t es in
           grind (arith, nat_tests)
 
-  -- ---- before a frame
-
-  -- The first k frames of the day before frame n have ended.
+  -- The first k frames of the day before frame n of the list have ended.
   pub record Arrives (n k : ℕ) (t : List CheckStep) : Type 0 where
     pub keeps : Keeps n (latest frames n + suc k) t
     pub floor : base ≤ n
@@ -367,7 +343,7 @@ module _ (g : Criteria) (frames : Transmission) (base : ℕ) where
       let long = gap_length-is frames n some in
       record { some = some; last = last; rises = rises; up = up; long = omega arith }
 
-  -- No fault is active at the end before one of these, or before the frame's own.
+  -- If a run continues, no fault is active at the end before frame f.
   pub no_faults_before : (n f from : ℕ) (t : List CheckStep) → n < length frames → Keeps n f t
       → run_of t ≡ Some from
       → Up g frames n
@@ -398,9 +374,7 @@ module _ (g : Criteria) (frames : Transmission) (base : ℕ) where
           (subst (IsEnd frames n) at (gap_end g frames n k there (omega arith) h)) (le_refl n)
           (omega arith) (omega arith)
 
-  -- ---- frames that have ended, and one that is being sent
-
-  -- The first n frames have ended, and no later end has passed.
+  -- The first n frames of the list have ended, and no later frame of the day has.
   pub record Closed (n : ℕ) (t : List CheckStep) : Type 0 where
     pub keeps : Keeps n (frame_at frames (n - 1) + 1) t
     pub floor : base ≤ n
@@ -415,7 +389,8 @@ module _ (g : Criteria) (frames : Transmission) (base : ℕ) where
         → back_of t ≡ Some r
         → (0 < n) × (r ≤ frame_at frames (n - 1))
 
-  -- After these frame n is being sent, with these packets so far.
+  -- The first n frames of the list have ended and frame n is being sent, with the given packets so
+  -- far.
   pub record Opens (n : ℕ) (packets : List (List ℕ)) (t : List CheckStep) : Type 0 where
     pub keeps : Keeps n (frame_at frames n) t
     pub floor : base ≤ suc n
@@ -427,18 +402,15 @@ module _ (g : Criteria) (frames : Transmission) (base : ℕ) where
     pub fresh : stays_fault_free t ≡ true → base ≤ n
     pub back : rose t ≡ true → (r : ℕ) → back_of t ≡ Some r → r ≤ frame_at frames n
 
-  -- The number of the PES packet does not matter.
   pub closed_at : (n pes : ℕ) (t : List CheckStep) → Closed n t → Closed n (AtPes pes ∷ t)
   unfolding run_of first_correct_of last_begun first_unfinished_of late_of back_of stays_fault_free
       reports_order_fault
   closed_at n pes t closed = grind (arith, nat_tests)
 
-  -- If the frames have risen so far, they had before these events.
   pub rose_before : (t u : List CheckStep) (es : List Event) → AreEmitted t u es → rose u ≡ true
       → rose t ≡ true
   rose_before t u es emitted e = let rises_is = emitted.rises_is in grind (arith, nat_tests)
 
-  -- Nor do events before the first frame.
   pub closed_emitted : (n : ℕ) (t u : List CheckStep) (es : List Event) → Closed n t → AreEmitted t
       u es
       → Closed n u
@@ -451,9 +423,6 @@ module _ (g : Criteria) (frames : Transmission) (base : ℕ) where
       reports_order_fault
   opens_at n pes packets t opens = grind (arith, nat_tests)
 
-  -- ---- while a frame is being sent
-
-  -- Frames before frame n may be trusted up to the one before it.
   pub may_before : (n : ℕ) (packets : List (List ℕ)) (t : List CheckStep) → n < length frames
       → Opens n packets t
       → (from : ℕ) → run_of t ≡ Some from
@@ -461,7 +430,6 @@ module _ (g : Criteria) (frames : Transmission) (base : ℕ) where
       → MayEnd g frames late n (frame_at frames n) y
   may_before n packets t there opens from is late y high = grind (arith, nat_tests)
 
-  -- The state after events that cast doubt only on this frame.
   pub opens_emitted : (n : ℕ) (packets more : List (List ℕ)) (t u : List CheckStep)
       (es : List Event)
       → Opens n packets t

@@ -23,8 +23,6 @@ use Rattle.sub_rules.specs.Trusted.{first_unfinished_of}
 use Rattle.sub_rules.specs.Trusted.{stays_fault_free, reports_order_fault, reported_at, correct_at}
 use Rattle.sub_rules.specs.Trusted.{first_correct_of}
 
--- ---- the step of an end
-
 module _ (g : Criteria) (frames : Transmission) where
   -- The end of frame f was checked, with the packets of n frames.
   pub record Looks (n f : ℕ) (t u : List CheckStep) : Type 0 where
@@ -43,12 +41,13 @@ module _ (g : Criteria) (frames : Transmission) where
         else None)
     pub plain : goes_back g ≡ false → back_of u ≡ back_of t
 
-  -- The page has been wrong since this frame up to the end before that of frame f, with i frames.
+  -- The state names the frame from which on the page has been wrong up to the end before frame f,
+  -- as the rules define it.
   abbrev pub Backs : ℕ → ℕ → List CheckStep → Type 0
   Backs i f u = (r : ℕ) → back_of u ≡ Some r → first_unfinished_before g frames i f ≡ Some r
 
-  -- If `within` is not 0 an end has a step of its own; otherwise one would change nothing. So the
-  -- reports may be taken as those after the end was checked.
+  -- If `within` is not 0 an end has a step of its own; otherwise such a step would change nothing.
+  -- So the reports may be taken as those after the step.
   pub with_end : (T : List CheckStep → List CheckStep → Type 0) (i n f : ℕ) (t : List CheckStep)
       → ((g.within == 0) ≡ true → SeesNone t)
       → (goes_back g ≡ false → back_of t ≡ None)
@@ -65,6 +64,6 @@ module _ (g : Criteria) (frames : Transmission) where
       stays_fault_free reports_order_fault
   with_end T i n f t none plain cons so = grind (arith, nat_tests, none-some)
 
-  -- Frame f, not before this one, has an end with m frames, and these rise.
+  -- Frame f has an end with the packets of m frames, which rise, and is not before `from`.
   abbrev pub HasEnd : ℕ → ℕ → ℕ → Type 0
   HasEnd m f from = (from ≤ f) × IsEnd frames m f × RiseTo frames m

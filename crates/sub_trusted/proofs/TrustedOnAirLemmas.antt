@@ -68,17 +68,13 @@ module _ (programme : ProgrammeValue) (options : OptionsValue) (unread : Option 
     begins : holds_beginning options.keeps (kind options.page) (packets_of part from) ≡ true
     begins = header_there g frames from to may.stays
 
-    -- ---- whatever is on air elsewhere
-
     module _ (on_air : Transmission) (is : IsAsRead part on_air from to) where
-      -- The sufficient conditions hold there.
       enough_there : IsSufficientRepeats options.keeps programme on_air options from to
       enough_there =
           sufficient_too options.keeps programme options part on_air from to fault_free.rising
           fault_free.stretch.from is begins
           (enough_repeats programme options unread any_refused undecided part from to fault_free)
 
-      -- The first frame has a header that begins the text.
       begins_there :
           holds_beginning options.keeps (kind options.page) (packets_of on_air from) ≡ true
       begins_there =
@@ -90,7 +86,6 @@ module _ (programme : ProgrammeValue) (options : OptionsValue) (unread : Option 
           opens_too options.keeps programme options part on_air from to fault_free.rising
           fault_free.stretch.from is begins fault_free.stretch.in_order
 
-      -- Its frames are finished in time.
       finishes_there : IsProgramme programme.drawing programme.records
           → FinishesInTimeBy options.keeps programme on_air options from to
       finishes_there holds =
@@ -101,7 +96,6 @@ module _ (programme : ProgrammeValue) (options : OptionsValue) (unread : Option 
           closed_there
           holds)
 
-      -- At least one of them is.
       some_there : 0 < options.within
           → SomeFinishedBy options.keeps programme on_air options from to
       some_there within =
@@ -121,7 +115,6 @@ module _ (programme : ProgrammeValue) (options : OptionsValue) (unread : Option 
         finished = some_there;
       }
 
-      -- If no repeat may keep the page, and no frame may be late.
       may_stay_at_once : options.keeps ≡ false → options.within ≡ 0
           → MayStay programme on_air options from to
       may_stay_at_once none at_once = record {
@@ -167,7 +160,6 @@ law_of_trusted programme options unread any_refused undecided pes_packets from t
           is none at_once;
     }
 
--- In frames without reports the due page is known at each end, and was at the last frames.
 known : (g : Criteria) (part : Transmission) (from to : ℕ) → IsUnreported g part from to
     → (f x : ℕ) → first_frame part ≤ f → x ≤ f + g.within
     → from ≤ x

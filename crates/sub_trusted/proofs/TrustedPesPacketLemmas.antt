@@ -41,7 +41,8 @@ use Rattle.sub_rules.specs.Trusted.{reports_order_fault, reports_none}
 use Rattle.sub_rules.specs.Trusted.{reported_after, reported_at, trusted, first_correct_of}
 use Rattle.std.specs.List.{list_any}
 
--- The frames that are trusted at the end of a file are before this frame.
+-- The first frame that is not trusted at the end of a file: the last frame if unread bytes follow,
+-- or the frame after it.
 abbrev pub last_late : Criteria → Transmission → ℕ
 last_late g frames =
     if is_some g.unread then end_frame frames else end_frame frames + 1
@@ -54,7 +55,6 @@ module _ (g : Criteria) (frames : Transmission) (base : ℕ) where
   abbrev P : ℕ → ℕ → Type 0
   P = Passes g frames base
 
-  -- The steps of a frame, or of a skipped PES packet.
   steps :
       Steps (List CheckStep) reported_of g frames (Goes P) (Closed g frames base)
       (Opens g frames base)
@@ -80,14 +80,13 @@ module _ (g : Criteria) (frames : Transmission) (base : ℕ) where
       pes_packets
   none_requested sent (Skipped u ∷ pes_packets) = (tt, none_requested sent pes_packets)
 
-  -- The state after these frames were sent.
+  -- The state after the frames `sent`.
   abbrev pub SendsOn : Transmission → List CheckStep → Type 0
   SendsOn sent t =
       Sends (List CheckStep) reported_of g frames (Goes P) (Closed g frames base)
       (Opens g frames base)
       (λ l. ⊤) sent t
 
-  -- The steps of PES packets.
   pub each_passes : (sent : Transmission) (pes : ℕ) (t : List CheckStep)
       (pes_packets : List PesPacket)
       → joined_after g.within sent (frames_of pes_packets) ≡ frames
@@ -99,9 +98,8 @@ module _ (g : Criteria) (frames : Transmission) (base : ℕ) where
       (λ l. ⊤) (Goes-nil P) (Goes-pes P) (Goes-append P) steps sent pes t pes_packets all
       (none_requested sent pes_packets) sends
 
-  -- ---- the end of the file
-
-  -- It may be trusted up to the last frame or, if bytes are left, up to the one before it.
+  -- The frames may be trusted up to the last frame or, if unread bytes follow, up to the frame
+  -- before it.
   abbrev pub Last : ℕ → ℕ → Type 0
   Last = MayStayBetween g frames base (last_late g frames)
 
@@ -168,7 +166,6 @@ module _ (g : Criteria) (frames : Transmission) (base : ℕ) where
             last = λ all. high;
           }) few.0 few.1 from w run whole l)
 
-  -- The steps of PES packets, and of the end of the file.
   pub all_pass : (sent : Transmission) (pes count : ℕ) (t : List CheckStep)
       (pes_packets : List PesPacket)
       → joined_after g.within sent (frames_of pes_packets) ≡ frames
@@ -206,8 +203,6 @@ module _ (g : Criteria) (frames : Transmission) (base : ℕ) where
       }) goes.each)
       (closing count (past_after t first) goes.after))
 
--- ---- all
-
 module _ (g : Criteria) (frames : Transmission) where
   pub start : Closed g frames 0 0 []
   unfolding run_of first_correct_of last_begun first_unfinished_of late_of back_of stays_fault_free
@@ -218,7 +213,6 @@ module _ (g : Criteria) (frames : Transmission) where
   unfolding reported_of_pes_packets
   reported_stays pes_packets all = grind (arith, nat_tests, all_pass, start)
 
-  -- Trusted frames of PES packets may stay.
   pub all_pass_within : (pes_packets : List PesPacket) → sent_by_pes_packets g pes_packets ≡ frames
       → EachTrusted (Last g frames 0) (all_of_pes_packets g pes_packets)
   unfolding all_of_pes_packets

@@ -12,8 +12,8 @@ use Rattle.sub_rules.specs.Trusted.{has_no_active_faults}
 use Rattle.sub_trusted.specs.TrustedFrames.{BeginsText}
 
 module _ (g : Criteria) (frames : Transmission) where
-  -- No fault is active at any end from one frame up to another, that one excluded, with at most n
-  -- frames of the list.
+  -- No fault is active at any end from frame `from` up to frame x, which is excluded, with at most
+  -- n frames of the list.
   abbrev pub EndsFaultFree : ℕ → ℕ → ℕ → Type 0
   EndsFaultFree n from x =
       (m f : ℕ)
@@ -23,7 +23,7 @@ module _ (g : Criteria) (frames : Transmission) where
       → f < x
       → has_no_active_faults (active_faults_at g frames m f) ≡ true
 
-  -- The frames from j on, of the first n of the list, break no rule that a receiver depends on.
+  -- The frames j to n - 1 of the list break no rule that a receiver depends on.
   abbrev pub PacketsFaultFree : ℕ → ℕ → Type 0
   PacketsFaultFree n j =
       (r : PacketRule) (i k : ℕ)
@@ -33,8 +33,8 @@ module _ (g : Criteria) (frames : Transmission) where
       → k < length (packets_of_frame frames i)
       → breaks r g.watched (before frames i k) (packet_at frames i k) ≡ false
 
-  -- A run of clean frames up to the last of the first n frames of the list, with the frame of its
-  -- first header that begins the text.
+  -- A run of clean frames up to frame n - 1 of the list, which begins with a header that begins the
+  -- text, in frame `from`.
   pub record Run (n from : ℕ) : Type 0 where
     pub j : ℕ
     pub below : j < n
@@ -44,7 +44,7 @@ module _ (g : Criteria) (frames : Transmission) where
     pub packets : PacketsFaultFree n j
     pub ends : EndsFaultFree n from (frame_at frames (n - 1) + 1)
 
-  -- The frames from one up to another, that one excluded, are those of a run.
+  -- The frames from `from` up to x, which is excluded, are those of a run.
   pub record Stays (from x : ℕ) : Type 0 where
     pub n : ℕ
     pub within : n ≤ length frames

@@ -44,7 +44,6 @@ use Rattle.sub_rules.specs.Trusted.{first_unfinished_of}
 use Rattle.sub_rules.specs.Trusted.{stays_fault_free, reports_order_fault, reported_after}
 use Rattle.sub_rules.specs.Trusted.{reported_at, first_correct_of}
 
--- The frames before it and those after it are all frames.
 before_all : (g : Criteria) (earlier later : List PesPacket) (u : Unread)
     → joined_after g.within (sent_by_pes_packets g earlier) (frames_of later)
     ≡ sent_by_pes_packets g (earlier ++ Skipped u ∷ later)
@@ -67,18 +66,15 @@ module _ (g : Criteria) (earlier : List PesPacket) (u : Unread) (later : List Pe
     abbrev frames : Transmission
     frames = sent_by_pes_packets g all
 
-    -- The frame before it is none of these.
+    -- The frame before the skipped PES packet is not one of the frames `from` to `to`.
     abbrev Outside : ℕ → ℕ → Type 0
     Outside from to = (end_frame sent < from) ⊎ (to < end_frame sent)
 
-    -- The frames before it come first of all.
     same : (i : ℕ) → i < n → frame_at frames i ≡ frame_at sent i
     same i under =
         let grown : Grows sent frames =
         subst (Grows sent) (before_all g earlier later u) (grows g.within sent (frames_of later)) in
         frame_is g sent frames grown (n - 1) (omega arith) i (omega arith)
-
-    -- ---- before it
 
     abbrev first : List CheckStep
     first = steps_of_each g [] 0 earlier
@@ -107,8 +103,6 @@ module _ (g : Criteria) (earlier : List PesPacket) (u : Unread) (later : List Pe
     run_up : (from : ℕ) → run_of t ≡ Some from → rose t ≡ true
     run_up from is = grind (arith, nat_tests, before, run_rises, rose)
 
-    -- ---- it
-
     abbrev pes : ℕ
     pes = length earlier
 
@@ -128,7 +122,7 @@ module _ (g : Criteria) (earlier : List PesPacket) (u : Unread) (later : List Pe
     invalidation : invalidation_of now es ≡ Some (last_begun now)
     invalidation = skipped_at now pes u
 
-    -- It ends each run.
+    -- A skipped PES packet ends each run.
     run_none : run_of v ≡ None
     run_none = let so = emitted now es in rw invalidation at so.run_is
 
@@ -218,7 +212,6 @@ module _ (g : Criteria) (earlier : List PesPacket) (u : Unread) (later : List Pe
           },
         )
 
-    -- What it ends is before its frame.
     ended : EachTrusted Outside (reported_after now (map Emits es))
     unfolding run_of back_of
     ended =
@@ -233,8 +226,6 @@ module _ (g : Criteria) (earlier : List PesPacket) (u : Unread) (later : List Pe
         back_low now x (end_frame sent) (omega arith)
         (λ r is. back_high (run_up from run) r is) in
         inr (omega arith)) (λ z so. z)).each
-
-    -- ---- all
 
     pub each_outside : EachTrusted Outside (all_of_pes_packets g all)
     unfolding all_of_pes_packets reported_of_pes_packets steps_of_each reported_after reported_at
@@ -279,7 +270,6 @@ module _ (g : Criteria) (earlier : List PesPacket) (u : Unread) (later : List Pe
             ap (λ (l : List CheckStep). l ++ ns) (append_assoc ks ls ms)
             ∙ append_assoc ks (ls ++ ms) ns
 
--- No skipped PES packet may have been sent in trusted frames.
 pub skipped_outside : (g : Criteria) (pes_packets : List PesPacket) (from to : ℕ)
     → Contains (all_of_pes_packets g pes_packets) (Trusted from to)
     → IsSkippedOutside g pes_packets from to

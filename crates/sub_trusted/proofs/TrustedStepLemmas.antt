@@ -51,11 +51,9 @@ use Rattle.sub_rules.specs.Trusted.{first_unfinished_of}
 use Rattle.sub_rules.specs.Trusted.{has_no_active_faults, stays_fault_free, reports_order_fault}
 use Rattle.sub_rules.specs.Trusted.{reported_at, first_correct_of}
 
--- ---- reports
-
 module _ (g : Criteria) (frames : Transmission) (base : ℕ) where
   -- Trusted frames may stay: from frame `base` of the list on and, if all frames rise, before the
-  -- last of them.
+  -- last frame.
   abbrev pub Passes : ℕ → ℕ → Type 0
   Passes = MayStayBetween g frames base (end_frame frames)
 
@@ -73,9 +71,6 @@ module _ (g : Criteria) (frames : Transmission) (base : ℕ) where
       passes_before g frames base (end_frame frames) n x y t keeps may (le_refl (end_frame frames))
       (omega arith)
 
-  -- ---- an end
-
-  -- The state after an end was checked.
   pub keeps_end : (n x m f : ℕ) (t u : List CheckStep) → Looks g frames m f t u
       → Keeps g frames base n x t
       → ((from : ℕ) → run_of t ≡ Some from → HasEnd g frames m f from)
@@ -110,8 +105,7 @@ module _ (g : Criteria) (frames : Transmission) (base : ℕ) where
       was : (from : ℕ) → run_of u ≡ Some from → run_of t ≡ Some from
       was from is = sym looks.run_is ∙ is
 
-  -- The reports at the end of frame f, with n frames before and now m, cast doubt on no later
-  -- frame.
+  -- The reports at the end of frame f cast doubt on no later frame.
   pub end_reports : (n m f : ℕ) (t : List CheckStep) (S : List CheckStep → Type 0)
       → ((from : ℕ) → run_of t ≡ Some from → latest frames m ≤ f)
       → Keeps g frames base n f t
@@ -149,8 +143,6 @@ module _ (g : Criteria) (frames : Transmission) (base : ℕ) where
       passes n f (back_to u x) u (keeps_end n f m f t u looks keeps low)
       (may from was (back_to u x) back) from w run whole l)
       (λ v emitted. after u v looks backs emitted))
-
-  -- ---- the ends of frames of the day before a frame
 
   pub gap_step : (n k : ℕ) (t : List CheckStep) → n < length frames → k < gap_length frames n
       → Arrives g frames base n k t
@@ -252,14 +244,10 @@ module _ (g : Criteria) (frames : Transmission) (base : ℕ) where
       (gaps n k t there (omega arith) arrives)
       (λ u so. gap_step n k u there (omega arith) so)
 
-  -- ---- before the packets of a frame
-
-  -- The frames that have ended may be trusted up to the frame before the last one.
   may_ended : (n x : ℕ) → n ≤ length frames → x ≤ frame_at frames (n - 1)
       → MayEnd g frames (end_frame frames) n (frame_at frames (n - 1) + 1) x
   may_ended n x within low = grind (arith, nat_tests)
 
-  -- Nor is a later frame reported as trusted when that one no longer is.
   closed_back : (n x from : ℕ) (t : List CheckStep) → Closed g frames base n t
       → run_of t ≡ Some from
       → x ≤ frame_at frames (n - 1)
@@ -367,7 +355,6 @@ module _ (g : Criteria) (frames : Transmission) (base : ℕ) where
             omega arith;
       }
 
-  -- Since which frame the page was wrong before it.
   pub begins_back : (n : ℕ) (t : List CheckStep) → Opens g frames base n [] t → goes_back g ≡ true
       → Opens g frames base n [] (GoesBack (first_unfinished_before g frames n (frame_at frames n))
       ∷ t)
@@ -406,8 +393,6 @@ module _ (g : Criteria) (frames : Transmission) (base : ℕ) where
       (goes_back_reports n (Begins (frame_at frames n) ∷ v) (goes_back g) refl
       (begins n v there here)))
 
-  -- ---- while it is being sent
-
   pub more_sent : (n : ℕ) (packets more : List (List ℕ)) (t : List CheckStep) → n < length frames
       → Opens g frames base n packets t
       → Reports (Opens g frames base n (packets ++ more)) t
@@ -434,7 +419,6 @@ module _ (g : Criteria) (frames : Transmission) (base : ℕ) where
       (λ none kept.
       keeps_joined g.watched (packets_before frames n) packets more kept (finds.fault_free none)))
 
-  -- A PES packet is skipped before the next frame comes.
   pub skipped_ended : (n pes : ℕ) (u : Unread) (t : List CheckStep) → n ≤ length frames
       → Closed g frames base n t
       → Reports (Closed g frames base n) t (map Emits (Reported (unread_fault pes (Some u)) ∷ []))
@@ -453,7 +437,6 @@ module _ (g : Criteria) (frames : Transmission) (base : ℕ) where
       run whole l)
       (λ v emitted. closed_emitted g frames base n t v es closed emitted)
 
-  -- Or while it is being sent.
   pub skipped : (n pes : ℕ) (packets : List (List ℕ)) (u : Unread) (t : List CheckStep)
       → n < length frames
       → Opens g frames base n packets t

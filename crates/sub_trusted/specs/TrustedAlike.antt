@@ -12,25 +12,26 @@ use Rattle.sub_rules.specs.declared.event.Event.TheVariants.{Trusted}
 use Rattle.sub_laws.specs.CleanStretch.{AtEnds, criteria_unsure}
 use Rattle.sub_trusted.specs.TrustedFrames.{rising_of}
 
--- The subtitle is due only at some of these frames.
+-- The subtitle is due only at frames whose due page is unknown.
 pub record IsDueAmong (undecided : ℕ → Bool) (t : SubtitleValue) : Type 0 where
   pub times : t.tci < t.tco
   pub within : (f : ℕ) → t.tci ≤ f → f < t.tco → IsTrue (undecided f)
 
--- The subtitles `judged` in order, with others among them that are each due only at these frames.
+-- The list has the subtitles `judged`, in order, and among them others that are each due only at
+-- frames whose due page is unknown.
 abbrev pub HasOthers : (ℕ → Bool) → List SubtitleValue → List SubtitleValue → Type 0
 HasOthers undecided judged [] = judged ≡ []
 HasOthers undecided judged (t ∷ all) =
     ((rest : List SubtitleValue) × (judged ≡ t ∷ rest) × HasOthers undecided rest all)
     ⊎ (IsDueAmong undecided t × HasOthers undecided judged all)
 
--- The page is right at the end of a frame.
+-- The page is right at the end of frame b.
 abbrev pub IsCorrectAt : Criteria → List PesPacket → ℕ → Type 0
 IsCorrectAt g pes_packets b =
     AtEnds (λ n f. IsFalse (is_unfinished g (rising_of g pes_packets) n f))
     (rising_of g pes_packets) b b
 
--- The frames from one to another are reported as trusted, in one event.
+-- The frames `from` to `to` are reported as trusted, in one event.
 abbrev pub AreTrusted : Criteria → List PesPacket → ℕ → ℕ → Type 0
 AreTrusted g pes_packets from to =
     (first : ℕ)
@@ -40,9 +41,9 @@ AreTrusted g pes_packets from to =
     × Contains (all_of_pes_packets g pes_packets) (Trusted first last)
 
 -- Frames that are reported as trusted although subtitles were refused are also reported, in one
--- event, for a file with other subtitles in their place, if these are due only at frames whose due
--- page was unknown; or nothing at all is reported. If the page may be late, this holds up to each
--- frame at whose end it is right.
+-- event, for a file with any other subtitles in place of the refused ones, if these are due only at
+-- frames whose due page was unknown; or nothing at all is reported. If the page may be late, this
+-- holds up to each frame at whose end the page is right.
 abbrev pub LawOfTrustedAlike : Type 0
 LawOfTrustedAlike =
     (programme : ProgrammeValue) (options : OptionsValue) (unread : Option Unread)

@@ -1,5 +1,5 @@
--- The promises for the frames that are reported as trusted, whatever is broken elsewhere; and that
--- no others could be.
+-- The promises for the frames that are reported as trusted, whatever is broken elsewhere, and that
+-- no other frames could be trusted.
 use Rattle.std.specs.Prelude.{◌≡◌, ◌≢◌, ℕ, zero, suc, ◌+◌, ◌<◌, ◌≤◌, ◌==◌, ◌&&◌, nat_lt, Bool}
 use Rattle.std.specs.Prelude.{List, [], ◌∷◌, ◌++◌, ◌⊎◌, Contains, length, take, Option, Some}
 use Rattle.std.specs.Prelude.{IsFalse, IsTrue, if◌then◌else◌, true}
@@ -23,18 +23,20 @@ use Rattle.sub_laws.specs.Stretch.{MayBeTrusted}
 
 -- ---- the rising part
 
--- Frame n of the list is the first one, or after the one before.
+-- Frame n of the list is the first frame, or after the frame before it.
 unfoldable pub rises_at : Transmission → ℕ → Bool
 rises_at frames zero = true
 rises_at frames (suc i) = nat_lt (frame_at frames i) (frame_at frames (suc i))
 
--- How many of the first n frames come before the first one that is not after its predecessor.
+-- The number of frames, of the first n of the list, before the first frame that is not after its
+-- predecessor.
 unfoldable pub rising_count : Transmission → ℕ → ℕ
 rising_count frames zero = 0
 rising_count frames (suc n) =
     if (rising_count frames n == n) && rises_at frames n then suc n else rising_count frames n
 
--- The frames before the first one that is not after its predecessor; all of them if they rise.
+-- The rising part of the list: the frames before the first frame that is not after its predecessor;
+-- all frames if they rise.
 abbrev pub rising_part : Transmission → Transmission
 rising_part frames = take (rising_count frames (length frames)) frames
 
@@ -42,26 +44,27 @@ rising_part frames = take (rising_count frames (length frames)) frames
 abbrev pub rising_of : Criteria → List PesPacket → Transmission
 rising_of g pes_packets = rising_part (sent_by_pes_packets g pes_packets)
 
--- A header with which the text of the page begins is among the packets of frame i of the list: any
--- header of the page, or, if repeats may keep the page, one that erases it.
+-- Frame i of the list has a header with which the text of the page begins: any header of the page,
+-- or, if repeats may keep the page, a header that erases it.
 abbrev pub BeginsText : Criteria → Transmission → ℕ → Type 0
 BeginsText g frames i =
     holds_beginning g.watched.keeps (kind g.watched.page) (packets_of_frame frames i) ≡ true
 
 -- ---- whatever is on air elsewhere
 
--- In the frames from one to another exactly what was read is on air: the frames on air rise, they
--- begin no later than the first one that was read, and each frame has the packets that were read.
--- Before and after these frames anything may be on air, read or not.
+-- In the frames `from` to `to` exactly the packets that were read are on air: the frames on air
+-- rise, they begin no later than the first frame that was read, and each frame has the packets that
+-- were read. Before and after these frames anything may be on air.
 pub record IsAsRead (read on_air : Transmission) (from to : ℕ) : Type 0 where
   pub rising : IsRising on_air
   pub first : first_frame on_air ≤ first_frame read
   pub same : (f : ℕ) → from ≤ f → f ≤ to → packets_of on_air f ≡ packets_of read f
 
--- What a skipped PES packet puts on air is unknown. It may have been sent in the frame of the PES
--- packet before it, between two PES packets of that frame or after its last one. So that frame, if
--- it is in the rising part, is none of those from one to another. What comes before the next frame
--- that is read is the past for a receiver that is tuned in there.
+-- No skipped PES packet may have been sent in the frames `from` to `to`. What a skipped PES packet
+-- puts on air is unknown. It may have been sent in the frame of the PES packet before it, between
+-- two PES packets of that frame or after its last one. So that frame, if it is in the rising part,
+-- must not be one of the frames `from` to `to`. For a receiver that is tuned in at the next frame
+-- that is read, the skipped packet is in the past.
 abbrev pub IsSkippedOutside : Criteria → List PesPacket → ℕ → ℕ → Type 0
 IsSkippedOutside g pes_packets from to =
     (earlier later : List PesPacket) (u : Unread)
@@ -71,22 +74,22 @@ IsSkippedOutside g pes_packets from to =
     → (last_frame (sent_by_pes_packets g earlier) < from) ⊎
     (to < last_frame (sent_by_pes_packets g earlier))
 
--- The frames from one to another, as read from these PES packets, may stay whatever is on air
--- before and after them.
+-- The frames `from` to `to`, as read from the PES packets, may stay whatever is on air before and
+-- after them.
 pub record StaysAsRead
     (g : Criteria) (pes_packets : List PesPacket) (from to : ℕ) (Stays : Transmission → Type 0)
     : Type 0 where
-  -- Whatever the skipped PES packets put on air is not in these frames.
+  -- The packets that the skipped PES packets put on air are not in the trusted frames.
   pub skipped : IsSkippedOutside g pes_packets from to
   pub stays : (on_air : Transmission) → IsAsRead (rising_of g pes_packets) on_air from to → Stays
       on_air
 
 -- ---- promises
 
--- The frames from one to another may stay on air as they are, given the packets up to the last of
--- them. The first one has a header of the page, so a receiver that is tuned in at one of them
--- recovers there whatever it contained before; and if complete pages are required, pages are
--- complete there, so the due page is on screens.
+-- The frames `from` to `to` may stay on air as they are, given the packets up to frame `to`. Frame
+-- `from` has a header of the page, so a receiver that is tuned in at one of the frames recovers
+-- whatever it contained before; and if complete pages are required, the pages of these frames are
+-- complete, so the due page is on screens.
 pub record MayStay
     (programme : ProgrammeValue) (transmission : Transmission) (options : OptionsValue)
     (from to : ℕ)
@@ -95,10 +98,11 @@ pub record MayStay
   pub trusted : MayBeTrusted programme transmission options from to
   pub complete : IsTrue options.asks_complete → CompleteWithin transmission options from to
 
--- If no repeat may keep the page, frames of a PES file that are reported as trusted may stay, as
--- read from the part in which frames rise, whatever is broken and whatever is on air elsewhere. So
--- someone who repairs a transmission need not touch them. If subtitles were refused, this holds for
--- the programme of the reliable ones, whatever is due at frames whose due page is unknown.
+-- If no repeat may keep the page and `within` is 0, frames of a PES file that are reported as
+-- trusted may stay, as read from the part in which frames rise, whatever is broken and whatever is
+-- on air elsewhere. So someone who repairs a transmission need not touch these frames. If subtitles
+-- were refused, this law holds for the programme of the reliable subtitles, whatever is due at
+-- frames whose due page is unknown.
 abbrev pub LawOfTrusted : Type 0
 LawOfTrusted =
     (programme : ProgrammeValue) (options : OptionsValue) (unread : Option Unread)
@@ -112,8 +116,8 @@ LawOfTrusted =
     to
     (λ on_air. MayStay programme on_air options from to)
 
--- At each of them the due page is known, and it was known at each of the `within` frames before,
--- from the first frame that was read.
+-- At each trusted frame the due page is known, and it was known at each of the `within` frames
+-- before, from the first frame that was read.
 abbrev pub LawOfTrustedKnown : Type 0
 LawOfTrustedKnown =
     (g : Criteria) (pes_packets : List PesPacket) (from to : ℕ)
@@ -124,13 +128,12 @@ LawOfTrustedKnown =
     → from ≤ f + g.within
     → IsFalse (g.undecided f)
 
--- ---- nothing is left out
+-- ---- every frame that may stay is reported
 
--- A stretch of frames of the rising part may be trusted: there is no report of it that a receiver
--- depends on, no fault is active at any end of it, and if `within` is not 0 its last frame is
--- finished; no skipped PES packet may have been sent in it; and it ends before the last of the
--- rising frames if that one is in doubt, since a frame that is not after it or unreadable bytes
--- follow.
+-- The frames a to b of the rising part may be trusted: they have no report that a receiver depends
+-- on, no fault is active at any of their ends, and if `within` is not 0 frame b is finished; no
+-- skipped PES packet may have been sent in them; and b is before the last of the rising frames if
+-- that frame is in doubt, since a frame that is not after it or unreadable bytes follow.
 pub record CanStay (g : Criteria) (pes_packets : List PesPacket) (a b : ℕ) : Type 0 where
   pub unreported : IsUnreported g (rising_of g pes_packets) a b
   pub fault_free :
@@ -147,13 +150,13 @@ pub record CanStay (g : Criteria) (pes_packets : List PesPacket) (a b : ℕ) : T
       → b < last_frame (rising_of g pes_packets)
   pub before_unread : (u : Unread) → g.unread ≡ Some u → b < last_frame (rising_of g pes_packets)
 
--- There is any report: of the PES file, or of refused subtitles.
+-- Anything is reported: an event of the PES file, or a refused subtitle.
 abbrev pub IsAnythingReported : Criteria → List PesPacket → Type 0
 IsAnythingReported g pes_packets = (all_of_pes_packets g pes_packets ≢ []) ⊎ IsTrue g.any_refused
 
--- If there is any report, the frames of such a stretch are reported as trusted, in one event, from
--- one that begins the text of the page on. So no frame that may stay is left out, except, if
--- `within` is not 0, those after the last finished one.
+-- If anything is reported, the frames of a stretch that may be trusted are reported as trusted, in
+-- one event, from a frame that begins the text of the page on. So every frame that may stay is
+-- reported, except, if `within` is not 0, the frames after the last finished one.
 abbrev pub LawOfAllTrusted : Type 0
 LawOfAllTrusted =
     (g : Criteria) (pes_packets : List PesPacket) (a b i : ℕ)

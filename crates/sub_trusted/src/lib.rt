@@ -1,13 +1,13 @@
-//! The frames of a faulty transmission that may stay on air: those that are reported as trusted.
+//! The frames of a faulty transmission that may stay on air: the frames that are reported as
+//! trusted.
 //!
-//! `sub_laws` defines the promises for a stretch of frames, and `sub_rules` the reports. This crate
-//! contains no program: each function is a law.
+//! `sub_laws` defines the promises for a stretch of frames, and `sub_rules` defines the reports.
+//! This crate contains no program: each function is a law.
 //!
 //! ```text
-//! law_of_trusted_repeats: Contains (all_of_pes_packets g pieces) (Trusted from to) → MayStayBy ..
-//! law_of_trusted_known: .. → from ≤ f + g.within → .. → IsFalse (g.undecided f)
-//! law_of_all_trusted: CanStay g pieces a b → .. → Contains (all_of_pes_packets g pieces) (Trusted
-//! ..)
+//!  law_of_trusted_repeats: Contains (all_of_pes_packets g packets) (Trusted from to) → MayStayBy ..
+//!  law_of_trusted_known: .. → from ≤ f + g.within → .. → IsFalse (g.undecided f)
+//!  law_of_all_trusted: CanStay g packets a b → .. → Contains (all_of_pes_packets g packets) ..
 //! ```
 #![tactic(auto)]
 

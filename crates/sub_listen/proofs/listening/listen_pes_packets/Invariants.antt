@@ -1,4 +1,4 @@
--- After so many PES packets the receiver has gone through what it uses of their packets.
+-- After n PES packets the receiver has used all their packets that reach it.
 use Rattle.std.proofs.Common.{◌≡◌, ◌*◌, ◌-◌, ◌≤◌, ℕ, List, Option, Some}
 use Rattle.ttx_page.specs.Screen.{display}
 use Rattle.ttx_pes.specs.PesGrammar.{most_units}

@@ -1,5 +1,5 @@
--- No packet is listed as lost; or one more packet is not lost, or may be. By
--- first_lost_header-none, lost_here and lost_later.
+-- `first_lost_header` finds the first packet that is listed as lost but must not be, packet by
+-- packet. By first_lost_header-none, lost_here and lost_later.
 use Rattle.std.proofs.lemmas.Bool.Decides.{nat_tests}
 use Rattle.std.proofs.Common.{◌<◌, ℕ, length, arith, rules, sym, ◌∙◌}
 use Rattle.std.proofs.lemmas.List.{length-map, nil_from_length}

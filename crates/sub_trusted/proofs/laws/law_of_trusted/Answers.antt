@@ -1,4 +1,3 @@
--- The law: TrustedOnAirLemmas.
 use Rattle.sub_trusted.proofs.TrustedOnAirLemmas.{law_of_trusted}
 use Rattle.sub_trusted.proofs.laws.law_of_trusted.Goals as goal
 

@@ -1,4 +1,3 @@
--- The law: AlikeProgrammeLemmas.
 use Rattle.sub_trusted.proofs.AlikeProgrammeLemmas.{law_of_trusted_alike}
 use Rattle.sub_trusted.proofs.laws.law_of_trusted_alike.Goals as goal
 

@@ -1,4 +1,3 @@
--- The law: TrustedOnAirLemmas.
 use Rattle.sub_trusted.proofs.TrustedOnAirLemmas.{law_of_trusted_known}
 use Rattle.sub_trusted.proofs.laws.law_of_trusted_known.Goals as goal
 
