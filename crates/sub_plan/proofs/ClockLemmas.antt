@@ -1,4 +1,4 @@
--- The frame of a PTS: frame_found, no_frame_found, and the laws of clocks.
+-- A clock finds the frame of a PTS: frame_found, no_frame_found, and the laws of clocks.
 use Rattle.std.proofs.lemmas.Bool.Decides.{nat_tests}
 use Rattle.std.proofs.Common.{◌≡◌, ◌≢◌, ℕ, zero, suc, ◌+◌, ◌-◌, ◌/◌, ◌%◌, ◌^◌, ◌<◌}
 use Rattle.std.proofs.Common.{◌↔◌, Option, Some, None, refl, sym, ◌∙◌, arith, MatchOption}
@@ -7,7 +7,6 @@ use Rattle.sub_plan.specs.FrameTime.{clock, frame_below, frame_of_pts, near_fram
 use Rattle.sub_plan.specs.FrameTime.{ticks_after}
 use Rattle.sub_plan.specs.Laws.{LawOfClock, LawOfExactClock, LawOfNearClock}
 
--- The frame that is found below a number has the PTS; if none is found, none has it.
 pub found_below :
     (origin pts n : ℕ) (r : Option ℕ)
     → frame_below origin pts n ≡ r
@@ -21,7 +20,7 @@ found_below origin pts (suc n) (Some f) e =
 found_below origin pts (suc n) None e =
     let ih = found_below origin pts n None in grind (arith, nat_tests)
 
--- Two frames of the day have two PTS.
+-- Two different frames of the day have different PTSs.
 pub same_frame :
     (origin f g : ℕ)
     → f < day
@@ -30,7 +29,6 @@ pub same_frame :
     → f ≡ g
 same_frame origin f g in_day also e = omega (arith, in_day, also, e)
 
--- The frame of the day that has a PTS is found.
 pub frame_found :
     (origin pts frame : ℕ)
     → frame < day
@@ -47,7 +45,6 @@ pub no_frame_found :
 no_frame_found origin pts none =
     let all = found_below origin pts day (frame_of_pts origin pts) refl in grind arith
 
--- The frame that a clock with a tolerance reads.
 near_read :
     (origin pts frame : ℕ)
     → pts < 2 ^ 33
@@ -57,7 +54,6 @@ near_read :
 unfolding near_frame
 near_read origin pts frame low in_day is = grind (arith, nat_tests)
 
--- The ticks since the first frame, from those since the frame's own first tick.
 ticks_of :
     (origin frame ticks pts : ℕ)
     → origin < 2 ^ 33
@@ -82,7 +78,6 @@ law_of_clock (suc n) origin frame low in_day =
     near_read origin (pts_of origin frame) frame (omega arith) in_day
     (ticks_of origin frame 900 (pts_of origin frame) low in_day (omega arith) (omega arith))
 
--- The frame that is found is the frame of the day that has the PTS.
 pub exact_by :
     (origin pts : ℕ) (r : Option ℕ)
     → r ≡ frame_of_pts origin pts
@@ -97,8 +92,6 @@ pub law_of_exact_clock : LawOfExactClock
 unfolding clock
 law_of_exact_clock origin pts frame = exact_by origin pts (frame_of_pts origin pts) refl frame
 
--- ---- for `Options::frame_of`
-
 pub exact_none : (origin pts : ℕ)
     → ((frame : ℕ) → frame < day → pts_of origin frame ≢ pts)
     → None ≡ frame_of_pts origin pts
@@ -110,7 +103,6 @@ pub exact_read : (origin pts frame : ℕ)
     → Some frame ≡ frame_of_pts origin pts
 exact_read origin pts frame in_day is = sym (frame_found origin pts frame in_day is)
 
--- The clock without a tolerance.
 pub clock_exact : (within origin pts : ℕ)
     → within ≡ 0
     → frame_of_pts origin pts ≡ clock within origin pts
@@ -118,7 +110,6 @@ unfolding clock
 clock_exact zero origin pts none = refl
 clock_exact (suc n) origin pts none = absurd (omega arith)
 
--- The clock with a tolerance.
 pub clock_near : (within origin pts : ℕ)
     → within ≢ 0
     → near_frame origin pts ≡ clock within origin pts

@@ -1,4 +1,4 @@
--- The expected page stays the same between cues: still_due.
+-- The expected page stays the same from one cue to the next: still_due.
 use Rattle.std.proofs.Common.{◌≡◌, ℕ, ◌-◌, ◌<◌, ◌≤◌, List, ◌∙◌, arith, inl, inr}
 use Rattle.std.proofs.lemmas.Bool.{cases_lt}
 use Rattle.ttx_page.specs.Page.{Rows}
@@ -6,12 +6,11 @@ use Rattle.stl_file.specs.Subtitle.{SubtitleValue}
 use Rattle.stl_rows.specs.DuePage.{IsEdge}
 use Rattle.sub_plan.proofs.ScheduleBases.{stays}
 
--- At each frame that is not a cue, the expected page is the same as at the frame before.
+-- At each frame that is not a cue, the expected page is that of the previous frame.
 abbrev pub StaysBetweenEdges : (ℕ → Rows) → List SubtitleValue → Type 0
 StaysBetweenEdges due records = (f : ℕ) → 1 ≤ f → (IsEdge records f → ⊥) → due f ≡ due (f - 1)
 
--- If the expected page is the same up to a frame, it is the same up to the next cue. For
--- `next_change`.
+-- If the expected page is the same up to a frame, it is the same up to the next cue.
 pub still_due : (due : ℕ → Rows) (records : List SubtitleValue) (start at end : ℕ)
     → StaysBetweenEdges due records
     → ((e : ℕ) → IsEdge records e → at < e → end ≤ e)

@@ -1,4 +1,4 @@
--- The laws that are the contracts of the functions in `laws.rt`, in one set: laws.
+-- The ruleset of the laws that are the contracts of the functions in `laws.rt`: laws.
 use Rattle.sub_plan.proofs.ClockLemmas.{law_of_clock, law_of_near_clock}
 use Rattle.sub_plan.proofs.ExampleHeaders.{example_of_closing_headers, example_of_watched_headers}
 use Rattle.sub_plan.proofs.ProgrammeLemmas.{law_of_day}

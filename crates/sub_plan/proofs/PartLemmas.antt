@@ -1,4 +1,4 @@
--- Page transmissions written one after another: part-more if they were written, prefix-more if a
+-- Writing page transmissions one after another: part-more if they were written, prefix-more if a
 -- write failed.
 use Rattle.std.proofs.Common.{◌≡◌, ℕ, ◌+◌, ◌-◌, ◌%◌, ◌==◌, Bool, List, ◌∷◌, ◌++◌, Option, All, []}
 use Rattle.std.proofs.Common.{length, refl, sym, ap, ◌∙◌, arith, append_assoc, append-nil, filter}
@@ -20,7 +20,8 @@ use Rattle.sub_plan.specs.Steps.{packets_at, steps}
 use Rattle.sub_plan.proofs.ScheduleBases.{range_all}
 use Rattle.sub_plan.proofs.StepLemmas.{IsStretch}
 
--- The bytes of `count` frames were written; with the frames that are left these are all frames.
+-- The sink received the bytes of `count` frames, and these frames followed by the frames `left` are
+-- all frames of the schedule.
 pub record IsPartDone (u v : Option (List ℕ)) (bytes_of : ℕ → List ℕ) (count : ℕ)
     (left all : List ℕ) : Type 0 where
   pub done : List ℕ
@@ -30,7 +31,6 @@ pub record IsPartDone (u v : Option (List ℕ)) (bytes_of : ℕ → List ℕ) (c
 
 module _ {u v : Option (List ℕ)} {bytes_of : ℕ → List ℕ} {count : ℕ} {left all : List ℕ}
     (part : IsPartDone u v bytes_of count left all) where
-  -- More frames are written.
   pub part-more : {w : Option (List ℕ)} (more : List ℕ) {left' : List ℕ}
       → left ≡ more ++ left'
       → Appends v w (flat_map bytes_of more)
@@ -42,11 +42,9 @@ module _ {u v : Option (List ℕ)} {bytes_of : ℕ → List ℕ} {count : ℕ} {
     bytes = grind (arith, nat_tests, flat_map-append, Appends-trans);
   }
 
-  -- All frames are written.
   pub part-end : left ≡ [] → (count ≡ length all) × Appends u v (flat_map bytes_of all)
   part-end e = grind (arith, nat_tests, append-nil)
 
-  -- A prefix of the bytes of the next frames was written.
   pub prefix-more : (w : Option (List ℕ)) (more left' : List ℕ)
       → left ≡ more ++ left'
       → AppendsPrefix v w (flat_map bytes_of more)
@@ -58,21 +56,17 @@ module _ {u v : Option (List ℕ)} {bytes_of : ℕ → List ℕ} {count : ℕ} {
       (AppendsPrefix-second u v w (s part.done) (s more ++ s left') part.bytes
       (AppendsPrefix-first v w (s more) (s left') p)))
 
-  -- One more frame is written.
   pub part-one : {w : Option (List ℕ)} {f : ℕ} {left' : List ℕ}
       → left ≡ f ∷ left'
       → Appends v w (bytes_of f)
       → IsPartDone u w bytes_of (count + 1) left' all
   part-one {w} {f} e goes = part-more (f ∷ []) e (rw (append-nil (bytes_of f)) goes)
 
-  -- A prefix of the next frame's bytes was written.
   pub prefix-one : (w : Option (List ℕ)) {f : ℕ} {left' : List ℕ}
       → left ≡ f ∷ left'
       → AppendsPrefix v w (bytes_of f)
       → AppendsPrefix u w (flat_map bytes_of all)
   prefix-one w {f} {left'} e p = prefix-more w (f ∷ []) left' e (rw (append-nil (bytes_of f)) p)
-
--- ---- one stretch
 
 flat_same : (f g : ℕ → List ℕ) (xs : List ℕ) → All (λ x. f x ≡ g x) xs
     → flat_map f xs ≡ flat_map g xs
@@ -80,7 +74,7 @@ flat_same f g [] h = refl
 flat_same f g (x ∷ xs) h =
     rw (All-head (λ y. f y ≡ g y) x xs h, flat_same f g xs (All-tail (λ y. f y ≡ g y) x xs h)) refl
 
--- In a stretch, the expected page at its base is that of each frame.
+-- Between a base and the next base, each page transmission has the page expected at the base.
 pub stretch-bytes : (due : ℕ → Rows) (o : OptionsValue) (national : National) (serial : Bool)
     (first b end last : ℕ)
     → IsStretch due first b end last

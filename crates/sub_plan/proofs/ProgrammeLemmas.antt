@@ -1,4 +1,4 @@
--- The first TCI and the last TCO of a programme: span-rises, law_of_day.
+-- The first TCI and the last TCO of a programme are in the day: span-rises, law_of_day.
 use Rattle.std.proofs.Common.{◌≡◌, ℕ, ◌+◌, ◌-◌, ◌<◌, ◌≤◌, List, [], ◌∷◌, Option, Some, None, length}
 use Rattle.std.proofs.Common.{get_or, refl, ◌∙◌, arith, All}
 use Rattle.std.proofs.lemmas.Bool.Decides.{nat_tests}
@@ -15,7 +15,6 @@ use Rattle.sub_plan.specs.Schedule.{sendings_from}
 use Rattle.sub_plan.specs.Laws.{LawOfDay}
 use Rattle.sub_plan.proofs.ScheduleBases.{range_all}
 
--- Without a first TCI there are no subtitles.
 pub none_in : (ts : List SubtitleValue) → None ≡ first_in ts → ts ≡ []
 none_in [] h = refl
 none_in (t ∷ ts) h = cc
@@ -24,13 +23,12 @@ last_is : (t : SubtitleValue) (ts : List SubtitleValue)
     → last_out (t ∷ ts) ≡ Some ((get_or (t ∷ ts) (length (t ∷ ts) - 1) t).tco)
 last_is t ts = grind (arith, nat_tests, slice_get-get_or)
 
--- If there is a first TCI, there is a last TCO.
 pub some_out : (ts : List SubtitleValue) (a : ℕ) → Some a ≡ first_in ts → None ≡ last_out ts
     → ts ≡ []
 some_out [] a h k = refl
 some_out (t ∷ ts) a h k = let e = last_is t ts in cc
 
--- The first frame is before the last, which is a frame of the day.
+-- The first frame of a schedule is before its last frame, which is a frame of the day.
 pub record IsSpan (a b : ℕ) : Type 0 where
   pub rises : a < b
   pub in_day : b < day
@@ -53,15 +51,11 @@ span-rises drawing (t ∷ ts) a b ok h k =
       in_day = omega (arith, f, each_last.in_day);
     }
 
--- The frames of the schedule, by the first TCI and the last TCO.
 pub plan_frames-is : (programme : ProgrammeValue) (every a b : ℕ)
     → Some a ≡ first_in programme.records → Some b ≡ last_out programme.records
     → sendings (due_in programme) every a b ≡ plan_frames programme every
 plan_frames-is programme every a b h k = rw (← h, ← k) refl
 
--- ---- the law of the day
-
--- No page transmission is after the last frame.
 within : (due : ℕ → Rows) (every first last : ℕ) → first ≤ last
     → All (λ f. f ≤ last) (sendings due every first last)
 unfolding sendings_from
@@ -70,7 +64,6 @@ within due every first last order =
     (range_with_len first (last + 1 - first))
     (range_all (λ f. f ≤ last) first (last + 1 - first) (λ j b c. omega arith))
 
--- The law, by cases of the first TCI and the last TCO.
 day_between : (programme : ProgrammeValue) (every : ℕ) (a b : Option ℕ)
     → a ≡ first_in programme.records → b ≡ last_out programme.records
     → IsProgramme programme.drawing programme.records

@@ -1,5 +1,5 @@
--- Bases of a schedule and the page transmissions that follow from them: last_base, last_sending,
--- sending_in_gap.
+-- The bases of a schedule, and the page transmissions that follow from them: last_base,
+-- last_sending, sending_in_gap.
 use Rattle.std.proofs.Common.{◌≡◌, ℕ, zero, suc, ◌+◌, ◌-◌, ◌%◌, ◌<◌, ◌≤◌, ◌==◌, Bool, true, false}
 use Rattle.std.proofs.Common.{◌++◌, refl, sym, ap, ◌∙◌, arith, inl, inr, All, Decides}
 use Rattle.std.proofs.Math.Bool.{or-true}
@@ -14,9 +14,6 @@ use Rattle.sub_plan.specs.Laws.{IsBase, IsLastBase, IsLastSending, LawOfEqualPag
 use Rattle.sub_plan.specs.Laws.{LawOfLastSending}
 use Rattle.sub_plan.specs.Schedule.{base, is_base, is_same_page, is_sending}
 
--- ---- ranges
-
--- A range in two parts.
 pub range_split : (a m n : ℕ) → range_with_len a (m + n) ≡ range_with_len a m
     ++ range_with_len (a + m) n
 range_split a zero n = grind (arith, nat_tests)
@@ -31,8 +28,6 @@ range_all P a (suc n) h =
     All-cons P a (range_with_len (a + 1) n) (h a (omega arith) (omega arith))
     (range_all P (a + 1) n (λ j b c. h j (omega arith) (omega arith)))
 
--- A value that is the same at each number as at the one before is the same at all of them. For
--- bases and cues.
 pub stays : {X : Type 0} (value : ℕ → X) (s f : ℕ) → s ≤ f
     → ((k : ℕ) → s < k → k ≤ f → value k ≡ value (k - 1)) → value f ≡ value s
 stays value s zero low step = let e : zero ≡ s = omega arith in ap value e
@@ -45,14 +40,12 @@ stays value s (suc f) low step =
           ∙ stays value s f before (λ k a c. step k a (omega arith))
     ]
 
--- The last number up to another that passes a test.
 record IsLastOf (test : ℕ → Bool) (first f g : ℕ) : Type 0 where
   low : first ≤ g
   high : g ≤ f
   passes : test g ≡ true
   none_after : (k : ℕ) → g < k → k ≤ f → test k ≡ false
 
--- If a number passes, there is a last one from it on.
 find_last : (test : ℕ → Bool) (first f : ℕ) → test first ≡ true → first ≤ f
     → (g : ℕ) × IsLastOf test first f g
 find_last test first f start low = go f (test f) refl low
@@ -75,8 +68,6 @@ find_last test first f start low = go f (test f) refl low
               )
         ]
 
--- ---- bases
-
 same_page-Decides : (a b : Rows) → Decides (is_same_page a b) (a ≡ b)
 same_page-Decides a b = grind (arith, nat_tests, slice_eq-Decides, Decides-eqb)
 
@@ -86,11 +77,9 @@ unfolding is_base
 is_base-Decides due first f =
     grind (arith, nat_tests, Decides-or, Decides-eqb, Decides-not, same_page-Decides)
 
--- A frame that is no base does not pass the test.
 no_base : (due : ℕ → Rows) (first f : ℕ) → (IsBase due first f → ⊥) → is_base due first f ≡ false
 no_base due first f none = grind (arith, nat_tests, false_from_ne_true, is_base-Decides)
 
--- It has the page of the frame before it.
 same_unless_base : (due : ℕ → Rows) (first f : ℕ) → (IsBase due first f → ⊥) → due f ≡ due (f - 1)
 same_unless_base due first f none =
     let same = same_page-Decides (due f) (due (f - 1)) in grind (arith, nat_tests)
@@ -99,13 +88,11 @@ base-at : (due : ℕ → Rows) (first b : ℕ) → IsBase due first b → base d
 unfolding base
 base-at due first b h = grind (arith, nat_tests, is_base-Decides)
 
--- At a frame that is no base, the last base is that of the frame before.
 base-before : (due : ℕ → Rows) (first f : ℕ) → (IsBase due first f → ⊥)
     → base due first f ≡ base due first (f - 1)
 unfolding base
 base-before due first f none = grind (arith, nat_tests, no_base)
 
--- Up to the next base the last base stays the same.
 base_stays : (due : ℕ → Rows) (first s f : ℕ) → s ≤ f
     → ((k : ℕ) → s < k → k ≤ f → IsBase due first k → ⊥) → base due first f ≡ base due first s
 base_stays due first s f low none =
@@ -115,7 +102,6 @@ pub base-last : (due : ℕ → Rows) (first f b : ℕ) → IsLastBase due first 
 base-last due first f b last =
     base_stays due first b f last.high last.none_after ∙ base-at due first b last.is_base
 
--- From the first frame on there is a last base.
 pub last_base : (due : ℕ → Rows) (first f : ℕ) → first ≤ f
     → IsLastBase due first f (base due first f)
 last_base due first f low =
@@ -130,12 +116,11 @@ last_base due first f low =
     } in
     rw (base-last due first f found.0 last) last
 
--- ---- frames with a page transmission
-
 pub aligned-start : (b every : ℕ) → 1 ≤ every → (b - b) % every ≡ 0
 aligned-start b every some = let e : b - b ≡ 0 = omega arith in rw e (mod-eq_of_lt (omega arith))
 
--- A frame a whole number of steps after its last base has a page transmission.
+-- If the distance of a frame from its last base is a multiple of `every`, the frame has a page
+-- transmission.
 sends : (due : ℕ → Rows) (every first last f b : ℕ) → base due first f ≡ b
     → (f - b) % every ≡ 0 → is_sending due every first last f ≡ true
 unfolding is_sending
@@ -154,7 +139,6 @@ pub sends-last : (due : ℕ → Rows) (every first last : ℕ)
 unfolding is_sending
 sends-last due every first last = or_left _ _ ((Decides-eqb last last).1 refl)
 
--- If no base is between, the frame `every` frames after a page transmission has another.
 sends-again : (due : ℕ → Rows) (every first last s : ℕ) → first ≤ s → s < last
     → is_sending due every first last s ≡ true
     → ((k : ℕ) → s < k → k ≤ s + every → IsBase due first k → ⊥)
@@ -165,7 +149,7 @@ sends-again due every first last s low high sent none =
     let e : s + every - b ≡ s - b + every = omega (arith, (last_base due first s low).high) in
     grind (arith, nat_tests, last_base, sends, base_stays, add-mod_right)
 
--- The last page transmission up to a frame shows the page that is still expected there.
+-- The last page transmission at or before a frame shows the page expected at that frame.
 pub last_sending : (due : ℕ → Rows) (every first last f : ℕ) → 1 ≤ every → first ≤ f → (g : ℕ)
     × IsLastSending due every first last f g
 last_sending due every first last f some low =
@@ -184,10 +168,8 @@ last_sending due every first last f some low =
       },
     )
 
--- ---- the laws
-
--- Among `every` frames one has a page transmission: the last one up to their end, since otherwise
--- another would follow it.
+-- Any `every` consecutive frames contain a page transmission: if the last transmission were before
+-- these frames, another would follow it among them.
 pub sending_in_gap : (due : ℕ → Rows) (every first last g : ℕ)
     → 1 ≤ every
     → first ≤ g
@@ -206,10 +188,8 @@ sending_in_gap due every first last g some low room =
           ∙ sends-base due every first last k some b))))
     ]
 
--- The page transmitted last is the expected page.
 pub law_of_last_sending : LawOfLastSending
 law_of_last_sending = last_sending
 
--- A frame with the page of the frame before it is no base.
 pub law_of_equal_pages : LawOfEqualPages
 law_of_equal_pages due first f after same = grind (arith, nat_tests, base-before)

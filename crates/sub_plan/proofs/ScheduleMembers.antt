@@ -1,4 +1,5 @@
--- The frames with a page transmission, however they are computed: law_of_sendings, law_of_gaps.
+-- The frames that have a page transmission, however they are computed: law_of_sendings,
+-- law_of_gaps.
 use Rattle.std.proofs.Common.{◌≡◌, ℕ, zero, suc, ◌+◌, ◌-◌, ◌<◌, ◌≤◌, Bool, true, List, [], ◌∷◌}
 use Rattle.std.proofs.Common.{arith, inl, inr, filter, Decides}
 use Rattle.std.proofs.lemmas.Bool.Decides.{nat_tests, Decides-eqb, Decides-like, Decides-or}
@@ -11,9 +12,6 @@ use Rattle.sub_plan.specs.Laws.{IsSending, LawOfGaps, LawOfSendings}
 use Rattle.sub_plan.specs.Schedule.{is_sending, sendings_from}
 use Rattle.sub_plan.proofs.ScheduleBases.{base-last, last_base, range_all, sending_in_gap}
 
--- ---- members of a filtered range
-
--- A member of a filtered range is in the range and passes.
 members : (p : ℕ → Bool) (a n x : ℕ) → Contains (filter p (range_with_len a n)) x
     → ((a ≤ x) × (x < a + n)) × (p x ≡ true)
 members p a n x c =
@@ -24,7 +22,6 @@ members p a n x c =
       All-contains (λ y. p y ≡ true) (filter p xs) x (filter_passes p xs) c,
     )
 
--- A number in the range that passes is in the filtered range.
 contains : (p : ℕ → Bool) (a n x : ℕ) → a ≤ x → x < a + n → p x ≡ true
     → Contains (filter p (range_with_len a n)) x
 contains p a zero x low high h = absurd (omega arith)
@@ -38,15 +35,12 @@ contains p a (suc n) x low high h =
       | inr here ↦ grind (arith, nat_tests)
     ]
 
--- ---- the law of sendings
-
 is_sending-Decides : (due : ℕ → Rows) (every first last f : ℕ) → first ≤ f
     → Decides (is_sending due every first last f) (IsSending due every first last f)
 unfolding is_sending
 is_sending-Decides due every first last f low =
     grind (arith, nat_tests, Decides-or, Decides-eqb, Decides-like, last_base, base-last)
 
--- The frames with a page transmission are those that `IsSending` describes.
 pub law_of_sendings : LawOfSendings
 unfolding sendings_from
 law_of_sendings due every first last f = (
@@ -58,9 +52,6 @@ law_of_sendings due every first last f = (
       (omega (arith, s.0, s.1)) ((is_sending-Decides due every first last f s.0).1 s.2),
 )
 
--- ---- the law of gaps
-
--- Among `every` frames there is one with a page transmission.
 pub law_of_gaps : LawOfGaps
 unfolding sendings_from
 law_of_gaps due every first last g some low room =

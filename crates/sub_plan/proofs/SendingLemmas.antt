@@ -1,4 +1,4 @@
--- The packets of a page transmission, and the page it shows: law_of_sending, all_sent,
+-- A page transmission and the page that a receiver shows after it: law_of_sending, all_sent,
 -- law_of_cut_sendings.
 use Rattle.std.proofs.Common.{rules, ◌≡◌, ℕ, zero, suc, ◌+◌, ◌-◌, ◌<◌, ◌≤◌, inl, inr, Bool, true}
 use Rattle.std.proofs.Common.{false, not, ◌==◌, cond, List, [], ◌∷◌, ◌++◌, length, map, filter}
@@ -38,9 +38,6 @@ use Rattle.sub_plan.proofs.SentPackets.{opener, closer, made_opener, made_closer
 use Rattle.sub_plan.proofs.SentPackets.{packet_of_codes, row_of, row_length, row_codes, made_row}
 use Rattle.sub_plan.proofs.SentPackets.{kind_opener, kind_closer, kind_row}
 
--- ---- the rows of a page
-
--- The rows that are sent are rows of the page.
 pub sent_rows_are : (w : PageIdValue) (page : Rows)
     → All (IsRowOf w page) (sent_rows w.magazine page)
 unfolding sent_rows
@@ -51,19 +48,16 @@ sent_rows_are w page =
     (range_all (λ row. IsRowOf w page (row_of w page row)) 1 24
     (λ j b c. record { row = j; low = b; high = omega arith; is = refl })))
 
--- The code in a cell, if these packets are the span.
 abbrev in_cell : PageIdValue → ℕ → ℕ → List (List ℕ) → ℕ
 in_cell w row column packets =
     unwrap_or (option_map (λ p. code_of (text_byte p column))
     (find (λ p. is_row row (kind w p)) packets)) space
 
--- A row that is not sent has only spaces.
 empty_cell : (codes : List ℕ) (column : ℕ) → is_sent_row codes ≡ false → column < length codes
     → slice_index codes column ≡ space
 empty_cell [] column e l = absurd (omega arith)
 empty_cell (c ∷ cs) column e l = grind (arith, nat_tests, or_parts, empty_cell cs)
 
--- A row is sent if it is not blank. For `is_sent_row`.
 pub sent_by_blank : (b : Bool) (codes : List ℕ)
     → length codes ≡ 40
     → (b ≡ true) ↔ (codes ≡ replicate 40 space)
@@ -77,7 +71,6 @@ sent_by_blank false codes long h =
     ∙ sym (get_or-replicate 40 i space 0 (omega (arith, long))))))))
 
 module _ (w : PageIdValue) (page : Rows) (ok : IsWatchable w) (shape : IsPage page) where
-  -- Each cell of the sent rows is that of the page; other rows show spaces.
   cell_found : (row column a n : ℕ) → 1 ≤ a → a + n ≤ 25 → column < 40
       → in_cell w row column (rows_from w.magazine page a n)
       ≡ cond (nat_le a row && nat_lt row (a + n)) (cell page row column) space
@@ -99,16 +92,12 @@ module _ (w : PageIdValue) (page : Rows) (ok : IsWatchable w) (shape : IsPage pa
           ≡ cond (nat_le a row && nat_lt row (a + suc n)) (cell page row column) space
       rest b sent ih = grind (arith, nat_tests, made_row, is_row_at, row_length, empty_cell)
 
-  -- Each cell of the page is that of the rows that are sent.
   page_found : (row column : ℕ) → IsCell row column
       → in_cell w row column (sent_rows w.magazine page) ≡ cell page row column
   unfolding sent_rows
   page_found row column named =
       grind (arith, nat_tests, cell_found row column 1 24 (lit≤ tt) (lit≤ tt) named.2)
 
--- ---- the span of a page transmission
-
--- Packets before one that ends the page, cut: if none of them ends it, all stay.
 cut_end : {A : Type 0} (kind_of : A → PacketKind) (rows : List A) (c : A) (m : ℕ)
     → AllByRecursion (λ x. ends_page (kind_of x) ≡ false) rows → ends_page (kind_of c) ≡ true
     → before_end kind_of (take m (rows ++ c ∷ [])) ≡ take m rows
@@ -118,38 +107,30 @@ cut_end kind_of (r ∷ rows) c zero go e = refl
 cut_end kind_of (r ∷ rows) c (suc m) go e =
     rw go.0 (ap (λ ps. r ∷ ps) (cut_end kind_of rows c m go.1 e))
 
--- C11 of the header of the page is that of the mode.
 mode_opener : (w : PageIdValue) (national : National) (serial : Bool)
     → c11 (watched_header w national serial) ≡ serial
 mode_opener w national serial = grind (arith, nat_tests)
 
--- C11 of the closing header is that of the mode.
 mode_closer : (serial : Bool) → c11 (closing_header serial) ≡ serial
 mode_closer serial = grind (arith, nat_tests)
 
 module _ (w : PageIdValue) (national : National) (serial : Bool) (page : Rows) (ok : IsWatchable w)
     (shape : IsPage page) where
-  -- The rows that are sent.
   abbrev rows : List (List ℕ)
   rows = sent_rows w.magazine page
 
-  -- The packets after the first.
   abbrev rest : List (List ℕ)
   rest = rows ++ closer w serial ∷ []
 
-  -- A property of every row's kind holds of all rows.
   of_rows : (P : PacketKind → Type 0) → ((row : ℕ) → P (Row row)) → All (λ p. P (kind w p)) rows
   of_rows P h = grind (arith, nat_tests, All-weaker, kind_row, sent_rows_are w page)
 
-  -- The first packet is a header of the page.
   opens : is_this_page (kind w (opener w national serial)) ≡ true
   opens = ap is_this_page (kind_opener w national serial ok)
 
-  -- The last packet ends the page.
   closes : ends_page (kind w (closer w serial)) ≡ true
   closes = ap ends_page (kind_closer w serial ok)
 
-  -- However it is cut, no packet after the first is a header of the page.
   no_header : (m : ℕ) → holds_header (kind w) (take m rest) ≡ false
   no_header m =
       let P : List ℕ → Type 0 = λ p. is_this_page (kind w p) ≡ false in
@@ -158,14 +139,12 @@ module _ (w : PageIdValue) (national : National) (serial : Bool) (page : Rows) (
       (All-push P rows (closer w serial) (of_rows (λ k. is_this_page k ≡ false) (λ row. refl))
       (ap is_this_page (kind_closer w serial ok))))
 
-  -- The packets before the closing header, cut.
   rows_before_end : (m : ℕ) → before_end (kind w) (take m rest) ≡ take m rows
   rows_before_end m =
       cut_end (kind w) rows (closer w serial) m
       (recursion_from_All (λ p. ends_page (kind w p) ≡ false) rows
       (of_rows (λ k. ends_page k ≡ false) (λ row. refl))) closes
 
-  -- A page transmission cut after its header.
   cut_span : (m : ℕ) → span (kind w) (opener w national serial ∷ take m rest) ≡ take m rows
   cut_span m = grind (arith, nat_tests, after-here, opener, rest, no_header, opens, rows_before_end)
 
@@ -173,14 +152,12 @@ module _ (w : PageIdValue) (national : National) (serial : Bool) (page : Rows) (
   unfolding sending
   sending_holds = or_left _ _ opens
 
-  -- A page transmission that is cut, also with the packets that follow it, holds a header of the
-  -- page.
+  -- If a page transmission is cut after at least one packet, it still has its header of the page.
   pub opens_cut : (m : ℕ) (more : List (List ℕ))
       → holds_header (kind w) (take (suc m) (sending w national serial page ++ more)) ≡ true
   unfolding sending
   opens_cut m more = or_left _ _ opens
 
-  -- Whatever came before, its other packets are those after the last header.
   after_sending : (before : List (List ℕ))
       → after_last_header (kind w) (before ++ sending w national serial page) ≡ rest
   unfolding sending
@@ -189,7 +166,8 @@ module _ (w : PageIdValue) (national : National) (serial : Bool) (page : Rows) (
       ∙ after-here (kind w) (opener w national serial) rest
       (rw (take_all (length rest) rest (omega arith)) at (no_header (length rest))) opens
 
-  -- Whatever came before, the span is its rows.
+  -- Whatever was sent before a page transmission, the rows since the last header of the page are
+  -- the rows of this transmission.
   pub span_after : (before : List (List ℕ))
       → span (kind w) (before ++ sending w national serial page) ≡ rows
   span_after before =
@@ -198,19 +176,19 @@ module _ (w : PageIdValue) (national : National) (serial : Bool) (page : Rows) (
       ap (before_end (kind w)) (after_sending before)
       ∙ rw (take_all n rest (omega arith), take_all n rows (omega arith)) at (rows_before_end n)
 
-  -- Whatever came before, each cell that is shown is that of the page.
+  -- Whatever was sent before a page transmission, each cell shown after it is that of the
+  -- transmitted page.
   pub shown_after : (before : List (List ℕ)) (row column : ℕ) → IsCell row column
       → shown w (before ++ sending w national serial page) row column ≡ cell page row column
   shown_after before row column named = grind (arith, nat_tests, span_after, page_found)
 
-  -- Whatever came before, the closing header ends the page.
+  -- Whatever was sent before a page transmission, its closing header ends the page.
   pub ended_after : (before : List (List ℕ))
       → is_unended (kind w) (before ++ sending w national serial page) ≡ false
   ended_after before = search (rules, after_sending, list_any-append, closer, closes, or-true)
 
   -- ---- cut short
 
-  -- The span of a page transmission that is cut.
   pub rows_cut : (n : ℕ)
       → AreRowsOfOnePage w (span (kind w) (take n (sending w national serial page)))
   unfolding sending
@@ -223,7 +201,6 @@ module _ (w : PageIdValue) (national : National) (serial : Bool) (page : Rows) (
 
   -- ---- each packet of it
 
-  -- A property of the two headers and of each row holds of each packet.
   each_packet : (P : List ℕ → Type 0) → P (opener w national serial) → P (closer w serial)
       → ((row : ℕ) → 1 ≤ row → row ≤ 24 → P (row_of w page row))
       → All P (sending w national serial page)
@@ -234,7 +211,6 @@ module _ (w : PageIdValue) (national : National) (serial : Bool) (page : Rows) (
       (All-weaker (IsRowOf w page) P (λ p is. rw is.is (each is.row is.low is.high)) rows
       (sent_rows_are w page)) last)
 
-  -- Each packet is as the law says.
   pub all_sent : All (IsSentPacket w national serial) (sending w national serial page)
   all_sent = each_packet (IsSentPacket w national serial) first last each
     where
@@ -253,9 +229,8 @@ module _ (w : PageIdValue) (national : National) (serial : Bool) (page : Rows) (
           let made = made_row w page row ok shape one high in
           grind (arith, nat_tests, packet_of_codes, row_codes, none-some, kind_row)
 
--- ---- page transmissions one after another, cut anywhere
-
--- By induction on their number: the packets before the last header don't matter.
+-- By induction on the number of page transmissions: packets before the last header of the page have
+-- no effect on the rows shown.
 pub law_of_cut_sendings : LawOfCutSendings
 law_of_cut_sendings w national serial due [] n ok shape =
     rw (take_all {A = List ℕ} n [] (omega arith))

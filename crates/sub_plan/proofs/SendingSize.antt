@@ -1,5 +1,5 @@
--- The size of a page transmission, as a value and row by row: law_of_size, law_of_pes_values,
--- sending_made.
+-- The number of packets of a page transmission, which fit in one PES packet: law_of_size,
+-- law_of_pes_values, sending_made.
 use Rattle.std.proofs.Common.{rules, ◌≡◌, ℕ, ◌+◌, ◌-◌, ◌*◌, ◌^◌, ◌<◌, ◌≤◌, Bool, false, cond, List}
 use Rattle.std.proofs.Common.{[], ◌∷◌, ◌++◌, length, filter, All, refl, ap, ◌∙◌, arith, lit<}
 use Rattle.std.proofs.Common.{append-nil}
@@ -25,31 +25,24 @@ use Rattle.stl_rows.proofs.LastRowLemmas.{last_row_blank}
 use Rattle.sub_plan.proofs.SentPackets.{closer}
 use Rattle.sub_plan.proofs.SendingLemmas.{all_sent}
 
--- ---- its size
-
 pub short_filter : (test : ℕ → Bool) (xs : List ℕ) → length (filter test xs) ≤ length xs
 short_filter test xs = omega (arith, length-filter test xs, count_by-le-length test xs)
 
--- Of n rows at most n are sent.
 short_rows : (magazine : ℕ) (page : Rows) (a n : ℕ) → length (rows_from magazine page a n) ≤ n
 short_rows magazine page a n = search (rules, length-map, short_filter, length-range_with_len)
 
--- At most 24 rows are sent.
 short_page : (magazine : ℕ) (page : Rows) → length (sent_rows magazine page) ≤ 24
 unfolding sent_rows
 short_page magazine page = short_rows magazine page 1 24
 
--- A page transmission has at most 26 packets.
 pub law_of_size : LawOfSize
 unfolding sending
 law_of_size w national serial page = grind (arith, nat_tests, length_push, closer, short_page)
 
--- A blank row is not sent. For `law_of_due_size`.
 blank_unsent : is_sent_row blank_row ≡ false
 unfolding blank_row
 blank_unsent = refl
 
--- Of a page whose last row is blank at most 23 rows are sent.
 rows_but_last : (magazine : ℕ) (page : Rows)
     → row_at page 24 ≡ blank_row
     → length (sent_rows magazine page) ≤ 23
@@ -65,15 +58,11 @@ rows_but_last magazine page e =
       rows,
     ) (short_filter test (range_with_len 1 23))
 
--- The transmission of an expected page: its header, at most 23 rows, the closing header.
 pub law_of_due_size : LawOfDueSize
 unfolding sending
 law_of_due_size w serial programme frame =
     grind (arith, nat_tests, length_push, closer, rows_but_last, last_row_blank)
 
--- ---- as a PES packet
-
--- A page transmission is the value of a PES packet.
 pub law_of_pes_values : LawOfPesValues
 law_of_pes_values o national serial page frame ok shape =
     let packets : List (List ℕ) = sending o.page national serial page in
@@ -85,9 +74,6 @@ law_of_pes_values o national serial page frame ok shape =
     (numbered_is_value (pts_of o.origin frame) packets small few
     (recursion_from_All IsPacket packets each)).0
 
--- ---- for a loop over the rows
-
--- The rows from one on: this row, if it is sent, and those after it. For `of_page`.
 pub rows_next : (magazine : ℕ) (page : Rows) (row : ℕ)
     → row ≤ 24
     → rows_from magazine page row (25 - row)
@@ -95,7 +81,6 @@ pub rows_next : (magazine : ℕ) (page : Rows) (row : ℕ)
     ++ rows_from magazine page (row + 1) (25 - (row + 1))
 rows_next magazine page row high = grind (arith, nat_tests)
 
--- After row 24 the closing header completes the page transmission.
 pub sending_made : (w : PageIdValue) (national : National) (serial : Bool) (page : Rows)
     (sent : List (List ℕ))
     → sent ≡ header_packet w.magazine (watched_header w national serial)

@@ -1,5 +1,5 @@
--- The packets of a page transmission: the values read from them, made_row, and their kinds,
--- kind_row.
+-- The packets of a page transmission: the values that a receiver reads, made_row, and the packet
+-- kinds, kind_row.
 use Rattle.std.proofs.Common.{rules, ◌≡◌, ℕ, ◌+◌, ◌-◌, ◌*◌, ◌/◌, ◌%◌, ◌<◌, ◌≤◌, Bool, List, [], ◌∷◌}
 use Rattle.std.proofs.Common.{◌++◌, length, map, replicate, slice_index, All, refl, arith, lit<}
 use Rattle.std.proofs.Common.{eq-eqb, ne_eqb}
@@ -26,16 +26,12 @@ use Rattle.stl_rows.specs.declared.national.National.{National}
 use Rattle.sub_plan.specs.Options.{IsWatchable}
 use Rattle.sub_plan.specs.Sending.{watched_header, closing_header}
 
--- ---- packets of bytes
-
 abbrev IsByte : ℕ → Type 0
 IsByte b = b < 0x100
 
--- Each element of a list of bytes is one, also past its end.
 byte_at : (xs : List ℕ) → All IsByte xs → (n : ℕ) → slice_index xs n < 0x100
 byte_at xs all n = grind (arith, nat_tests, get_or_past)
 
--- A code word is a byte: 16 entries, computed.
 code_word_small : (n : ℕ) → code_word n < 0x100
 code_word_small n = grind (arith, nat_tests, byte_at, ltb-true, AllPass-from_list_all)
 
@@ -45,7 +41,6 @@ code_words_small numbers = search (rules, All-map, code_word_small)
 odd_byte_small : (code : ℕ) → code < 0x80 → odd_byte code < 0x100
 odd_byte_small code l = grind (arith, nat_tests)
 
--- 42 bytes that begin with an address are a packet.
 packet_from : (magazine y : ℕ) (rest : List ℕ) → length (address_words magazine y ++ rest) ≡ 42
     → All IsByte rest → IsPacket (address_words magazine y ++ rest)
 packet_from magazine y rest size all = record {
@@ -55,7 +50,6 @@ packet_from magazine y rest size all = record {
       (code_words_small ((magazine + 8 * y) % 16 ∷ (magazine + 8 * y) / 16 ∷ [])) all);
 }
 
--- A header packet is a packet of bytes.
 pub packet_of_header : (magazine : ℕ) (h : Header) → length (header_packet magazine h) ≡ 42
     → IsPacket (header_packet magazine h)
 unfolding header_packet
@@ -64,7 +58,6 @@ packet_of_header magazine h size =
     (All-append IsByte (map code_word (header_numbers h)) (replicate 32 0x20)
     (code_words_small (header_numbers h)) (All-replicate IsByte 32 0x20 (lit< tt)))
 
--- A row packet is one too.
 pub packet_of_codes : (magazine row : ℕ) (codes : List ℕ)
     → length (row_packet magazine row codes) ≡ 42
     → All (λ c. c < 0x80) codes → IsPacket (row_packet magazine row codes)
@@ -74,72 +67,55 @@ packet_of_codes magazine row codes size all =
     (All-map IsByte odd_byte codes
     (All-weaker (λ c. c < 0x80) (λ c. odd_byte c < 0x100) odd_byte_small codes all))
 
--- ---- the values of the packets
-
--- The header of the page can be coded in a packet.
 watched_is : (w : PageIdValue) (national : National) (serial : Bool) → IsWatchable w
     → IsHeader (watched_header w national serial)
 watched_is w national serial ok = grind (arith, nat_tests, bit_small)
 
--- So can the closing header.
 closing_is : (serial : Bool) → IsHeader (closing_header serial)
 closing_is serial = grind (arith, nat_tests, bit_small)
 
--- The header of the page as a packet.
 abbrev pub opener : PageIdValue → National → Bool → List ℕ
 opener w national serial = header_packet w.magazine (watched_header w national serial)
 
--- The closing header as a packet.
 abbrev pub closer : PageIdValue → Bool → List ℕ
 closer w serial = header_packet w.magazine (closing_header serial)
 
--- The values read from the header of the page.
 pub made_opener : (w : PageIdValue) (national : National) (serial : Bool) → IsWatchable w
     → IsMadeHeader w.magazine (watched_header w national serial) (opener w national serial)
 made_opener w national serial ok = search (rules, law_of_header_packet, watched_is)
 
--- The values read from the closing header.
 pub made_closer : (w : PageIdValue) (serial : Bool) → IsWatchable w
     → IsMadeHeader w.magazine (closing_header serial) (closer w serial)
 made_closer w serial ok = search (rules, law_of_header_packet, closing_is)
 
--- The packet of a row of the page.
 abbrev pub row_of : PageIdValue → Rows → ℕ → List ℕ
 row_of w page row = row_packet w.magazine row (row_at page row)
 
--- A row of a page has 40 codes.
 pub row_length : (page : Rows) (row : ℕ) → IsPage page → 1 ≤ row → row ≤ 24
     → length (row_at page row) ≡ 40
 row_length page row shape one high = shape.columns (row - 1) (omega arith)
 
--- The codes of a row of a page are below 128.
 pub row_codes : (page : Rows) (row : ℕ) → IsPage page → All (λ c. c < 0x80) (row_at page row)
 row_codes page row shape =
     All-from_get_or (λ c. c < 0x80) (row_at page row) 0 (λ i l. shape.codes (row - 1) i)
 
--- The values read from a row of the page.
 pub made_row : (w : PageIdValue) (page : Rows) (row : ℕ) → IsWatchable w → IsPage page → 1 ≤ row
     → row ≤ 24 → IsMadeRow w.magazine row (row_at page row) (row_of w page row)
 made_row w page row ok shape one high =
     law_of_row_packet w.magazine row (row_at page row) ok.magazine one (omega arith)
     (row_length page row shape one high) (row_codes page row shape)
 
--- ---- their kinds
-
--- The header of the page is one of this page.
 pub kind_opener : (w : PageIdValue) (national : National) (serial : Bool) → IsWatchable w
     → kind w (opener w national serial) ≡ ThisPage (watched_header w national serial)
 unfolding kind
 kind_opener w national serial ok = grind (arith, nat_tests, made_opener w national serial ok)
 
--- The closing header ends the page.
 pub kind_closer : (w : PageIdValue) (serial : Bool) → IsWatchable w
     → kind w (closer w serial) ≡ EndsPage
 unfolding kind
 kind_closer w serial ok =
     grind (arith, nat_tests, made_closer w serial ok, ne_eqb, eq-eqb w.magazine w.magazine refl)
 
--- A row of the page is that row.
 pub kind_row : (w : PageIdValue) (page : Rows) (row : ℕ) → IsWatchable w → IsPage page → 1 ≤ row
     → row ≤ 24 → kind w (row_of w page row) ≡ Row row
 unfolding kind

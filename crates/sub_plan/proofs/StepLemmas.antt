@@ -1,5 +1,5 @@
--- From base to base: sendings-step splits off the page transmissions of a stretch, steps-more the
--- first of them.
+-- The page transmissions of a schedule, from base to base: sendings-step splits off those from one
+-- base to the next, steps-more the first of them.
 use Rattle.std.proofs.Common.{◌≡◌, ℕ, zero, suc, ◌+◌, ◌-◌, ◌%◌, ◌<◌, ◌≤◌, ◌==◌, Bool, false, []}
 use Rattle.std.proofs.Common.{List, ◌∷◌, ◌++◌, refl, ap, ◌∙◌, arith, filter, eq-eqb, ne_eqb}
 use Rattle.std.proofs.lemmas.Bool.Decides.{nat_tests}
@@ -12,9 +12,6 @@ use Rattle.sub_plan.specs.Schedule.{is_sending, sendings_from}
 use Rattle.sub_plan.specs.Steps.{steps}
 use Rattle.sub_plan.proofs.ScheduleBases.{base-last, range_split}
 
--- ---- ranges
-
--- Two tests that agree on a range.
 filter_same : (p q : ℕ → Bool) (a n : ℕ) → ((j : ℕ) → a ≤ j → j < a + n → p j ≡ q j)
     → filter p (range_with_len a n) ≡ filter q (range_with_len a n)
 filter_same p q a zero h = refl
@@ -23,7 +20,6 @@ filter_same p q a (suc n) h =
     filter_same p q (a + 1) n (λ j b c. h j (omega arith) (omega arith)) in
     grind (arith, nat_tests)
 
--- Numbers that fail the test are left out.
 filter_skip : (p : ℕ → Bool) (k a n : ℕ) → ((j : ℕ) → a ≤ j → j < a + k → p j ≡ false)
     → filter p (range_with_len a n) ≡ filter p (range_with_len (a + k) (n - k))
 filter_skip p zero a n h = grind (arith, nat_tests)
@@ -35,13 +31,10 @@ filter_skip p (suc k) a (suc n) h =
     rw (e, g)
     (rw f at (filter_skip p k (a + 1) n (λ j b c. h j (omega arith) (omega arith))))
 
--- ---- steps
-
 pub steps-none : (every from end : ℕ) → end ≤ from → steps every from end ≡ []
 unfolding steps
 steps-none every from end h = let e : end - from ≡ 0 = omega arith in rw e refl
 
--- The first step, and those from the next one on.
 pub steps-more : (every from end : ℕ) → 1 ≤ every → from < end
     → steps every from end ≡ from ∷ steps every (from + every) end
 unfolding steps
@@ -62,9 +55,7 @@ steps-more every from end some inside =
     rw (further, add-mod_right (j - (from + every)) every) refl) in
     grind (arith, nat_tests)
 
--- ---- from base to base
-
--- A stretch: a base and the frames after it that have the same expected page, up to an end.
+-- The frames from the base b to before `end` have the same expected page.
 pub record IsStretch (due : ℕ → Rows) (first b end last : ℕ) : Type 0 where
   pub low : first ≤ b
   pub some : b < end
@@ -72,12 +63,12 @@ pub record IsStretch (due : ℕ → Rows) (first b end last : ℕ) : Type 0 wher
   pub starts : IsBase due first b
   pub same : (f : ℕ) → b ≤ f → f < end → due f ≡ due b
 
--- In a stretch the last base is its first frame.
 last_base-in : (due : ℕ → Rows) (first b end last f : ℕ) → IsStretch due first b end last → b ≤ f
     → f < end → IsLastBase due first f b
 last_base-in due first b end last f s low high = grind (arith, nat_tests)
 
--- In a stretch the page transmissions are the steps.
+-- Between a base and the next base, a frame has a page transmission if its distance from the base
+-- is a multiple of `every`.
 is_sending-in : (due : ℕ → Rows) (every first b end last f : ℕ) → IsStretch due first b end last
     → b ≤ f → f < end → is_sending due every first last f ≡ ((f - b) % every == 0)
 unfolding is_sending
@@ -85,7 +76,8 @@ is_sending-in due every first b end last f s low high =
     let e : (f == last) ≡ false = ne_eqb f last (λ same. absurd (omega (arith, s.high, same))) in
     rw (e, base-last due first f b (last_base-in due first b end last f s low high)) refl
 
--- The page transmissions from a base on: the steps of its stretch, and those from the next base on.
+-- The page transmissions from a base on are those up to the next base, followed by those from the
+-- next base on.
 pub sendings-step : (due : ℕ → Rows) (every first b end last : ℕ) → IsStretch due first b end last
     → sendings_from due every first last b ≡ steps every b end
     ++ sendings_from due every first last end
@@ -100,7 +92,6 @@ sendings-step due every first b end last s =
     (filter_same p (λ f. (f - b) % every == 0) b (end - b)
     (λ j low high. is_sending-in due every first b end last j s low (omega (arith, s.some)))))
 
--- From the last frame on there is one page transmission.
 pub sendings-last : (due : ℕ → Rows) (every first last : ℕ)
     → sendings_from due every first last last ≡ last ∷ []
 unfolding sendings_from is_sending

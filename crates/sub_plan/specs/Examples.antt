@@ -1,4 +1,4 @@
--- The headers of a page transmission byte by byte.
+-- Examples: the headers of a page transmission, byte by byte.
 use Rattle.std.specs.Prelude.{◌≡◌, ℕ, true, false, List, [], ◌∷◌, ◌++◌, replicate}
 use Rattle.ttx_packet.specs.PageHeader.{header_packet}
 use Rattle.ttx_packet.specs.PageId.{PageIdValue}
@@ -7,23 +7,23 @@ use Rattle.stl_rows.specs.declared.national.National.TheVariants.{English, Germa
 use Rattle.stl_rows.specs.declared.national.National.TheVariants.{French, Spanish, Czech}
 use Rattle.sub_plan.specs.Sending.{watched_header, closing_header}
 
--- Page 888; magazine 8 is sent as 0.
+-- Page 888, whose magazine 8 is sent as 0.
 abbrev pub page_888 : PageIdValue
 page_888 = record { magazine = 0; page = 0x88 }
 
--- A header of page 888 with this last coded byte: ten coded bytes and 32 spaces.
+-- A header packet of page 888: ten coded bytes, the last of them `last`, and 32 spaces.
 abbrev pub header_888_ending : ℕ → List ℕ
 header_888_ending last =
     (0x15 ∷ 0x15 ∷ 0xD0 ∷ 0xD0 ∷ 0x15 ∷ 0xD0 ∷ 0x15 ∷ 0xD0 ∷ 0x02 ∷ last ∷ []) ++ replicate 32 0x20
 
--- The header of page 888 in an option, in parallel and in serial mode: C11 to C14 are the four data
--- bits of byte 9.
+-- The header of page 888 with a national option ends with these coded bytes in parallel and in
+-- serial mode. The last coded byte has C11 to C14 as its four data bits.
 abbrev pub HasLastBytes : National → ℕ → ℕ → Type 0
 HasLastBytes national parallel serial =
     (header_packet 0 (watched_header page_888 national false) ≡ header_888_ending parallel)
     × (header_packet 0 (watched_header page_888 national true) ≡ header_888_ending serial)
 
--- The headers for each option.
+-- The header of page 888 for each national option, in parallel and in serial mode.
 abbrev pub ExampleOfWatchedHeaders : Type 0
 ExampleOfWatchedHeaders =
     HasLastBytes English 0x15 0x02

@@ -1,15 +1,16 @@
--- The number and the name of the error of writing a schedule (own), and which error is a failure of
--- the sink.
+-- The errors of writing a schedule: the number and the name of each (own), and which of them mean
+-- that the sink failed.
 use Rattle.std.specs.Prelude.{Bool, true, false, codes}
 use Rattle.sub_io.specs.FaultCode.{FaultCodeValue, fault_code}
 use Rattle.sub_plan.specs.declared.fault.PlanFault.{PlanFault}
 use Rattle.sub_plan.specs.declared.fault.PlanFault.TheVariants as fault
 
+-- The number and the name of an error of writing a schedule (own).
 abbrev pub plan_code : PlanFault → FaultCodeValue
 plan_code fault.NoSubtitles = fault_code 82 (codes "NoSubtitles")
 plan_code fault.Write = fault_code 42 (codes "Write")
 
--- The sink failed.
+-- The error means that the sink failed.
 abbrev pub is_plan_write : PlanFault → Bool
 is_plan_write fault.Write = true
 is_plan_write _ = false

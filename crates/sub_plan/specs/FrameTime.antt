@@ -5,13 +5,13 @@ use Rattle.std.specs.Prelude.{if◌then◌else◌, Option, Some, None}
 use Rattle.stl_file.specs.TimeCode.{day}
 use Rattle.sub_plan.specs.Options.{OptionsValue}
 
--- The PTS of a frame: that of frame 0, plus 3600 ticks for each frame, in 33 bits.
+-- The PTS of a frame of the day: the PTS of frame 0 plus 3600 ticks per frame, in 33 bits.
 abbrev pub pts_of : ℕ → ℕ → ℕ
 pts_of origin frame = (origin + 3600 * frame) % 2 ^ 33
 
 -- ---- the frame of a PTS
 
--- The frame with exactly this PTS, among those below a number.
+-- The frame with exactly this PTS, among the frames below n.
 unfoldable pub frame_below : ℕ → ℕ → ℕ → Option ℕ
 frame_below origin pts zero = None
 frame_below origin pts (suc n) =
@@ -21,17 +21,18 @@ frame_below origin pts (suc n) =
 abbrev pub frame_of_pts : ℕ → ℕ → Option ℕ
 frame_of_pts origin pts = frame_below origin pts day
 
--- The number, if it is that of a frame of the day.
+-- The frame itself, if it is a frame of the day; otherwise `None`.
 abbrev pub frame_in_day : ℕ → Option ℕ
 frame_in_day frame = if nat_lt frame day then Some frame else None
 
--- The ticks from the first tick of frame 0, which is 900 before its PTS, to this PTS.
+-- The number of ticks from the first tick of frame 0, which is 900 before the PTS of frame 0, to
+-- this PTS.
 abbrev pub ticks_after : ℕ → ℕ → ℕ
 ticks_after origin pts = (pts + (2 ^ 33 - origin) + 900) % 2 ^ 33
 
--- The frame of the day whose ticks include this PTS of 33 bits. They begin 900 before the frame's
--- own PTS. So a PTS may be a quarter of a frame early, as multiplexers may make it, and those of
--- two fields, half a frame apart, belong to one frame (own).
+-- The frame of the day whose ticks include this PTS of 33 bits. The ticks of a frame begin 900
+-- before the frame's own PTS. So a PTS may be a quarter of a frame early, as multiplexers may make
+-- it, and the PTSs of two fields, half a frame apart, belong to one frame (own).
 unfoldable pub near_frame : ℕ → ℕ → Option ℕ
 near_frame origin pts =
     if nat_lt pts (2 ^ 33) then frame_in_day (ticks_after origin pts / 3600) else None
@@ -40,12 +41,13 @@ near_frame origin pts =
 abbrev pub Clock : Type 0
 Clock = ℕ → Option ℕ
 
--- The clock, given within how many frames the page must be right and the PTS of frame 0. For 0, a
--- PTS belongs to the frame with exactly this PTS, otherwise to the frame whose ticks include it.
+-- The clock for `within`, the number of frames within which the page must be right, and `origin`,
+-- the PTS of frame 0. If `within` is 0, a PTS belongs to the frame with exactly this PTS, otherwise
+-- to the frame whose ticks include it.
 unfoldable pub clock : ℕ → ℕ → Clock
 clock zero origin pts = frame_of_pts origin pts
 clock (suc n) origin pts = near_frame origin pts
 
--- The clock of options.
+-- The clock that the options select.
 abbrev pub clock_of : OptionsValue → Clock
 clock_of o = clock o.within o.origin

@@ -1,4 +1,5 @@
--- What a page transmission shows, and the frames of a schedule with one.
+-- Laws: the page that a page transmission shows, and the frames of a schedule that have a page
+-- transmission.
 use Rattle.std.specs.Prelude.{◌≡◌, ◌≢◌, ◌↔◌, ℕ, ◌+◌, ◌-◌, ◌%◌, ◌^◌, ◌<◌, ◌≤◌, ◌⊎◌, Contains}
 use Rattle.std.specs.Prelude.{All, Bool, List, ◌++◌, Some, length, take, IsTrue}
 use Rattle.std.specs.Prelude.{IsFalse}
@@ -22,10 +23,10 @@ use Rattle.sub_plan.specs.Options.{IsOptions, IsWatchable, OptionsValue}
 use Rattle.sub_plan.specs.Schedule.{base, due_in, is_sending, sendings, pes_value, plan_frames}
 use Rattle.sub_plan.specs.Sending.{sending, watched_header}
 
--- ---- one page transmission
+-- ---- laws of one page transmission
 
 -- Whatever was sent before, a page transmission shows the page from which it was made. So a
--- receiver that gets all of it shows the page that was expected.
+-- receiver that gets the complete transmission shows the expected page.
 abbrev pub LawOfSending : Type 0
 LawOfSending =
     (w : PageIdValue) (national : National) (serial : Bool) (page : Rows) (before : List (List ℕ))
@@ -35,8 +36,9 @@ LawOfSending =
     → IsCell row column
     → shown w (before ++ sending w national serial page) row column ≡ cell page row column
 
--- A packet of a page transmission: 42 bytes; code words without a wrong bit; if it is a header, C11
--- by the mode; and the only header of the page is that of the transmission.
+-- A packet of a page transmission: 42 bytes; all code words without a wrong bit; in each header,
+-- C11 as the transmission mode requires; and any header of the page is the header of this
+-- transmission.
 pub record IsSentPacket
     (w : PageIdValue) (national : National) (serial : Bool) (packet : List ℕ) : Type 0 where
   pub whole : IsPacket packet
@@ -46,8 +48,8 @@ pub record IsSentPacket
       → kind w packet ≡ ThisPage h
       → h ≡ watched_header w national serial
 
--- Each packet of a page transmission is of this kind. So the rules of a good transmission on single
--- packets hold for the packets of a schedule.
+-- Each packet of a page transmission satisfies `IsSentPacket`. So the packets of a schedule meet
+-- the rules for single packets of a good transmission.
 abbrev pub LawOfSentPackets : Type 0
 LawOfSentPackets =
     (w : PageIdValue) (national : National) (serial : Bool) (page : Rows)
@@ -55,33 +57,34 @@ LawOfSentPackets =
     → IsPage page
     → All (IsSentPacket w national serial) (sending w national serial page)
 
--- The transmission of an expected page has at most 25 packets, since its row 24 is blank.
+-- The transmission of an expected page has at most 25 packets, since row 24 of the page is blank.
 abbrev pub LawOfDueSize : Type 0
 LawOfDueSize =
     (w : PageIdValue) (serial : Bool) (programme : ProgrammeValue) (frame : ℕ)
     → length (sending w programme.drawing.national serial (due_in programme frame)) ≤ 25
 
--- A page transmission has at most 26 packets. So one PES packet has lines for all of them.
+-- A page transmission has at most 26 packets. So one PES packet has enough lines for all of them.
 abbrev pub LawOfSize : Type 0
 LawOfSize =
     (w : PageIdValue) (national : National) (serial : Bool) (page : Rows)
     → length (sending w national serial page) ≤ 26
 
--- The packet is a row of the page.
+-- The packet is one of the rows 1 to 24 of the page.
 pub record IsRowOf (w : PageIdValue) (page : Rows) (packet : List ℕ) : Type 0 where
   pub row : ℕ
   pub low : 1 ≤ row
   pub high : row ≤ 24
   pub is : packet ≡ row_packet w.magazine row (row_at page row)
 
--- The packets are rows of one page.
+-- All packets in the list are rows of one page.
 pub record AreRowsOfOnePage (w : PageIdValue) (packets : List (List ℕ)) : Type 0 where
   pub page : Rows
   pub shape : IsPage page
   pub rows : All (IsRowOf w page) packets
 
--- After page transmissions of any pages, cut anywhere, the span has rows of only one page. So
--- wherever a receiver stops, in a frame or at its end, its rows do not contradict each other.
+-- If page transmissions of any pages are cut anywhere, the packets since the last header of the
+-- page are rows of only one page. So the rows that a receiver has at any time do not contradict
+-- each other.
 abbrev pub LawOfCutSendings : Type 0
 LawOfCutSendings =
     (w : PageIdValue) (national : National) (serial : Bool) (due : ℕ → Rows) (frames : List ℕ)
@@ -91,25 +94,28 @@ LawOfCutSendings =
     → AreRowsOfOnePage w
     (span (kind w) (take n (flat_map (λ f. sending w national serial (due f)) frames)))
 
--- ---- frames with a page transmission
+-- ---- laws of the frames with a page transmission
 
--- A base: the first frame, or one whose expected page differs from that of the frame before it.
+-- The frame b is a base: it is the first frame of the schedule, or its expected page differs from
+-- that of the previous frame.
 abbrev pub IsBase : (ℕ → Rows) → ℕ → ℕ → Type 0
 IsBase due first b = (b ≡ first) ⊎ (due b ≢ due (b - 1))
 
--- The last base up to a frame.
+-- The frame b is the last base at or before the frame f.
 pub record IsLastBase (due : ℕ → Rows) (first f b : ℕ) : Type 0 where
   pub low : first ≤ b
   pub high : b ≤ f
   pub is_base : IsBase due first b
   pub none_after : (k : ℕ) → b < k → k ≤ f → IsBase due first k → ⊥
 
--- The frame is the last, or its distance from the last base is a multiple of `every`.
+-- The frame f has a page transmission: f is the last frame, or the distance from the last base to f
+-- is a multiple of `every`.
 abbrev pub IsSending : (ℕ → Rows) → ℕ → ℕ → ℕ → ℕ → Type 0
 IsSending due every first last f =
     (f ≡ last) ⊎ ((b : ℕ) × IsLastBase due first f b × ((f - b) % every ≡ 0))
 
--- The frames with a page transmission are these, independent of how they are found.
+-- The frames with a page transmission are those from the first to the last that satisfy
+-- `IsSending`, however they are computed.
 abbrev pub LawOfSendings : Type 0
 LawOfSendings =
     (due : ℕ → Rows) (every first last f : ℕ)
@@ -117,7 +123,7 @@ LawOfSendings =
     ↔ ((first ≤ f) × (f ≤ last) × IsSending due every first last f)
 
 -- Any `every` consecutive frames from the first to the last contain a page transmission. So a
--- receiver that tunes in waits at most that long for the header of the page.
+-- receiver that tunes in waits at most `every` frames for the header of the page.
 abbrev pub LawOfGaps : Type 0
 LawOfGaps =
     (due : ℕ → Rows) (every first last g : ℕ)
@@ -126,8 +132,8 @@ LawOfGaps =
     → g + every ≤ last + 1
     → (f : ℕ) × (g ≤ f) × (f < g + every) × Contains (sendings due every first last) f
 
--- A frame with the same expected page as the frame before it is no base. So two subtitles with the
--- same text, directly after each other, are repeated as one.
+-- A frame with the same expected page as the previous frame is no base. So two subtitles with the
+-- same text, directly after each other, are repeated like one subtitle.
 abbrev pub LawOfEqualPages : Type 0
 LawOfEqualPages =
     (due : ℕ → Rows) (first f : ℕ)
@@ -135,7 +141,8 @@ LawOfEqualPages =
     → due f ≡ due (f - 1)
     → base due first f ≡ base due first (f - 1)
 
--- The last page transmission up to a frame, made from the page that is still expected there.
+-- The frame g has the last page transmission at or before the frame f, and its page is still the
+-- expected page at f.
 pub record IsLastSending (due : ℕ → Rows) (every first last f g : ℕ) : Type 0 where
   pub low : first ≤ g
   pub high : g ≤ f
@@ -143,8 +150,9 @@ pub record IsLastSending (due : ℕ → Rows) (every first last f g : ℕ) : Typ
   pub none_after : (k : ℕ) → g < k → k ≤ f → IsFalse (is_sending due every first last k)
   pub same : due g ≡ due f
 
--- From the first frame on, each frame has a last page transmission up to it, and it shows the page
--- expected at that frame. So the last transmission is never out of date.
+-- From the first frame on, a page transmission comes at or before each frame, and the last such
+-- transmission shows the page expected at that frame. So the last transmission is never out of
+-- date.
 abbrev pub LawOfLastSending : Type 0
 LawOfLastSending =
     (due : ℕ → Rows) (every first last f : ℕ)
@@ -152,7 +160,7 @@ LawOfLastSending =
     → first ≤ f
     → (g : ℕ) × IsLastSending due every first last f g
 
--- ---- PES packets
+-- ---- laws of a schedule's PES packets
 
 -- The packets of a page transmission fit in one PES packet. So a schedule can be read back as its
 -- page transmissions.
@@ -163,17 +171,17 @@ LawOfPesValues =
     → IsPage page
     → IsPesValue (pes_value o.origin (sending o.page national serial page) frame)
 
--- Each frame of a programme's schedule is a frame of the day, so its PTS determines it.
+-- Each frame of a programme's schedule is a frame of the day, so the PTS determines the frame.
 abbrev pub LawOfDay : Type 0
 LawOfDay =
     (programme : ProgrammeValue) (every : ℕ)
     → IsProgramme programme.drawing programme.records
     → All (λ frame. frame < day) (plan_frames programme every)
 
--- ---- the frame of a PTS
+-- ---- laws of the frame of a PTS
 
--- Each clock converts the PTS of a frame of the day to that frame. So a schedule is read as it was
--- written, for every value of `within`.
+-- Each clock converts the PTS of a frame of the day to that frame. So a schedule is read back with
+-- the frames with which it was written, for every value of `within`.
 abbrev pub LawOfClock : Type 0
 LawOfClock =
     (within origin frame : ℕ)
@@ -187,9 +195,9 @@ LawOfExactClock =
     (origin pts frame : ℕ)
     → (clock 0 origin pts ≡ Some frame) ↔ ((frame < day) × (pts_of origin frame ≡ pts))
 
--- Otherwise, a PTS of 33 bits belongs to the frame of the day whose own PTS it precedes by at most
--- 900 ticks, or follows by less than 2700. So neither a PTS a quarter of a frame early nor that of
--- the second field belongs to another frame.
+-- If `within` is at least 1, a PTS of 33 bits belongs to the frame of the day whose own PTS it
+-- precedes by at most 900 ticks, or follows by less than 2700. So neither a PTS a quarter of a
+-- frame early nor the PTS of the second field belongs to another frame.
 abbrev pub LawOfNearClock : Type 0
 LawOfNearClock =
     (within origin frame ticks : ℕ)

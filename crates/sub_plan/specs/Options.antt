@@ -1,12 +1,17 @@
--- The options of a schedule, and of checking one.
+-- The options of a schedule, and of checking a schedule.
 use Rattle.std.specs.Prelude.{ℕ, ◌<◌, ◌≤◌, ◌^◌, Bool, IfSome, Option}
 use Rattle.stl_file.specs.TimeCode.{day}
 use Rattle.ttx_packet.specs.PageId.{PageIdValue}
 
--- The model of options: the page; the repeat bound in frames; the PTS of frame 0; whether complete
--- pages are required, each ended by a later header; within how many frames the expected page must
--- be right (0: at the end of each); the maximum distance of PES packets in frames, if it is
--- limited; and whether repeats may keep the page, with C4, erase page, clear in their headers.
+-- The options of a schedule and of a check:
+--
+--   page           the Teletext page with the subtitles
+--   every          repeat bound: a header of the page at least once in so many frames
+--   origin         the PTS of frame 0, in ticks of 90 kHz
+--   asks_complete  each page must be ended by a later header
+--   within         the expected page must be right within so many frames; 0: at the end of each
+--   pace           maximum distance of PES packets in frames, if it is limited
+--   keeps          headers of repeats may have C4, erase page, clear
 pub record OptionsValue : Type 0 where
   pub page : PageIdValue
   pub every : ℕ
@@ -16,14 +21,15 @@ pub record OptionsValue : Type 0 where
   pub pace : Option ℕ
   pub keeps : Bool
 
--- A magazine 0 to 7, and a page number other than FF. So the closing header, page FF, is never a
--- header of the page.
+-- The page has a magazine from 0 to 7, and is not page FF. So the closing header, page FF, is never
+-- a header of the page.
 pub record IsWatchable (page : PageIdValue) : Type 0 where
   pub magazine : page.magazine < 8
   pub page_number : page.page < 0xFF
 
--- The possible options: a page other than FF, a repeat bound of at most a day, a PTS of 33 bits, at
--- most two seconds within which the page must be right, and a pace of at most a day.
+-- The options are valid: a page other than FF, a repeat bound from one frame to a day, a PTS of 33
+-- bits for frame 0, at most 50 frames (two seconds) within which the page must be right, and a pace
+-- from one frame to a day.
 pub record IsOptions (o : OptionsValue) : Type 0 where
   pub page : IsWatchable o.page
   pub least : 1 ≤ o.every

@@ -1,4 +1,5 @@
-//! Laws of page transmissions and schedules, for callers and readers. The functions do nothing.
+//! Laws of page transmissions and schedules, for callers and readers. The functions themselves do
+//! nothing.
 #![tactic(auto, using(crate::proofs::LawLemmas::laws))]
 
 ghost use Rattle.sub_plan.specs.Examples.{ExampleOfClosingHeaders, ExampleOfWatchedHeaders};
@@ -13,13 +14,13 @@ pub fn law_of_sending()
     ensures { LawOfSending }
 {}
 
-/// Each packet of a page transmission is complete, consists of code words, has the transmission
-/// mode, and is a header of the page only if it is the transmission's own.
+/// Each packet of a page transmission is complete, consists of code words, and has C11 as the
+/// transmission mode requires. Its only header of the page is the header of the transmission.
 pub fn law_of_sent_packets()
     ensures { LawOfSentPackets }
 {}
 
-/// The transmission of an expected page has at most 25 packets.
+/// The transmission of an expected page has at most 25 packets, since row 24 of the page is blank.
 pub fn law_of_due_size()
     ensures { LawOfDueSize }
 {}
@@ -29,12 +30,13 @@ pub fn law_of_size()
     ensures { LawOfSize }
 {}
 
-/// Page transmissions cut anywhere leave rows of only one page in the span.
+/// If page transmissions are cut anywhere, the packets since the last header of the page are rows
+/// of only one page.
 pub fn law_of_cut_sendings()
     ensures { LawOfCutSendings }
 {}
 
-/// The frames with a page transmission, independent of how they are found.
+/// The frames of a schedule with a page transmission, however they are computed.
 pub fn law_of_sendings()
     ensures { LawOfSendings }
 {}
@@ -44,7 +46,7 @@ pub fn law_of_gaps()
     ensures { LawOfGaps }
 {}
 
-/// A cue at which the page does not change starts no new repeat interval.
+/// A cue at which the expected page does not change starts no new repeat interval.
 pub fn law_of_equal_pages()
     ensures { LawOfEqualPages }
 {}
@@ -69,12 +71,13 @@ pub fn law_of_clock()
     ensures { LawOfClock }
 {}
 
-/// If `within` is 0, the frame of a PTS is the one with exactly this PTS.
+/// If `within` is 0, the frame of a PTS is the frame of the day with exactly this PTS.
 pub fn law_of_exact_clock()
     ensures { LawOfExactClock }
 {}
 
-/// Otherwise, a PTS may be a quarter of a frame early or less than three quarters late.
+/// If `within` is at least 1, a PTS may be up to a quarter of a frame early or less than three
+/// quarters late.
 pub fn law_of_near_clock()
     ensures { LawOfNearClock }
 {}

@@ -1,5 +1,5 @@
-//! The options of a schedule and of checking one: the page, the repeat bound, the PTS of frame 0,
-//! how late the page may be right, and the maximum distance of PES packets.
+//! The options of a schedule and of checking a schedule: the page, the repeat bound, the PTS of
+//! frame 0, the time until the page must be right, and the maximum distance of PES packets.
 ghost use Rattle.std.specs.Prelude.{◌≡◌, ◌≢◌, ℕ, ◌^◌, ◌<◌, ◌≤◌, ◌↔◌, ◌⊎◌, None, Some, Err};
 ghost use Rattle.std.specs.Prelude.{IfErr, IfOk, false, true};
 ghost use Rattle.stl_file.specs.TimeCode.{day};
@@ -12,14 +12,14 @@ use std::marker::Model;
 use ttx_packet::PageId;
 use ttx_pes::MOST_PACKETS;
 
-/// Ticks of 90 kHz per frame, a 25th of a second.
+/// The number of 90 kHz ticks per frame, a 25th of a second.
 const TICKS_PER_FRAME: u64 = 3600;
 
 /// One more than the greatest PTS, which has 33 bits.
 const PTS_END: u64 = 8_589_934_592;
 
-/// The number of frames of a day at 25 frames per second. A PES file has at most one packet for
-/// each.
+/// The number of frames of a day at 25 frames per second. A PES file has at most one PES packet per
+/// frame.
 const FRAMES_OF_DAY: u64 = MOST_PACKETS as u64;
 
 /// The greatest repeat bound and the greatest pace in frames: a day (own).
@@ -28,12 +28,13 @@ const MOST_FRAMES: u64 = FRAMES_OF_DAY;
 /// The greatest number of frames within which the page must be right: two seconds (own).
 const MOST_WITHIN: u64 = 50;
 
-/// How many ticks a PTS may be before its frame, a quarter of a frame (own).
+/// The number of ticks by which a PTS may precede its frame: a quarter of a frame (own).
 const TICKS_EARLY: u64 = 900;
 
-/// The page with the subtitles, its repeat bound, the PTS of frame 0, whether complete pages are
-/// required, within how many frames the expected page must be right, the maximum distance of PES
-/// packets in frames, and whether repeats may keep the page.
+/// The options of a schedule and of a check: the page with the subtitles, its repeat bound, the PTS
+/// of frame 0, whether complete pages are required, the number of frames within which the expected
+/// page must be right, the maximum distance of PES packets in frames, and whether repeats may keep
+/// the page.
 ///
 /// The model has all seven, as an `OptionsValue`.
 #[derive(Clone, Copy, Debug, PartialEq, Eq)]
@@ -88,14 +89,15 @@ impl Options {
 
     /// Creates options for a page, a repeat bound and the PTS of frame 0. Complete pages are not
     /// required, the expected page must be right at the end of each frame, the distance of PES
-    /// packets is not limited, and each header of the page must erase it.
+    /// packets is not limited, and each header of the page must have C4, erase page, set.
     ///
     /// `every` is in frames, 1 to 2,160,000, a day: the page's header is sent at least once in that
     /// many frames (own). `origin` is in ticks of 90 kHz, below 2^33 (EN 300 472, PTS).
     ///
     /// # Errors
     ///
-    /// Returns `Every` if the repeat bound is out of range, otherwise `Origin` if the origin is.
+    /// Returns `Every` if the repeat bound is out of range, otherwise `Origin` if the PTS of frame
+    /// 0 is.
     pub fn new(page: PageId, every: u64, origin: u64) -> Result<Options, OptionFault>
         ensures value { IfOk result
             (λ o. o ≡ record {
@@ -132,8 +134,8 @@ impl Options {
         })
     }
 
-    /// Also requires complete pages: at the end of each frame a later header has ended the page.
-    /// Decoders show a page only then (own).
+    /// Also requires complete pages: at the end of each frame, a later header has ended the page,
+    /// since decoders show a page only after that header (own).
     pub fn asking_complete(self) -> Options
         ensures { result ≡ record self { asks_complete = true } }
     {
@@ -151,7 +153,7 @@ impl Options {
     }
 
     /// Allows the expected page to become right within this many frames, 0 to 50, instead of at the
-    /// end of each (own).
+    /// end of each frame (own).
     ///
     /// # Errors
     ///
@@ -171,7 +173,7 @@ impl Options {
         })
     }
 
-    /// Returns within how many frames the expected page must be right, 0 to 50.
+    /// Returns the number of frames within which the expected page must be right, 0 to 50.
     pub fn within(&self) -> u64
         ensures value { result ≡ self.now.within }
         ensures options { IsOptions self.now }
@@ -180,7 +182,7 @@ impl Options {
     }
 
     /// Also requires that PES packets are at most this many frames apart, 1 to 2,160,000, a day
-    /// (own). So no loss remains undetected, however long.
+    /// (own). So no loss of PES packets remains undetected, however long.
     ///
     /// # Errors
     ///
@@ -200,8 +202,8 @@ impl Options {
         })
     }
 
-    /// Returns the maximum distance of PES packets in frames, 1 to 2,160,000, or `None` if it is
-    /// not limited.
+    /// Returns the maximum distance of PES packets in frames, 1 to 2,160,000, or `None` if the
+    /// distance is not limited.
     pub fn pace(&self) -> Option<u64>
         ensures value { result ≡ self.now.pace }
         ensures options { IsOptions self.now }
@@ -220,14 +222,14 @@ impl Options {
         }
     }
 
-    /// Returns whether repeats may keep the page.
+    /// Returns whether headers of repeats may have C4, erase page, clear.
     pub fn may_keep(&self) -> bool
         ensures value { result ≡ self.now.keeps }
     {
         self.keeps
     }
 
-    /// Returns the page.
+    /// Returns the page with the subtitles.
     pub fn page(&self) -> PageId
         ensures value { result ≡ self.now.page }
         ensures options { IsOptions self.now }
@@ -261,14 +263,14 @@ impl Options {
         (self.origin + TICKS_PER_FRAME * u64::from(frame)) % PTS_END
     }
 
-    /// Converts a PTS to a frame of the day. Returns `None` if no frame has it.
+    /// Converts a PTS to a frame of the day. Returns `None` if the PTS belongs to no frame.
     ///
-    /// If the page must be right at the end of each frame, the frame is the one with exactly this
-    /// PTS. Otherwise (`allowing`), a PTS may be a quarter of a frame early, and both fields belong
-    /// to one frame.
+    /// If the page must be right at the end of each frame, a PTS belongs to the frame with exactly
+    /// this PTS. Otherwise (`allowing`), a PTS may be a quarter of a frame early, and the PTSs of
+    /// both fields belong to one frame.
     pub fn frame_of(&self, pts: u64) -> Option<u32>
         ensures value { result ≡ clock_of self.now pts }
-        // If `within` is 0, the frame is the one with exactly this PTS.
+        // If `within` is 0, the result is the frame with exactly this PTS.
         ensures exact { self.now.within ≡ 0 → (frame : ℕ) → (result ≡ Some frame)
             ↔ ((frame < day) × (pts_of self.now.origin frame ≡ pts)) }
     {
@@ -299,7 +301,8 @@ fn exact_frame(origin: u64, pts: u64) -> Option<u32>
     Some(frame as u32)
 }
 
-// Returns the frame of the day whose ticks, shifted by 900, include this PTS.
+// Returns the frame of the day whose ticks include this PTS; they begin 900 ticks before the
+// frame's own PTS.
 fn nearest_frame(origin: u64, pts: u64) -> Option<u32>
     requires { origin < 2 ^ 33 }
     ensures { result ≡ near_frame origin pts }

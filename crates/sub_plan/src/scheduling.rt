@@ -37,7 +37,7 @@ fn put_at<K: Sink>(
     repeat_at(sink, options, frame, &mut once)
 }
 
-// Writes a repeated packet at a frame.
+// Writes a page transmission at a frame, repeated from an earlier frame.
 fn repeat_at<K: Sink>(
     sink: &mut K,
     options: &Options,
@@ -56,7 +56,7 @@ fn repeat_at<K: Sink>(
     packet.put(sink)
 }
 
-// Returns the repeat bound, to be added to a frame.
+// Returns the repeat bound in frames, as a `u32` to be added to a frame.
 fn step_of(options: &Options) -> u32
     ensures value { result ≡ options.now.every }
     ensures least { 1 ≤ result }
@@ -65,7 +65,7 @@ fn step_of(options: &Options) -> u32
     options.every() as u32
 }
 
-// Writes packets at `from` and at each `every` frames after it, before `end`.
+// Writes the same packets at the frame `from` and at each `every` frames after it, before `end`.
 fn send_steps<K: Sink>(
     sink: &mut K,
     options: &Options,
@@ -95,8 +95,8 @@ fn send_steps<K: Sink>(
     Ok(count)
 }
 
-// Returns the first frame after `frame` with a different expected page, or else `last`; and the
-// expected page there. Draws the page only at cues.
+// Returns the first frame after `frame` with a different expected page, or `last` if no page
+// differs; and the expected page at the returned frame. Draws the page only at cues.
 fn next_change(programme: &Programme, frame: u32, page: &Page, last: u32) -> (u32, Page)
     requires within { frame < last }
     requires page { page.now ≡ due_in programme.now frame }
@@ -122,7 +122,8 @@ fn next_change(programme: &Programme, frame: u32, page: &Page, last: u32) -> (u3
     (last, programme.due_page(last))
 }
 
-// Writes the page transmissions from the first frame to the last, and returns their number.
+// Writes the page transmissions from the first frame to the last, and returns the number of
+// transmissions.
 fn send_all<K: Sink>(
     programme: &Programme,
     options: &Options,
@@ -162,10 +163,10 @@ fn send_all<K: Sink>(
 /// of page transmissions.
 ///
 /// Each page transmission is one PES packet (EN 300 472): the header of the page, its rows and the
-/// closing header. Pages are transmitted at the first frame, at each frame at which the expected
-/// page changes, at each `every` frames after such a frame up to the next, and at the last frame
-/// (own). `serial` sets C11, magazine serial, in all headers. The expected page is drawn only at
-/// cues, and nothing is kept in memory.
+/// closing header. The frames with a page transmission are the first frame, each frame at which the
+/// expected page changes, every `every` frames after such a frame up to the next, and the last
+/// frame (own). `serial` sets C11, magazine serial, in all headers. The expected page is drawn only
+/// at cues, and nothing is kept in memory.
 ///
 /// # Errors
 ///

@@ -10,14 +10,14 @@ use stl_rows::{National, NationalBits};
 use ttx_packet::{Control, Header, Packet, PageId};
 use ttx_page::Page;
 
-/// The maximum number of packets of a page transmission: the header of the page, 24 rows, the
+/// The maximum number of packets of a page transmission: the header of the page, 24 rows and the
 /// closing header.
 const MOST_PACKETS: usize = 26;
 
 /// The packets of one page transmission, in the order of transmission.
 #[derive(Drop)]
 pub(crate) struct PageSending {
-    // Only the first `count` are used.
+    // The packets, of which only the first `count` are used.
     packets: [Packet; MOST_PACKETS],
     count: usize,
 }
@@ -33,7 +33,7 @@ impl Model for PageSending {
 }
 
 impl PageSending {
-    // Creates a list of one packet.
+    // Creates a page transmission of one packet.
     fn of(packet: Packet) -> PageSending
         ensures { result ≡ packet ∷ [] }
     {
@@ -43,7 +43,7 @@ impl PageSending {
         }
     }
 
-    // Appends a packet, for which there must be room.
+    // Appends a packet. The page transmission must have fewer than 26 packets.
     fn push(&mut self, packet: Packet)
         requires { length self.old < 26 }
         ensures { self.new ≡ self.old ++ packet ∷ [] }
@@ -52,7 +52,7 @@ impl PageSending {
         self.count += 1;
     }
 
-    /// Returns the packets.
+    /// Returns the packets of the page transmission, at most 26.
     pub(crate) fn packets(&self) -> &[Packet]
         ensures value { result.now ≡ self.now }
         ensures few { length result.now ≤ 26 }
@@ -60,8 +60,8 @@ impl PageSending {
         &self.packets[..self.count]
     }
 
-    /// Creates the transmission of a page: its header, the rows with a cell other than a space in
-    /// rising order, and the closing header.
+    /// Creates the transmission of a page: the header of the page, the rows with a cell other than
+    /// a space in rising order, and the closing header.
     pub(crate) fn of_page(
         watched: PageId,
         national: National,
@@ -84,7 +84,7 @@ impl PageSending {
     }
 }
 
-// Returns whether a row is blank.
+// Returns whether a row has only spaces.
 fn is_blank(codes: &[u8; 40]) -> bool
     ensures { IsTrue result ↔ (codes.now ≡ replicate 40 space) }
 {
@@ -98,7 +98,7 @@ fn is_sent_row(codes: &[u8; 40]) -> bool
     !is_blank(codes)
 }
 
-// Returns the control bits of the header of the page.
+// Returns the control bits of the header of the subtitle page.
 fn watched_control(serial: bool, bits: NationalBits) -> Control
     ensures { result.0 ≡ watched_control serial bits }
 {
@@ -110,7 +110,7 @@ fn watched_control(serial: bool, bits: NationalBits) -> Control
     control
 }
 
-// Returns the header of the page.
+// Returns the header of the subtitle page.
 fn watched_header(watched: PageId, national: National, serial: bool) -> Header
     ensures value { result ≡ watched_header watched national serial }
     ensures subcode { result.subcode ≡ 0 }

@@ -1,4 +1,5 @@
--- The ticks since the first one of frame 0 give the frame; otherwise there is none.
+-- The ticks since the first tick of frame 0, divided by 3600, give the frame, unless the frame is
+-- after the day.
 use Rattle.std.proofs.Common.{arith}
 use Rattle.std.proofs.lemmas.Bool.Decides.{nat_tests}
 use Rattle.sub_plan.specs.FrameTime.{near_frame}

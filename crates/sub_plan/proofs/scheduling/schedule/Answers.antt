@@ -1,4 +1,5 @@
--- A programme without subtitles has no first TCI; otherwise the first TCI is before the last TCO.
+-- `schedule`: a programme without subtitles has no first TCI; otherwise the first TCI is before the
+-- last TCO.
 use Rattle.std.proofs.Common.{arith, refl}
 use Rattle.std.proofs.lemmas.Bool.Decides.{nat_tests}
 use Rattle.sub_plan.proofs.ProgrammeLemmas.{none_in, some_out, span-rises}

@@ -1,4 +1,5 @@
--- Before each frame: the earlier frames that carry these packets are written.
+-- Loop invariant, at each frame: the PES packets of all earlier frames with these Teletext packets
+-- are written.
 use Rattle.std.proofs.Common.{◌≡◌, ◌-◌, ◌<◌, ◌≤◌}
 use Rattle.ttx_pes.specs.LineOrder.{numbered_units}
 use Rattle.sub_plan.specs.Steps.{packets_at, steps}

@@ -1,4 +1,4 @@
--- The clock with a tolerance, or without one.
+-- `frame_of` uses the exact clock if `within` is 0, and the clock with a tolerance otherwise.
 use Rattle.std.proofs.Common.{arith, ◌∙◌}
 use Rattle.sub_plan.proofs.ClockLemmas.{clock_exact, clock_near, exact_by}
 use Rattle.sub_plan.proofs.options.Options.frame_of.Goals as goal

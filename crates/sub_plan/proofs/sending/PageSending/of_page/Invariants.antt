@@ -1,4 +1,5 @@
--- The packets in the list and the remaining rows are the header of the page and all rows.
+-- Loop invariant: the packets so far, followed by the remaining rows, are the header of the page
+-- and all its rows.
 use Rattle.std.proofs.Common.{◌≡◌, ◌-◌, ◌≤◌, ◌∷◌, ◌++◌, length}
 use Rattle.ttx_packet.specs.PageHeader.{header_packet}
 use Rattle.sub_plan.specs.Sending.{watched_header, rows_from}
