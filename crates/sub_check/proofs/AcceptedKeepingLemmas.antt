@@ -13,11 +13,11 @@ use Rattle.sub_check.specs.AcceptedKeeping.{LawOfAcceptedKeeping, LawOfAcceptedN
 use Rattle.sub_check.specs.CheckedFiles.{MeanWithin}
 use Rattle.sub_check.proofs.AcceptedWithinLemmas.{none_failed}
 
--- The same options, with or without repeats that may keep the page.
 abbrev by_keeps : Bool → OptionsValue → OptionsValue
 by_keeps may options = record options { keeps = may }
 
--- What the files mean depends only on the clock.
+-- The contents of the files depend only on the clock of the options, not on whether repeats may
+-- keep the page.
 mean-keeps :
     (may : Bool) (drawing : Drawing) (options : OptionsValue) (stl pes : List ℕ)
     (subtitles : List SubtitleValue) (t : Transmission)

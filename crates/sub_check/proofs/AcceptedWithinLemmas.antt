@@ -1,4 +1,5 @@
--- For `law_of_accepted_within_more`: what both files mean does not change with a greater `within`.
+-- For `law_of_accepted_within_more`: the contents of both files do not change with a greater
+-- `within`.
 use Rattle.std.proofs.Common.{◌≡◌, false, refl, Result, Ok, Err, IsOk}
 use Rattle.sub_io.specs.Device.{failed}
 use Rattle.sub_rules.specs.Fault.{is_failure}
@@ -8,7 +9,6 @@ use Rattle.sub_laws.proofs.RepeatLemmas.{law_of_longer_repeats}
 use Rattle.sub_checker.specs.declared.accepted.Accepted.{Accepted}
 use Rattle.sub_check.specs.AcceptedWithin.{LawOfAcceptedWithinMore}
 
--- An accepted answer is no failure. Also for AcceptedKeepingLemmas.
 pub none_failed : (answer : Result Accepted CheckFault) → IsOk answer
     → failed is_failure answer ≡ false
 none_failed (Ok a) ok = refl

@@ -37,8 +37,6 @@ pub record IsAnswered
   pub at_once :
       IsFalse options.keeps → options.within ≡ 0 → IsChecked programme options bytes answer
 
--- ---- the first fault is the answer
-
 module _ (programme : ProgrammeValue) (options : OptionsValue) (fine : IsOptions options)
     (p : IsProgramme programme.drawing programme.records) (bytes : List ℕ) where
   pub answered :
@@ -51,7 +49,6 @@ module _ (programme : ProgrammeValue) (options : OptionsValue) (fine : IsOptions
     at_once = checked_at_once programme options fine p bytes result decides so_far;
   }
 
-  -- If there is no fault, the file is accepted.
   pub accepted_none :
       (a : Accepted)
       → IsAllRead programme options bytes a
@@ -59,7 +56,6 @@ module _ (programme : ProgrammeValue) (options : OptionsValue) (fine : IsOptions
       → IsAnswered programme options bytes (Ok a)
   accepted_none a read none = answered (Ok a) (λ own. (read, none)) (λ pes is. cc)
 
-  -- Otherwise the first one is the answer.
   pub refused_first :
       (f : CheckFault)
       → first_reported (all_events_of programme options bytes) ≡ Some f
@@ -68,7 +64,6 @@ module _ (programme : ProgrammeValue) (options : OptionsValue) (fine : IsOptions
       let own : IsRuleFault f = of_rule f (first_of_rule programme options bytes f first) in
       answered (Err f) (λ fine. first) (λ pes is. absurd (no_read f pes own is))
 
-  -- The answer follows from all events. For `check_all`.
   pub answered_first :
       (a : Accepted)
       → IsAllRead programme options bytes a
@@ -81,10 +76,6 @@ module _ (programme : ProgrammeValue) (options : OptionsValue) (fine : IsOptions
       go None none = accepted_none a read none
       go (Some f) first = refused_first f first
 
--- ---- all events
-
--- The first fault among all events is the answer of `check`, which accepts if there is none. For
--- `check_all`.
 pub checked_first :
     (programme : ProgrammeValue) (options : OptionsValue) (bytes : List ℕ)
     {D : Type 0} (IsReported : D → Event → D → Type 0) (old new : D)
@@ -100,7 +91,6 @@ checked_first programme options bytes IsReported old new (Ok (Some a)) fine p re
 checked_first programme options bytes IsReported old new (Ok None) fine p reported = tt
 checked_first programme options bytes IsReported old new (Err f) fine p reported = tt
 
--- Both parts of the answer.
 pub answers_by : (programme : ProgrammeValue) (options : OptionsValue) (bytes : List ℕ)
     (r : Result (Option Accepted) CheckFault)
     → IfOk r (λ counts. IfSome counts (λ a. IsAnswered programme options bytes
@@ -123,7 +113,6 @@ answers_at_once programme options bytes (Ok (Some a)) none at_once all = all.at_
 answers_at_once programme options bytes (Ok None) none at_once all = tt
 answers_at_once programme options bytes (Err f) none at_once all = tt
 
--- The events for the file as one value. For `check_all`.
 pub reports_events :
     (judged : JudgedValue) (options : OptionsValue) (bytes : List ℕ)
     {D : Type 0} (IsReported : D → Event → D → Type 0) (old new : D)
@@ -140,7 +129,6 @@ reports_events judged options bytes IsReported old new (Err f) reported =
     let file = pes_packet_file_of (clock_of options) bytes in reported file.pes_packets file.unread
     refl
 
--- If no subtitle was refused, the events are those for its programme. For `check` and `check_all`.
 pub reports_known :
     (judged : JudgedValue) (programme : ProgrammeValue) (options : OptionsValue)
     (bytes : List ℕ) {D : Type 0} (IsReported : D → Event → D → Type 0) (old new : D)
@@ -152,7 +140,6 @@ reports_known judged programme options bytes IsReported old new r is reported =
     subst (λ (j : JudgedValue). ReportsFile (criteria_of_judged j options) (clock_of options) bytes
     IsReported old new r) is reported
 
--- `check` accepts such a programme as its argument.
 pub programme_known : (judged : JudgedValue) (programme : ProgrammeValue)
     → judged ≡ known programme
     → IsProgramme judged.programme.drawing judged.programme.records

@@ -28,7 +28,6 @@ use Rattle.sub_laws.specs.Stretch.{HasPromises}
 use Rattle.sub_check.specs.CheckedFiles.{AreAccepted, AreAcceptedBy, IsAccepted, IsAcceptedBy}
 use Rattle.sub_check.specs.CheckedFiles.{IsChecked, IsCheckedBy, Mean, MeanWithin}
 
--- A file gives only one programme. For `check_files`.
 pub same_programme :
     (a b : ProgrammeValue) (r : Result ProgrammeValue LoadFault) → r ≡ Ok a → r ≡ Ok b → a ≡ b
 same_programme a b r e f = let both = sym e ∙ f in cc
@@ -41,12 +40,10 @@ looked_at :
     → failed is_pes_read answer ≡ false
 looked_at answer looked fine = grind (arith, nat_tests)
 
--- A file without faults gives this programme.
 one_given : (faults : List LoadFault) (p q : ProgrammeValue) → unless_reported faults p ≡ Ok q → p ≡
     q
 one_given faults p q h = grind (arith, nat_tests)
 
--- The programme of a file has the requested drawing.
 own_drawing : (drawing : Drawing) (stl : List ℕ) (programme : ProgrammeValue)
     → loaded drawing stl ≡ Ok programme
     → programme.drawing ≡ drawing
@@ -56,7 +53,6 @@ own_drawing drawing stl programme given =
 
 module _ (drawing : Drawing) (options : OptionsValue) (stl pes : List ℕ)
     (loading : LawOfLoading) where
-  -- The programme of a subtitle file whose subtitles are in order and have pages.
   loads : (subtitles : List SubtitleValue) (transmission : Transmission)
       → Mean drawing options.origin stl pes subtitles transmission
       → loaded drawing stl ≡ Ok (record { drawing = drawing; records = subtitles })
@@ -71,7 +67,6 @@ module _ (drawing : Drawing) (options : OptionsValue) (stl pes : List ℕ)
       (loading drawing stl subtitles).1
       (mean.gsi, mean.subtitle_file, mean.in_order, mean.drawable)
 
-  -- Accepted files give a programme. Also for `sub_answer`.
   pub accepted-loads : IsAccepted drawing options stl pes
       → (programme : ProgrammeValue) × (loaded drawing stl ≡ Ok programme)
   accepted-loads is = (
@@ -87,7 +82,6 @@ module _ (drawing : Drawing) (options : OptionsValue) (stl pes : List ℕ)
   )
 
   module _ (programme : ProgrammeValue) (given : loaded drawing stl ≡ Ok programme) where
-    -- The loaded programme is the one of any subtitles that the file means.
     programme_is : (subtitles : List SubtitleValue)
         → loaded drawing stl ≡ Ok (record { drawing = drawing; records = subtitles })
         → programme ≡ record { drawing = drawing; records = subtitles }
@@ -98,7 +92,6 @@ module _ (drawing : Drawing) (options : OptionsValue) (stl pes : List ℕ)
         ap (λ n. let p : ProgrammeValue = record { drawing = n; records = programme.records } in p)
         (own_drawing drawing stl programme given)
 
-    -- A good transmission of the programme makes both files accepted. Also for `sub_answer`.
     pub as_accepted : (t : Transmission)
         × Carries options.origin pes t
         × Good programme t options
@@ -120,7 +113,6 @@ module _ (drawing : Drawing) (options : OptionsValue) (stl pes : List ℕ)
           complete = complete;
         }
 
-    -- Accepted files have a good transmission of the programme. Also for `sub_answer`.
     pub of_accepted : IsAccepted drawing options stl pes
         → (t : Transmission)
         × Carries options.origin pes t
@@ -134,7 +126,6 @@ module _ (drawing : Drawing) (options : OptionsValue) (stl pes : List ℕ)
           is.complete,
         )
 
-    -- The same with any options.
     pub as_accepted_by : (t : Transmission)
         × CarriesBy (clock_of options) options.within pes t
         × GoodBy options.keeps programme t options
@@ -169,7 +160,6 @@ module _ (drawing : Drawing) (options : OptionsValue) (stl pes : List ℕ)
 
     module _ (answer : Result Accepted CheckFault)
         (looked : failed is_subtitle_fault answer ≡ false) where
-      -- Both files, if the page has to be right at the end of each frame. For `check_files`.
       pub files_accepted : IsChecked programme options pes answer
           → AreAccepted drawing options stl pes answer
       files_accepted checked = record {
@@ -184,7 +174,6 @@ module _ (drawing : Drawing) (options : OptionsValue) (stl pes : List ℕ)
             );
       }
 
-      -- Both files, with any options. For `check_files`.
       pub files_accepted_by : IsCheckedBy programme options pes answer
           → AreAcceptedBy drawing options stl pes answer
       files_accepted_by checked = record {
@@ -197,7 +186,6 @@ module _ (drawing : Drawing) (options : OptionsValue) (stl pes : List ℕ)
             (checked.serves t mean.carries ok).1;
       }
 
--- A fault of loading that is no failure is one of the file itself.
 own_fault :
     (drawing : Drawing) (stl : List ℕ) (programme : ProgrammeValue) (block : ℕ)
     (kind : LoadFaultKind)
@@ -207,7 +195,6 @@ own_fault :
     → ⊥
 own_fault drawing stl programme block kind reported fine is = grind (arith, nat_tests)
 
--- Both files, if the subtitle file was refused. For `check_files`.
 module _ (drawing : Drawing) (options : OptionsValue) (stl pes : List ℕ) (f : LoadFault)
     (loading : LawOfLoading) (reported : ReportsFault drawing stl f.block f.kind) where
   pub files_refused : AreAccepted drawing options stl pes (Err (fault.Subtitles f))

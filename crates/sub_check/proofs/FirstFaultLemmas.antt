@@ -32,8 +32,6 @@ use Rattle.ttx_pes.specs.declared.fault.PesFault.TheVariants as Pes
 use Rattle.sub_rules.specs.declared.fault.CheckFault.TheVariants as fault
 use Rattle.sub_check.proofs.AnsweredLemmas.{IsAnswered, accepted_none, answered, refused_first}
 
--- The bytes are read as PES packets, whose events are reported to an audience that keeps the first
--- fault.
 abbrev ReportsFirst : ProgrammeValue → OptionsValue → List ℕ → Option CheckFault → Option CheckFault
     → Result (Option Accepted) CheckFault → Type 0
 ReportsFirst programme options bytes empty kept r =
@@ -41,7 +39,6 @@ ReportsFirst programme options bytes empty kept r =
     r
 
 module _ (programme : ProgrammeValue) (options : OptionsValue) (bytes : List ℕ) where
-  -- If the source failed and no fault was kept, the packets before have none.
   none_before : (empty kept : Option CheckFault) (f : CheckFault) (pes : ℕ)
       → empty ≡ None
       → is_some kept ≡ false
@@ -63,8 +60,8 @@ module _ (programme : ProgrammeValue) (options : OptionsValue) (bytes : List ℕ
             (λ g h. prefix_of_rule programme options bytes n g h) first.one_by_one,
       )
 
-  -- If all events were reported and no fault was kept, there is none. This lemma and the next are
-  -- separate from the answers that use them, which would otherwise check each case again.
+  -- If all events were reported and no fault was kept, no event is a fault. This lemma and the next
+  -- are separate from the answers that use them, which would otherwise check each case again.
   none_reported : (empty kept : Option CheckFault) (a : Accepted)
       → empty ≡ None
       → is_some kept ≡ false
@@ -77,7 +74,6 @@ module _ (programme : ProgrammeValue) (options : OptionsValue) (bytes : List ℕ
       kept_is None (all_events_of programme options bytes) (first_of_rule programme options bytes)
       (reported file.pes_packets file.unread refl).0.one_by_one
 
-  -- A fault that was kept is the first one.
   fault_reported : (empty kept : Option CheckFault) (f : CheckFault)
       → empty ≡ None
       → kept ≡ Some f
@@ -94,7 +90,6 @@ module _ (programme : ProgrammeValue) (options : OptionsValue) (bytes : List ℕ
       ∙ is)
 
   module _ (fine : IsOptions options) (p : IsProgramme programme.drawing programme.records) where
-    -- No fault was kept, and all events were reported. For `check`.
     pub nothing_kept : (empty kept : Option CheckFault) (a : Accepted)
         → empty ≡ None
         → is_some kept ≡ false
@@ -106,7 +101,6 @@ module _ (programme : ProgrammeValue) (options : OptionsValue) (bytes : List ℕ
         refl).1
         (none_reported empty kept a e fault_free reported)
 
-    -- A fault was kept. For `check`.
     pub fault_kept : (empty kept : Option CheckFault) (f : CheckFault)
         → empty ≡ None
         → kept ≡ Some f
@@ -115,7 +109,6 @@ module _ (programme : ProgrammeValue) (options : OptionsValue) (bytes : List ℕ
     fault_kept empty kept f e is reported =
         refused_first programme options fine p bytes f (fault_reported empty kept f e is reported)
 
-    -- The source failed. For `check`.
     pub read_failed : (empty kept : Option CheckFault) (f : CheckFault)
         → empty ≡ None
         → is_some kept ≡ false
@@ -127,8 +120,6 @@ module _ (programme : ProgrammeValue) (options : OptionsValue) (bytes : List ℕ
         (λ looked. absurd (true≢false (sym own ∙ looked)))
         (λ pes is. none_before empty kept f pes e fault_free reported (let same = is in cc))
 
--- ---- the PES packet at which the source failed
-
 -- If the bytes of the source are unknown, they may be any PES packets.
 any_packets : (n : ℕ)
     → AllByRecursion (λ b. (v : PesValue) × IsValidPesPacket v b)
@@ -139,8 +130,7 @@ any_packets (suc n) =
     record { pts = omega arith; few = omega arith; each = tt; in_order = tt } in
     ((empty_value, canonical_is_packet empty_value is), any_packets n)
 
--- The source failed after PES packets none of which was skipped, so it failed within a PES packet.
--- For `check`.
+-- If the source failed after PES packets none of which was skipped, it failed within a PES packet.
 pub fails_at_packet : (programme : ProgrammeValue) (options : OptionsValue)
     (empty kept : Option CheckFault) (f : CheckFault) (pes : ℕ) (old new : Option (List ℕ))
     → empty ≡ None

@@ -35,7 +35,6 @@ use Rattle.sub_laws.proofs.ReadFileLemmas.{file_sound}
 use Rattle.sub_check.specs.CheckedFiles.{all_events_of}
 use Rattle.sub_rules.proofs.FrameEvents.{events}
 
--- Each packet that is read has 42 bytes.
 pub each_complete :
     (frames : Transmission)
     → AllByRecursion (λ (s : SentFrame). AllByRecursion IsPacket s.packets) frames
@@ -47,7 +46,6 @@ each_complete (s ∷ frames) h =
 pub of_rule : (f : CheckFault) → is_of_rule f ≡ true → IsRuleFault f
 of_rule f e = grind (arith, nat_tests)
 
--- A failed read is no fault of a rule. For `check`.
 pub no_read : (f : CheckFault) (pes : ℕ)
     → IsRuleFault f
     → (let r : Result Accepted CheckFault = Err f in r) ≡ Err (fault.Pes pes Read)
@@ -55,15 +53,13 @@ pub no_read : (f : CheckFault) (pes : ℕ)
 no_read f pes own is =
     grind (arith, nat_tests, true≢false)
 
--- ---- what the audience keeps
-
--- After it has kept a fault nothing more is reported to it.
 kept_last : (f : CheckFault) (new : Option CheckFault) (xs : List Event)
     → ReportsInOrder KeepsFirstFault (Some f) new xs → new ≡ Some f
 kept_last f new [] reported = reported
 kept_last f new (x ∷ xs) (mid, keeps, rest) = let none = keeps.0 in cc
 
--- It keeps the first fault among the events, if that is one of a rule.
+-- An audience that stores the first fault of a rule stores the first fault among the events, if it
+-- is one of a rule.
 pub kept_is : (new : Option CheckFault) (xs : List Event)
     → ((f : CheckFault) → first_reported xs ≡ Some f → is_of_rule f ≡ true)
     → ReportsInOrder KeepsFirstFault None new xs
@@ -78,9 +74,6 @@ kept_is new (Ended rule f ∷ xs) named (mid, keeps, rest) =
 kept_is new (SkippedUntil f ∷ xs) named (mid, keeps, rest) =
     kept_is new xs named (subst (λ m. ReportsInOrder KeepsFirstFault m new xs) keeps.1 rest)
 
--- ---- a wrong cell
-
--- What holds for each cell that is found wrong holds for a cell that is reported as wrong.
 module _ (g : Criteria) (frames : Transmission) (packets_complete : EachPacket IsPacket frames)
     (IsSo : ℕ → ℕ → ℕ → Type 0)
     (so : (n f : ℕ) (x : ℕ × ℕ) → IsReadTo g frames n f → broken_cell g frames n f ≡ Some x
@@ -131,7 +124,6 @@ module _ (programme : ProgrammeValue) (options : OptionsValue) (bytes : List ℕ
   abbrev file : PesFileValue
   file = pes_file_of (clock_of options) bytes
 
-  -- The packets of each frame of the file have 42 bytes, also after merging.
   file_complete : EachPacket IsPacket (joined options.within file.frames)
   file_complete =
       All-from_recursion (λ (s : SentFrame). All IsPacket s.packets)
@@ -140,7 +132,6 @@ module _ (programme : ProgrammeValue) (options : OptionsValue) (bytes : List ℕ
       (joined_after-read IsPacket options.within [] file.frames tt
       (file_sound (clock_of options) 0 bytes)))
 
-  -- If the page is refused at a cell, it is wrong there. For `check`.
   pub different_of_first : (frame row column : ℕ)
       → first_reported (all_events_of programme options bytes)
       ≡ Some (fault.Content frame row column)

@@ -36,7 +36,6 @@ all_sent (Sent s ∷ pes_packets) unread none =
     (ap (λ (fs : Transmission). s ∷ fs) rest.0, ap suc rest.1, rest.2)
 all_sent (Skipped u ∷ pes_packets) unread none = cc
 
--- If a file is read to its end, its frames are those of its PES packets, each of which is sent.
 pub read_to_the_end : (clock : Clock) (bytes : List ℕ) (frames : Transmission)
     → ReadsAs clock 0 bytes frames None
     → (frames_of (pes_packet_file_of clock bytes).pes_packets ≡ frames)
@@ -49,7 +48,6 @@ read_to_the_end clock bytes frames reads =
     let sent = all_sent file.pes_packets file.unread (ap (λ (f : PesFileValue). f.unread) reads) in
     (sym sent.0 ∙ ap (λ (f : PesFileValue). f.frames) reads, sent.1, sent.2)
 
--- The first fault of the first PES packets is the first of all.
 first_of_some : (xs ys : List Event) (f : CheckFault) → first_reported xs ≡ Some f
     → first_reported (xs ++ ys) ≡ Some f
 first_of_some xs ys f is = first_of_two xs ys ∙ rw is refl
@@ -60,9 +58,6 @@ pub first_of_taken : (n : ℕ) (xs : List Event) (f : CheckFault) → first_repo
 first_of_taken n xs f is =
     ap first_reported (sym (take-append-drop n xs)) ∙ first_of_some (take n xs) (drop n xs) f is
 
--- ---- the first PES packets without faults
-
--- The first n PES packets are n frames if they have no fault.
 pub all_are_sent : (programme : ProgrammeValue) (options : OptionsValue) (bytes : List ℕ) (n : ℕ)
     → n ≤ length (pes_packet_file_of (clock_of options) bytes).pes_packets
     → first_reported (events_of_first_pes_packets programme options bytes n) ≡ None

@@ -44,7 +44,6 @@ use Rattle.sub_rules.specs.PesPacketEvents.{events_of_pes_packets}
 use Rattle.sub_rules.specs.Trusted.{reported_after}
 use Rattle.sub_rules.specs.declared.active_faults.ActiveFaults.{ActiveFaults}
 
--- The fault is one of no rule.
 abbrev is_foreign : CheckFault → Bool
 is_foreign f = not (is_of_rule f)
 
@@ -53,8 +52,6 @@ at_any pes f own = grind (arith, nat_tests)
 
 abbrev foreign : Event → Bool
 foreign e = reports_bad is_foreign at_any e
-
--- ---- the events of frames
 
 end_own : (old : ActiveFaults) (before : ℕ) (new : ActiveFaults) (f : ℕ)
     → list_any foreign (end_events old before new f) ≡ false
@@ -87,8 +84,6 @@ frames_own g = record {
   of_header = header_own g;
 }
 
--- ---- the events of bytes that are no frame
-
 unread_own : (pes : ℕ) (u : Unread) → ((f : PesFault) → u ≡ BadPacket f → IsOfBytes f)
     → foreign (Reported (unread_fault pes (Some u))) ≡ false
 unread_own pes (BadPacket f) own =
@@ -112,7 +107,6 @@ skipped_own pes (Skipped NoFrame ∷ pes_packets) sound = (
       sound.1,
 )
 
--- The same for the first PES packets.
 first_sound : (n : ℕ) (pes_packets : List PesPacket) → AllByRecursion IsSoundPesPacket pes_packets
     → AllByRecursion IsSoundPesPacket (take n pes_packets)
 first_sound zero pes_packets sound = tt
@@ -156,8 +150,6 @@ module _ (g : Criteria) (left : (f : PesFault) → g.unread ≡ Some (BadPacket 
   all_closing_own frames (suc pes) zero = unread_reported (suc pes) g.unread refl
   all_closing_own frames (suc pes) (suc n) = closing_own frames (suc n)
 
-  -- ---- all events
-
   pes_packets_own : (pes_packets : List PesPacket) → AllByRecursion IsSoundPesPacket pes_packets
       → list_any foreign (reported_of_pes_packets g pes_packets) ≡ false
   unfolding reported_of_pes_packets
@@ -176,8 +168,6 @@ module _ (g : Criteria) (left : (f : PesFault) → g.unread ≡ Some (BadPacket 
       closes pes are_left more es own =
           record { none = (emits_pass (emits_bad is_foreign at_any) es own).none }
 
--- ---- the first fault
-
 not_foreign : (f : CheckFault) → is_foreign f ≡ false → is_of_rule f ≡ true
 not_foreign f e = grind (arith, nat_tests)
 
@@ -188,7 +178,6 @@ module _ (programme : ProgrammeValue) (options : OptionsValue) (bytes : List ℕ
   sound : ArePesPacketsSound file
   sound = file_pes_packets_sound (clock_of options) 0 bytes
 
-  -- Among all PES packets. For `check`.
   pub first_of_rule : (f : CheckFault)
       → first_reported (all_events_of programme options bytes) ≡ Some f
       → is_of_rule f ≡ true
@@ -200,7 +189,6 @@ module _ (programme : ProgrammeValue) (options : OptionsValue) (bytes : List ℕ
       (pes_packets_own g sound.fault file.pes_packets sound.each)
       (sym (all_first (reported_of_pes_packets g file.pes_packets)) ∙ is))
 
-  -- Among the first n.
   pub prefix_of_rule : (n : ℕ) (f : CheckFault)
       → first_reported (events_of_first_pes_packets programme options bytes n) ≡ Some f
       → is_of_rule f ≡ true

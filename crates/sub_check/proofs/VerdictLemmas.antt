@@ -62,8 +62,7 @@ IsAllRead programme options bytes a =
     let file = pes_packet_file_of (clock_of options) bytes in
     IsReadOn (criteria_of programme options file.unread) (clock_of options) bytes file.pes_packets a
 
--- What the check of a file shows: an accepted file has no fault, and the returned fault is the
--- first.
+-- An accepted file has no fault among its events, and the fault that is returned is the first one.
 abbrev pub Decides : ProgrammeValue → OptionsValue → List ℕ → Result Accepted CheckFault → Type 0
 Decides programme options bytes result =
     MatchResult result
@@ -71,7 +70,7 @@ Decides programme options bytes result =
     × (first_reported (all_events_of programme options bytes) ≡ None))
     (λ f. first_reported (all_events_of programme options bytes) ≡ Some f)
 
--- What it shows if the source failed within a PES packet: those before have no fault.
+-- If the source failed within a PES packet, the packets before it have no fault among their events.
 abbrev pub ReadsSoFar : ProgrammeValue → OptionsValue → List ℕ → Result Accepted CheckFault → Type 0
 ReadsSoFar programme options bytes result =
     (pes : ℕ)
@@ -81,7 +80,6 @@ ReadsSoFar programme options bytes result =
 
 module _ (programme : ProgrammeValue) (options : OptionsValue) (is : IsOptions options)
     (p : IsProgramme programme.drawing programme.records) (bytes : List ℕ) where
-  -- The file, and the frames of its PES packets.
   abbrev file : PesPacketFileValue
   file = pes_packet_file_of (clock_of options) bytes
 
@@ -98,7 +96,8 @@ module _ (programme : ProgrammeValue) (options : OptionsValue) (is : IsOptions o
       (joined_after-read IsPacket options.within [] (frames_of file.pes_packets) tt
       (sent_complete file.pes_packets (file_pes_packets_sound (clock_of options) 0 bytes).each)))
 
-  -- There is no fault exactly if each PES packet is sent, the frames are good, and nothing is left.
+  -- No fault is reported exactly if each PES packet is sent, the frames are good, and no bytes are
+  -- left.
   reported_none :
       (first_reported (all_events_of programme options bytes) ≡ None)
       ↔ ((length (frames_of file.pes_packets) ≡ length file.pes_packets)
@@ -115,7 +114,6 @@ module _ (programme : ProgrammeValue) (options : OptionsValue) (is : IsOptions o
         λ all. none.1 (all.0, ap first_reported (law.1 (all.1, all.2))),
       )
 
-  -- The bytes carry these frames then.
   carried :
       (a : Accepted)
       → IsAllRead programme options bytes a
@@ -145,7 +143,6 @@ module _ (programme : ProgrammeValue) (options : OptionsValue) (is : IsOptions o
         rising = good.rules.rising;
       }
 
-  -- The transmission that the bytes carry is these frames.
   carried_sent :
       (frames : Transmission)
       → CarriesBy (clock_of options) options.within bytes frames
@@ -157,7 +154,6 @@ module _ (programme : ProgrammeValue) (options : OptionsValue) (is : IsOptions o
       let all = read_to_the_end (clock_of options) bytes carries.sendings reads in
       (carries.are ∙ ap (joined options.within) (sym all.0), all.1, all.2)
 
-  -- A good transmission is not refused.
   not_refused :
       (f : CheckFault)
       → first_reported (all_events_of programme options bytes) ≡ Some f
@@ -187,7 +183,6 @@ module _ (programme : ProgrammeValue) (options : OptionsValue) (is : IsOptions o
         (subst (λ (t : Transmission). GoodBy options.keeps programme t options) same any.2) none),
   )
 
-  -- If it is accepted, whatever transmission the bytes carry is good.
   accepted_is :
       (frames : Transmission) (result : Result Accepted CheckFault)
       → (failed is_pes_read result ≡ false → Decides programme options bytes result)
@@ -201,7 +196,6 @@ module _ (programme : ProgrammeValue) (options : OptionsValue) (is : IsOptions o
       (reported_none.0 reported.1).1
   accepted_is frames (Err f) decides carries ok = cc
 
-  -- The counts of an accepted file.
   sent_counts :
       (frames : Transmission) (a : Accepted)
       → GoodBy options.keeps programme frames options
@@ -230,7 +224,6 @@ module _ (programme : ProgrammeValue) (options : OptionsValue) (is : IsOptions o
       (sent_counts sent a (reported_none.0 reported.1).1 reported.0.counts)
   counts_from frames (Err f) decides carries = tt
 
-  -- The returned fault is the first.
   first_from :
       (result : Result Accepted CheckFault)
       → Decides programme options bytes result
@@ -238,7 +231,6 @@ module _ (programme : ProgrammeValue) (options : OptionsValue) (is : IsOptions o
   first_from (Ok a) decides = tt
   first_from (Err f) decides = decides
 
-  -- A schedule is accepted.
   plan_accepted :
       (serial : Bool) (result : Result Accepted CheckFault)
       → bytes ≡ plan programme options serial
@@ -264,7 +256,6 @@ module _ (programme : ProgrammeValue) (options : OptionsValue) (is : IsOptions o
   module _ (result : Result Accepted CheckFault)
       (decides : failed is_pes_read result ≡ false → Decides programme options bytes result)
       (so_far : ReadsSoFar programme options bytes result) where
-    -- The cell at which the page is refused is that of the first fault.
     cell_reported : (frame row column : ℕ)
         → result ≡ Err (fault.Content frame row column)
         → first_reported (all_events_of programme options bytes)
@@ -274,7 +265,6 @@ module _ (programme : ProgrammeValue) (options : OptionsValue) (is : IsOptions o
         (λ r. IfErr r (λ f. first_reported (all_events_of programme options bytes) ≡ Some f)) e
         (first_from result (decides (ap (failed is_pes_read) e)))
 
-    -- The answer for a PES file follows.
     pub checked_by : IsCheckedBy programme options bytes result
     checked_by = record {
       accepted = λ looked fine. accepted_from result (decides fine);
@@ -291,8 +281,6 @@ module _ (programme : ProgrammeValue) (options : OptionsValue) (is : IsOptions o
           plan_accepted serial result written some slow (decides fine);
     }
 
-    -- The answer if each header has to erase the page, which has to be right at the end of each
-    -- frame.
     pub checked_at_once : options.keeps ≡ false
         → options.within ≡ 0
         → IsChecked programme options bytes result
@@ -328,7 +316,6 @@ module _ (programme : ProgrammeValue) (options : OptionsValue) (is : IsOptions o
             ↔ Carries options.origin bytes t
         exact t = law_of_exact_frames options bytes t at_once
 
-        -- `GoodBy` these options is `Good`.
         good_is : (t : Transmission)
             → GoodBy options.keeps programme t options
             ↔ (Good programme t options

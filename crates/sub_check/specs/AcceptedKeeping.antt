@@ -1,5 +1,5 @@
--- What is accepted if each header of the page has to erase it is accepted if repeats may keep it;
--- and conversely, if no header keeps it.
+-- A pair of files that is accepted if each header of the page has to erase it is accepted if
+-- repeats may keep the page; and the converse, if no header keeps the page.
 use Rattle.std.specs.Prelude.{◌≡◌, ℕ, true, false, List, IsFalse, IsOk, Result}
 use Rattle.sub_io.specs.Device.{failed}
 use Rattle.ttx_page.specs.Noise.{ErasesPage}
@@ -12,12 +12,13 @@ use Rattle.sub_rules.specs.declared.fault.CheckFault.{CheckFault}
 use Rattle.sub_checker.specs.declared.accepted.Accepted.{Accepted}
 use Rattle.sub_check.specs.CheckedFiles.{AreAcceptedBy, MeanWithin}
 
--- The same options, except that repeats may keep the page.
+-- The options, changed so that repeats may keep the page.
 abbrev pub keeping : OptionsValue → OptionsValue
 keeping options = record options { keeps = true }
 
 -- If the bytes of a subtitle file and of a PES file are accepted although no header may keep the
--- page, they are also accepted when repeats may, unless a source fails or an allocation is refused.
+-- page, they are also accepted if repeats may keep it, unless a source fails or an allocation is
+-- refused.
 abbrev pub LawOfAcceptedKeeping : Type 0
 LawOfAcceptedKeeping =
     (drawing : Drawing) (options : OptionsValue) (stl pes : List ℕ)
@@ -29,8 +30,8 @@ LawOfAcceptedKeeping =
     → IsOk answer
     → IsOk later
 
--- If they are accepted when repeats may keep the page, and each header of the page in the
--- transmission erases it, they are also accepted when no header may keep it.
+-- If the bytes of both files are accepted with repeats that may keep the page, and each header of
+-- the page in the transmission erases it, they are also accepted if no header may keep the page.
 abbrev pub LawOfAcceptedNoneKeeps : Type 0
 LawOfAcceptedNoneKeeps =
     (drawing : Drawing) (options : OptionsValue) (stl pes : List ℕ)

@@ -44,13 +44,13 @@ use Rattle.sub_rules.specs.declared.fault.CheckFault.TheVariants as fault
 
 -- ---- faults and counts of an answer
 
--- If the answer refuses the subtitle file, its fault is that of the file.
+-- If the answer refuses the subtitle file, its fault is the one that loading the file reports.
 abbrev pub ReportsSubtitles : Drawing → List ℕ → Result Accepted CheckFault → Type 0
 ReportsSubtitles drawing file (Err (fault.Subtitles f)) = ReportsFault drawing file f.block f.kind
 ReportsSubtitles drawing file _ = ⊤
 
--- The counts of an accepted transmission: the frames of the day from the first to the last, and the
--- headers of the page.
+-- The counts of an accepted transmission: the number of frames of the day from the first frame to
+-- the last, and the number of headers of the page.
 pub record HasCounts (page : PageIdValue) (frames : Transmission) (a : Accepted) : Type 0 where
   pub frames_are : a.frames + first_frame frames ≡ last_frame frames + 1
   pub transmissions_are :
@@ -58,7 +58,8 @@ pub record HasCounts (page : PageIdValue) (frames : Transmission) (a : Accepted)
 
 -- ---- both files
 
--- The bytes of a subtitle file and of a PES file mean these subtitles and this transmission.
+-- The bytes of a subtitle file and of a PES file have these subtitles and this transmission as
+-- their contents.
 pub record Mean
     (drawing : Drawing) (origin : ℕ) (stl pes : List ℕ)
     (subtitles : List SubtitleValue) (transmission : Transmission)
@@ -73,9 +74,9 @@ pub record Mean
   -- the PTS and the Teletext packets of that frame.
   pub carries : Carries origin pes transmission
 
--- The bytes of both files are accepted if the page has to be right at the end of each frame: they
--- mean some subtitles and a good transmission of these, with complete pages if the options require
--- them.
+-- The bytes of both files are accepted if the page has to be right at the end of each frame: the
+-- files contain some subtitles and a good transmission of these subtitles, with complete pages if
+-- the options require them.
 pub record IsAccepted
     (drawing : Drawing) (options : OptionsValue) (stl pes : List ℕ) : Type 0 where
   pub subtitles : List SubtitleValue
@@ -89,7 +90,8 @@ pub record AreAccepted
     (drawing : Drawing) (options : OptionsValue) (stl pes : List ℕ)
     (answer : Result Accepted CheckFault)
     : Type 0 where
-  -- It is `Ok` exactly if they are accepted, unless a source fails or an allocation is refused.
+  -- The answer is `Ok` exactly if the files are accepted, unless a source fails or an allocation is
+  -- refused.
   pub accepted :
       failed is_failure answer ≡ false → IsOk answer ↔ IsAccepted drawing options stl pes
   -- An accepted transmission keeps all promises, and its pages are complete if the options require
@@ -103,8 +105,8 @@ pub record AreAccepted
 
 -- ---- both files, with any options
 
--- As `Mean`, but with the clock of the options: a PTS may be slightly early or late, and PES
--- packets of one frame are merged.
+-- The contents of both files, as in `Mean`, but with the clock of the options: a PTS may be
+-- slightly early or late, and PES packets of one frame are merged.
 pub record MeanWithin
     (drawing : Drawing) (options : OptionsValue) (stl pes : List ℕ)
     (subtitles : List SubtitleValue) (transmission : Transmission)
@@ -115,8 +117,8 @@ pub record MeanWithin
   pub drawable : All (λ t. IsOk (drawn drawing t)) subtitles
   pub carries : CarriesBy (clock_of options) options.within pes transmission
 
--- The bytes of both files are accepted with any options: they mean some subtitles and a
--- transmission of these that is good by the options.
+-- The bytes of both files are accepted with any options: the files contain some subtitles and a
+-- transmission of these subtitles that is good by the options.
 pub record IsAcceptedBy
     (drawing : Drawing) (options : OptionsValue) (stl pes : List ℕ) : Type 0 where
   pub subtitles : List SubtitleValue
@@ -130,10 +132,11 @@ pub record AreAcceptedBy
     (drawing : Drawing) (options : OptionsValue) (stl pes : List ℕ)
     (answer : Result Accepted CheckFault)
     : Type 0 where
-  -- It is `Ok` exactly if they are accepted, unless a source fails or an allocation is refused.
+  -- The answer is `Ok` exactly if the files are accepted, unless a source fails or an allocation is
+  -- refused.
   pub accepted :
       failed is_failure answer ≡ false → IsOk answer ↔ IsAcceptedBy drawing options stl pes
-  -- An accepted transmission keeps the promises of one that is good by the options.
+  -- An accepted transmission keeps the promises of `HasPromisesBy`.
   pub serves :
       (subtitles : List SubtitleValue) (transmission : Transmission)
       → MeanWithin drawing options stl pes subtitles transmission
@@ -141,7 +144,7 @@ pub record AreAcceptedBy
       → HasPromisesBy options.keeps (record { drawing = drawing; records = subtitles })
       transmission options
 
--- ---- a PES file, against a programme
+-- ---- a PES file, checked against a programme
 
 -- All events for the bytes of a PES file, checked against a programme. Reading goes on after
 -- skipped PES packets; trusted frames are included.
@@ -150,26 +153,27 @@ all_events_of programme options bytes =
     let file = pes_packet_file_of (clock_of options) bytes in
     all_of_pes_packets (criteria_of programme options file.unread) file.pes_packets
 
--- The frames of its PES packets; if `within` is not 0, consecutive packets of one frame are merged.
+-- The frames that the PES packets of a file carry; if `within` is not 0, consecutive packets of one
+-- frame are merged.
 abbrev pub frames_read : OptionsValue → List ℕ → Transmission
 frames_read options bytes =
     joined options.within (frames_of (pes_packet_file_of (clock_of options) bytes).pes_packets)
 
--- The events for its first n PES packets.
+-- The events for the first n PES packets of a file, checked against a programme.
 abbrev pub events_of_first_pes_packets : ProgrammeValue → OptionsValue → List ℕ → ℕ → List Event
 events_of_first_pes_packets programme options bytes n =
     let file = pes_packet_file_of (clock_of options) bytes in
     events_of_pes_packets (criteria_of programme options file.unread) (take n file.pes_packets)
 
 -- The answer for the bytes of a PES file, checked against a programme with any options. An answer
--- that refuses the subtitle file, for a failed source or allocation, says nothing about these
--- bytes.
+-- that refuses the subtitle file, or that reports a failed source or allocation, says nothing about
+-- these bytes.
 pub record IsCheckedBy
     (programme : ProgrammeValue) (options : OptionsValue) (bytes : List ℕ)
     (answer : Result Accepted CheckFault)
     : Type 0 where
-  -- Unless a device fails or an allocation is refused, they are accepted exactly if they are a PES
-  -- file that carries a transmission of the programme that is good by the options.
+  -- Unless a device fails or an allocation is refused, the file is accepted exactly if it carries a
+  -- transmission of the programme that is good by the options.
   pub accepted :
       failed is_subtitle_fault answer ≡ false
       → failed is_pes_read answer ≡ false
@@ -177,7 +181,7 @@ pub record IsCheckedBy
       ↔ ((transmission : Transmission)
       × CarriesBy (clock_of options) options.within bytes transmission
       × GoodBy options.keeps programme transmission options)
-  -- An accepted transmission is good by the options, and keeps the promises of one.
+  -- An accepted transmission is good by the options, and keeps the promises of `HasPromisesBy`.
   pub serves :
       (transmission : Transmission)
       → CarriesBy (clock_of options) options.within bytes transmission
@@ -189,21 +193,22 @@ pub record IsCheckedBy
       (transmission : Transmission)
       → CarriesBy (clock_of options) options.within bytes transmission
       → IfOk answer (HasCounts options.page transmission)
-  -- The returned fault is the first one among the events.
+  -- The returned fault is the first fault among the events.
   pub first :
       failed is_subtitle_fault answer ≡ false
       → failed is_pes_read answer ≡ false
       → IfErr answer (λ f. first_reported (all_events_of programme options bytes) ≡ Some f)
-  -- A failure of the source is reported for the PES packet that could not be read: those before it
-  -- were read, and there is no fault among their events.
+  -- A failure of the source is reported for the PES packet that could not be read: the packets
+  -- before it were read, and there is no fault among their events.
   pub read :
       (pes : ℕ)
       → answer ≡ Err (fault.Pes pes Read)
       → (pes ≤ length (pes_packet_file_of (clock_of options) bytes).pes_packets)
       × (first_reported (events_of_first_pes_packets programme options bytes pes) ≡ None)
-  -- If the page is refused at a cell, it is wrong there, and receivers that start at the first
-  -- packet, and receive each bit correctly, show the kept code there. If the page still has time to
-  -- become right, that code is not due there at any frame within these before.
+  -- If the fault is `Content`, the cell that it names is wrong, and receivers that start at the
+  -- first packet, and receive each bit correctly, show the kept code in that cell. If the page
+  -- still has time to become right, the kept code was due in the cell at none of the last `within`
+  -- frames.
   pub content :
       (frame row column : ℕ)
       → answer ≡ Err (fault.Content frame row column)
@@ -226,9 +231,8 @@ pub record IsChecked
     (programme : ProgrammeValue) (options : OptionsValue) (bytes : List ℕ)
     (answer : Result Accepted CheckFault)
     : Type 0 where
-  -- Unless a device fails or an allocation is refused, they are accepted exactly if they are a PES
-  -- file that carries a good transmission of the programme, with complete pages if the options
-  -- require them.
+  -- Unless a device fails or an allocation is refused, the file is accepted exactly if it carries a
+  -- good transmission of the programme, with complete pages if the options require them.
   pub accepted :
       failed is_subtitle_fault answer ≡ false
       → failed is_pes_read answer ≡ false
@@ -245,8 +249,8 @@ pub record IsChecked
       → IsOk answer
       → HasPromises programme transmission options
       × (IsTrue options.asks_complete → Complete transmission options)
-  -- If the page is refused at a cell, every receiver that starts at the first packet, and receives
-  -- each bit correctly, shows another code there than the due one.
+  -- If the fault is `Content`, every receiver that starts at the first packet, and receives each
+  -- bit correctly, shows another code than the due one in the cell that the fault names.
   pub content :
       (frame row column : ℕ)
       → answer ≡ Err (fault.Content frame row column)
@@ -258,8 +262,8 @@ pub record AreChecked
     (drawing : Drawing) (options : OptionsValue) (file : List ℕ) (pes : Option (List ℕ))
     (answer : Result Accepted CheckFault)
     : Type 0 where
-  -- If the answer refuses the subtitle file, its fault is the first of the file, or its source
-  -- failed or an allocation was refused.
+  -- If the answer refuses the subtitle file, its fault is the first fault of the file, or its
+  -- source failed or an allocation was refused.
   pub subtitles : ReportsSubtitles drawing file answer
   -- A subtitle file that gives no programme is refused.
   pub refused :
@@ -286,23 +290,24 @@ answer_by (Some f) a = Err f
 abbrev pub first_answer : List Event → Accepted → Result Accepted CheckFault
 first_answer events a = answer_by (first_reported events) a
 
--- ---- a PES file, against what can be judged of a subtitle file
+-- ---- a PES file, checked against the reliable subtitles of a file
 
--- All events for the bytes of a PES file, checked against what can be judged of a subtitle file. If
--- no subtitle was refused, they are the events for its programme.
+-- All events for the bytes of a PES file, checked against the reliable subtitles of a file. If no
+-- subtitle was refused, they are the events for its programme.
 abbrev pub all_events_by : JudgedValue → OptionsValue → List ℕ → List Event
 all_events_by judged options bytes =
     let file = pes_packet_file_of (clock_of options) bytes in
     all_of_pes_packets (criteria_of_judged judged options file.unread) file.pes_packets
 
--- The events for its first n PES packets.
+-- The events for the first n PES packets of a file, checked against the reliable subtitles of a
+-- subtitle file.
 abbrev pub events_of_first_by : JudgedValue → OptionsValue → List ℕ → ℕ → List Event
 events_of_first_by judged options bytes n =
     let file = pes_packet_file_of (clock_of options) bytes in
     events_of_pes_packets (criteria_of_judged judged options file.unread) (take n file.pes_packets)
 
 -- Frames that are reported as trusted may stay on air as they are, whatever is on air elsewhere: in
--- the part of the transmission in which the frames rise, receivers recover there.
+-- the part of the transmission in which the frames rise, receivers recover in these frames.
 abbrev pub ReportsWhatMayStay : JudgedValue → OptionsValue → List ℕ → Type 0
 ReportsWhatMayStay judged options bytes =
     let file = pes_packet_file_of (clock_of options) bytes in
@@ -311,8 +316,8 @@ ReportsWhatMayStay judged options bytes =
     → StaysAsRead (criteria_of_judged judged options file.unread) file.pes_packets from to
     (λ on_air. MayStay judged.programme on_air options from to)
 
--- So they may with any options, whatever `within` is, and whether repeats may keep the page or not:
--- for receivers that may forget the page, too.
+-- Frames that are reported as trusted may stay on air with any options, whatever `within` is, and
+-- whether repeats may keep the page or not: for receivers that may forget the page, too.
 abbrev pub ReportsWhatMayStayBy : JudgedValue → OptionsValue → List ℕ → Type 0
 ReportsWhatMayStayBy judged options bytes =
     let file = pes_packet_file_of (clock_of options) bytes in
@@ -321,8 +326,8 @@ ReportsWhatMayStayBy judged options bytes =
     → StaysAsRead (criteria_of_judged judged options file.unread) file.pes_packets from to
     (λ on_air. MayStayBy judged.programme on_air options from to)
 
--- At each of these frames the due page is known, and it was known at each of the `within` frames
--- before, from the first frame that was read.
+-- At each frame that is reported as trusted the due page is known, and it was known at each of the
+-- `within` frames before, from the first frame that was read.
 abbrev pub ReportsWhatIsKnown : JudgedValue → OptionsValue → List ℕ → Type 0
 ReportsWhatIsKnown judged options bytes =
     let file = pes_packet_file_of (clock_of options) bytes in
@@ -335,8 +340,9 @@ ReportsWhatIsKnown judged options bytes =
     → from ≤ frame + options.within
     → IsFalse (is_due_undecided judged frame)
 
--- The events for the first PES packets, wherever the source fails, are a prefix of all events. So
--- the promises for trusted frames hold for those that were reported before.
+-- The events for the first n PES packets, if the source fails after them, are a prefix of all
+-- events. So the promises for trusted frames hold for the frames that were reported before the
+-- failure.
 abbrev pub BeginsWhatIsReported : JudgedValue → OptionsValue → List ℕ → Type 0
 BeginsWhatIsReported judged options bytes =
     (n : ℕ)
@@ -344,9 +350,10 @@ BeginsWhatIsReported judged options bytes =
     × (all_events_by judged options bytes
     ≡ events_of_first_by judged options bytes n ++ rest)
 
--- The events reported to a device for the bytes of a PES file, checked against what can be
--- judged. If it did not say stop: all events, and the answer has the counts. Otherwise: a prefix of
--- the events, and no counts. If the source failed: the events of the PES packets before.
+-- The events reported to a device for the bytes of a PES file, checked against the reliable
+-- subtitles. If the device did not stop the check: all events, and the answer has the counts.
+-- Otherwise: a prefix of the events, and no counts. If the source failed: the events of the PES
+-- packets before the failure.
 abbrev pub ReportsEvents : {D : Type 0} → JudgedValue → OptionsValue → List ℕ
     → (D → Event → D → Type 0) → D → D → Result (Option Accepted) CheckFault → Type 0
 ReportsEvents judged options bytes IsReported old new (Ok (Some a)) =

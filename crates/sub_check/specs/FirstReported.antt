@@ -1,4 +1,5 @@
--- The audience to which `check` passes all events. Only contracts of private functions use it.
+-- The audience to which `check` passes all events. Only contracts of private functions use these
+-- definitions.
 use Rattle.std.specs.Prelude.{◌≡◌, ◌||◌, Bool, false, not, Option, Some, None}
 use Rattle.std.specs.Prelude.{if◌then◌else◌}
 use Rattle.sub_rules.specs.Fault.{is_pes_read, is_pes_write, is_subtitle_fault}
@@ -6,24 +7,25 @@ use Rattle.sub_rules.specs.declared.event.Event.{Event}
 use Rattle.sub_rules.specs.declared.event.Event.TheVariants.{Ended, SkippedUntil, Reported, Trusted}
 use Rattle.sub_rules.specs.declared.fault.CheckFault.{CheckFault}
 
--- The fault is one of a rule: not of the subtitle file, and not a failure of the PES source or
--- sink.
+-- The fault reports a broken rule: it is neither a fault of the subtitle file nor a failure of the
+-- PES source or sink.
 pub record IsRuleFault (f : CheckFault) : Type 0 where
   pub no_source : is_pes_read f ≡ false
   pub no_write : is_pes_write f ≡ false
   pub no_subtitle : is_subtitle_fault f ≡ false
 
--- Whether a fault is one of a rule.
+-- The fault reports a broken rule: it is neither a fault of the subtitle file nor a failure of the
+-- PES source or sink.
 abbrev pub is_of_rule : CheckFault → Bool
 is_of_rule f = not (is_pes_read f || is_pes_write f || is_subtitle_fault f)
 
--- The fault of an event, if it is one of a rule.
+-- The fault of an event, if the event reports a broken rule.
 abbrev pub kept_of : Event → Option CheckFault
 kept_of (Reported f) = if is_of_rule f then Some f else None
 kept_of (Ended rule frame) = None
 kept_of (SkippedUntil f) = None
 kept_of (Trusted from to) = None
 
--- It keeps the first fault, and no event after it is reported to it.
+-- A `FirstFault` stores the first fault, and no event is reported to it afterwards.
 abbrev pub KeepsFirstFault : Option CheckFault → Event → Option CheckFault → Type 0
 KeepsFirstFault old event new = (old ≡ None) × (new ≡ kept_of event)

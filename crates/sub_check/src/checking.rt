@@ -28,7 +28,7 @@ use sub_plan::Options;
 use sub_rules::{CheckFault, Event};
 use ttx_pes::{PesFault, PesPackets};
 
-/// Checks the PES packets of a file against a programme, as `check` does those of a source.
+/// Checks PES packets against a programme, as `check` does for the PES packets of a source.
 ///
 /// # Errors
 ///
@@ -39,13 +39,13 @@ pub fn check_pes_packets<P: PesPackets>(
     options: &Options,
 ) -> Result<Accepted, CheckFault>
     requires { CanFail (P.failure_count source.old) }
-    // If the bytes of the source are known, they decide the answer: they are accepted exactly if
-    // they are a PES file that carries a good transmission of the programme, which is then robust.
+    // If the bytes of the source are known, they decide the answer: the PES file is accepted
+    // exactly if it carries a good transmission of the programme, which is then robust.
     ensures checked { IsFalse options.now.keeps → options.now.within ≡ 0
         → IfKnown (P.remaining source.old) (λ bytes.
         IsChecked programme.now options.now bytes result) }
-    // With any options, including those that allow late frames or repeats that keep the page, they
-    // are accepted exactly if the transmission is good by these options.
+    // With any options, including those that allow late frames or repeats that keep the page, the
+    // PES file is accepted exactly if its transmission is good by these options.
     ensures checked_by { IfKnown (P.remaining source.old) (λ bytes.
         IsCheckedBy programme.now options.now bytes result) }
     // A failure of the source is reported for the PES packet in which it happened; the packets
@@ -94,13 +94,13 @@ fn report_known<P: PesPackets, A: LiveAudience<Event>>(
     report_pes_packets(&Judging::known(programme), source, options, audience)
 }
 
-/// Checks the PES packets of a file against what can be judged of a subtitle file, and reports
-/// everything that is broken, as `check_all` does for those of a source.
+/// Checks PES packets against the reliable subtitles of a file, and reports everything that is
+/// broken, as `check_all` does for the PES packets of a source.
 ///
 /// # Errors
 ///
-/// Returns `Pes` with `Read` if a device failed. The events of all packets before that have been
-/// reported.
+/// Returns `Pes` with `Read` if a device failed. The events of all packets before the failure have
+/// been reported.
 pub fn check_all_pes_packets<P: PesPackets, A: LiveAudience<Event>>(
     judging: &Judging<'_>,
     source: &mut P,
@@ -110,12 +110,12 @@ pub fn check_all_pes_packets<P: PesPackets, A: LiveAudience<Event>>(
     requires failures { CanFail (P.failure_count source.old) }
     requires goes_on { A.has_stopped audience.old ≡ false }
     requires still { A.has_pending_reports audience.old ≡ false }
-    // If the bytes of the source are known, they decide what is reported.
+    // If the bytes of the source are known, they decide which events are reported.
     ensures reported { IfKnown (P.remaining source.old) (λ bytes.
         ReportsEvents judging.now options.now bytes A.is_reported audience.old audience.new
         result) }
     // If all events were reported and no subtitle was refused, `check` returns the first fault
-    // among them, or else these counts.
+    // among the events, or the same counts if there is no fault.
     ensures first { (programme : ProgrammeValue)
         → judging.now ≡ known programme
         → IsFalse options.now.keeps
@@ -128,14 +128,14 @@ pub fn check_all_pes_packets<P: PesPackets, A: LiveAudience<Event>>(
         → IfKnown (P.remaining source.old) (λ bytes.
         IfOk result (λ counts. IfSome counts (λ a. IsCheckedBy programme options.now bytes
         (first_answer (all_events_of programme options.now bytes) a)))) }
-    // The next four clauses are laws about the events. They name neither the answer nor the
-    // audience, and are here so that callers get them. Trusted frames may stay on air as they are,
-    // whatever is on air elsewhere.
+    // The next four clauses are laws about the events. They mention neither the answer nor the
+    // audience; they are repeated in this contract so that callers can use them. Trusted frames may
+    // stay on air as they are, whatever is on air elsewhere.
     ensures trusted { IsFalse options.now.keeps → options.now.within ≡ 0
         → IfKnown (P.remaining source.old) (λ bytes.
         ReportsWhatMayStay judging.now options.now bytes) }
-    // So they may with any options: with frames of delay, and for receivers that may forget the
-    // page if repeats may keep it.
+    // Trusted frames may stay on air with any options: with frames of delay, and for receivers that
+    // may forget the page if repeats may keep it.
     ensures trusted_by { IfKnown (P.remaining source.old) (λ bytes.
         ReportsWhatMayStayBy judging.now options.now bytes) }
     // At trusted frames the due page is known.
@@ -144,19 +144,19 @@ pub fn check_all_pes_packets<P: PesPackets, A: LiveAudience<Event>>(
     // The events before a failure of the source are a prefix of all events.
     ensures begins { IfKnown (P.remaining source.old) (λ bytes.
         BeginsWhatIsReported judging.now options.now bytes) }
-    // No counts are returned exactly if the audience said stop.
+    // No counts are returned exactly if the audience stopped the check.
     ensures stopped { IfOk result (λ counts. A.has_stopped audience.new ≡ is_none counts) }
-    // Whatever the source contains, some events were reported, and the audience had not said stop
-    // if the source failed.
+    // Whatever the source contains, a list of events was reported, and the audience had not stopped
+    // the check if the source failed.
     ensures some { ReportsSome A.is_reported audience.old audience.new }
     ensures goes_on { IfErr result (λ _. A.has_stopped audience.new ≡ false) }
     // A failure of the source is reported for the PES packet in which it happened; the packets
-    // before it were consumed. There is no other `Err`.
+    // before it were consumed. No other `Err` is returned.
     ensures read { (pes : ℕ) → result ≡ Err (CheckFault.Pes pes PesFault.Read)
         → FailsAtPesPacket pes (P.remaining source.old) (P.left source.new) }
     ensures only { IfErr result (λ f. is_pes_read f ≡ true) }
-    // Before the source may ask its device, which may fail, all reports are flushed. So if it
-    // failed, none is held back.
+    // All reports are flushed before the source may ask its device, which may fail. So no report is
+    // held back if the device failed.
     ensures requested { A.buffered audience.old ≡ 0 → IfErr result (λ _. A.buffered audience.new ≡
         0) }
     ensures device { P.device source.new ≡ P.device source.old }

@@ -22,7 +22,7 @@ use ttx_pes::PesFault;
 
 /// Loads a subtitle file, and checks a PES file against it.
 ///
-/// The subtitle file is read to its end before any byte of the PES file.
+/// The subtitle file is read to its end before the first byte of the PES file is read.
 ///
 /// # Errors
 ///
@@ -39,20 +39,20 @@ pub fn check_files<S: Source, P: Source>(
 ) -> Result<Accepted, CheckFault>
     requires stl { CanFail (S.failure_count stl.old) }
     requires pes { CanFail (P.failure_count pes.old) }
-    // If the bytes of both sources are known, no source fails and no allocation is refused, they
-    // are accepted exactly if they are a subtitle file and a PES file with a good transmission of
-    // its subtitles; and what is accepted is robust.
+    // If the bytes of both sources are known, no source fails and no allocation is refused, the
+    // files are accepted exactly if they are a subtitle file and a PES file with a good
+    // transmission of its subtitles; and an accepted transmission is robust.
     ensures accepted { IsFalse options.now.keeps → options.now.within ≡ 0
         → IfKnown (S.remaining stl.old) (λ file.
         IfKnown (P.remaining pes.old) (λ bytes.
         AreAccepted (drawing_within national layout scope) options.now file bytes result)) }
-    // With any options, including those that allow late frames or repeats that keep the page, they
-    // are accepted exactly if that transmission is good by these options, and what is accepted
-    // keeps the promises of such a transmission.
+    // With any options, including those that allow late frames or repeats that keep the page, the
+    // files are accepted exactly if the transmission is good by these options, and an accepted
+    // transmission keeps the promises of `HasPromisesBy`.
     ensures accepted_by { IfKnown (S.remaining stl.old) (λ file.
         IfKnown (P.remaining pes.old) (λ bytes.
         AreAcceptedBy (drawing_within national layout scope) options.now file bytes result)) }
-    // Which fault is returned, and its place.
+    // The known bytes decide which fault is returned, with its place.
     ensures checked { IfKnown (S.remaining stl.old) (λ file.
         AreChecked (drawing_within national layout scope) options.now file (P.remaining pes.old)
         result) }
@@ -67,7 +67,7 @@ pub fn check_files<S: Source, P: Source>(
     ensures pes_read { (index : ℕ)
         → result ≡ Err (CheckFault.Pes index PesFault.Read)
         → FailsAtPacket index (P.remaining pes.old) (P.remaining pes.new) }
-    // If the subtitle file is refused, no PES byte is read. Nothing is ever written.
+    // If the subtitle file is refused, no byte of the PES file is read. Nothing is ever written.
     ensures before { failed is_subtitle_fault result ≡ true → pes.new ≡ pes.old }
     ensures no_write { failed is_pes_write result ≡ false }
     // Each source failed in this call exactly if its `Read` is returned.

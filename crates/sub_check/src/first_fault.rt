@@ -9,9 +9,9 @@ use sub_io::{Audience, Live, LiveAudience, Stopped};
 use sub_rules::{CheckFault, Event};
 use ttx_pes::PesFault;
 
-/// Keeps the first fault of a rule and says stop then. Ignores all other events.
+/// Stores the first fault of a rule and stops the check at this fault. Ignores all other events.
 ///
-/// In contracts its value is what it keeps.
+/// In contracts, the value of a `FirstFault` is the stored fault.
 #[derive(Drop)]
 pub struct FirstFault {
     fault: Option<CheckFault>,
@@ -33,7 +33,7 @@ impl FirstFault {
         FirstFault { fault: None }
     }
 
-    /// Returns the fault that it keeps, after it said stop.
+    /// Returns the stored fault, after the audience stopped the check.
     pub fn into_fault(self) -> CheckFault
         requires { is_some self ≡ true }
         ensures kept { self ≡ Some result }
@@ -51,7 +51,7 @@ impl Audience<Event> for FirstFault {
 
     ghost has_stopped = { λ f. is_some f };
 
-    // Keeps the event if it is a fault of a rule.
+    // Stores the fault of the event, if a rule is broken, and stops the check.
     #[tactic(auto, using(sub_io::proofs::ReportingLemmas::tellings))]
     fn report(&mut self, item: Event) -> Result<(), Stopped> {
         match item {
@@ -71,12 +71,12 @@ impl Live for FirstFault {
 
     ghost is_flushed = { λ old ok new. (new ≡ old) × (is_some new ≡ not ok) };
 
-    // Never waits: it keeps the fault in memory.
+    // Returns `false`: the fault is only stored in memory, so no report is ever pending.
     fn has_pending(&self) -> bool {
         false
     }
 
-    // There is nothing to flush.
+    // Has no report to flush; returns `Stopped` if a fault is stored.
     fn flush_pending(&mut self) -> Result<(), Stopped> {
         if self.fault.is_some() {
             return Err(Stopped);
@@ -94,7 +94,8 @@ impl LiveAudience<Event> for FirstFault {
     } };
 }
 
-// All faults are of a rule except those of the subtitle file and of failed devices.
+// Returns whether a fault reports a broken rule: it is not a fault of the subtitle file or of a
+// failed device.
 fn is_of_rule(fault: &CheckFault) -> bool
     ensures is { result ≡ is_of_rule fault.now }
     ensures own { result ≡ true → IsRuleFault fault.now }

@@ -2,14 +2,14 @@
 //! programme is robust.
 //!
 //! Joins `sub_checker`, which reports everything that is broken, with `sub_laws` and `sub_trusted`,
-//! whose laws say what that means, and re-exports their names, those of `sub_rules`, and the law of
-//! `sub_packets`. `check` accepts exactly the good transmissions (`Good` of `sub_rules`), and
-//! returns the first reported fault (`Events`) for any other:
+//! whose laws say what the reports mean, and re-exports their names, those of `sub_rules`, and the
+//! law of `sub_packets`. `check` accepts exactly the good transmissions (`Good` of `sub_rules`),
+//! and returns the first reported fault (`Events`) for any other:
 //!
 //! ```text
-//! check(&programme, &mut source, &options)?; // Accepted { frames: 51, transmissions: 2 }
-//! check_all(&programme, &mut source, &options, &mut audience)?; // reports every fault
-//! law_of_good: Good programme transmission options → HasPromises programme transmission options
+//!  check(&programme, &mut source, &options)?; // Accepted { frames: 51, transmissions: 2 }
+//!  check_all(&programme, &mut source, &options, &mut audience)?; // reports every fault
+//!  law_of_good: Good programme transmission options → HasPromises programme transmission options
 //! ```
 #![tactic(auto)]
 

@@ -15,7 +15,6 @@ use Rattle.sub_rules.proofs.TestLemmas.{all_below, below, each_packet, packets_d
 use Rattle.sub_laws.proofs.ReportedLemmas.{none_reported}
 use Rattle.sub_rules.proofs.FrameEvents.{events}
 
--- A packet has 42 bytes.
 abbrev is_packet : List ℕ → Bool
 is_packet packet =
     length packet == 42 && all_below (λ place. nat_lt (slice_index packet place) 0x100) 42
@@ -38,7 +37,6 @@ packet_decided packet =
 abbrev pub are_packets : Transmission → Bool
 are_packets frames = each_packet is_packet frames
 
--- A transmission of 42-byte packets without events is good, if no repeat may keep the page.
 pub good_by_events :
     (programme : ProgrammeValue) (frames : Transmission) (o : OptionsValue)
     → o.keeps ≡ false

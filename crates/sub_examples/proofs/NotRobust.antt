@@ -1,5 +1,5 @@
--- For each fault that a receiver depends on, a transmission that has only that fault and is not
--- robust: a start, what is received, and the tests.
+-- For each fault that a receiver depends on, a transmission that has only this fault and is not
+-- robust: a receiver's start, the packets that it receives, and the tests.
 use Rattle.std.proofs.Common.{List, [], ◌∷◌, refl, ℕ}
 use Rattle.std.specs.Int.RustNames.{count_ones}
 use lib.Count.{ones_in}
@@ -21,7 +21,6 @@ use Rattle.sub_examples.specs.Examples.{ExamplesOfNeededParts, closing, english_
 use Rattle.sub_examples.specs.Examples.{header_without_c4, row_1, x0}
 use Rattle.sub_examples.proofs.RobustTests.{needed}
 
--- The header, row 1 with an exclamation mark, and the closing header.
 abbrev mark : List (List ℕ)
 mark = english_header ∷ row_1 0xA1 ∷ closing ∷ []
 
@@ -36,28 +35,28 @@ abbrev header_with_two_wrong_bits : List ℕ
 header_with_two_wrong_bits =
     x0 (0x16 ∷ 0x15 ∷ 0xD0 ∷ 0xD0 ∷ 0x15 ∷ 0xD0 ∷ 0x15 ∷ 0xD0 ∷ 0x02 ∷ 0x15 ∷ [])
 
--- What each is needed for.
+-- Each example gives the receiver for which the rule is needed.
 pub examples_of_needed_parts : ExamplesOfNeededParts
 unfolding are_code_words is_word_below first_even_byte breaks columns_differing is_gap
     packet_rules active_faults_at is_late wrong_after first_cell is_incomplete
     kind address header coded_header decoded is_near is_odd count_ones ones_in due blank
     blank_row sub_set
 examples_of_needed_parts = record {
-  -- Frames 900000 and 900001 are received as they were sent.
+  -- The receiver gets frames 900000 and 900001 as they were sent.
   frames_rise = needed 62 _ _ 900000 0 900001 (english_header ∷ row_1 0xA1 ∷ []) refl;
-  -- Another bit of the address is wrong.
+  -- A second bit of the header's address is received wrong, so the header is missed.
   exact_addresses = needed 64 _ _ 900000 0 900000 (header_with_two_wrong_bits ∷ closing ∷ []) refl;
-  -- One bit of the last packet is wrong, and it is all that is received.
+  -- The receiver gets only the last packet, with one wrong bit in its page units.
   exact_headers = needed 65 _ _ 900000 2 900000 (header_with_wrong_units ∷ []) refl;
-  -- The question marks stay.
+  -- The receiver's old page of question marks is not erased.
   subtitle_headers = needed 67 _ _ 900000 0 900000 (header_without_c4 ∷ closing ∷ []) refl;
-  -- A0 is received as A1.
+  -- The byte A0 of row 1 is received as A1.
   odd_rows = needed 68 _ _ 900000 0 900000 mark refl;
-  -- Both rows are received as they were sent.
+  -- The receiver gets both packets of row 1 as they were sent.
   same_rows =
       needed 69 _ _ 900000 0 900000 (english_header ∷ row_1 0x20 ∷ row_1 0xA1 ∷ closing ∷ []) refl;
-  -- Everything is received as it was sent.
+  -- The receiver gets all packets as they were sent.
   due_content = needed 72 _ _ 900000 0 900000 mark refl;
-  -- The receiver starts at the end of the first frame.
+  -- The receiver starts at the end of the first frame, after its header.
   headers_in_time = needed 73 _ _ 900000 2 900001 (closing ∷ []) refl;
 }

@@ -34,15 +34,13 @@ use Rattle.sub_laws.proofs.FirstFoundLemmas.{each_rule}
 use Rattle.sub_laws.proofs.ActiveFaultsLemmas.{all_known}
 use Rattle.sub_laws.proofs.StretchLemmas.{robust_of_recovers}
 
--- A receiver without a header, with a page of question marks.
+-- The state of a receiver without a header, with a page of question marks.
 abbrev before : State
 before = record {
   heard = false;
   is_open = false;
   page = replicate 24 (replicate 40 0x3F);
 }
-
--- ---- not robust
 
 -- A receiver may listen from packet j of frame g to the end of frame f, within the frames from a to
 -- b.
@@ -56,12 +54,12 @@ pub listening :
     → IsListening frames a b g j f
 listening frames a b g j f e = grind (arith, nat_tests, and_parts, nat_le, leb-true, length)
 
--- The code of a cell is none that a receiver may have.
 abbrev is_wrong : ℕ → ℕ → Bool
 is_wrong code due = not (code == due) && not (code == space)
 
--- No header came within the bound; or the receiver has one although none was sent, or none although
--- one was; or after a header the cell in row 1 and column 0 has neither the due code nor a space.
+-- The receiver is not served: no header came within the bound; or the receiver has a header
+-- although none was sent, or none although one was; or after a header the cell in row 1 and column
+-- 0 has neither the due code nor a space.
 abbrev is_unserved : ProgrammeValue → OptionsValue → ℕ → ℕ → List (List ℕ) → State → Bool
 is_unserved programme o g f sent new =
     (nat_le (g + o.every) f && not (holds_header (kind o.page) sent))
@@ -69,7 +67,8 @@ is_unserved programme o g f sent new =
     || (holds_header (kind o.page) sent
     && is_wrong (cell new.page 1 0) (cell (due_in programme f) 1 0)))
 
--- A receiver that listens there and gets these packets is not served.
+-- A receiver that starts at packet j of frame g, stops after frame f and gets the packets `got` is
+-- not served.
 abbrev pub is_refuted :
     ProgrammeValue → Transmission → OptionsValue → ℕ → ℕ → ℕ → List (List ℕ) → Bool
 is_refuted programme frames o g j f got =
@@ -77,7 +76,6 @@ is_refuted programme frames o g j f got =
     && (near_packets (on_air frames g j f) got
     && is_unserved programme o g f (on_air frames g j f) (state_after o.page before got))
 
--- The test shows that the receiver is not served.
 not_served :
     (late has heard : Bool) (code due : ℕ)
     → (late && not has || (not (is_same_bit heard has) || (has && is_wrong code due))) ≡ true
@@ -88,7 +86,6 @@ not_served :
 not_served late has heard code due e in_time hears cells =
     let same = same_bit heard has in grind (arith, nat_tests)
 
--- So the transmission is not robust.
 pub refuted :
     (programme : ProgrammeValue) (frames : Transmission) (o : OptionsValue)
     → (g j f : ℕ) (got : List (List ℕ))
@@ -111,15 +108,13 @@ refuted programme frames o g j f got e robust =
       | inr hit ↦ inr hit.0
     ])
 
--- ---- only one fault
-
 abbrev in_stretch : ℕ → ℕ → ℕ → Bool
 in_stretch a b f = nat_le a f && nat_le f b
 
 in_stretch_decided : (a b f : ℕ) → Decides (in_stretch a b f) ((a ≤ f) × (f ≤ b))
 in_stretch_decided a b f = Decides-and _ _ (at_most a f) (at_most f b)
 
--- A test of each packet in a frame of the stretch, given those before it.
+-- A test succeeds for each packet in a frame of the stretch, given the packets before it.
 abbrev packets_pass : (List (List ℕ) → List ℕ → Bool) → Transmission → ℕ → ℕ → Bool
 packets_pass test frames a b =
     all_below
@@ -139,7 +134,7 @@ at_packets test frames a b e i k l m low high =
     each_below _ (length (packets_of_frame frames i))
     ((implied _ _ (in_stretch_decided a b (frame_at frames i)) (holds _)).0 frame (low, high)) k m
 
--- A test of each end of a frame of the stretch, given the number of frames so far.
+-- A test succeeds for each end of a frame of the stretch, given the number of frames so far.
 abbrev ends_pass : (ℕ → ℕ → Bool) → Transmission → ℕ → ℕ → Bool
 ends_pass test frames a b =
     all_below
@@ -178,7 +173,6 @@ at_ends test frames a b e (suc m) f end low high =
     within f passes low high =
         (implied _ _ (in_stretch_decided a b f) (holds (test (suc m) f))).0 passes (low, high)
 
--- No packet in a frame of the stretch breaks the rule.
 abbrev unbroken : PacketRule → Criteria → Transmission → ℕ → ℕ → Bool
 unbroken r g frames a b = packets_pass (λ before p. not (breaks r g.watched before p)) frames a b
 
@@ -209,7 +203,6 @@ rising_decided (s ∷ frames) =
     (each_of (λ (later : SentFrame). nat_lt s.frame later.frame) (R s)
     (λ t. Decides-ltb s.frame t.frame) frames) (rising_decided frames))
 
--- The stretch has no fault that a receiver depends on except this one.
 abbrev reported_alone : ℕ → Criteria → Transmission → ℕ → ℕ → Bool
 reported_alone number g frames a b =
     (number == 62 || rises frames)
@@ -220,7 +213,6 @@ reported_alone number g frames a b =
     || ends_pass (λ n f. is_none (active_faults_at g frames n f).content) frames a b)
     && (number == 73 || ends_pass (λ n f. not (active_faults_at g frames n f).gap) frames a b)))
 
--- A test passes, or another number is meant.
 unless : (n m : ℕ) (b : Bool) → (n == m || b) ≡ true → n ≢ m → b ≡ true
 unless n m b e other = elim (or_cases (n == m) b e) [
   | inl same ↦ absurd (other (eqb-true n m same))
@@ -265,7 +257,6 @@ unreported_but number g frames a b e =
           (unless number 73 _ ends.1 other) n f end low high);
     }
 
--- The transmission has no other fault, and it is refuted. So the rule is needed.
 pub needed :
     (number : ℕ) (frames : Transmission) (every g j f : ℕ) (got : List (List ℕ))
     → reported_alone number (criteria_of no_subtitles (each every) None) frames (first_frame frames)
@@ -287,15 +278,11 @@ needed number frames every g j f got e =
           not_robust (robust_of_recovers no_subtitles frames (each every) trusted);
     }
 
--- ---- a clean stretch
-
--- If the due page is known at each frame, no end has an unknown one.
 none_undecided : (g : Criteria) (frames : Transmission) → ((f : ℕ) → g.undecided f ≡ false)
     → (n f : ℕ) → IsFalse (active_faults_at g frames n f).undecided
 unfolding active_faults_at
 none_undecided g frames known n f = all_known g.undecided known (frame_at frames 0) f g.within
 
--- It has no events, and the frames are some of the transmission.
 pub unreported_by_test :
     (g : Criteria) (frames : Transmission) (a b : ℕ)
     → ((f : ℕ) → g.undecided f ≡ false)

@@ -1,4 +1,4 @@
--- The examples of screens.
+-- Proves the examples of screens.
 use Rattle.std.proofs.lemmas.Bool.Decides.{nat_tests}
 use Rattle.std.proofs.Common.{◌≡◌, true, false, List, [], ◌∷◌, Option, Some, None, refl, sym, ap}
 use Rattle.std.proofs.Common.{◌∙◌, subst, le_refl, true≢false, not, ℕ, ◌≤◌, arith, length, ◌++◌}
@@ -42,9 +42,6 @@ use Rattle.sub_rules.specs.Transmission.{Transmission}
 use Rattle.sub_examples.proofs.ExampleLemmas.{good_by_events}
 use Rattle.sub_rules.proofs.FrameEvents.{events, events_of_first, frame_events, gap_events}
 
--- ---- packets
-
--- The contents of the header of page 888.
 abbrev header_888_value : Header
 header_888_value = record { page = 0x88; subcode = 0; control = record { 0 = 0x0D } }
 
@@ -60,57 +57,43 @@ kind_22 : kind page_888 row_22 ≡ Row 22
 unfolding kind address header coded_header decoded is_near
 kind_22 = refl
 
--- A receiver with an open blank page.
 abbrev on_blank : State
 on_blank = record { heard = true; is_open = true; page = blank }
 
--- The header may put each receiver into this state.
 opens : (old : State) → Step page_888 old english_header on_blank
 opens old = subst (λ k. StepAt k english_header old on_blank) (sym kind_888) refl
 
--- It puts receivers into no other state.
 opened :
     (old new : State) → Step page_888 old english_header new → new ≡ on_blank
 opened old new step = subst (λ k. StepAt k english_header old new) kind_888 step
 
--- The closing header closes the page.
 closed :
     (old new : State) → Step page_888 old closing new → new.is_open ≡ false
 closed old new step =
     ap (λ (s : State). s.is_open) (subst (λ k. StepAt k closing old new) kind_closing step)
 
--- The row leaves it open.
 left_open :
     (old new : State) → old ≡ on_blank → Step page_888 old row_22 new → new.is_open ≡ true
 left_open old new is step = grind (arith, nat_tests, on_blank, kind_22)
 
--- ---- screens
-
--- The closing header puts the page on the screen.
 pub example_of_ended_page : ExampleOfEndedPage
 example_of_ended_page old new run = grind (arith, nat_tests, opened, closed, not, Some)
 
--- A row does not.
 pub example_of_page_not_ended : ExampleOfPageNotEnded
 example_of_page_not_ended screen new run = grind (arith, nat_tests, opened, left_open, not, kind_22)
 
--- The page is open, and this is on the screen.
 abbrev open_with : Option Rows → Display
 open_with screen = record { held = on_blank; screen = screen }
 
--- At the first header the screen stays as it is.
 first_header : ShowsAt page_888 (unheard None) english_header (open_with None)
 first_header = grind (arith, nat_tests, true≢false)
 
--- At the next one a receiver may show the page.
 shows_again : ShowsAt page_888 (open_with None) english_header (open_with (Some blank))
 shows_again = grind (arith, nat_tests, true≢false, kind_888)
 
--- It may also show no page.
 waits_again : ShowsAt page_888 (open_with None) english_header (open_with None)
 waits_again = grind (arith, nat_tests, true≢false)
 
--- A page that begins again may be shown or not.
 pub example_of_page_begun_again : ExampleOfPageBegunAgain
 example_of_page_begun_again = record {
   shown = open_with (Some blank);
@@ -129,13 +112,9 @@ example_of_page_begun_again = record {
   is_nothing = refl;
 }
 
--- ---- a good transmission that is not shown
-
--- A header followed by nothing.
 abbrev no_end : Transmission
 no_end = one_frame (english_header ∷ [])
 
--- It has no events.
 no_end_is_good : Good no_subtitles no_end (each 1)
 unfolding events events_of_first frame_events order_events gap_events gap_length
     packets_reported rules_reported broken_rules packet_rules breaks first_header_events
@@ -148,17 +127,14 @@ unfolding events events_of_first frame_events order_events gap_events gap_length
     due blank blank_row sub_set
 no_end_is_good = good_by_events _ _ _ refl refl (omega arith) refl refl
 
--- It has a header of the page.
 holds : holds_header (kind page_888) (english_header ∷ []) ≡ true
 unfolding kind address header coded_header decoded is_near
 holds = refl
 
--- No header ends the page.
 no_end_of_page : is_unended (kind page_888) (english_header ∷ []) ≡ true
 unfolding kind address header coded_header decoded is_near
 no_end_of_page = refl
 
--- It is good, and a receiver shows nothing.
 pub example_of_no_end : ExampleOfNoEnd
 example_of_no_end = record {
   good = no_end_is_good;

@@ -34,7 +34,6 @@ use Rattle.sub_laws.proofs.NoneKeepsLemmas.{law_of_unreported_stretch}
 use Rattle.sub_laws.proofs.StretchLemmas.{law_of_stretch}
 use Rattle.sub_examples.proofs.RobustTests.{listening, unreported_by_test}
 
--- Its first packet, a header of the page, has no C4.
 refused : Good later_subtitle damaged_first (each 1) → ⊥
 unfolding kind address header coded_header decoded is_near
 refused good =

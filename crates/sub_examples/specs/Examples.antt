@@ -1,5 +1,5 @@
--- Complete transmissions of page 888, byte by byte: a good one, and for each part of what the
--- headline needs one that is not robust.
+-- Complete transmissions of page 888, byte by byte: a good one, and for each rule that the headline
+-- needs a transmission that is not robust without it.
 use Rattle.std.specs.Prelude.{◌≡◌, ◌≢◌, ◌⊎◌, ℕ, false, List, [], ◌∷◌, ◌++◌, None, replicate}
 use Rattle.std.specs.Prelude.{IsFalse, IsTrue}
 use Rattle.std.specs.List.{AllZip}
@@ -25,17 +25,18 @@ use Rattle.sub_laws.specs.Robust.{Robust}
 
 -- ---- packets
 
--- Ten coded bytes, and 32 spaces.
+-- A packet X/0 with these ten coded bytes, and 32 spaces.
 abbrev pub x0 : List ℕ → List ℕ
 x0 coded = coded ++ replicate 32 0x20
 
--- A header of page 888 with these four bytes of control bits: S2 and C4, S4 with C5 and C6, C7 to
--- C10, C11 to C14. The other bytes are: address, address, page units, page tens, S1; S3.
+-- A header of page 888 with four given bytes: `c4` codes S2 and C4, `c5_c6` codes S4, C5 and C6,
+-- `c7_c10` codes C7 to C10, and `c11_c14` codes C11 to C14. The other coded bytes are the address
+-- (two), page units, page tens, S1 and S3.
 abbrev pub header_with : ℕ → ℕ → ℕ → ℕ → List ℕ
 header_with c4 c5_c6 c7_c10 c11_c14 =
     x0 (0x15 ∷ 0x15 ∷ 0xD0 ∷ 0xD0 ∷ 0x15 ∷ c4 ∷ 0x15 ∷ c5_c6 ∷ c7_c10 ∷ c11_c14 ∷ [])
 
--- The header of page 888 in English and in parallel mode: C4, C6 and C7 are set.
+-- A header of page 888 in English and in parallel mode: C4, C6 and C7 are set.
 abbrev pub english_header : List ℕ
 english_header = header_with 0xD0 0xD0 0x02 0x15
 
@@ -43,16 +44,16 @@ english_header = header_with 0xD0 0xD0 0x02 0x15
 abbrev pub header_without_c4 : List ℕ
 header_without_c4 = header_with 0x15 0xD0 0x02 0x15
 
--- The header of page 888 with one wrong bit in its first address byte.
+-- A header of page 888 with one wrong bit in its first address byte.
 abbrev pub header_with_wrong_bit : List ℕ
 header_with_wrong_bit =
     x0 (0x14 ∷ 0x15 ∷ 0xD0 ∷ 0xD0 ∷ 0x15 ∷ 0xD0 ∷ 0x15 ∷ 0xD0 ∷ 0x02 ∷ 0x15 ∷ [])
 
--- A packet X/0 whose page units can't be decoded: it is no header, but one bit away from one.
+-- A packet X/0 whose page units can't be decoded. It is no header, but one bit away from a header.
 abbrev pub no_header : List ℕ
 no_header = x0 (0x15 ∷ 0x15 ∷ 0xD3 ∷ 0xD0 ∷ 0x15 ∷ 0xD0 ∷ 0x15 ∷ 0xD0 ∷ 0x02 ∷ 0x15 ∷ [])
 
--- The closing header: page FF, subcode 3F7F.
+-- The closing header (in EN 300 706: time filling header): page FF, subcode 3F7F.
 abbrev pub closing : List ℕ
 closing = x0 (0x15 ∷ 0x15 ∷ 0xEA ∷ 0xEA ∷ 0xEA ∷ 0x2F ∷ 0xEA ∷ 0x5E ∷ 0x15 ∷ 0x15 ∷ [])
 
@@ -70,16 +71,16 @@ row_22 =
 
 -- ---- transmissions
 
--- Frame 900000, 10:00:00:00, with these packets.
+-- A transmission of frame 900000, 10:00:00:00, with these packets.
 abbrev pub one_frame : List (List ℕ) → Transmission
 one_frame packets = record { frame = 900000; packets = packets } ∷ []
 
--- Frames 900000 and 900001 with these packets.
+-- A transmission of frames 900000 and 900001 with these packets.
 abbrev pub two_frames : List (List ℕ) → List (List ℕ) → Transmission
 two_frames first second =
     record { frame = 900000; packets = first } ∷ record { frame = 900001; packets = second } ∷ []
 
--- Page 888 with a repeat bound, and PTS 0 at frame 0.
+-- Options for page 888 with a repeat bound, and PTS 0 at frame 0.
 abbrev pub each : ℕ → OptionsValue
 each every =
     record {
@@ -92,7 +93,7 @@ each every =
       keeps = false;
     }
 
--- Frame 900000 with this header and the closing header.
+-- A transmission of frame 900000 with one header and the closing header.
 abbrev pub one_header : List ℕ → Transmission
 one_header sent = one_frame (sent ∷ closing ∷ [])
 
@@ -120,7 +121,8 @@ one_subtitle text =
 
 -- ---- a good transmission
 
--- `Hi` in one frame, and in the next one the page without it.
+-- The text `Hi` in frame 900000, and in the next frame the page without it, are a good
+-- transmission.
 abbrev pub ExampleOfGood : Type 0
 ExampleOfGood =
     Good (one_subtitle (0x48 ∷ 0x69 ∷ []))
@@ -129,12 +131,12 @@ ExampleOfGood =
 
 -- ---- for each fault that a receiver depends on, a transmission that is not robust
 
--- The number of the fault for a packet that breaks the rule.
+-- The number of the fault for a packet that breaks rule r.
 abbrev pub number_of : PacketRule → ℕ
 number_of r = (check_code (packet_fault r 0 0)).number
 
 -- In the frames from a to b there is no report that a receiver depends on, as in `IsUnreported`,
--- except perhaps this number.
+-- except perhaps a fault with this number.
 pub record IsUnreportedBut (number : ℕ) (g : Criteria) (frames : Transmission) (a b : ℕ) : Type 0
   where
     pub rising : number ≢ 62 → IsRising frames
@@ -147,8 +149,9 @@ pub record IsUnreportedBut (number : ℕ) (g : Criteria) (frames : Transmission)
         number ≢ 72 → AtEnds (λ n f. (active_faults_at g frames n f).content ≡ None) frames a b
     pub gap : number ≢ 73 → AtEnds (λ n f. IsFalse (active_faults_at g frames n f).gap) frames a b
 
--- The frames of the transmission have no other fault, if each due page is blank, and it is not
--- robust. So its frames may not be trusted either.
+-- If each due page is blank, the frames of the transmission have no fault that a receiver depends
+-- on except perhaps one with this number, and the transmission is not robust. So its frames may not
+-- be trusted either.
 pub record IsNeeded (number : ℕ) (transmission : Transmission) (every : ℕ) : Type 0 where
   pub others :
       IsUnreportedBut number (criteria_of no_subtitles (each every) None) transmission
@@ -159,7 +162,7 @@ pub record IsNeeded (number : ℕ) (transmission : Transmission) (every : ℕ) :
       (last_frame transmission)
       → ⊥
 
--- Row 1 blank, and then with an exclamation mark.
+-- A transmission of row 1, first blank, and then with an exclamation mark.
 abbrev pub changed_row : Transmission
 changed_row = one_frame (english_header ∷ row_1 0x20 ∷ row_1 0xA1 ∷ closing ∷ [])
 
@@ -172,28 +175,29 @@ listed_late =
     ∷ record { frame = 900003; packets = english_header ∷ closing ∷ [] }
     ∷ []
 
--- Each of the eight rules is needed: a stretch with this fault alone can't be trusted.
+-- Each of the eight rules is needed: a stretch that breaks this rule alone can't be trusted.
 pub record ExamplesOfNeededParts : Type 0 where
   -- A receiver of the frames up to 900001 shows an exclamation mark that is not due.
   pub frames_rise : IsNeeded 62 listed_late 3
   -- With one more wrong bit the address byte can't be decoded, and the header is missed.
   pub exact_addresses : IsNeeded 64 (one_header header_with_wrong_bit) 1
-  -- With one wrong bit a packet X/0 is a header that nobody sent.
+  -- With one wrong bit, a packet X/0 is a header that nobody sent.
   pub exact_headers : IsNeeded 65 (one_frame (english_header ∷ closing ∷ no_header ∷ [])) 1
-  -- Without C4 a receiver keeps its old page.
+  -- Without C4, a receiver keeps its old page.
   pub subtitle_headers : IsNeeded 67 (one_header header_without_c4) 1
   -- A0 may be received as A1, which has odd parity: an exclamation mark that nobody sent.
   pub odd_rows : IsNeeded 68 (one_frame (english_header ∷ row_1 0xA0 ∷ closing ∷ [])) 1
-  -- Of two packets of row 1 the first counts as shown, but a receiver has the second.
+  -- If row 1 is sent twice with different codes, the first packet counts as shown, but a receiver
+  -- has the second.
   pub same_rows : IsNeeded 69 changed_row 1
-  -- Every receiver shows what is not due.
+  -- Every receiver shows an exclamation mark that is not due.
   pub due_content : IsNeeded 72 (one_frame (english_header ∷ row_1 0xA1 ∷ closing ∷ [])) 1
-  -- A receiver that starts after the first frame gets no header within the bound.
+  -- A receiver that starts after the first frame gets no header within the repeat bound.
   pub headers_in_time : IsNeeded 73 (two_frames (english_header ∷ closing ∷ []) (closing ∷ [])) 1
 
 -- ---- a clean stretch of a refused transmission
 
--- `Hi` from frame 900001 to 900002.
+-- A programme with one subtitle, `Hi`, at frame 900001 alone.
 abbrev pub later_subtitle : ProgrammeValue
 later_subtitle = record {
   drawing = drawing_by English default_layout;
@@ -210,7 +214,8 @@ later_subtitle = record {
       ∷ [];
 }
 
--- In frame 900000 the header does not erase the page, and a row has an even byte.
+-- A transmission of three frames; in frame 900000 the header does not erase the page, and a row has
+-- an even byte.
 abbrev pub damaged_first : Transmission
 damaged_first =
     record { frame = 900000; packets = header_without_c4 ∷ row_1 0xA0 ∷ closing ∷ [] }
@@ -218,9 +223,9 @@ damaged_first =
     ∷ record { frame = 900002; packets = english_header ∷ closing ∷ [] }
     ∷ []
 
--- It is refused. There is no report of the frames after the first; so a receiver of frame 900001,
--- with any wrong bit in each byte and whatever it contained before, has the `H` there or, if its
--- byte was hit, a space.
+-- The transmission `damaged_first` is refused, but no fault is reported in the frames after the
+-- first. So a receiver of frame 900001, with any wrong bit in each byte and whatever it contained
+-- before, has the code of `H` in the right cell or, if its byte was hit, a space.
 pub record ExampleOfCleanStretch : Type 0 where
   pub refused : Good later_subtitle damaged_first (each 1) → ⊥
   pub clean : IsUnreported (criteria_of later_subtitle (each 1) None) damaged_first 900001 900002

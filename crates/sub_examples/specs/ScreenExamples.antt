@@ -12,26 +12,28 @@ use Rattle.sub_rules.specs.Good.{Good}
 use Rattle.sub_laws.specs.OnScreen.{Complete, ShownWithin}
 use Rattle.sub_rules.specs.Transmission.{Transmission, first_frame, last_frame}
 
--- A receiver without a header, with a blank page, and this on its screen.
+-- The state of a receiver that has no header and a blank page, with `screen` on its screen.
 abbrev pub unheard : Option Rows → Display
 unheard screen =
     record { held = record { heard = false; is_open = false; page = blank }; screen = screen }
 
--- A header that ends the page puts it on the screen, whatever the receiver had and showed before.
+-- A header that ends the page puts the page on the screen, whatever the receiver contained and
+-- showed before.
 abbrev pub ExampleOfEndedPage : Type 0
 ExampleOfEndedPage =
     (old new : Display)
     → Shows page_888 old (english_header ∷ closing ∷ []) new
     → new.screen ≡ Some blank
 
--- Until then the screen stays as it is: a row is not put on it.
+-- Until a header ends the page the screen does not change: a row is not put on the screen.
 abbrev pub ExampleOfPageNotEnded : Type 0
 ExampleOfPageNotEnded =
     (screen : Option Rows) (new : Display)
     → Shows page_888 (unheard screen) (english_header ∷ row_22 ∷ []) new
     → new.screen ≡ screen
 
--- At a header of the page while it is open, one receiver shows it, and another one does not.
+-- At a header of the page while the page is open, one receiver shows the page, and another one does
+-- not.
 pub record ExampleOfPageBegunAgain : Type 0 where
   pub shown : Display
   pub shows : Shows page_888 (unheard None) (english_header ∷ english_header ∷ []) shown
@@ -52,6 +54,6 @@ pub record IsHeldAndNotShown
       (last_frame transmission)
       → ⊥
 
--- A header followed by nothing.
+-- A header without any packets after it is a good transmission that some receiver does not show.
 abbrev pub ExampleOfNoEnd : Type 0
 ExampleOfNoEnd = IsHeldAndNotShown no_subtitles (one_frame (english_header ∷ [])) (each 1)

@@ -1,7 +1,8 @@
-//! Complete transmissions, byte by byte: a good one, and for each part of what the headline needs
-//! one that is not robust.
+//! Complete transmissions, byte by byte: a good one, and for each rule that the headline needs a
+//! transmission that is not robust without it.
 //!
-//! They show that the definitions of `specs/` mean what they should. The functions do nothing.
+//! The examples show that the definitions of `specs/` mean what they should. The functions have no
+//! body.
 ghost use Rattle.sub_examples.specs.Examples.{ExampleOfCleanStretch, ExampleOfGood};
 ghost use Rattle.sub_examples.specs.Examples.{ExamplesOfNeededParts};
 ghost use Rattle.sub_examples.specs.TrustedExamples.{ExamplesOfTrusted};
@@ -19,7 +20,8 @@ pub fn examples_of_needed_parts()
     ensures { ExamplesOfNeededParts }
 {}
 
-/// A refused transmission with a clean stretch of frames, and what a receiver has there.
+/// A refused transmission with a clean stretch of frames, and the codes that a receiver has in this
+/// stretch.
 #[tactic(auto, using(crate::proofs::StretchExample::example_of_clean_stretch))]
 pub fn example_of_clean_stretch()
     ensures { ExampleOfCleanStretch }

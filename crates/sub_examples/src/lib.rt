@@ -1,10 +1,10 @@
-//! Examples of transmissions, byte by byte: a good one, for each part that the headline needs one
-//! that is not robust without it, and examples of screens.
+//! Examples of transmissions, byte by byte: a good one, for each rule that the headline needs a
+//! transmission that is not robust without it, and examples of screens.
 //!
-//! They test the definitions of `sub_rules` and `sub_laws`. No other crate uses this one.
+//! The examples test the definitions of `sub_rules` and `sub_laws`. No other crate uses this one.
 //!
 //! ```text
-//! example_of_good: a transmission of one frame, its programme and its options are `Good`
+//!  example_of_good: a transmission of one frame, its programme and its options are `Good`
 //! ```
 #![tactic(auto)]
 

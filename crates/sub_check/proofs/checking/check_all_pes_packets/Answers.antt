@@ -1,4 +1,5 @@
--- The events for the file as one value, and the answer of `check`: AnsweredLemmas.
+-- The events reported are those of the whole file, and their first fault is the answer of `check`:
+-- AnsweredLemmas.
 use Rattle.std.proofs.Common.{drop, sym, take}
 use Rattle.std.proofs.lemmas.List.{take-append-drop}
 use Rattle.stl_rows.specs.Judged.{has_refused}

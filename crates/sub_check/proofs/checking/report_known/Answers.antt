@@ -1,4 +1,4 @@
--- The criteria are those of the programme: `reports_known`.
+-- If no subtitle was refused, the criteria are those of the programme: `reports_known`.
 use Rattle.sub_check.proofs.AnsweredLemmas.{programme_known, reports_known}
 use Rattle.sub_check.proofs.checking.report_known.Goals as goal
 

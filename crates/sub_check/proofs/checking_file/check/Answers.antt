@@ -1,4 +1,4 @@
--- The clauses for the PES packets hold for the bytes of the source.
+-- The clauses for PES packets hold for the bytes of the source.
 use Rattle.std.proofs.Common.{rules}
 use Rattle.sub_check.proofs.checking_file.check.Goals as goal
 

@@ -1,4 +1,3 @@
--- The law: AcceptedKeepingLemmas.
 use Rattle.sub_check.proofs.AcceptedKeepingLemmas as lemmas
 use Rattle.sub_check.proofs.laws.law_of_accepted_keeping.Goals as goal
 

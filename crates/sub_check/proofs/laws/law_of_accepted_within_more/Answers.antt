@@ -1,4 +1,3 @@
--- The law: AcceptedWithinLemmas.
 use Rattle.sub_check.proofs.AcceptedWithinLemmas as lemmas
 use Rattle.sub_check.proofs.laws.law_of_accepted_within_more.Goals as goal
 

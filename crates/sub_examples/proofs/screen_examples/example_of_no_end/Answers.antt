@@ -1,4 +1,4 @@
--- The example: ScreenTests.
+-- Proves the example in ScreenTests.
 use Rattle.sub_examples.proofs.ScreenTests as example
 use Rattle.sub_examples.proofs.screen_examples.example_of_no_end.Goals as goal
 

@@ -1,4 +1,4 @@
--- The examples: ScreenTests.
+-- Proves the examples in ScreenTests.
 use Rattle.sub_examples.proofs.ScreenTests as example
 use Rattle.sub_examples.proofs.screen_examples.examples_of_screens.Goals as goal
 
