@@ -1,5 +1,5 @@
--- Lent bytes that are taken in several pulls: borrowed-more. If they contain a packet, its size is
--- read from the first bytes taken: borrowed_rest.
+-- Lent bytes that are taken in several pulls: borrowed-more. If the lent bytes contain a PES
+-- packet, its size is read from the first bytes taken: borrowed_rest.
 use Rattle.std.proofs.Common.{◌≡◌, ◌≢◌, ℕ, ◌+◌, ◌<◌, ◌≤◌, List, [], ◌++◌, length, take, Some, ap}
 use Rattle.std.proofs.Common.{◌∙◌, Bool, Ok, Result, arith, false, length-append}
 use Rattle.std.proofs.Common.{length-take, length-take-le, sym, true}
@@ -11,7 +11,6 @@ use Rattle.ttx_pes.specs.BorrowedPacket.{NothingIsPending, are_all_of, holds_pac
 use Rattle.ttx_pes.specs.declared.fault.PesFault.{PesFault}
 use Rattle.ttx_pes.specs.Reading.{size_at}
 
--- While fewer bytes were taken than were buffered and lent, some are still lent.
 some_left : (buffered borrowed left room : List ℕ) (least at : ℕ)
     → buffered ++ borrowed ≡ take at room ++ left
     → at < least
@@ -28,7 +27,6 @@ some_left buffered borrowed left room least at whole below within many none =
       length-take-le at room within,
     )
 
--- One more pull. For `fill_on`.
 pub borrowed-more : (buffered borrowed left rest room to : List ℕ) (least at k n : ℕ)
     → buffered ++ borrowed ≡ take at room ++ left
     → (left ≢ [] → left ≡ take n to ++ rest)
@@ -42,14 +40,12 @@ borrowed-more buffered borrowed left rest room to least at k n whole gives below
     whole
     (gives (some_left buffered borrowed left room least at whole below within many))
 
--- ---- a packet that is lent
-
 pub borrowed_head : (borrowed : List ℕ) → holds_packet borrowed ≡ true → 6 ≤ length borrowed
 unfolding holds_packet
 borrowed_head borrowed holds = grind (arith, nat_tests)
 
--- After the size was read from the bytes taken, the rest of the packet is still lent. For
--- `read_pes_packet`.
+-- If the size of a PES packet was read from the first bytes taken, the source still lends the rest
+-- of the packet.
 pub borrowed_rest : (borrowed left room : List ℕ) (got size : ℕ)
     → holds_packet borrowed ≡ true
     → borrowed ≡ take got room ++ left
@@ -61,12 +57,10 @@ unfolding holds_packet
 borrowed_rest borrowed left room got size h1 h2 h3 h4 h5 =
     grind (arith, nat_tests, length-take-le, length-append)
 
--- Bytes contain a packet if a prefix of them does.
 all_of_more : (r : Result ℕ PesFault) (m n : ℕ) → m ≤ n → are_all_of m r ≡ true
     → are_all_of n r ≡ true
 all_of_more r m n h1 h2 = grind (arith, nat_tests)
 
--- For `flush_first`.
 pub buffered_holds : (buffered borrowed : List ℕ)
     → take (length buffered) borrowed ≡ buffered
     → holds_packet buffered ≡ true
@@ -84,7 +78,6 @@ buffered_holds buffered borrowed begins holds =
     all_of_more _ _ _ long (rw first at all) in
     grind (arith, nat_tests)
 
--- The result of `holds_packet`.
 pub holds_none : (bytes : List ℕ) → length bytes < 6 → false ≡ holds_packet bytes
 unfolding holds_packet
 holds_none bytes few = grind (arith, nat_tests)
@@ -96,8 +89,8 @@ pub holds_read : (bytes : List ℕ) (r : Result ℕ PesFault)
 unfolding holds_packet
 holds_read bytes r many is = grind (arith, nat_tests)
 
--- If reading a packet failed, no report was pending. For `report_pes_packets` and the lister of
--- `packets`.
+-- If reading a PES packet failed, no report was pending, because reports are flushed before a
+-- device is called.
 pub not_pending : (has_pending_reports fails ready : Bool)
     → NothingIsPending has_pending_reports ready
     → (ready ≡ true → fails ≡ false)

@@ -1,4 +1,4 @@
--- Data units that are read match the grammar, and vice versa. Main lemmas: units_sound,
+-- A data unit can be read exactly if it matches the grammar. Main lemmas: units_sound,
 -- units_complete.
 use Rattle.std.proofs.Common.{rules, ◌≡◌, ℕ, zero, suc, ◌+◌, ◌-◌, ◌*◌, ◌/◌, ◌%◌, ◌<◌, ◌≤◌, true}
 use Rattle.std.proofs.Common.{cond, eqb, List, [], ◌∷◌, ◌++◌, length, take, get_or, drop, map}
@@ -19,35 +19,25 @@ use Rattle.ttx_packet.proofs.BitOrderLemmas.{mirror-mirror}
 use Rattle.ttx_pes.proofs.LineOrderLemmas.{last_place-push}
 use Rattle.sub_io.proofs.ReadingLemmas.{step_gave, Ok-injective, given_as}
 
--- ---- bytes
-
--- Bytes in a prefix.
 pub AreBytes-take : (n : ℕ) (b : List ℕ) → AreBytes b → AreBytes (take n b)
 AreBytes-take n b h i = grind (arith, nat_tests, cases_lt, get_or-take, get_or_past, length-take)
 
--- Bytes after a prefix.
 pub AreBytes-drop : (n : ℕ) (b : List ℕ) → AreBytes b → AreBytes (drop n b)
 AreBytes-drop n b h i = rw get_or-drop (h (n + i))
 
--- n bytes from a place on, written out one by one, and those after them.
 abbrev pub spelled_from : ℕ → ℕ → List ℕ → List ℕ
 spelled_from zero i b = drop i b
 spelled_from (suc n) i b = get_or b i 0 ∷ spelled_from n (suc i) b
 
--- A list with its first bytes written out.
 pub list_of_bytes : (n i : ℕ) (b : List ℕ) → i + n ≤ length b → drop i b ≡ spelled_from n i b
 list_of_bytes zero i b le = grind (arith, nat_tests)
 list_of_bytes (suc n) i b le =
     grind (arith, nat_tests, drop-cons, (list_of_bytes n (suc i) b (omega arith)))
 
--- ---- mirrored bytes
-
--- A mirrored byte is a byte.
 pub mirror_fits : (b : ℕ) → b < 256 → mirror b < 256
 unfolding mirror
 mirror_fits b lt = omega arith
 
--- Mirroring bytes twice gives the same bytes.
 pub mirrored_twice : (p : List ℕ) → AreBytes p → map mirror (map mirror p) ≡ p
 mirrored_twice [] h = refl
 mirrored_twice (x ∷ p) h =
@@ -55,26 +45,21 @@ mirrored_twice (x ∷ p) h =
     let others = mirrored_twice p (λ i. h (suc i)) in
     rw (first, others) refl
 
--- Mirrored bytes are bytes.
 pub mirrored_fit : (p : List ℕ) → AreBytes p → AreBytes (map mirror p)
 mirrored_fit [] h i = omega arith
 mirrored_fit (x ∷ p) h zero = mirror_fits x (h 0)
 mirrored_fit (x ∷ p) h (suc i) = mirrored_fit p (λ k. h (suc k)) i
 
--- ---- a data unit
-
--- The data_unit_id of data units with Teletext.
 pub is_teletext_id : (id : ℕ) → is_teletext id ≡ true → (2 ≤ id) × (id ≤ 3)
 is_teletext_id id e = grind (arith, nat_tests)
 
--- The third byte of a unit, reassembled from its parts.
 field_bit : (b : ℕ)
     → b < 256
     → (64 * (b / 64) + 32 * (2 - cond (eqb ((b / 32) % 2) 1) 1 2) + b % 32 ≡ b)
     × (1 ≤ cond (eqb ((b / 32) % 2) 1) 1 2) × (cond (eqb ((b / 32) % 2) 1) 1 2 ≤ 2)
 field_bit b lt = grind (arith, nat_tests)
 
--- A data unit that is read matches the grammar.
+-- A data unit that can be read matches the grammar.
 pub unit_sound : (b : List ℕ) (u : Option UnitValue)
     → length b ≡ 46
     → AreBytes b
@@ -96,11 +81,9 @@ unit_sound b u len fit e = elim (cases_Bool (is_teletext (get_or b 0 0))) [
       })
 ]
 
--- Units with these numbers are read.
 teletext_id_is : (id : ℕ) → 2 ≤ id → id ≤ 3 → is_teletext id ≡ true
 teletext_id_is id lo hi = grind (arith, nat_tests)
 
--- The field, read from the third byte.
 field_back : (reserved field line : ℕ)
     → 1 ≤ field
     → field ≤ 2
@@ -108,7 +91,7 @@ field_back : (reserved field line : ℕ)
     → cond (eqb (((64 * reserved + 32 * (2 - field) + line) / 32) % 2) 1) 1 2 ≡ field
 field_back reserved field line lo hi lt = grind (arith, nat_tests)
 
--- A data unit of the grammar is read.
+-- A data unit that matches the grammar can be read.
 pub unit_complete : (u : Option UnitValue) (b : List ℕ)
     → IsDataUnit u b
     → (teletext_at b ≡ Ok u) × (length b ≡ 46)
@@ -116,21 +99,19 @@ unfolding teletext_at
 unit_complete u b h =
     grind (arith, nat_tests, teletext_id_is, field_back, mirrored_twice, length-map)
 
--- ---- data units one after another
-
--- The effect of a data unit.
+-- The effect of a data unit on the units read so far: its unit, if any, is appended and keeps the
+-- line order.
 pub record Adds (prefix us : List UnitValue) (u : Option UnitValue) : Type 0 where
   pub is : us ≡ prefix ++ option_to_list u
   pub rises : (more : List UnitValue) → AreInLineOrder (last_place 0 us) more
       → AreInLineOrder (last_place 0 prefix) (option_to_list u ++ more)
 
--- A unit is added only if it keeps the order.
 with_unit_adds : (prefix us : List UnitValue) (u : Option UnitValue)
     → with_unit prefix u ≡ Ok us
     → Adds prefix us u
 with_unit_adds prefix us u e = grind (arith, nat_tests, Ok-injective, append-nil, last_place-push)
 
--- Data units that are read match the grammar, in order: for a value that is read.
+-- If n data units can be read, they match the grammar, and their Teletext units are in line order.
 pub units_sound : (n : ℕ) (prefix us : List UnitValue) (b : List ℕ)
     → length b ≡ 46 * n
     → AreBytes b
@@ -154,14 +135,14 @@ units_sound (suc n) prefix us b len fit e =
       adds.rises r.0 r.3,
     )
 
--- A unit that keeps the order is added.
 with_unit_takes : (prefix others : List UnitValue) (u : Option UnitValue)
     → AreInLineOrder (last_place 0 prefix) (option_to_list u ++ others)
     → (with_unit prefix u ≡ Ok (prefix ++ option_to_list u))
     × AreInLineOrder (last_place 0 (prefix ++ option_to_list u)) others
 with_unit_takes prefix others u r = grind (arith, nat_tests, append-nil, last_place-push)
 
--- Data units of the grammar in order are read: for a packet that is read.
+-- If n data units match the grammar and their Teletext units are in line order, the data units can
+-- be read.
 pub units_complete : (n : ℕ) (prefix more : List UnitValue) (b : List ℕ)
     → AreDataUnits n more b
     → AreInLineOrder (last_place 0 prefix) more
@@ -177,9 +158,6 @@ units_complete (suc n) prefix more b (u, others, first, rest, buffered, after, u
     let i = units_complete n (prefix ++ option_to_list u) others rest after t.1 in
     grind (arith, nat_tests, given_as, append_assoc, length-append)
 
--- ---- the loop over data units
-
--- The next of the remaining data units.
 pub units_next : (count i : ℕ) (prefix : List UnitValue) (b : List ℕ)
     → i < count
     → units_at (count - i) prefix b
@@ -187,12 +165,10 @@ pub units_next : (count i : ℕ) (prefix : List UnitValue) (b : List ℕ)
 unfolding units_at
 units_next count i prefix b lt = grind (arith, nat_tests)
 
--- No data unit is left.
 pub units_none : (count i : ℕ) (prefix : List UnitValue) (b : List ℕ)
     → count ≤ i
     → units_at (count - i) prefix b ≡ Ok prefix
 unfolding units_at
 units_none count i prefix b le = grind (arith, nat_tests)
 
--- For the loop of `take_units`.
 pub ruleset units_left = (units_next, units_none)

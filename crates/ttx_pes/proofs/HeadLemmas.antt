@@ -1,5 +1,5 @@
--- Data units with the same heads as others: one head, same_word, all of them, heads_more; and the
--- units are at the same offsets, places_equal.
+-- Data fields whose data units have the same heads: one head, same_word; all heads, heads_more;
+-- both data fields have their Teletext units at the same offsets, places_equal.
 use Rattle.std.proofs.Common.{◌≡◌, ℕ, zero, suc, ◌+◌, ◌-◌, ◌*◌, ◌/◌, ◌%◌, ◌<◌, ◌≤◌, List, []}
 use Rattle.std.proofs.Common.{◌∷◌, ◌++◌}
 use Rattle.std.proofs.Common.{length, take, drop, get_or, cond, Ok, refl, sym, ap, subst, ◌∙◌}
@@ -16,9 +16,6 @@ use Rattle.ttx_pes.specs.Taking.{teletext_places}
 use Rattle.ttx_pes.proofs.LineOrderLemmas.{last_place-push}
 use Rattle.sub_io.proofs.ReadingLemmas.{step_gave}
 
--- ---- heads
-
--- Four bytes are equal if they are equal as a word. For `is_same_head`.
 pub same_word : (a b : List ℕ) (at : ℕ)
     → ((i : ℕ) → get_or a i 0 < 256)
     → ((i : ℕ) → get_or b i 0 < 256)
@@ -29,7 +26,6 @@ pub same_word : (a b : List ℕ) (at : ℕ)
     → IsSameHead a b at
 same_word a b at h1 h2 h3 = grind (arith, nat_tests, get_or-drop)
 
--- The heads of the first payload. For `are_same_heads`.
 pub heads_first : (a b : List ℕ)
     → IsSameHead a b 1
     → IsSameHead a b (1 + 46)
@@ -39,7 +35,6 @@ pub heads_first : (a b : List ℕ)
     → IsSameHead a b (46 * k + 1)
 heads_first a b h1 h2 h3 k h4 = grind (arith, nat_tests)
 
--- The heads of all payloads. For `are_same_heads`.
 pub heads_all : (a b : List ℕ) (n : ℕ)
     → (length a + 45) % 184 ≡ 0
     → 139 ≤ length a
@@ -48,7 +43,6 @@ pub heads_all : (a b : List ℕ) (n : ℕ)
     → AreSameHeads a b
 heads_all a b n whole long all same k l = same k (omega arith)
 
--- The heads of four more data units. For the loop of `are_same_heads`.
 pub heads_more : (a b : List ℕ) (i : ℕ)
     → ((k : ℕ) → k < 3 + 4 * i → IsSameHead a b (46 * k + 1))
     → IsSameHead a b (139 + 184 * i)
@@ -60,9 +54,6 @@ pub heads_more : (a b : List ℕ) (i : ℕ)
     → IsSameHead a b (46 * k + 1)
 heads_more a b i h1 h2 h3 h4 h5 k h6 = grind (arith, nat_tests)
 
--- ---- offsets
-
--- The offsets with one more data unit. For the loop of `take_places`.
 pub placed_next : (count k at : ℕ) (field places more : List ℕ)
     → k < count
     → at ≡ 1 + 46 * k
@@ -77,31 +68,25 @@ placed_next count k at field places more l is e =
     (append_assoc places (teletext_place (1 + 46 * k) field)
     (teletext_places (count - (k + 1)) (1 + 46 * k + 46) field))
 
--- No data unit is left.
 pub placed_none : (count k at : ℕ) (field places : List ℕ)
     → count ≤ k
     → places ++ teletext_places (count - k) at field ≡ places
 unfolding teletext_places
 placed_none count k at field places l = grind (arith, nat_tests, append-nil)
 
--- There is no offset without a data field. For a `KeptFrame` without one.
 pub no_places : teletext_places 0 1 [] ≡ []
 unfolding teletext_places
 no_places = refl
 
--- ---- units after the same heads
-
--- A byte of a data unit.
 block_byte : (a : List ℕ) (at r : ℕ)
     → r < 46
     → get_or (take 46 (drop at a)) r 0 ≡ get_or a (at + r) 0
 block_byte a at r l = get_or-take 46 (drop at a) r 0 l ∙ get_or-drop at a r 0
 
--- The unit of a data unit.
 abbrev units_in : List ℕ → List UnitValue
 units_in b = cond (is_teletext (get_or b 0 0)) (unit_of b ∷ []) []
 
--- A data unit with the same head as one that is read is read.
+-- A data unit that has the same head as a data unit that can be read can be read too.
 record ReadsSameHead (us more : List UnitValue) (b : List ℕ) : Type 0 where
   pub read : unit_at us b ≡ Ok (us ++ units_in b)
   pub last : last_place 0 more ≡ last_place 0 (us ++ units_in b)
@@ -118,12 +103,12 @@ unfolding unit_at teletext_at
 unit_equal b c us vs more e0 e1 e2 e3 last e =
     grind (arith, nat_tests, append-nil, last_place-push)
 
--- The units of a data unit, by its offset.
 sent_one : (field : List ℕ) (at : ℕ)
     → units_in (take 46 (drop at field)) ≡ sent_units field (teletext_place at field)
 sent_one field at = grind (arith, nat_tests, block_byte field at 0)
 
--- Data units with the same heads as others that are read are read.
+-- If the data units of a data field can be read, so can data units with the same heads, up to their
+-- Teletext packets.
 units_equal : (n at : ℕ) (a b : List ℕ) (us vs all : List UnitValue)
     → ((k : ℕ) → k < n → IsSameHead a b (46 * k + at))
     → last_place 0 us ≡ last_place 0 vs
@@ -165,7 +150,6 @@ units_equal (suc n) at a b us vs all same last e =
     ∙ ap (λ us. Ok us) (ap (λ one. (vs ++ one) ++ sent_units b (teletext_places n (at + 46) b))
     (sent_one b at) ∙ joined ∙ ap (λ us. vs ++ us) (sym mapped))
 
--- Their offsets are the same.
 same_places : (n at : ℕ) (a b : List ℕ)
     → ((k : ℕ) → k < n → IsSameHead a b (46 * k + at))
     → teletext_places n at a ≡ teletext_places n at b
@@ -180,7 +164,7 @@ same_places (suc n) at a b same =
     let rest = same_places n (at + 46) a b next in
     rw (head.id, rest) refl
 
--- Data fields with the same heads have their units at the same offsets. For `find_places`.
+-- Two data fields with the same heads have their Teletext units at the same offsets.
 pub places_equal : (a b places : List ℕ)
     → length a ≡ length b
     → 0 < length a
@@ -199,5 +183,4 @@ places_equal a b places size some same is units =
     let read = units_equal n 1 a b [] [] (sent_units a places) heads refl (units some) in
     rw count (there, read ∙ ap (λ ps. Ok (sent_units b ps)) (sym there))
 
--- For the loop of `are_same_heads`.
 pub ruleset same_heads = (heads_first, heads_more, heads_all)

@@ -1,5 +1,5 @@
--- Facts about a packet from its header and its data field: with newly read units, known_anew, or
--- with the data field of the packet before, known_again.
+-- Facts about a PES packet follow from its header and its data field: from units that are read
+-- again, known_anew, or from the data field of the packet before, known_again.
 use Rattle.std.proofs.lemmas.Bool.Decides.{nat_tests}
 use Rattle.std.proofs.Common.{◌≡◌, ℕ, ◌/◌, ◌<◌, List, ◌+◌, ◌%◌, ◌≤◌, ◌++◌, [], length, drop}
 use Rattle.std.proofs.Common.{false, take, Ok, Err, refl, sym, ap, subst, arith, length-drop}
@@ -17,7 +17,7 @@ use Rattle.ttx_pes.proofs.HeadLemmas.{no_places}
 use Rattle.ttx_pes.proofs.PesHeaderLemmas.{body_sound, frame_made, six_of}
 use Rattle.ttx_pes.proofs.PesGrammarLemmas.{value_of_packet}
 
--- A fault of the units of a packet's data field is the packet's.
+-- A fault of the units of the data field is the fault of the PES packet.
 pub value_refused : (b field : List ℕ) (t : ℕ) (f : PesFault)
     → pts_at b ≡ Ok t
     → field ≡ drop 39 b
@@ -28,7 +28,7 @@ value_refused b field t f e same bad =
     let there = rw (same, drop-drop 1 39 b) at bad in
     rw (e, there) refl
 
--- A value that is read from a packet's bytes from byte 6 on is valid.
+-- A value that is read from a PES packet's bytes from byte 6 on fits in a frame.
 value_kept : (body : List ℕ) (v : PesValue)
     → length body + 6 ≤ 1656
     → (length body + 6) % 184 ≡ 0
@@ -41,19 +41,18 @@ value_kept body v short whole some fit e =
     value_of_packet v (six_of n ++ body)
     (body_sound n body v (omega arith) (omega arith) (omega arith) fit e)
 
--- The bytes of a packet from byte 6 on, by their number.
+-- The list has the length of a PES packet's bytes from byte 6 on.
 pub record IsBody (body : List ℕ) : Type 0 where
   pub short : length body + 6 ≤ 1656
   pub whole : (length body + 6) % 184 ≡ 0
   pub long : 184 ≤ length body + 6
   pub fit : AreBytes body
 
--- The facts about a packet, from these bytes.
+-- The facts are true of the PES packet with these bytes from byte 6 on.
 pub record IsKnown (body : List ℕ) (h : BufferedPacketValue) : Type 0 where
   pub value : value_at body ≡ Ok (buffered_frame (drop 39 body) h)
   pub known : IsInBuffer (drop 39 body) h
 
--- With newly read units of its data field.
 pub known_anew : (body field : List ℕ) (h : BufferedPacketValue)
     → IsBody body
     → pts_at body ≡ Ok h.pts
@@ -80,7 +79,6 @@ known_anew body field h is time same count within all read =
       };
     }
 
--- With the data field of a packet for which the facts are known.
 pub known_again : (body field before : List ℕ) (old h : BufferedPacketValue)
     → IsBody body
     → pts_at body ≡ Ok h.pts
@@ -97,7 +95,6 @@ known_again body field before old h is time same kept known count places =
     known_anew body field h is time same (there.count ∙ sym count) (rw places there.within)
     (rw places there.all) (rw places (there.units some))
 
--- The data field in a packet's buffer, from the packet's bytes from byte 6 on. For `other_field`.
 pub field_of_body : (size count : ℕ) (room body : List ℕ)
     → body ≡ drop 6 (take size room)
     → count + 39 ≡ length body
@@ -111,21 +108,16 @@ field_of_body size count room body is all long fits =
     sym (ap (drop 39) is ∙ drop-drop 39 6 (take size room)
     ∙ ap (λ n. drop 45 (take n room)) (sym sum) ∙ drop-take 45 count room)
 
--- The facts about no packet hold for an empty data field. For a `KeptFrame` without one.
 pub none_known : IsInBuffer [] no_packet
 unfolding units_at
 none_known = grind (arith, nat_tests, no_places)
 
--- ---- a packet that is stored
-
--- The stored value of a packet at the front of the buffer.
 abbrev pub kept_in : BufferedPacketValue → List ℕ → KeptValue
 kept_in h room = record {
   frame = buffered_frame (field_in h.count room) h;
   data_field = field_in h.count room;
 }
 
--- A different packet, which was copied to the buffer.
 pub other_field : (new : BufferedPacketValue) (room pes_packet body : List ℕ)
     → body ≡ drop 6 pes_packet
     → take (length pes_packet) room ≡ pes_packet

@@ -1,4 +1,5 @@
--- A limited number of packets: received_limited; and skipped ones: skipped_one, skipped_stop.
+-- Reading at most a limited number of PES packets: received_limited; skipping PES packets:
+-- skipped_one, skipped_stop.
 use Rattle.std.proofs.Common.{◌≡◌, ℕ, zero, suc, ◌+◌, ◌-◌, ◌*◌, ◌≤◌, ◌<◌, List, [], ◌++◌, true}
 use Rattle.std.proofs.Common.{false, length, take, drop, Option, Some, None, Result, Ok, Err, refl}
 use Rattle.std.proofs.Common.{sym, ap, ◌∙◌, subst, inl, inr, arith, append_assoc, length-append}
@@ -30,8 +31,6 @@ Keeps-refl : (a : Option (List ℕ)) → Keeps a a
 Keeps-refl None = tt
 Keeps-refl (Some x) = refl
 
--- A packet has the size in its length field, whatever follows it. (Also in RangeLemmas, where it is
--- private.)
 pub pes_packet_is : (p rest : List ℕ) → IsPesPacket p → pes_packet_size (p ++ rest) ≡ Some
     (length p)
 unfolding stated_pes_packet
@@ -53,14 +52,12 @@ pes_packet_is p rest h =
     ) refl in
     whole (p ++ rest) (length p) (reported ∙ ap Some (sym long)) (omega (arith, size))
 
--- A packet under a limit of at least one.
 prefix_limited : (n : ℕ) (p rest : List ℕ) → IsPesPacket p
     → limited (Some (suc n)) (p ++ rest) ≡ p ++ limited (Some n) rest
 prefix_limited n p rest is =
     first_one n (p ++ rest) (length p) (pes_packet_is p rest is)
     ∙ rw (take_at p rest (length p) refl, drop_at p rest (length p) refl) refl
 
--- Why bytes begin no packet, if they begin none.
 no_size : (count : ℕ) (r : Result ℕ PesFault) (f : PesFault) → fault_of_size count r ≡ Some f
     → if_complete count (result_ok r) ≡ None
 no_size count (Ok size) f e = grind (arith, nat_tests)
@@ -75,7 +72,6 @@ rest_size b f e = elim (cases_lt (length b) 6) [
       rw (long) (no_size (length b) (size_at (take 6 b)) f (rw (long) at e))
 ]
 
--- This is known about all remaining bytes.
 pub rest_reported : (old following : Option (List ℕ)) (f : PesFault) → IsRest old following f
     → IfKnown old (λ all. rest_fault all ≡ Some f)
 rest_reported None following f r all reported = absurd cc
@@ -84,7 +80,6 @@ rest_reported (Some x) (Some y) f r all reported =
     let same : x ≡ all = cc in
     ap rest_fault (sym same ∙ r.consumed) ∙ r.shows.all y (λ end. end)
 
--- Without a packet the limit changes nothing.
 rest_limited : (n : ℕ) (b : List ℕ) → pes_packet_size b ≡ None → limited (Some (suc n)) b ≡ b
 rest_limited n b none = first_none (suc n) b (omega arith) none
 
@@ -92,15 +87,12 @@ pub nil_size : pes_packet_size [] ≡ None
 unfolding pes_packet_size stated_pes_packet
 nil_size = refl
 
--- ---- known bytes
-
 Keeps-map : (f : List ℕ → List ℕ) (old new : Option (List ℕ)) → Keeps old new
     → Keeps (option_map f old) (option_map f new)
 Keeps-map f None new k = tt
 Keeps-map f (Some x) None k = absurd k
 Keeps-map f (Some x) (Some y) k = ap f k
 
--- The limit is reached.
 over_end : (reported : Option (List ℕ)) → IsAtEnd (option_map (limited (Some 0)) reported)
 unfolding first_pes_packets
 over_end None = tt
@@ -122,7 +114,6 @@ module _ {T A : Type 0} (E : Type 0) (is_take : T → List ℕ → A → T → T
     refl,
   )
 
--- A packet came.
 pes_packet_limited : (n : ℕ) (old new : Option (List ℕ)) (p : List ℕ)
     → IsPesPacket p
     → Consumes old new p
@@ -137,7 +128,6 @@ end_limited : (n : ℕ) (old : Option (List ℕ)) → IsAtEnd old
 end_limited n None end = tt
 end_limited n (Some x) end = ap (limited (Some (suc n))) end ∙ rest_limited n [] nil_size
 
--- No packet begins the bytes, so all that follow count.
 rest_kept : (n : ℕ) (old new : Option (List ℕ)) (f : PesFault)
     → IfKnown old (λ all. rest_fault all ≡ Some f)
     → Keeps old new
@@ -153,7 +143,6 @@ rest_same n None f none = refl
 rest_same n (Some x) f none =
     ap (λ (b : List ℕ). Some b) (rest_limited n x (rest_size x f (none x refl)))
 
--- What comes under a limit of at least one.
 module _ {T A : Type 0} (E : Type 0) (is_take : T → List ℕ → A → T → Type 0) (before after : T)
     (old new following : Option (List ℕ))
   where
@@ -187,8 +176,6 @@ module _ {T A : Type 0} (E : Type 0) (is_take : T → List ℕ → A → T → T
       on.2,
     )
 
--- ---- known bytes after a packet
-
 prefix_of : (mid new : Option (List ℕ)) (b p : List ℕ) → mid ≡ Some b → Consumes mid new p
     → (rest : List ℕ) × (new ≡ Some rest) × (b ≡ p ++ rest)
 prefix_of None new b p reported took = absurd cc
@@ -204,8 +191,6 @@ kept_reported (Some x) (Some y) b reported kept = cc
 at_end : (mid : Option (List ℕ)) (b : List ℕ) → IsAtEnd mid → mid ≡ Some b → b ≡ []
 at_end None b end reported = absurd cc
 at_end (Some x) b end reported = cc
-
--- ---- skipped packets
 
 pub skipped_one : (n k : ℕ) (old mid new : Option (List ℕ)) (p : List ℕ) → k < n
     → HasSkipped n k old mid
@@ -236,14 +221,12 @@ skipped_one n k old mid new p more so_far is took b reported =
       omega (arith, sum, count),
     )
 
--- No further packet was skipped.
 pub skipped_kept : (n k : ℕ) (old mid new : Option (List ℕ)) → HasSkipped n k old mid
     → Keeps mid new
     → HasSkipped n k old new
 skipped_kept n k old mid new so_far kept b reported =
     let at = so_far b reported in (at.0, kept_reported mid new at.0 at.1 kept, at.2, at.3)
 
--- No packet is left.
 skipped_end : (n k : ℕ) (old mid new : Option (List ℕ))
     → HasSkipped n k old mid
     → Keeps mid new
@@ -258,7 +241,6 @@ skipped_end n k old mid new so_far kept none b reported =
       omega (arith, count, zero_more),
     )
 
--- All were skipped.
 pub skipped_all : (n k : ℕ) (old new : Option (List ℕ)) → n ≤ k
     → HasSkipped n k old new
     → Passes n old new k
@@ -271,7 +253,6 @@ skipped_all n k old new all so_far b reported =
       omega (arith, count),
     )
 
--- If no packet came.
 module _ {T A : Type 0} (E : Type 0) (is_take : T → List ℕ → A → T → Type 0) (before after : T)
     (n k : ℕ) (old mid new following : Option (List ℕ))
   where

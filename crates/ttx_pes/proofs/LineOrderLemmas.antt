@@ -1,5 +1,5 @@
--- The line order with one more unit, and that numbered packets keep it. Main lemma:
--- numbered_is_value.
+-- A unit that follows the last place keeps the line order, and so do the numbered packets of a
+-- frame. Main lemma: numbered_is_value.
 use Rattle.std.proofs.Common.{rules, ◌≡◌, ℕ, ◌+◌, ◌<◌, ◌≤◌, true, false, cond, eqb, ltb, List, []}
 use Rattle.std.proofs.Common.{◌∷◌, ◌++◌, length, get_or, drop, map, refl, append_assoc, arith}
 use Rattle.std.proofs.lemmas.Bool.{lt-ltb}
@@ -12,14 +12,12 @@ use Rattle.ttx_pes.specs.Laws.{LawOfNumberedFrame}
 use Rattle.ttx_pes.specs.LineOrder.{line_order_place, last_place, may_follow, AreInLineOrder}
 use Rattle.ttx_pes.specs.LineOrder.{numbered_units, numbered_unit, numbered_place}
 
--- The last place, with one more unit.
 pub last_place-push : (last : ℕ) (us : List UnitValue) (u : UnitValue)
     → last_place last (us ++ u ∷ []) ≡ cond (eqb u.line 0) (last_place last us) (line_order_place u)
 last_place-push last [] u = refl
 last_place-push last (t ∷ us) u =
     last_place-push (cond (eqb t.line 0) last (line_order_place t)) us u
 
--- A unit that may follow the last place keeps the order.
 pub AreInLineOrder-push : (last : ℕ) (us : List UnitValue) (u : UnitValue)
     → AreInLineOrder last us
     → may_follow (last_place last us) u ≡ true
@@ -28,7 +26,6 @@ AreInLineOrder-push last [] u h e = (e, tt)
 AreInLineOrder-push last (t ∷ us) u h e =
     (h.0, AreInLineOrder-push (cond (eqb t.line 0) last (line_order_place t)) us u h.1 e)
 
--- One more unit.
 pub units-push : (us : List UnitValue) (u : UnitValue)
     → AllByRecursion IsUnit us
     → IsUnit u
@@ -36,14 +33,11 @@ pub units-push : (us : List UnitValue) (u : UnitValue)
 units-push [] u h w = (w, tt)
 units-push (t ∷ us) u h w = (h.0, units-push us u h.1 w)
 
--- For a frame to which a unit is added.
 pub ruleset order = (last_place-push, AreInLineOrder-push, units-push)
 
--- The places of consecutive numbers rise.
 place_rises : (i : ℕ) → numbered_place i < numbered_place (i + 1)
 place_rises i = grind (arith, nat_tests)
 
--- One more packet in the loop of frame_of: the remaining units come after it.
 pub numbered_more : (i : ℕ) (ps : List (List ℕ)) (p : List ℕ) (us all : List UnitValue)
     → i < length ps
     → p ≡ get_or ps i p
@@ -51,27 +45,22 @@ pub numbered_more : (i : ℕ) (ps : List (List ℕ)) (p : List ℕ) (us all : Li
     → (us ++ numbered_unit i p ∷ []) ++ numbered_units (i + 1) (drop (i + 1) ps) ≡ all
 numbered_more i ps p us all lt is e = grind (arith, nat_tests, append_assoc, drop_more)
 
--- After a numbered unit, the next number may follow.
+-- After the unit with number i of a frame, the unit with number i + 1 may follow in line order.
 pub last_numbered : (i : ℕ) (u : UnitValue) (us : List UnitValue)
     → eqb u.line 0 ≡ false
     → line_order_place u ≡ numbered_place i
     → last_place 0 (us ++ u ∷ []) < numbered_place (i + 1)
 last_numbered i u us line at = grind (arith, nat_tests, last_place-push, place_rises)
 
--- ---- numbered packets as a value
-
--- The packets of numbered units.
 packets-numbered_units : (i : ℕ) (ps : List (List ℕ))
     → map (λ (u : UnitValue). u.packet) (numbered_units i ps) ≡ ps
 packets-numbered_units i [] = refl
 packets-numbered_units i (p ∷ ps) = grind (arith, nat_tests, packets-numbered_units (i + 1) ps)
 
--- As many units as packets.
 length-numbered_units : (i : ℕ) (ps : List (List ℕ)) → length (numbered_units i ps) ≡ length ps
 length-numbered_units i [] = refl
 length-numbered_units i (p ∷ ps) = grind (arith, nat_tests, length-numbered_units (i + 1) ps)
 
--- Facts about one numbered unit.
 record IsNumbered (i : ℕ) (p : List ℕ) : Type 0 where
   pub unit : IsUnit (numbered_unit i p)
   pub line : eqb (numbered_unit i p).line 0 ≡ false
@@ -80,7 +69,6 @@ record IsNumbered (i : ℕ) (p : List ℕ) : Type 0 where
 numbered_one : (i : ℕ) (p : List ℕ) → i < 32 → IsPacket p → IsNumbered i p
 numbered_one i p lt h = grind (arith, nat_tests)
 
--- All numbered units are valid units.
 numbered_each : (i : ℕ) (ps : List (List ℕ)) → i + length ps ≤ 32 → AllByRecursion IsPacket ps
     → AllByRecursion IsUnit (numbered_units i ps)
 numbered_each i [] lt h = tt
@@ -88,7 +76,6 @@ numbered_each i (p ∷ ps) lt h =
     let few : i + 1 + length ps ≤ 32 = omega arith in
     ((numbered_one i p (omega arith) h.0).unit, numbered_each (i + 1) ps few h.1)
 
--- Numbered units are in order.
 numbered_order : (i last : ℕ) (ps : List (List ℕ)) → i + length ps ≤ 32 → AllByRecursion IsPacket ps
     → last < numbered_place i
     → AreInLineOrder last (numbered_units i ps)
@@ -102,7 +89,8 @@ numbered_order i last (p ∷ ps) few h lt =
     rw (one.line, stands)
     (refl, numbered_order (i + 1) (line_order_place (numbered_unit i p)) ps next h.1 rises)
 
--- The law of packets that are sent as one frame.
+-- The law of numbered frames: Teletext packets that are sent as one frame form a value that fits in
+-- a PES packet.
 pub numbered_is_value : LawOfNumberedFrame
 numbered_is_value pts ps lt few h =
     search (rules, length-numbered_units, numbered_each, numbered_order, packets-numbered_units)

@@ -1,4 +1,4 @@
--- The line order as a property of pairs. Main lemma: line_order.
+-- Line order is a property of pairs of units. Main lemma: line_order.
 use Rattle.std.proofs.Common.{◌≡◌, ◌≢◌, ℕ, suc, ◌<◌, true, false, eqb, ltb, List, [], ◌∷◌, refl}
 use Rattle.std.proofs.Common.{arith, inl, inr, eq-eqb}
 use Rattle.std.proofs.lemmas.Bool.Decides.{nat_tests}
@@ -10,11 +10,11 @@ use Rattle.ttx_pes.specs.DataUnit.{UnitValue}
 use Rattle.ttx_pes.specs.Laws.{LawOfLineOrder}
 use Rattle.ttx_pes.specs.LineOrder.{line_order_place, AreInLineOrder, RisesTo}
 
--- A unit with a defined line comes after that place.
 abbrev IsPast : ℕ → UnitValue → Type 0
 IsPast before u = u.line ≢ 0 → before < line_order_place u
 
--- In units in order, each with a defined line comes after the start and after those before it.
+-- If units are in line order, each unit with a defined line comes after the start and after all
+-- units before it.
 pairs_from_order : (before : ℕ) (us : List UnitValue)
     → AreInLineOrder before us
     → All (IsPast before) us × AllPairs RisesTo us
@@ -39,7 +39,6 @@ pairs_from_order before (u ∷ us) h = elim (cases_eq u.line 0) [
       )
 ]
 
--- The converse.
 order_from_pairs : (before : ℕ) (us : List UnitValue)
     → All (IsPast before) us
     → AllPairs RisesTo us
@@ -61,7 +60,6 @@ order_from_pairs before (u ∷ us) all pairs = elim (cases_eq u.line 0) [
       rw (t, past) (refl, rest)
 ]
 
--- The law of the line order.
 pub line_order : LawOfLineOrder
 line_order us = (
   λ h. (pairs_from_order 0 us h).1,

@@ -1,4 +1,5 @@
--- The result for a file is its next answer, followed by the rest: outcome_after-next.
+-- The result of reading a file is its next answer, followed by the result for the rest:
+-- outcome_after-next.
 use Rattle.std.proofs.Common.{◌≡◌, ℕ, ◌+◌, ◌≤◌, List, Option, Some, None, Result, Ok, Err}
 use Rattle.std.proofs.Common.{ap, ◌∙◌, arith}
 use Rattle.std.proofs.lemmas.Bool.Decides.{nat_tests}
@@ -10,26 +11,23 @@ use Rattle.ttx_pes.specs.PesPackets.{pes_packets_after}
 use Rattle.ttx_pes.specs.Reading.{answer_at, most_packets, rest_after}
 use Rattle.ttx_pes.proofs.PesPacketListLemmas.{rest_after_packet, pes_packets_after-next}
 
--- A reader's answer, and after a packet the following ones.
 abbrev pub answer_then : Result (Option PesValue) PesFault → PesOutcome → PesOutcome
 answer_then (Ok (Some v)) more = gives v more
 answer_then (Ok None) more = ends
 answer_then (Err f) more = fails f
 
--- The result up to the first rejected packet.
 until_then : (answer : Result (Option PesValue) PesFault) (more : PesPacketsValue)
     → until_refused (pes_packet_then answer more).pes_packets (pes_packet_then answer more).left
     ≡ answer_then answer (until_refused more.pes_packets more.left)
 until_then answer more = grind (arith, nat_tests)
 
--- After a valid packet, both definitions leave the same bytes.
+-- After a valid packet, the two definitions of the bytes after the packet at the front agree.
 same_rest : (given : ℕ) (bytes : List ℕ) (answer : Result (Option PesValue) PesFault)
     → answer_at given bytes ≡ answer
     → answer_then answer (outcome_after (given + 1) (rest_after_pes_packet bytes))
     ≡ answer_then answer (outcome_after (given + 1) (rest_after bytes))
 same_rest given bytes answer h1 = grind (arith, nat_tests, rest_after_packet)
 
--- The result after `given` PES packets, by the next answer.
 pub outcome_after-next : (given : ℕ) (bytes : List ℕ) (answer : Result (Option PesValue) PesFault)
     → given ≤ most_packets
     → answer_at given bytes ≡ answer

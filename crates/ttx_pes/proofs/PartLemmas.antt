@@ -1,5 +1,5 @@
--- A range of packets: the effect of skipping those before it, part_passed and part_failed; and the
--- packets that follow, advances_kept.
+-- Reading a range of PES packets: skipping the packets before the range, part_passed and
+-- part_failed, and reading the packets of the range, advances_kept.
 use Rattle.std.proofs.Common.{◌≡◌, ℕ, zero, suc, ◌+◌, List, Option, Some, None}
 use Rattle.std.proofs.Common.{refl, ap, ◌∙◌, arith}
 use Rattle.std.specs.Prelude.{option_map}
@@ -17,7 +17,6 @@ part_of zero left None = refl
 part_of zero left (Some x) = refl
 part_of (suc n) left known_bytes = refl
 
--- A range has the packets after those before it, up to a limit. For `new`.
 limited_remaining_is : (m : Option ℕ) (n : ℕ) (known_bytes : Option (List ℕ))
     → limited_known m (option_map (rest_after_pes_packets n) known_bytes)
     ≡ option_map (λ b. limited m (rest_after_pes_packets n b)) known_bytes
@@ -39,7 +38,6 @@ unfolding first_index
 number_is r None = refl
 number_is r (Some x) = ap (λ (n : ℕ). Some n) (omega arith)
 
--- No packet has to be skipped.
 pub number_none : (a : AheadValue) (m : ℕ) (known_bytes : Option (List ℕ))
     → a.to_skip ≡ 0
     → part_number a known_bytes ≡ Some m

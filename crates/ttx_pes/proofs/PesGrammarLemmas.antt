@@ -1,5 +1,5 @@
--- The canonical packet is a valid packet of its value, and the writer writes it. Main lemmas:
--- canonical_is_packet, refill-pts, spelled.
+-- The canonical packet of a value is a valid PES packet with that value, and the writer writes it.
+-- Main lemmas: canonical_is_packet, refill-pts, spelled.
 use Rattle.std.proofs.Common.{List, Some, [], ap, append_assoc, arith, length, lit<, refl, suc}
 use Rattle.std.proofs.Common.{drop, take, zero, ℕ, ◌*◌, ◌++◌, ◌+◌, ◌-◌, ◌/◌, ◌∷◌, ◌≡◌, ◌≤◌, ◌<◌}
 use Rattle.std.proofs.lemmas.Bool.Decides.{nat_tests}
@@ -16,12 +16,11 @@ use Rattle.ttx_pes.specs.PesGrammar.{pts_bytes, repeated}
 stuffing_is_skipped : IsSkippedUnit stuffing_unit
 stuffing_is_skipped = grind (arith, nat_tests)
 
--- Stuffing units are data units without Teletext.
 pub stuffing_units : (n : ℕ) → AreDataUnits n [] (repeated n stuffing_unit)
 stuffing_units zero = (refl, refl)
 stuffing_units (suc n) = grind (arith, nat_tests, stuffing_is_skipped, stuffing_units n)
 
--- Written units and stuffing units are data units of the grammar.
+-- The data units that a writer creates, followed by stuffing units, match the grammar.
 pub written_units : (us : List UnitValue) (n : ℕ)
     → AllByRecursion IsUnit us
     → AreDataUnits (length us + n) us (flat_map teletext_unit us ++ repeated n stuffing_unit)
@@ -41,7 +40,6 @@ written_units (u ∷ us) n h =
     let more : suc (length us + n) ≡ suc (length us) + n = omega arith in
     grind (arith, nat_tests)
 
--- The law of the canonical packet.
 pub canonical_is_packet : LawOfCanonicalPacket
 unfolding canonical_packet payloads_for pes_packet_header
 canonical_is_packet v h =
@@ -66,12 +64,12 @@ canonical_is_packet v h =
       in_order = h.in_order;
     }
 
--- The canonical packet has room for its PTS. For `RepeatedPacket`.
 pub has_room_for_pts : (v : PesValue) → 14 ≤ length (canonical_packet v)
 unfolding canonical_packet pes_packet_header
 has_room_for_pts v = omega arith
 
--- With the five bytes of another PTS it is the canonical packet for that PTS. For `RepeatedPacket`.
+-- Replacing the five bytes of the PTS in a canonical packet gives the canonical packet with the new
+-- PTS.
 pub refill-pts : (v : PesValue) (pts : ℕ) (bytes : List ℕ)
     → bytes ≡ canonical_packet v
     → refill (length bytes) bytes (take 9 bytes ++ (pts_bytes pts ++ drop 14 bytes))
@@ -85,7 +83,6 @@ refill-pts v pts bytes is =
     (ap (λ rest. pes_packet_header n pts ++ rest)
     (take-append_seam units (drop (length units) units)))
 
--- One more stuffing unit in the loop: the remaining ones come after it.
 pub stuffed_more : (count i : ℕ) (out all : List ℕ)
     → i < count
     → out ++ repeated (count - i) stuffing_unit ≡ all
@@ -94,7 +91,6 @@ stuffed_more count i out all lt e =
     let next : count - i ≡ suc (count - (i + 1)) = omega arith in
     grind (arith, nat_tests, append_assoc)
 
--- packet_of returns the canonical packet.
 pub spelled : (v : PesValue) (us : List UnitValue) (pts : ℕ) (out base head : List ℕ) (n i j : ℕ)
     → us ≡ v.units
     → pts ≡ v.pts
@@ -109,9 +105,6 @@ unfolding canonical_packet payloads_for
 spelled v us pts out base head n i j same pts-same e f le h k done =
     grind (arith, nat_tests, take_all, append-nil, append_assoc)
 
--- ---- the value of a packet
-
--- The units of n data units: at most n.
 record Holds (n : ℕ) (units : List UnitValue) : Type 0 where
   pub few : length units ≤ n
   pub each : AllByRecursion IsUnit units
@@ -120,9 +113,7 @@ units_hold : (n : ℕ) (units : List UnitValue) (b : List ℕ) → AreDataUnits 
 units_hold zero units b h = rw h.0 (record { few = omega arith; each = tt })
 units_hold (suc n) units b u = grind (arith, nat_tests, units_hold n)
 
--- The law of packet values.
 pub value_of_packet : LawOfPacketValue
 value_of_packet v b h = grind (arith, nat_tests, units_hold)
 
--- For the loops of `packet_of`.
 pub ruleset packing = (stuffed_more, spelled)

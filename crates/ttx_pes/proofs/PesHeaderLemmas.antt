@@ -1,5 +1,5 @@
--- Header fields that are read match the grammar, and vice versa. Main lemmas: body_sound,
--- body_complete.
+-- The header fields of a PES packet can be read exactly if they match the grammar. Main lemmas:
+-- body_sound, body_complete.
 use Rattle.std.proofs.Common.{rules, ◌≡◌, ℕ, ◌-◌, ◌*◌, ◌/◌, ◌%◌, ◌^◌, ◌<◌, ◌≤◌, List, [], ◌∷◌, ◌++◌}
 use Rattle.std.proofs.Common.{length, get_or, take, drop, Ok, refl, sym, ap, ◌∙◌, append_assoc}
 use Rattle.std.proofs.Common.{◌+◌, arith, nat_eq, subst, length-append, length-take, length-drop}
@@ -16,9 +16,7 @@ use Rattle.ttx_pes.specs.Reading.{value_at}
 use Rattle.ttx_pes.proofs.DataUnitLemmas.{AreBytes-drop, list_of_bytes, units_sound, units_complete}
 use Rattle.sub_io.proofs.ReadingLemmas.{step_gave, Ok-injective, given_as}
 
--- ---- the first six bytes
-
--- Six bytes whose size is read match the grammar.
+-- Six bytes from which a size can be read match the grammar.
 pub head_sound : (b : List ℕ) (size : ℕ) → length b ≡ 6 → AreBytes b → size_at b ≡ Ok size
     → (n : ℕ) × (1 ≤ n) × (n ≤ 9) × (size ≡ 184 * n)
     × (b ≡ 0 ∷ 0 ∷ 1 ∷ 189 ∷ bytes_high_first 2 (184 * n - 6))
@@ -34,7 +32,7 @@ head_sound b size len fit e =
     let is-low : get_or b 5 0 ≡ (184 * (size / 184) - 6) % 256 = omega arith in
     (size / 184, omega arith, omega arith, omega arith, parts ∙ cc)
 
--- The size is read from six bytes of the grammar.
+-- From the first six bytes of a packet of the grammar, its size can be read.
 pub head_complete : (n : ℕ)
     → 1 ≤ n
     → n ≤ 9
@@ -42,7 +40,6 @@ pub head_complete : (n : ℕ)
 unfolding size_at
 head_complete n lo hi = grind (arith, nat_tests)
 
--- The start as a word. For `is_start`.
 pub start_word : (b : List ℕ)
     → ((i : ℕ) → get_or b i 0 < 256)
     → nat_eq (get_or b 0 0 + 256 * (get_or b 1 0 + 256 * (get_or b 2 0
@@ -50,13 +47,9 @@ pub start_word : (b : List ℕ)
     ≡ is_start b
 start_word b h1 = grind (arith, nat_tests)
 
--- ---- the bytes after them
-
--- The first six bytes of a packet.
 abbrev pub six_of : ℕ → List ℕ
 six_of n = packet_start ++ bytes_high_first 2 (packet_length n)
 
--- The header fields as they are read.
 record Header (b : List ℕ) (t : ℕ) : Type 0 where
   pub flagged : get_or b 0 0 / 16 ≡ 8
   pub pts_alone : get_or b 1 0 / 64 ≡ 2
@@ -66,12 +59,11 @@ record Header (b : List ℕ) (t : ℕ) : Type 0 where
   pub ebu : get_or b 39 0 / 16 ≡ 1
   pub value : pts_bits b ≡ t
 
--- A PTS that is read has passed these tests.
 header_sound : (b : List ℕ) (t : ℕ) → pts_at b ≡ Ok t → Header b t
 unfolding pts_at
 header_sound b t e = grind (arith, nat_tests)
 
--- A PTS that is read is the one that is written: it has 33 bits.
+-- A PTS that is read has 33 bits, and its five bytes are those from which it was read.
 pts_sound : (b : List ℕ) (t : ℕ)
     → AreBytes b
     → Header b t
@@ -80,15 +72,13 @@ pts_sound : (b : List ℕ) (t : ℕ)
     × (t < 2 ^ 33)
 pts_sound b t fit h = grind (arith, nat_tests)
 
--- A list in parts, with 31 bytes skipped.
 parted : (b : List ℕ) → 40 ≤ length b → drop 8 b ≡ take 31 (drop 8 b) ++ (get_or b 39 0 ∷ drop 40 b)
 parted b le = grind (arith, nat_tests, drop-drop 31 8 b, drop_more, take-append-drop 31 (drop 8 b))
 
--- The value with these parts.
 abbrev pub value_with : ℕ → List UnitValue → PesValue
 value_with t us = record { pts = t; units = us }
 
--- A body that is read belongs to a packet of the grammar.
+-- Bytes from byte 6 on that can be read are those of a packet of the grammar.
 pub body_sound : (n : ℕ) (b : List ℕ) (v : PesValue)
     → 1 ≤ n
     → n ≤ 9
@@ -130,7 +120,6 @@ body_sound n b v lo hi len fit e =
       in_order = rw u.1 u.3;
     })
 
--- A PTS and units make a value.
 pub frame_made : (b : List ℕ) (t n : ℕ) (us : List UnitValue)
     → pts_at b ≡ Ok t
     → length (drop 40 b) / 46 ≡ n
@@ -139,7 +128,7 @@ pub frame_made : (b : List ℕ) (t n : ℕ) (us : List UnitValue)
 unfolding value_at
 frame_made b t n us e count eu = rw (e, count, eu) refl
 
--- The body of a packet of the grammar, after the first six bytes.
+-- The bytes of a packet of the grammar from byte 6 on.
 unfoldable pub body_of : (v : PesValue) (p : List ℕ) → IsValidPesPacket v p → List ℕ
 body_of v p h =
     (h.flags ∷ h.pts_dts_flags ∷ 36 ∷ [])
@@ -150,13 +139,12 @@ pub packet_of_body : (v : PesValue) (p : List ℕ) (h : IsValidPesPacket v p)
 unfolding body_of
 packet_of_body v p h = h.bytes
 
--- The PTS is read from a header of the grammar.
 header_complete : (v : PesValue) (p : List ℕ) (h : IsValidPesPacket v p)
     → pts_at (body_of v p h) ≡ Ok v.pts
 unfolding pts_at body_of
 header_complete v p h = grind (arith, nat_tests, get_or_at, given_as)
 
--- The body of a packet of the grammar is read.
+-- From the bytes of a packet of the grammar from byte 6 on, its value can be read.
 pub body_complete : (v : PesValue) (p : List ℕ) (h : IsValidPesPacket v p)
     → (value_at (body_of v p h) ≡ Ok v) × (length (body_of v p h) ≡ 184 * h.n - 6)
 unfolding body_of

@@ -1,5 +1,5 @@
--- The bytes that were read for one packet: complete, truncated, none. Main lemmas: read_complete,
--- taken_complete.
+-- The bytes read for one PES packet are a complete packet, a truncated one, or begin none. Main
+-- lemmas: read_complete, taken_complete.
 use Rattle.std.proofs.Common.{◌≡◌, ℕ, ◌%◌, ◌<◌, ◌≤◌, List, [], ◌∷◌, ◌++◌, length, take}
 use Rattle.std.proofs.Common.{Option, Some, None, Result, Ok, Err, refl, sym, ap, ◌∙◌, subst, arith}
 use Rattle.std.proofs.Common.{append_assoc, inl, inr, length-append, length-take, true}
@@ -28,8 +28,6 @@ use Rattle.ttx_pes.proofs.PesPacketLemmas.{sized_pes_packet}
 use Rattle.ttx_pes.proofs.PesHeaderLemmas.{head_complete, six_of}
 use Rattle.ttx_pes.proofs.ReadingLemmas.{packet_cut, packet_short, packet_size}
 
--- ---- bytes that begin no packet
-
 pub rest_short : (b : List ℕ) → length b < 6 → rest_fault b ≡ Some fault.Truncated
 unfolding rest_fault
 rest_short b lt = rw (lt-ltb (length b) 6 lt) refl
@@ -45,7 +43,6 @@ pub rest_cut : (b : List ℕ) (size : ℕ) → 6 ≤ length b → size_at (take 
 unfolding rest_fault
 rest_cut b size le e lt = rw (le-ltb (length b) 6 le, e, lt-ltb (length b) size lt) refl
 
--- There are fewer bytes than the size in the first six.
 few_of_size : (count size : ℕ) → IsSome (fault_of_size count (Ok size)) → count < size
 few_of_size count size some = grind (arith, nat_tests)
 
@@ -55,8 +52,6 @@ pub rest_few : (b : List ℕ) (size : ℕ) → IsSome (rest_fault b) → 6 ≤ l
 unfolding rest_fault
 rest_few b size some le e =
     few_of_size (length b) size (rw (le-ltb (length b) 6 le, e) at some)
-
--- ---- bytes that show this
 
 pub show_short : (new : Option (List ℕ)) (b : List ℕ) → 0 < length b → length b < 6 → IsAtEnd new
     → ShowRest new b fault.Truncated
@@ -87,8 +82,6 @@ show_cut new b size le e lt end = record {
       ap rest_fault (ap (λ l. b ++ l) (none end) ∙ append-nil b) ∙ rest_cut b size le e lt;
 }
 
--- ---- known bytes
-
 pub buffered_is : (buffered : List ℕ) (known_bytes : Option (List ℕ)) → buffered_then buffered
     known_bytes
     ≡ prepend_known buffered known_bytes
@@ -96,7 +89,6 @@ buffered_is [] None = refl
 buffered_is [] (Some x) = refl
 buffered_is (x ∷ buffered) known_bytes = refl
 
--- Bytes that were read in two steps.
 pub read_on : (old mid new : Option (List ℕ)) (b more : List ℕ) → Consumes old mid b
     → Consumes (prepend_known b mid) new more
     → Consumes old new more
@@ -105,9 +97,7 @@ read_on (Some x) None new b more c d = absurd c
 read_on (Some x) (Some y) None b more c d = absurd d
 read_on (Some x) (Some y) (Some z) b more c d = c ∙ d
 
--- ---- a packet
-
--- The size of a packet.
+-- A PES packet has the size that its first six bytes state, 184 to 1656 bytes.
 pub pes_packet_sized : (p : List ℕ) → IsPesPacket p
     → (size_at (take 6 p) ≡ Ok (length p))
     × (184 ≤ length p) × (length p ≤ 1656) × (length p % 184 ≡ 0)
@@ -124,7 +114,6 @@ pes_packet_sized p h =
       omega (arith, long),
     )
 
--- Reading bytes that begin no packet.
 packet_by : (b : List ℕ) (f : PesFault) (r : Result ℕ PesFault) → size_at (take 6 b) ≡ r
     → 6 ≤ length b
     → fault_of_size (length b) r ≡ Some f
@@ -146,8 +135,6 @@ rest_packet b f e = elim (cases_lt (length b) 6) [
       ∙ ap (λ (h : PesFault). Err h) (same_Some _ _ (sym (rest_short b lt) ∙ e))
   | inr le ↦ packet_by b f (size_at (take 6 b)) refl le (rw (le-ltb (length b) 6 le) at e)
 ]
-
--- ---- the buffer afterwards
 
 some_of : (o : Option PesFault) (f : PesFault) → o ≡ Some f → IsSome o
 some_of o f e = subst IsSome (sym e) refl
@@ -198,7 +185,6 @@ module _ {E : Type 0} (old new : Option (List ℕ)) (b : List ℕ) (r : Result (
     read_complete x is =
         subst (λ (y : Result (Received (Unit {0})) E). AreRead new b y) is reads.are_read
 
--- Before the second pull, the buffer has no more bytes than the size in them.
 pub got_few : (buffered got size : ℕ)
     → (buffered ≤ 184 → got ≤ 184)
     → (6 ≤ buffered → got ≡ buffered)
@@ -209,8 +195,6 @@ got_few buffered got size bound none few le = elim (cases_lt buffered 6) [
   | inl lt ↦ omega (arith, bound (omega arith), le)
   | inr six ↦ omega (arith, none six, few six)
 ]
-
--- ---- results
 
 module _ {T A : Type 0} (is_take : T → List ℕ → A → T → Type 0) (taker : T)
     (buffered b : List ℕ) (old new : Option (List ℕ))
@@ -233,8 +217,6 @@ module _ {T A : Type 0} (is_take : T → List ℕ → A → T → Type 0) (taker
       consumed = all_taken taken;
       takes = takes;
     }
-
--- ---- a packet that is lent
 
 pub borrowed_pes_packet : (bytes : List ℕ) (size : ℕ) → AreBytes bytes → 184 ≤ size → size ≤ length
     bytes

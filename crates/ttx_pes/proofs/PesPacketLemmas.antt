@@ -1,4 +1,4 @@
--- Packets as a reader consumes them. Main lemma: taken_pes_packet.
+-- The PES packets that a reader consumes. Main lemma: taken_pes_packet.
 use Rattle.std.proofs.Common.{◌≡◌, ◌≤◌, ℕ, List, [], ◌++◌, length, take, drop, Option, Ok, Err}
 use Rattle.std.proofs.Common.{refl, sym, ap, ◌∙◌, arith, length-take}
 use Rattle.std.proofs.lemmas.List.{append-nil, take-append-drop}
@@ -11,7 +11,7 @@ use Rattle.ttx_pes.proofs.DataUnitLemmas.{AreBytes-take}
 use Rattle.ttx_pes.proofs.PesHeaderLemmas.{head_sound}
 use Rattle.ttx_pes.proofs.TakingLemmas.{settles_as}
 
--- Bytes with the size in their length field are a packet.
+-- Bytes whose length field states their number are a PES packet.
 pub sized_pes_packet : (b : List ℕ)
     → AreBytes b
     → 6 ≤ length b
@@ -28,7 +28,7 @@ sized_pes_packet b fit long e =
       long = h.3;
     }
 
--- A packet whose fault is returned was consumed. For `PesPacketReportingLemmas`.
+-- If the fault of a complete PES packet is returned, that packet was consumed.
 pub taken_pes_packet : (old new : Option (List ℕ)) (taken body : List ℕ) (f : PesFault)
     → Settles old new taken (value_at (drop 6 taken))
     → body ≡ drop 6 taken

@@ -1,4 +1,5 @@
--- Bytes split into packets as they are read one by one. Main lemma: splits_into.
+-- Bytes split into the PES packets that are read from them one after another. Main lemma:
+-- splits_into.
 use Rattle.std.proofs.Common.{◌≡◌, ◌≢◌, ℕ, zero, suc, ◌+◌, ◌-◌, ◌<◌, ◌≤◌, ◌⊎◌, true}
 use Rattle.std.proofs.Common.{false, List, [], ◌∷◌, ◌++◌, length, take, drop, Option, Some, None}
 use Rattle.std.proofs.Common.{Result, Ok, Err, refl, sym, ap, subst, ◌∙◌, append_assoc, arith, inl}
@@ -31,21 +32,16 @@ use Rattle.ttx_pes.proofs.ReadingLemmas.{rest_after-packet, sound_from}
 use Rattle.ttx_pes.proofs.ReaderLemmas.{left}
 use Rattle.sub_io.proofs.ReadingLemmas.{Ok-injective, step_gave}
 
--- ---- faults of a complete packet
-
--- Faults of a header.
 pts_fault : (b : List ℕ) (f : PesFault) → pts_at b ≡ Err f → is_of_pes_packet f ≡ true
 unfolding pts_at
 pts_fault b f e = grind (arith, nat_tests)
 
--- Faults of a data unit.
 unit_fault : (units : List UnitValue) (b : List ℕ) (f : PesFault)
     → unit_at units b ≡ Err f
     → is_of_pes_packet f ≡ true
 unfolding unit_at teletext_at
 unit_fault units b f e = grind (arith, nat_tests)
 
--- Faults of several data units.
 units_fault : (n : ℕ) (units : List UnitValue) (b : List ℕ) (f : PesFault)
     → units_at n units b ≡ Err f
     → is_of_pes_packet f ≡ true
@@ -60,19 +56,16 @@ units_fault (suc n) units b f e = elim (answer_cases (unit_at units (take 46 b))
       (bad ∙ sym (ap (λ r. r >>= λ us. units_at n us (drop 46 b)) bad) ∙ e)
 ]
 
--- Faults of a packet after its length field.
+-- A fault that is found after the length field of a PES packet is a fault of a complete packet.
 value_fault : (b : List ℕ) (f : PesFault) → value_at b ≡ Err f → is_of_pes_packet f ≡ true
 unfolding value_at
 value_fault b f h1 = grind (arith, nat_tests, units_fault, pts_fault)
 
--- A wrong start or length is no fault of a complete packet.
+-- A wrong start code or length is not a fault of a complete PES packet.
 size_fault : (b : List ℕ) (f : PesFault) → size_at b ≡ Err f → is_of_pes_packet f ≡ false
 unfolding size_at
 size_fault b f e = grind (arith, nat_tests)
 
--- ---- the packet at the front
-
--- The size of a packet at the front of bytes is read.
 record Reports (p more : List ℕ) : Type 0 where
   pub sized : size_at (take 6 (p ++ more)) ≡ Ok (length p)
   pub some : 184 ≤ length p
@@ -80,7 +73,6 @@ record Reports (p more : List ℕ) : Type 0 where
 states_size : (p more : List ℕ) → IsPesPacket p → Reports p more
 states_size p more h1 = grind (arith, nat_tests, head_complete)
 
--- The size that is read is the one in the length field.
 size_is : (b : List ℕ) (size : ℕ)
     → 6 ≤ length b
     → size_at (take 6 b) ≡ Ok size
@@ -88,7 +80,8 @@ size_is : (b : List ℕ) (size : ℕ)
 unfolding size_at
 size_is b size long e = grind (arith, nat_tests, get_or-take)
 
--- A packet is at the front of these bytes, and this is read from it.
+-- A PES packet of this size is at the front of the bytes, and can be read or has a fault of a
+-- complete packet.
 record HasPacketInFront (b : List ℕ) (size : ℕ) : Type 0 where
   pub reported : stated_size b ≡ size
   pub six : 6 ≤ length b
@@ -100,7 +93,7 @@ record HasPacketInFront (b : List ℕ) (size : ℕ) : Type 0 where
   pub alone :
       packet_at (take size b) ≡ (value_at (take (size - 6) (drop 6 b)) >>= λ v. Ok (v, []))
 
--- No packet is at the front, for this fault.
+-- The bytes begin no PES packet, for this fault.
 record HasNoPacket (b : List ℕ) (f : PesFault) : Type 0 where
   pub read : packet_at b ≡ Err f
   pub kind : is_of_pes_packet f ≡ false
@@ -135,7 +128,6 @@ has_packet_in_front b size fit six e le =
           ∙ packet_parts (take 6 b) body [] size head e lo len;
     }
 
--- One of both is the case.
 prefix_cases : (b : List ℕ) → AreBytes b
     → ((size : ℕ) × HasPacketInFront b size) ⊎ ((f : PesFault) × HasNoPacket b f)
 prefix_cases b fit = elim (cases_lt (length b) 6) [
@@ -180,9 +172,8 @@ prefix_cases b fit = elim (cases_lt (length b) 6) [
   ]
 ]
 
--- ---- all packets
-
--- The bytes after `given` packets split into these.
+-- The bytes after `given` PES packets split into the packets of `value` and a rest that begins no
+-- packet.
 record Splits (given : ℕ) (bytes : List ℕ) (value : PesPacketsValue) : Type 0 where
   pub packets : List (List ℕ)
   pub rest : List ℕ
@@ -198,7 +189,6 @@ record Splits (given : ℕ) (bytes : List ℕ) (value : PesPacketsValue) : Type 
       → length others ≤ length packets
   pub left_is : (n : ℕ) → n ≡ given + length packets → answer_at n rest ≡ answer_left value.left
 
--- No packet is read.
 splits_none : (given : ℕ) (bytes : List ℕ) (left : Option PesFault)
     → given ≤ most_packets
     → answer_at given bytes ≡ answer_left left
@@ -225,7 +215,6 @@ splits_none given bytes left few is none = record {
         absurd (none p (concat others ++ more) each.0 (omega arith)
         (parts ∙ append_assoc p (concat others) more))
 
--- The first packet is read, then others.
 splits_more : (given size : ℕ) (bytes : List ℕ) (pes_packet : Result PesValue PesFault)
     (more_pes_packets : PesPacketsValue)
     → given < most_packets
@@ -261,7 +250,6 @@ splits_more given size bytes pes_packet more_pes_packets below s is h = record {
         let fewer = h.longest others more each.1 (omega arith) rest in
         omega arith
 
--- The next answer determines the rest.
 next_pes_packet : (room given : ℕ) (bytes : List ℕ) (r : Result (Option PesValue) PesFault)
     (value : PesPacketsValue)
     → answer_at given bytes ≡ r
@@ -270,7 +258,8 @@ next_pes_packet : (room given : ℕ) (bytes : List ℕ) (r : Result (Option PesV
 unfolding pes_packets_from
 next_pes_packet room given bytes r value e is = rw e is
 
--- The remaining bytes split into the packets that are read.
+-- The bytes after `given` PES packets split into the packets that are read from them (by induction
+-- over the packets that may still be read).
 splits_from : (room given : ℕ) (bytes : List ℕ)
     → AreBytes bytes
     → given + room ≡ most_packets
@@ -323,18 +312,13 @@ splits_from (suc room) given (x ∷ b) fit e =
           ]
     ]
 
--- From the first packet on.
 all_split : (bytes : List ℕ) (value : PesPacketsValue) → Splits 0 bytes value → SplitInto bytes
     value
 all_split bytes value h1 = grind (arith, nat_tests)
 
--- The law of packets.
 pub splits_into : LawOfPesPackets
 splits_into bytes fit = all_split bytes _ (splits_from most_packets 0 bytes fit refl)
 
--- ---- one more packet
-
--- The next packet, by how many may still come.
 pes_packets_from-room : (room given : ℕ) (bytes : List ℕ)
     → given + room ≡ most_packets
     → pes_packets_from room given bytes
@@ -343,7 +327,6 @@ pes_packets_from-room : (room given : ℕ) (bytes : List ℕ)
 unfolding pes_packets_from answer_at
 pes_packets_from-room room given bytes e = grind (arith, nat_tests)
 
--- The packets after `given` packets, by the next answer.
 pub pes_packets_after-next : (given : ℕ) (bytes : List ℕ)
     (answer : Result (Option PesValue) PesFault)
     → given ≤ most_packets
@@ -352,7 +335,6 @@ pub pes_packets_after-next : (given : ℕ) (bytes : List ℕ)
     ≡ pes_packet_then answer (pes_packets_after (given + 1) (rest_after_pes_packet bytes))
 pes_packets_after-next given bytes answer few is = grind (arith, nat_tests, pes_packets_from-room)
 
--- If no packet is read, none is returned.
 no_answer : (given : ℕ) (bytes : List ℕ) (f : PesFault) (v : PesValue)
     → packet_at bytes ≡ Err f
     → answer_at given bytes ≡ Ok (Some v)
@@ -360,7 +342,6 @@ no_answer : (given : ℕ) (bytes : List ℕ) (f : PesFault) (v : PesValue)
 unfolding answer_at
 no_answer given bytes f v h1 h2 = grind (arith, nat_tests)
 
--- The bytes left after a packet that is read.
 after_read : (b : List ℕ) (p : PesValue × List ℕ)
     → packet_at b ≡ Ok p
     → rest_after b ≡ rest_after_pes_packet b
@@ -381,7 +362,7 @@ after_read b p e = elim (cases_lt (length b) 6) [
   ]
 ]
 
--- After a valid packet, both definitions leave the same bytes.
+-- After a valid packet, the two definitions of the bytes after the packet at the front agree.
 pub rest_after_packet : (given : ℕ) (bytes : List ℕ) (v : PesValue)
     → answer_at given bytes ≡ Ok (Some v)
     → rest_after bytes ≡ rest_after_pes_packet bytes
@@ -390,7 +371,7 @@ rest_after_packet given bytes v e = elim (answer_cases (packet_at bytes)) [
   | inl (p, read) ↦ after_read bytes p read
 ]
 
--- If the fault of a complete packet is returned, all of it was consumed.
+-- If the fault of a complete PES packet is returned, all bytes of that packet were consumed.
 pub rest_after_taken : (old new : Option (List ℕ)) (bytes : List ℕ) (f : PesFault)
     → TakesPesPacket old new f
     → old ≡ Some bytes

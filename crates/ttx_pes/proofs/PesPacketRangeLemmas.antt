@@ -1,5 +1,6 @@
--- The packets of a range, one by one: the packet at the front of bytes, pes_packet_stated; and
--- skipping, counting and limiting, with and without a packet at the front.
+-- The PES packets of a range, one by one: the size of the packet at the front of bytes,
+-- pes_packet_stated; and skipping, counting and limiting packets, with and without a packet at the
+-- front.
 use Rattle.std.proofs.Common.{◌≡◌, ℕ, zero, suc, ◌<◌, ◌≤◌, List, ◌++◌, length, take, drop}
 use Rattle.std.proofs.Common.{Some, None, Result, Ok, Err, refl, sym, ap, ◌∙◌, cond, inl, inr}
 use Rattle.std.proofs.Common.{arith}
@@ -12,25 +13,21 @@ use Rattle.ttx_pes.specs.PesPacketRange.{pes_packet_size, stated_pes_packet}
 use Rattle.ttx_pes.specs.Reading.{size_at}
 use Rattle.ttx_pes.specs.declared.fault.PesFault.{PesFault}
 
--- A packet is at the front of bytes that are at least as many as its length field says.
 pub whole : (b : List ℕ) (size : ℕ) → stated_pes_packet b ≡ Some size → size ≤ length b
     → pes_packet_size b ≡ Some size
 unfolding pes_packet_size
 whole b size e le = rw (e, le-leb size (length b) le) refl
 
--- The size includes the six bytes up to the length field.
 size_counts : (h : List ℕ) (size : ℕ) → size_at h ≡ Ok size → 6 ≤ size
 unfolding size_at
 size_counts h size e = grind (arith, nat_tests)
 
--- The size of a complete packet.
 complete_stated : (count size : ℕ) (r : Result ℕ PesFault)
     → if_complete count (result_ok r) ≡ Some size
     → (r ≡ Ok size) × (size ≤ count)
 complete_stated count size (Err f) e = absurd cc
 complete_stated count size (Ok reported) e = grind (arith, nat_tests)
 
--- The packet at the front of bytes is complete, and has the size in their first six.
 pub pes_packet_stated : (b : List ℕ) (size : ℕ)
     → pes_packet_size b ≡ Some size
     → (6 ≤ size) × (size_at (take 6 b) ≡ Ok size) × (size ≤ length b)
@@ -46,7 +43,6 @@ pes_packet_stated b size e = elim (cases_lt (length b) 6) [
       (size_counts (take 6 b) size reported.0, reported.0, reported.1)
 ]
 
--- Without a packet at the front, nothing is skipped, counted or cut off.
 pub rest_after_none : (n : ℕ) (b : List ℕ) → pes_packet_size b ≡ None → rest_after_pes_packets n b ≡
     b
 unfolding rest_after_pes_packets
@@ -63,7 +59,6 @@ unfolding first_pes_packets
 first_none zero b lt e = absurd (omega arith)
 first_none (suc n) b lt e = rw e refl
 
--- With a packet at the front, it is the first.
 pub rest_after_one : (n : ℕ) (b : List ℕ) (size : ℕ) → pes_packet_size b ≡ Some size
     → rest_after_pes_packets (suc n) b ≡ rest_after_pes_packets n (drop size b)
 unfolding rest_after_pes_packets

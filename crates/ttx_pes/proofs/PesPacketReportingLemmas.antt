@@ -1,4 +1,5 @@
--- A reader's answer for what came next: reports_none, reports_rest, reports_kept.
+-- The answer of a reader of PES packets for each result of receiving a packet: reports_none,
+-- reports_rest, reports_kept.
 use Rattle.std.proofs.Common.{◌≡◌, ◌≢◌, ℕ, List, [], ◌++◌, length, take, drop, Option, None}
 use Rattle.std.proofs.Common.{Some, Bool, true, false, Result, Ok, Err, refl, sym, subst, ◌∙◌}
 use Rattle.std.proofs.Common.{arith, inl, inr}
@@ -26,9 +27,7 @@ use Rattle.ttx_pes.proofs.PesPacketBufferLemmas.{pes_packet_sized, rest_packet, 
 use Rattle.ttx_pes.proofs.TakingLemmas.{settled_field, settles_as, reports_end}
 use Rattle.ttx_pes.proofs.TakingLemmas.{reports_settled, reports_too_many, complete_settles}
 
--- ---- kinds of faults
-
--- A fault of the format, but neither of a complete packet nor of a device.
+-- The fault is one of the format, but neither of a complete PES packet nor of a device.
 abbrev pub IsOfRest : PesFault → Type 0
 IsOfRest f = (is_format_fault f ≡ true) × (is_of_pes_packet f ≡ false) × (is_read f ≡ false)
 
@@ -49,7 +48,6 @@ fault_kind count b (Ok size) f is e =
     subst IsOfRest (cut_fault count size f e) (refl, refl, refl)
 fault_kind count b (Err g) f is e = subst IsOfRest (same_Some _ _ e) (size_kind b g is)
 
--- The fault of bytes that begin no packet is of this kind.
 pub rest_kind : (b : List ℕ) (f : PesFault) → rest_fault b ≡ Some f → IsOfRest f
 unfolding rest_fault
 rest_kind b f e = elim (cases_lt (length b) 6) [
@@ -64,8 +62,6 @@ pub shown_kind : (old left : Option (List ℕ)) (f : PesFault) → IsRest old le
 shown_kind old left f r =
     rest_kind (r.bytes ++ []) f (r.shows.all [] (λ end. refl))
 
--- ---- results
-
 module _ {T A : Type 0} (E : Type 0) (is_take : T → List ℕ → A → T → Type 0)
     (old new left : Option (List ℕ)) (before after : T) (received : Received A)
     (on : Advances old new left is_take before after (let r : Result (Received A) E = Ok received
@@ -77,8 +73,6 @@ module _ {T A : Type 0} (E : Type 0) (is_take : T → List ℕ → A → T → T
         subst (λ (c : Received A).
         Advances old new left is_take before after (let r : Result (Received A) E = Ok c in r)) is
         on
-
--- ---- without a packet
 
 pub reports_none : (given : ℕ) (old new left : Option (List ℕ))
     → Keeps old new
@@ -101,15 +95,13 @@ reports_rest given old left f ne r =
     } in
     reports_settled given old left r.bytes (Err f) settles ne tt (shown_kind old left f r).0
 
--- More packets than a day has frames.
+-- After as many PES packets as a day has frames, further bytes give `TooMany`.
 pub reports_rest_more : (given : ℕ) (old left : Option (List ℕ)) (f : PesFault)
     → given ≡ most_packets
     → IsRest old left f
     → ReportsPacket (Reading given) old left (Err fault.TooMany)
 reports_rest_more given old left f full r =
     reports_too_many given old left r.bytes r.consumed r.shows.some full
-
--- ---- with a packet
 
 settles_pes_packet : (old new : Option (List ℕ)) (p : List ℕ) → IsPesPacket p → Consumes old new p
     → Settles old new p (value_at (drop 6 p))
@@ -132,7 +124,6 @@ module _ {T A : Type 0} (is_take : T → List ℕ → A → T → Type 0) (given
 module _ (given : ℕ) (old new left : Option (List ℕ)) (before after : KeptValue)
     (ne : given ≢ most_packets)
   where
-    -- The packet is valid.
     pub reports_kept : (same : Bool)
         → TakesPesPacketBy KeepsPesPacket old new before (let r : Result Bool PesFault = Ok same
         in r) after
@@ -152,7 +143,6 @@ module _ (given : ℕ) (old new left : Option (List ℕ)) (before after : KeptVa
               (t.takes.field ∙ sym (drop-drop 39 6 p)),
         )
 
-    -- The packet is invalid.
     pub reports_refused : (f : PesFault)
         → TakesPesPacketBy KeepsPesPacket old new before (let r : Result Bool PesFault = Err f in r)
         after
@@ -173,7 +163,6 @@ module _ (given : ℕ) (old new left : Option (List ℕ)) (before after : KeptVa
 module _ (given : ℕ) (old new left : Option (List ℕ)) (before after : PesValue)
     (ne : given ≢ most_packets)
   where
-    -- The value of the packet was read.
     pub reports_read :
         TakesPesPacketBy ReadsValue old new before (let r : Result (Unit {0}) PesFault = Ok tt in r)
         after

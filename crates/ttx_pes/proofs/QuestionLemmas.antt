@@ -1,5 +1,6 @@
--- The reader performs the checks of the refusal in order: these tests of the bytes decide whether
--- they are read, and which fault is returned. Main lemmas: packet_requested, tests_cases.
+-- The reader makes the checks of the refusal in their order: the tests of the bytes decide whether
+-- a PES packet can be read, and which fault is returned. Main lemmas: packet_requested,
+-- tests_cases.
 use Rattle.std.proofs.Common.{◌≡◌, ℕ, zero, suc, ◌+◌, ◌-◌, ◌*◌, ◌/◌, ◌%◌, ◌<◌, Bool, true, false}
 use Rattle.std.proofs.Common.{cond, not, eqb, leb, ltb, List, [], ◌∷◌, length, get_or, take, drop}
 use Rattle.std.proofs.Common.{Option, Some, None, Result, Ok, Err, refl, sym, ap, ◌∙◌, arith, inl}
@@ -19,29 +20,25 @@ use Rattle.ttx_pes.specs.Reading.{teletext_at, unit_at, units_at, value_at}
 use Rattle.ttx_pes.specs.Refusal.{reported_fault, unit_faults}
 use Rattle.ttx_pes.proofs.LineOrderLemmas.{last_place-push}
 
--- ---- the first test that fails
-
--- The fault of the first test that fails, with the first test being number i.
+-- The fault of the first test that fails, where the first test of the list has number i.
 abbrev pub first_wrong : List ℕ → ℕ → List Bool → Option PesFault
 first_wrong b i [] = None
 first_wrong b i (t ∷ ts) = cond (not t) (Some (reported_fault b i)) (first_wrong b (i + 1) ts)
 
--- The tests before a number hold.
+-- All tests before number i hold.
 abbrev pub HoldBelow : List Bool → ℕ → Type 0
 HoldBelow ts i = (j : ℕ) → j < i → get_or ts j true ≡ true
 
--- A test fails after others that hold.
+-- Some test of the list fails, and all tests before it hold.
 pub record FirstWrong (b : List ℕ) (i : ℕ) (ts : List Bool) : Type 0 where
   pub at : ℕ
   pub buffered : HoldBelow ts at
   pub wrong : get_or ts at true ≡ false
   pub reported : first_wrong b i ts ≡ Some (reported_fault b (i + at))
 
--- One more test before them holds.
 buffered_after : (ts : List Bool) (n : ℕ) → HoldBelow ts n → HoldBelow (true ∷ ts) (suc n)
 buffered_after ts n h u lt = grind (arith, nat_tests)
 
--- All tests hold, or one is the first that fails.
 pub tests_cases : (b : List ℕ) (i : ℕ) (ts : List Bool)
     → (((j : ℕ) → get_or ts j true ≡ true) × (first_wrong b i ts ≡ None)) ⊎ FirstWrong b i ts
 tests_cases b i [] = inl (λ j. refl, refl)
@@ -63,16 +60,12 @@ tests_cases b i (true ∷ ts) = elim (tests_cases b (i + 1) ts) [
   })
 ]
 
--- ---- the tests
-
--- The place of a byte of data unit k, and the byte.
 abbrev pub unit_place : ℕ → ℕ → ℕ
 unit_place k i = 46 + (46 * k + i)
 
 abbrev pub unit_byte : List ℕ → ℕ → ℕ → ℕ
 unit_byte b k i = get_or b (unit_place k i) 0
 
--- Field and line of a unit, from its bytes 0 and 2.
 abbrev lined_unit : ℕ → ℕ → UnitValue
 lined_unit b0 b2 = record {
   id = b0;
@@ -81,13 +74,13 @@ lined_unit b0 b2 = record {
   packet = [];
 }
 
--- The place in line order after a unit with these bytes 0 and 2.
 abbrev pub next_place : ℕ → ℕ → ℕ → ℕ
 next_place before b0 b2 =
     let u = lined_unit b0 b2 in
     cond (is_teletext u.id) (cond (eqb u.line 0) before (line_order_place u)) before
 
--- The tests of n data units from number k on, with the first of them after that place.
+-- The tests of n data units from number k on, where the unit of the first has to follow the place
+-- `before` in line order.
 abbrev pub units_tests : List ℕ → ℕ → ℕ → ℕ → List Bool
 units_tests b zero k before = []
 units_tests b (suc n) k before =
@@ -97,7 +90,6 @@ units_tests b (suc n) k before =
     || may_follow before (lined_unit (unit_byte b k 0) (unit_byte b k 2)))
     ∷ units_tests b n (suc k) (next_place before (unit_byte b k 0) (unit_byte b k 2))
 
--- The tests of a packet with n data units.
 abbrev body_tests : List ℕ → ℕ → List Bool
 body_tests b n =
     eqb (get_or b 6 0 / 16) 8
@@ -119,21 +111,19 @@ tests b n =
     ∷ not (ltb (length b) (stated_size b))
     ∷ body_tests b n
 
--- The number of data units for the size in the length field.
 abbrev pub stated_units : List ℕ → ℕ
 stated_units b = stated_size b / 46 - 1
 
--- The fault of a result.
 abbrev pub refusal : {A : Type 0} → Result A PesFault → Option PesFault
 refusal (Ok x) = None
 refusal (Err f) = Some f
 
--- The fault of a check of a data unit.
 unit_fault : (b : List ℕ) (i k r : ℕ) → r < 3 → i ≡ 9 + 3 * k + r
     → reported_fault b i ≡ get_or unit_faults r fault.Truncated
 unit_fault b i k r lt e = grind (arith, nat_tests, get_or_past)
 
--- n data units from number k on are read exactly if their tests hold.
+-- The data units from number k on can be read exactly if their tests hold; otherwise the fault is
+-- that of the first test that fails.
 units_requested : (n k i before : ℕ) (prefix : List UnitValue) (b d : List ℕ)
     → i ≡ 9 + 3 * k
     → last_place 0 prefix ≡ before
@@ -160,13 +150,11 @@ units_requested (suc n) k i before prefix b d number last same =
     units_requested n (suc k) (i + 1 + 1 + 1) p us b (drop 46 d) (omega arith) e rest in
     grind (arith, nat_tests, cases_Bool, last_place-push)
 
--- A step after a test, moved inside it.
 test_first : {A B : Type 0} (c : Bool) (f : PesFault) (r : Result A PesFault)
     (g : A → Result B PesFault)
     → (cond c (Err f) r >>= g) ≡ cond c (Err f) (r >>= g)
 test_first c f r g = grind (arith, nat_tests)
 
--- The fault of a test followed by a result.
 refusal-test : {A : Type 0} (c : Bool) (f : PesFault) (r : Result A PesFault)
     → refusal (cond c (Err f) r) ≡ cond c (Some f) (refusal r)
 refusal-test c f r = grind (arith, nat_tests)
@@ -174,7 +162,8 @@ refusal-test c f r = grind (arith, nat_tests)
 not-not : (c : Bool) → not (not c) ≡ c
 not-not c = grind (arith, nat_tests)
 
--- A body is read exactly if its tests hold.
+-- The bytes of a PES packet from byte 6 on can be read exactly if their tests hold; otherwise the
+-- fault is that of the first test that fails.
 body_requested : (n : ℕ) (b y rest : List ℕ)
     → length y ≡ 40 + 46 * n
     → ((i : ℕ) → i < 40 + 46 * n → get_or y i 0 ≡ get_or b (6 + i) 0)
@@ -188,7 +177,8 @@ body_requested n b y rest len same flags =
     ∙ same (40 + i) (omega arith) ∙ ap (λ (j : ℕ). get_or b j 0) (omega arith)) in
     grind (arith, nat_tests)
 
--- A packet is read exactly if its tests hold.
+-- A PES packet can be read exactly if all its tests hold; otherwise the fault is that of the first
+-- test that fails.
 pub packet_requested : (b : List ℕ)
     → refusal (packet_at b) ≡ first_wrong b 0 (tests b (stated_units b))
 unfolding packet_at size_at

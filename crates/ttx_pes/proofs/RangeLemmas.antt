@@ -1,4 +1,4 @@
--- A range of a file that splits into packets. Main lemma: ranges.
+-- A range of a file that splits into PES packets. Main lemma: ranges.
 use Rattle.std.proofs.lemmas.Bool.Decides.{nat_tests}
 use Rattle.std.proofs.Common.{◌≡◌, ℕ, zero, suc, ◌+◌, ◌-◌, ◌*◌, ◌≤◌, List, [], ◌∷◌, ◌++◌, cond}
 use Rattle.std.proofs.Common.{length, take, drop, Option, Some, None, Ok, refl, sym, ap, ◌∙◌, arith}
@@ -25,9 +25,6 @@ use Rattle.ttx_pes.proofs.PesPacketRangeLemmas.{rest_after_none, rest_after_one,
 use Rattle.ttx_pes.proofs.PesPacketRangeLemmas.{count_one}
 use Rattle.ttx_pes.proofs.PesPacketRangeLemmas.{first_none, first_one, pes_packet_stated, whole}
 
--- ---- one packet
-
--- A packet has the size in its length field, whatever follows it.
 pes_packet_is : (p rest : List ℕ) → IsPesPacket p → pes_packet_size (p ++ rest) ≡ Some (length p)
 unfolding stated_pes_packet
 pes_packet_is p rest h =
@@ -48,7 +45,6 @@ pes_packet_is p rest h =
     ) refl in
     whole (p ++ rest) (length p) (reported ∙ ap Some (sym long)) (omega (arith, size))
 
--- Bytes with the size of a packet are one.
 pes_packet_of_size : (b : List ℕ) (size : ℕ)
     → AreBytes b
     → pes_packet_size b ≡ Some size
@@ -60,7 +56,6 @@ pes_packet_of_size b size fit e =
     sized_pes_packet (take size b) (AreBytes-take size b fit) (omega (arith, len, reported.0))
     (ap size_at head ∙ reported.1 ∙ ap Ok (sym len))
 
--- The rest begins no packet.
 rest_is : (rest : List ℕ) → AreBytes rest → BeginsNoPesPacket rest → pes_packet_size rest ≡ None
 rest_is rest fit none = by_size (pes_packet_size rest) refl
   where
@@ -70,13 +65,10 @@ rest_is rest fit none = by_size (pes_packet_size rest) refl
         absurd (none (take size rest) (drop size rest) (pes_packet_of_size rest size fit e)
         (sym (take-append-drop size rest)))
 
--- ---- several packets
-
 leb_suc : (a b : ℕ) → leb (suc a) (suc b) ≡ leb a b
 leb_suc a b = grind (arith, nat_tests, lt-leb, le-leb)
 
 module _ (rest : List ℕ) (end : pes_packet_size rest ≡ None) where
-  -- The bytes after the first n of them.
   rest_after_all : (n : ℕ) (ps : List (List ℕ))
       → AllByRecursion IsPesPacket ps
       → rest_after_pes_packets n (concat ps ++ rest) ≡ concat (drop n ps) ++ rest
@@ -91,7 +83,6 @@ module _ (rest : List ℕ) (end : pes_packet_size rest ≡ None) where
       ∙ ap (rest_after_pes_packets n) (drop_at p (concat ps ++ rest) (length p) refl)
       ∙ rest_after_all n ps each.1
 
-  -- How many of the first n exist.
   count_all : (n : ℕ) (ps : List (List ℕ))
       → AllByRecursion IsPesPacket ps
       → count_pes_packets n (concat ps ++ rest) ≡ min n (length ps)
@@ -107,7 +98,6 @@ module _ (rest : List ℕ) (end : pes_packet_size rest ≡ None) where
       ∙ ap (λ b. suc (count_pes_packets n b)) (drop_at p (concat ps ++ rest) (length p) refl)
       ∙ omega (arith, more)
 
-  -- The first n of them.
   first_all : (n : ℕ) (ps : List (List ℕ))
       → AllByRecursion IsPesPacket ps
       → first_pes_packets n (concat ps ++ rest)
@@ -128,7 +118,6 @@ module _ (rest : List ℕ) (end : pes_packet_size rest ≡ None) where
         (first_all n ps each.1),
       )
 
--- The packets after the first n are packets.
 each_after : (n : ℕ) (ps : List (List ℕ))
     → AllByRecursion IsPesPacket ps
     → AllByRecursion IsPesPacket (drop n ps)
@@ -136,13 +125,11 @@ each_after zero ps each = each
 each_after (suc n) [] each = each
 each_after (suc n) (p ∷ ps) each = each_after n ps each.1
 
--- The last packet of the range exists exactly if the file has enough packets.
 last_there : (first last count : ℕ)
     → first ≤ last
     → leb (last + 1 - first) (count - first) ≡ ltb last count
 last_there first last count h1 = grind (arith, nat_tests, le-leb, lt-ltb, lt-leb, le-ltb)
 
--- The law of ranges.
 pub ranges : LawOfRanges
 unfolding in_range first_index
 ranges first None ps rest le each fit none =

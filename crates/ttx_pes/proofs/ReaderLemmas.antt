@@ -1,4 +1,4 @@
--- Facts about the bytes of a source after a packet or a fault. Main lemmas: packet_left,
+-- The bytes that a source has left after a PES packet or a fault. Main lemmas: packet_left,
 -- answers_say.
 use Rattle.std.proofs.Common.{◌≡◌, ℕ, true, List, [], ◌∷◌, ◌++◌, Option, Some, None, Result, Ok}
 use Rattle.std.proofs.Common.{Err, refl, ap, ◌∙◌, arith}
@@ -12,23 +12,19 @@ use Rattle.ttx_pes.specs.Reading.{packet_at, answer_at, rest_after, is_format_fa
 use Rattle.ttx_pes.specs.Laws.{LawOfAnswers}
 use Rattle.ttx_pes.specs.Reader.{TakesValidPesPacket}
 
--- The answer for a value that was read.
 abbrev pub value_in : PesValue × List ℕ → Result (Option PesValue) PesFault
 value_in p = Ok (Some p.0)
 
--- Without bytes the answer is the end.
 pub nothing : (given : ℕ) (bytes : List ℕ) → bytes ≡ [] → answer_at given bytes ≡ Ok None
 unfolding answer_at
 nothing given bytes e = rw e refl
 
--- The bytes left of a source with known bytes, after some were consumed.
 pub left : (old new : Option (List ℕ)) (bytes taken : List ℕ)
     → Consumes old new taken
     → old ≡ Some bytes
     → (rest : List ℕ) × (bytes ≡ taken ++ rest) × (new ≡ Some rest)
 left old new bytes taken h e = grind (arith, nat_tests, same_Some)
 
--- The bytes left after a packet was consumed.
 pub packet_left : (old new : Option (List ℕ)) (v : PesValue) (bytes : List ℕ)
     → TakesValidPesPacket old new v
     → old ≡ Some bytes
@@ -38,9 +34,6 @@ packet_left old new v bytes h e =
     let read = packet_is_read v h.bytes rest h.is_packet in
     grind (arith, nat_tests, rest_after-packet)
 
--- ---- faults in terms of the grammar
-
--- A fault of the format is found in the packet.
 answer_err : (given : ℕ) (b : List ℕ) (f : PesFault)
     → is_format_fault f ≡ true
     → answer_at given b ≡ Err f
@@ -48,7 +41,6 @@ answer_err : (given : ℕ) (b : List ℕ) (f : PesFault)
 unfolding answer_at
 answer_err given b f k e = grind (arith, nat_tests, answer_cases)
 
--- The law of answers: the end, a fault of the format and too many packets.
 pub answers_say : LawOfAnswers
 unfolding answer_at
 answers_say given [] = (λ e. refl, λ f k e. absurd cc, λ e. absurd cc)

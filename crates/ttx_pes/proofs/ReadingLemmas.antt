@@ -1,4 +1,5 @@
--- Reading agrees with the grammar. Main lemmas: packet_is_read, read_is_packet.
+-- A PES packet can be read exactly if it matches the grammar. Main lemmas: packet_is_read,
+-- read_is_packet.
 use Rattle.std.proofs.Common.{rules, ◌≡◌, ◌≢◌, ℕ, ◌-◌, ◌+◌, ◌*◌, ◌<◌, ◌≤◌, List, ◌++◌, length, take}
 use Rattle.std.proofs.Common.{drop, Some, Result, Ok, Err, refl, sym, ap, subst, ◌∙◌, append_assoc}
 use Rattle.std.proofs.Common.{arith, inl, inr, ◌⊎◌, length-append, length-take, length-drop}
@@ -18,20 +19,15 @@ use Rattle.ttx_pes.proofs.PesHeaderLemmas.{head_sound, packet_of_body, six_of}
 use Rattle.ttx_pes.proofs.PesGrammarLemmas.{canonical_is_packet}
 use Rattle.sub_io.proofs.ReadingLemmas.{step_gave, Ok-injective}
 
--- A result is a value or a fault.
 pub answer_cases : {A : Type 0} (r : Result A PesFault)
     → ((x : A) × (r ≡ Ok x)) ⊎ ((e : PesFault) × (r ≡ Err e))
 answer_cases (Ok x) = inl (x, refl)
 answer_cases (Err e) = inr (e, refl)
 
--- ---- answers
-
--- After the maximum number of packets.
 pub answer_full : (b : List ℕ) → 0 < length b → answer_at most_packets b ≡ Err fault.TooMany
 unfolding answer_at
 answer_full b h = grind (arith, nat_tests)
 
--- Before that, the answer is the result of reading the packet.
 pub answer_packet : (given : ℕ) (b : List ℕ) (r : Result (PesValue × List ℕ) PesFault)
     → 0 < length b
     → given ≢ most_packets
@@ -40,12 +36,11 @@ pub answer_packet : (given : ℕ) (b : List ℕ) (r : Result (PesValue × List �
 unfolding answer_at
 answer_packet given b r h ne e = grind (arith, nat_tests)
 
--- Fewer than six bytes.
+-- If fewer than six bytes are left, reading a PES packet returns `Truncated`.
 pub packet_short : (b : List ℕ) → length b < 6 → packet_at b ≡ Err fault.Truncated
 unfolding packet_at
 packet_short b h = rw (lt-ltb (length b) 6 h) refl
 
--- A wrong start or length.
 pub packet_size : (b : List ℕ) (f : PesFault)
     → 6 ≤ length b
     → size_at (take 6 b) ≡ Err f
@@ -53,7 +48,7 @@ pub packet_size : (b : List ℕ) (f : PesFault)
 unfolding packet_at
 packet_size b f h e = rw (le-ltb (length b) 6 h, e) refl
 
--- The bytes end within the packet.
+-- If the bytes end within a PES packet, reading it returns `Truncated`.
 pub packet_cut : (b : List ℕ) (size : ℕ)
     → 6 ≤ length b
     → size_at (take 6 b) ≡ Ok size
@@ -62,7 +57,6 @@ pub packet_cut : (b : List ℕ) (size : ℕ)
 unfolding packet_at
 packet_cut b size h e lt = rw (le-ltb (length b) 6 h, e, lt-ltb (length b) size lt) refl
 
--- The packet is complete.
 pub packet_complete : (b : List ℕ) (size : ℕ)
     → 6 ≤ length b
     → size_at (take 6 b) ≡ Ok size
@@ -71,7 +65,6 @@ pub packet_complete : (b : List ℕ) (size : ℕ)
 unfolding packet_at
 packet_complete b size h e le = rw (le-ltb (length b) 6 h, e, le-ltb (length b) size le) refl
 
--- A packet in two parts, followed by other bytes.
 pub packet_parts : (head body rest : List ℕ) (size : ℕ)
     → length head ≡ 6
     → size_at head ≡ Ok size
@@ -89,7 +82,6 @@ packet_parts head body rest size six e le len =
     packet_complete all size (omega arith) (ap size_at prefix ∙ e) (omega arith)
     ∙ rw (back, middle, after) refl
 
--- The answer if a packet is read.
 pub answer_of_packet : (given : ℕ) (b : List ℕ) (v : PesValue) (rest : List ℕ)
     → given ≢ most_packets
     → packet_at b ≡ Ok (v, rest)
@@ -97,7 +89,7 @@ pub answer_of_packet : (given : ℕ) (b : List ℕ) (v : PesValue) (rest : List 
 unfolding packet_at
 answer_of_packet given b v rest ne e = grind (arith, nat_tests, answer_packet)
 
--- The law of reading: a packet of the grammar is read, whatever follows.
+-- The law of reading: a PES packet of the grammar is read as its value, whatever bytes follow.
 pub packet_is_read : LawOfReading
 packet_is_read v b rest h =
     let body = body_of v b h in
@@ -110,11 +102,9 @@ packet_is_read v b rest h =
     (let lo = h.size.0 in omega arith) c.1
     ∙ rw c.0 refl
 
--- The result of reading a packet.
 abbrev ValueAndRest : Type 0
 ValueAndRest = PesValue × List ℕ
 
--- A packet of the grammar, from the parts that were read.
 pub sound_from : (b : List ℕ) (size : ℕ) (v : PesValue)
     → AreBytes b
     → size_at (take 6 b) ≡ Ok size
@@ -130,7 +120,7 @@ sound_from b size v fit e long le ev =
     rw (parts, h.4) (body_sound h.0 body v h.1 h.2 len
     (AreBytes-take (size - 6) (drop 6 b) (AreBytes-drop 6 b fit)) ev)
 
--- The law of the grammar: bytes that are read are a packet of it.
+-- The law of the grammar: bytes that are read as a value begin with a PES packet of the grammar.
 pub read_is_packet : LawOfGrammar
 read_is_packet v b rest fit e = elim (cases_lt (length b) 6) [
   | inl short ↦ let reported = packet_short b short in absurd cc
@@ -152,9 +142,8 @@ read_is_packet v b rest fit e = elim (cases_lt (length b) 6) [
   ]
 ]
 
--- ---- the laws
-
--- The law of one value: two packets that begin the same list are the same.
+-- The law of one value: two valid PES packets that begin the same list of bytes are the same
+-- packet.
 pub one_value : LawOfOneValue
 one_value a b x y v w p q e =
     let same =
@@ -162,17 +151,14 @@ one_value a b x y v w p q e =
     ∙ packet_is_read w b y q) in
     grind (arith, nat_tests, Ok-injective, packet_is_read, append_cancel_right)
 
--- ---- written packets
-
--- The bytes left after a packet.
 pub rest_after-packet : (v : PesValue) (b rest : List ℕ)
     → packet_at b ≡ Ok (v, rest)
     → rest_after b ≡ rest
 unfolding rest_after
 rest_after-packet v b rest e = rw e refl
 
--- The law of reading back: the canonical packet and more bytes are read as the value, and the other
--- bytes are left.
+-- The law of reading back: the canonical packet followed by other bytes is read as its value, and
+-- the other bytes are left.
 pub written_is_read : LawOfReadingBack
 written_is_read given v rest ne h =
     let b = canonical_packet v ++ rest in

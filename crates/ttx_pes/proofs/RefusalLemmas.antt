@@ -1,4 +1,5 @@
--- The fault of bytes is that of the first check that they fail. Main lemma: refusal_by_questions.
+-- If no PES packet can be read, the fault is that of the first check that the bytes fail. Main
+-- lemma: refusal_by_questions.
 use Rattle.std.proofs.Common.{rules, ◌≡◌, ℕ, zero, suc, ◌+◌, ◌-◌, ◌*◌, ◌/◌, ◌%◌, ◌<◌, ◌≤◌, true}
 use Rattle.std.proofs.Common.{false, cond, not, ltb, List, [], ◌∷◌, ◌++◌, length, get_or, map}
 use Rattle.std.proofs.Common.{None, Some}
@@ -24,13 +25,9 @@ use Rattle.ttx_pes.proofs.QuestionLemmas.{size_is_right, stated_units, tests, te
 use Rattle.ttx_pes.proofs.QuestionLemmas.{unit_byte, unit_place, units_tests}
 use Rattle.ttx_pes.proofs.ReadingLemmas.{answer_cases, packet_is_read, read_is_packet}
 
--- ---- the tests
-
--- A test that holds: the first number is not below the other.
 not_below : (m n : ℕ) → not (ltb m n) ≡ true → n ≤ m
 not_below m n h = grind (arith, nat_tests)
 
--- The size of a packet in the length field.
 stated_count : (b : List ℕ)
     → size_is_right b ≡ true
     → (n : ℕ) × (1 ≤ n) × (n ≤ 9) × (stated_size b ≡ 184 * n)
@@ -38,7 +35,7 @@ stated_count b h =
     let parts : (stated_size b % 184 ≡ 0) × (stated_size b ≤ 1656) = grind (arith, nat_tests) in
     (stated_size b / 184, omega arith, omega arith, omega arith)
 
--- Bytes that are read pass all their tests, and bytes that pass them are read.
+-- If a PES packet can be read from the bytes, all tests of the bytes hold.
 held_if_read : (b : List ℕ) (r : PesValue × List ℕ)
     → packet_at b ≡ Ok r
     → (j : ℕ) → get_or (tests b (stated_units b)) j true ≡ true
@@ -60,9 +57,6 @@ read_if_held b all =
       | inl none ↦ let nothing = none.1 in grind (arith, nat_tests, answer_cases (packet_at b))
     ]
 
--- ---- bytes that agree pass the same tests
-
--- The check that concerns a byte of data unit k.
 unit_asker : (k i : ℕ) → i < 4 → asker (unit_place k i) ≡ get_or unit_askers i 114 + 3 * k
 unit_asker k i lt =
     let place = unit_place k i in
@@ -70,11 +64,11 @@ unit_asker k i lt =
     let unit : (place - 46) / 46 ≡ k = omega arith in
     get_or_past header_askers place _ (omega arith) ∙ rw (rest, unit) refl
 
--- Bytes that agree before a check agree before an earlier one.
+-- Bytes that agree with a packet in all checks before number i agree with it in all checks before
+-- an earlier number j.
 agree_below : (i j : ℕ) (b c : List ℕ) → j ≤ i → AgreeBefore i b c → AgreeBefore j b c
 agree_below i j b c le h = grind (arith, nat_tests)
 
--- A byte of data unit k.
 same_byte : (i k j : ℕ) (b c : List ℕ)
     → AgreeBefore i b c
     → j < 4
@@ -83,7 +77,6 @@ same_byte : (i k j : ℕ) (b c : List ℕ)
     → unit_byte b k j ≡ unit_byte c k j
 same_byte i k j b c h four lt = grind (arith, nat_tests, unit_asker, unit_place)
 
--- Tests of data units.
 same_units : (n k before j : ℕ) (b c : List ℕ)
     → AgreeBefore (10 + 3 * k + j) b c
     → 46 + 46 * (k + n) ≤ length c
@@ -94,7 +87,8 @@ same_units (suc n) k before (suc zero) b c h long = grind (arith, nat_tests, sam
 same_units (suc n) k before j b c h long =
     grind (arith, nat_tests, same_byte, agree_below, same_units n (suc k))
 
--- A test up to which bytes and a packet of n data units agree.
+-- If bytes agree with a packet of n data units in all checks up to number j, test j has the same
+-- result for both.
 same_test : (j m n : ℕ) (b c : List ℕ)
     → AgreeBefore (suc j) b c
     → (2 < j → m ≡ n)
@@ -114,9 +108,8 @@ same_test (suc (suc (suc (suc (suc (suc (suc (suc zero)))))))) m n b c h count l
 same_test (suc (suc (suc (suc (suc (suc (suc (suc (suc j))))))))) m n b c h count long all =
     grind (arith, nat_tests, same_units, agree_below)
 
--- ---- a packet that agrees before a check
-
--- A byte of a blank packet of n payloads: its data units are no Teletext.
+-- A blank packet of n payloads carries no Teletext packet. It serves to complete bytes that pass
+-- the first checks to a packet of the grammar.
 abbrev blank_header : ℕ → List ℕ
 blank_header n =
     packet_start ++ (bytes_high_first 2 (packet_length n) ++ (0x80 ∷ 0x80 ∷ 0x24 ∷ pts_bytes 0))
@@ -124,20 +117,20 @@ blank_header n =
 abbrev blank : ℕ → ℕ → ℕ
 blank n i = get_or (blank_header n) i (get_or (0x10 ∷ 0x2C ∷ []) ((i - 46) % 46) 0)
 
--- A byte of its data units.
 blank_unit : (n k i : ℕ) → i < 4 → blank n (unit_place k i) ≡ get_or (0x10 ∷ 0x2C ∷ []) i 0
 blank_unit n k i lt = grind (arith, nat_tests, unit_place, get_or_past)
 
--- The bytes that concern earlier checks, and otherwise those of the blank packet.
+-- The bytes that concern earlier checks than q are those of b, and all others are those of a blank
+-- packet.
 abbrev mixed : ℕ → ℕ → List ℕ → ℕ → ℕ
 mixed n q b i = cond (ltb (asker i) q) (get_or b i 0) (blank n i) % 256
 
--- The tests of these bytes before a check hold, and n is the number of payloads if that was
--- checked.
+-- This module constructs a packet of the grammar that agrees with the bytes b in all checks before
+-- number q. Its assumptions: all tests before q hold, and n is the number of payloads if the length
+-- field was checked.
 module _ (b : List ℕ) (fit : AreBytes b) (q n : ℕ) (lo : 1 ≤ n) (hi : n ≤ 9)
     (reported : 2 < q → stated_size b ≡ 184 * n)
     (buffered : HoldBelow (tests b (stated_units b)) q) where
-  -- The packet.
   abbrev made : List ℕ
   made = map (mixed n q b) (range_with_len 0 (184 * n))
 
@@ -150,15 +143,12 @@ module _ (b : List ℕ) (fit : AreBytes b) (q n : ℕ) (lo : 1 ≤ n) (hi : n �
   made_fits : AreBytes made
   made_fits i = grind (arith, nat_tests, cases_lt, made_byte, get_or_past, length-made)
 
-  -- A byte that concerns an earlier check.
   kept_byte : (i : ℕ) → asker i < q → i < 184 * n → get_or made i 0 ≡ get_or b i 0
   kept_byte i less lt = grind (arith, nat_tests, made_byte, lt-ltb)
 
-  -- Any other byte.
   blank_byte : (i : ℕ) → q ≤ asker i → i < 184 * n → get_or made i 0 ≡ blank n i % 256
   blank_byte i le lt = made_byte i lt ∙ rw (le-ltb (asker i) q le) refl
 
-  -- Packets at its front agree with the bytes before the check.
   made_agrees : (c rest : List ℕ) → made ≡ c ++ rest → AgreeBefore q b c
   made_agrees c rest parts =
       let len : 184 * n ≡ length c + length rest = search (rules, length-made, length-append) in
@@ -171,11 +161,9 @@ module _ (b : List ℕ) (fit : AreBytes b) (q n : ℕ) (lo : 1 ≤ n) (hi : n �
         same = grind (arith, nat_tests, kept_byte, get_or_append_left);
       }
 
-  -- Its length field is correct.
   reported-made : stated_size made ≡ 184 * n
   reported-made = grind (arith, nat_tests, cases_lt, kept_byte, blank_byte)
 
-  -- The tests of its data units from number k on hold if these are blank.
   blank_units : (m k before j : ℕ)
       → q ≤ 9 + 3 * k + j
       → k + m ≤ 4 * n - 1
@@ -192,7 +180,6 @@ module _ (b : List ℕ) (fit : AreBytes b) (q n : ℕ) (lo : 1 ≤ n) (hi : n �
   blank_units (suc m) k before (suc (suc (suc j))) le few =
       blank_units m (suc k) _ j (omega arith) (omega arith)
 
-  -- The tests from the check on hold.
   blank_tests : (j : ℕ) → q ≤ j → get_or (tests made (4 * n - 1)) j true ≡ true
   blank_tests zero le = rw (le-ltb (length made) 6 (omega (arith, length-made))) refl
   blank_tests (suc zero) le = grind (arith, nat_tests, blank_byte)
@@ -212,7 +199,6 @@ module _ (b : List ℕ) (fit : AreBytes b) (q n : ℕ) (lo : 1 ≤ n) (hi : n �
   blank_tests (suc (suc (suc (suc (suc (suc (suc (suc (suc j))))))))) le =
       blank_units (4 * n - 1) 0 0 j (omega arith) (omega arith)
 
-  -- All tests hold.
   made_buffered : (j : ℕ) → get_or (tests made (stated_units made)) j true ≡ true
   made_buffered j =
       let size = reported-made in
@@ -228,14 +214,13 @@ module _ (b : List ℕ) (fit : AreBytes b) (q n : ℕ) (lo : 1 ≤ n) (hi : n �
             ∙ buffered j less
       ])
 
-  -- So such a packet of the grammar exists.
+  -- Some packet of the grammar agrees with the bytes in all checks before number q.
   agreeing : (v : PesValue) × (p : List ℕ) × IsValidPesPacket v p × AgreeBefore q b p
   agreeing =
       let read = read_if_held made made_buffered in
       let found = read_is_packet read.0.0 made read.0.1 made_fits read.1 in
       (read.0.0, found.0, found.1, made_agrees found.0 read.0.1 found.2)
 
--- The number of payloads of such a packet.
 payloads : (b : List ℕ) (q : ℕ)
     → HoldBelow (tests b (stated_units b)) q
     → (n : ℕ) × (1 ≤ n) × (n ≤ 9) × (2 < q → stated_size b ≡ 184 * n)
@@ -244,7 +229,7 @@ payloads b q buffered = elim (cases_lt 2 q) [
   | inl more ↦ let t = stated_count b (buffered 2 more) in (t.0, t.1, t.2, λ _. t.3)
 ]
 
--- No packet agrees with the bytes up to a test that fails.
+-- If test q of the bytes fails, no packet of the grammar agrees with the bytes in check q too.
 none_agrees : (b : List ℕ) (q : ℕ) (v : PesValue) (p : List ℕ)
     → get_or (tests b (stated_units b)) q true ≡ false
     → IsValidPesPacket v p
@@ -261,7 +246,6 @@ none_agrees b q v p wrong h agree =
     let yes = all q in
     absurd cc
 
--- If no packet is read, the fault is that of the first check that the bytes fail.
 refused_first : (b : List ℕ) (f : PesFault)
     → AreBytes b
     → packet_at b ≡ Err f
@@ -289,7 +273,8 @@ refused_first b f fit e =
           )
     ]
 
--- If bytes fail a check, no packet is read, since it would agree with them.
+-- If bytes fail a check, no PES packet can be read from them, since that packet would agree with
+-- them in all checks.
 refused_there : (b : List ℕ) (q : ℕ)
     → AreBytes b
     → FailFirst q b
@@ -307,6 +292,5 @@ refused_there b q fit h = elim (answer_cases (packet_at b)) [
       }))
 ]
 
--- The law of refusal.
 pub refusal_by_questions : LawOfRefusal
 refusal_by_questions b fit = (λ f e. refused_first b f fit e, λ q h. refused_there b q fit h)

@@ -1,5 +1,6 @@
--- Slices compared in blocks: same_block for one, four_same for four of them, same_more_long for the
--- next, same_complete at the end; payload_same for the data field of one payload.
+-- Comparing slices in blocks: same_block for one block, four_same for four blocks of 64 bytes,
+-- same_more_long for the next block of 256 bytes, same_complete at the end; payload_same for the
+-- data field of one payload.
 use Rattle.std.proofs.Common.{◌≡◌, ◌↔◌, ℕ, ◌+◌, ◌*◌, ◌≤◌, ◌^◌, ◌%◌, ◌-◌, Bool, true, List, []}
 use Rattle.std.proofs.Common.{◌∷◌, ◌++◌, map, length, take, drop, cond, nat_eq, refl, sym, ap}
 use Rattle.std.proofs.Common.{ap₂, ◌∙◌, ◌/◌, ◌<◌, ◌&&◌, arith, not, w8, eqb-true, eq-eqb}
@@ -12,22 +13,18 @@ use lib.Lanes.{zip2, mask_l, top, chunk}
 use lib.Seq.{take-add}
 use Rattle.ttx_packet.proofs.BlockLemmas.{block_at, block_of}
 
--- Two bytes differ.
 abbrev pub differ : ℕ → ℕ → Bool
 differ x y = not (nat_eq x y)
 
--- No byte differs from itself.
 none_differ : (a : List ℕ) → mask_l (zip2 differ a a) ≡ 0
 none_differ [] = refl
 none_differ (x ∷ a) = grind (arith, nat_tests, none_differ a)
 
--- If no byte differs, the lists are the same.
 same_from_none : (a b : List ℕ) → length a ≡ length b → mask_l (zip2 differ a b) ≡ 0 → a ≡ b
 same_from_none [] [] l e = refl
 same_from_none [] (y ∷ b) l e = absurd (omega arith)
 same_from_none (x ∷ a) b l e = grind (arith, nat_tests, same_from_none a)
 
--- Two blocks are the same if the mask is 0. For `is_same_block`.
 pub same_block : (n : ℕ) (a b : List ℕ)
     → n ≤ 64
     → length a ≡ n
@@ -42,14 +39,12 @@ same_block n a b few la lb =
     ap (λ m. mask_l m % 2 ^ 64) (tops_compared w8 differ a b) ∙ mask_l-mod _ 64 size in
     grind (arith, nat_tests, same_from_none, eqb-true, eq-eqb, none_differ)
 
--- One more block.
 more : (n at : ℕ) (a b : List ℕ)
     → take at a ≡ take at b
     → chunk at n a ≡ chunk at n b
     → take (at + n) a ≡ take (at + n) b
 more n at a b prefix block = grind (arith, nat_tests, take-add at n a, take-add at n b)
 
--- One more block of 256. For `is_same_by_long_blocks`.
 pub same_more_long : (a b : List ℕ) (i : ℕ)
     → take (256 * i) a ≡ take (256 * i) b
     → chunk (256 * i) 256 a ≡ chunk (256 * i) 256 b
@@ -58,7 +53,6 @@ same_more_long a b i prefix block =
     let e : 256 * i + 256 ≡ 256 * (i + 1) = omega arith in
     rw (← e) (more 256 (256 * i) a b prefix block)
 
--- Blocks up to a place, and everything from an earlier place on.
 pub same_complete : (a b : List ℕ) (m n : ℕ)
     → m ≤ n
     → take n a ≡ take n b
@@ -69,7 +63,6 @@ same_complete a b m n le prefix back =
     sym (take-take m n a le) ∙ ap (take m) prefix ∙ take-take m n b le in
     sym (take-append-drop m a) ∙ ap₂ (λ (x y : List ℕ). x ++ y) first back ∙ take-append-drop m b
 
--- Four blocks of 64 are a block of 256.
 same_four : (a b : List ℕ)
     → length a ≡ 256
     → length b ≡ 256
@@ -82,11 +75,9 @@ same_four a b la lb c0 c1 c2 c3 =
     let whole = more 64 192 a b (more 64 128 a b (more 64 64 a b (more 64 0 a b refl c0) c1) c2) c3
     in sym (take_all 256 a (omega (arith, la))) ∙ whole ∙ take_all 256 b (omega (arith, lb))
 
--- Both of two tests hold.
 both : (x y : Bool) → (x && y) ≡ true → (x ≡ true) × (y ≡ true)
 both x y h1 = grind (arith, nat_tests)
 
--- The four blocks were compared. For `is_same_long_block`.
 pub four_same : (a b : List ℕ) (xs ys : List (List ℕ)) (p q r s : Bool)
     → length a ≡ 256
     → length b ≡ 256
@@ -116,7 +107,6 @@ four_same a b xs ys p q r s la lb of_a of_b is_p is_q is_r is_s = (
       rw (is_p.1 (each 0), is_q.1 (each 1), is_r.1 (each 2), is_s.1 (each 3)) refl,
 )
 
--- The first two blocks of 64 and the last 16 bytes are those of 139. For `is_same_payload`.
 pub payload_same : (a b : List ℕ) (xs ys : List (List ℕ))
     → length a ≡ 139
     → length b ≡ 139
@@ -134,5 +124,4 @@ payload_same a b xs ys la lb of_a of_b first second last =
     (block 1 (omega arith) second) in
     same_complete a b 123 128 (omega arith) prefix last
 
--- For the loops over blocks.
 pub ruleset same_blocks = (block_at, same_more_long, same_complete)

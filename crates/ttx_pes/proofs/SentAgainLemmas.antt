@@ -1,4 +1,4 @@
--- A packet that repeats the one before: facts about it, sent_again.
+-- Facts about a PES packet that repeats the packet before it: sent_again.
 use Rattle.std.proofs.Common.{◌≡◌, ℕ, ◌+◌, ◌%◌, ◌≤◌, List, length, drop, Ok, refl, sym, ap, subst}
 use Rattle.std.proofs.Common.{◌∙◌, arith, length-drop}
 use Rattle.std.proofs.lemmas.List.{drop-drop}
@@ -9,7 +9,6 @@ use Rattle.ttx_pes.specs.Taking.{buffered_frame}
 use Rattle.ttx_pes.proofs.DataUnitLemmas.{AreBytes-drop}
 use Rattle.ttx_pes.proofs.KeptFrameLemmas.{IsBody, known_again}
 
--- The facts about it, from its header and its data field. For `pts_again`.
 pub sent_again : (pes_packet before body field : List ℕ) (h : BufferedPacketValue) (t : ℕ)
     → AreBytes pes_packet
     → IsInBuffer before h

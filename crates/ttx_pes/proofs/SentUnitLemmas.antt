@@ -1,5 +1,5 @@
--- Units by the offsets of their data units: one more, `one_more`, the remaining ones,
--- `places_left`, and one by its number, `unit_at_place`.
+-- Teletext units by the offsets of their data units: one more unit, `one_more`, the remaining
+-- units, `places_left`, and a unit by its number, `unit_at_place`.
 use Rattle.std.proofs.lemmas.Bool.Decides.{nat_tests}
 use Rattle.std.proofs.Common.{◌≡◌, ℕ, ◌+◌, ◌-◌, ◌*◌, ◌<◌, List, [], ◌∷◌, ◌++◌}
 use Rattle.std.proofs.Common.{length, take, drop, get_or, map, refl, sym, ap, subst, ◌∙◌, arith}
@@ -15,22 +15,18 @@ use Rattle.ttx_pes.proofs.DataUnitLemmas.{units_next, units_none}
 use Rattle.ttx_pes.proofs.HeadLemmas.{placed_next, placed_none}
 use Rattle.ttx_pes.proofs.LineOrderLemmas.{last_place-push}
 
--- One more unit.
 pub sent_units-push : (field places : List ℕ) (at : ℕ)
     → sent_units field (places ++ at ∷ [])
     ≡ sent_units field places ++ unit_of (take 46 (drop at field)) ∷ []
 sent_units-push field places at = grind (arith, nat_tests, map-append)
 
--- A data unit after the units so far, by its unit.
 pub unit_at-unit : (units : List UnitValue) (b : List ℕ)
     → unit_at units b ≡ (teletext_at b >>= λ unit. with_unit units unit)
 unfolding unit_at
 unit_at-unit units b = refl
 
--- For `take_place`.
 pub ruleset one_more = (unit_at-unit, sent_units-push, last_place-push, All-push)
 
--- The next of the remaining data units.
 pub places_next : (count k : ℕ) (units : List UnitValue) (field : List ℕ)
     → k < count
     → units_at (count - k) units (drop (1 + 46 * k) field)
@@ -43,12 +39,8 @@ places_next count k units field l =
     ∙ ap (λ rest. unit_at units (take 46 (drop (1 + 46 * k) field)) >>= λ more.
     units_at (count - (k + 1)) more rest) following
 
--- For the loop of `take_places`.
 pub ruleset places_left = (places_next, units_none, placed_next, placed_none)
 
--- ---- a unit by its number
-
--- A unit's number is that of an offset.
 pub has_place : (field places : List ℕ) (units : List UnitValue) (k : ℕ)
     → sent_units field places ≡ units
     → k < length units
@@ -56,14 +48,12 @@ pub has_place : (field places : List ℕ) (units : List UnitValue) (k : ℕ)
 has_place field places units k h1 h2 = grind (arith, nat_tests, length-map)
 
 module _ (field places : List ℕ) (k : ℕ) (l : k < length places) where
-  -- It is the unit of the data unit at its offset.
   pub unit_at_place : (other : UnitValue)
       → get_or (sent_units field places) k other
       ≡ unit_of (take 46 (drop (get_or places k 0) field))
   unit_at_place other =
       get_or-map (λ at. unit_of (take 46 (drop at field))) places k 0 other l
 
-  -- Its packet is that of the data unit at its offset.
   pub packet_at_place : (block : List ℕ)
       → block ≡ drop 4 (take 46 (drop (get_or places k 0) field))
       → map mirror block
@@ -76,7 +66,6 @@ module _ (field places : List ℕ) (k : ℕ) (l : k < length places) where
       ∙ sym (get_or-map (λ (u : UnitValue). u.packet) (sent_units field places) k (unit_of []) []
       many)
 
-  -- It is valid if all units are.
   pub is_unit_at_place : AllByRecursion IsUnit (sent_units field places)
       → IsUnit (unit_of (take 46 (drop (get_or places k 0) field)))
   is_unit_at_place all =

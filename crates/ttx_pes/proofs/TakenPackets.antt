@@ -1,4 +1,4 @@
--- PES packets that are consumed in order, for loops over a reader: takes-more.
+-- PES packets that a loop over a reader consumes one after another: takes-more.
 use Rattle.std.proofs.Common.{◌≡◌, ℕ, ◌+◌, List, [], ◌∷◌, ◌++◌, Option, arith, length-append}
 use Rattle.std.proofs.lemmas.Bool.Decides.{nat_tests}
 use Rattle.std.proofs.lemmas.List.{append-nil}
@@ -8,7 +8,6 @@ use Rattle.std.proofs.KnownBytes.{Consumes-trans}
 use Rattle.ttx_pes.specs.PesGrammar.{PesValue, IsValidPesPacket}
 use Rattle.ttx_pes.specs.Reader.{TakesPackets, TakesValidPesPacket}
 
--- One more packet.
 each-more : (packets : List (List ℕ)) (b : List ℕ)
     → AllByRecursion (λ x. (v : PesValue) × IsValidPesPacket v x) packets
     → (v : PesValue) × IsValidPesPacket v b
@@ -16,7 +15,6 @@ each-more : (packets : List (List ℕ)) (b : List ℕ)
 each-more [] b h p = (p, tt)
 each-more (x ∷ packets) b h p = (h.0, each-more packets b h.1 p)
 
--- One more packet was consumed.
 pub takes-more : (n : ℕ) (old mid new : Option (List ℕ)) (v : PesValue)
     → TakesPackets n old mid
     → TakesValidPesPacket mid new v

@@ -1,5 +1,5 @@
--- What the bytes consumed of a packet determine, NAME_settles, what follows from that,
--- settled_NAME, and the reader's answer, tells_NAME.
+-- What the bytes consumed of a PES packet determine, NAME_settles; what follows from that,
+-- settled_NAME; and the reader's answer, tells_NAME.
 use Rattle.std.proofs.Common.{◌≡◌, ◌≢◌, ℕ, ◌<◌, ◌≤◌, List, [], length, take, drop, Option, None}
 use Rattle.std.proofs.Common.{Some, Result, Ok, Err, refl, sym, ap, subst, ◌∙◌, append_assoc, arith}
 use Rattle.std.proofs.Common.{length-append, length-take, length-drop, true}
@@ -21,9 +21,6 @@ use Rattle.ttx_pes.proofs.ReadingLemmas.{answer_full, answer_packet}
 use Rattle.ttx_pes.proofs.ReadingLemmas.{packet_parts, read_is_packet}
 use Rattle.ttx_pes.proofs.ReaderLemmas.{left, nothing, packet_left, value_in}
 
--- ---- without a packet
-
--- The end of the source, with no byte consumed.
 none_taken : (old new : Option (List ℕ)) (bytes taken : List ℕ)
     → Consumes old new taken
     → old ≡ Some bytes
@@ -33,7 +30,6 @@ none_taken : (old new : Option (List ℕ)) (bytes taken : List ℕ)
 unfolding rest_after packet_at
 none_taken old new bytes taken h reported none end = grind (arith, nat_tests, left)
 
--- Bytes after the maximum number of packets.
 too_many : (given : ℕ) (old new : Option (List ℕ)) (bytes taken : List ℕ)
     → Consumes old new taken
     → old ≡ Some bytes
@@ -43,9 +39,7 @@ too_many : (given : ℕ) (old new : Option (List ℕ)) (bytes taken : List ℕ)
 too_many given old new bytes taken h reported some full =
     grind (arith, nat_tests, left, answer_full, length-append)
 
--- ---- what the bytes consumed determine
-
--- The packet is complete: its value, or its first fault.
+-- If the bytes consumed are a complete PES packet, they determine its value or its first fault.
 pub complete_settles : (old new : Option (List ℕ)) (taken : List ℕ)
     → Consumes old new taken
     → 6 ≤ length taken
@@ -55,7 +49,6 @@ complete_settles old new taken h le sized =
     let six = length-take 6 taken in let others = length-drop 6 taken in
     grind (arith, nat_tests, take-append-drop 6 taken, append_assoc, packet_parts)
 
--- The result of reading the packet's bytes from byte 6 on.
 pub settles_as : (old new : Option (List ℕ)) (taken body : List ℕ) (r : Result PesValue PesFault)
     → Settles old new taken (value_at (drop 6 taken))
     → body ≡ drop 6 taken
@@ -63,14 +56,10 @@ pub settles_as : (old new : Option (List ℕ)) (taken body : List ℕ) (r : Resu
     → Settles old new taken r
 settles_as old new taken body r h same e = grind (arith, nat_tests)
 
--- ---- what follows from that
-
--- The answer, from the result of reading the packet.
 answered : (r : Result PesValue PesFault) (rest : List ℕ)
     → ((r >>= λ v. Ok (v, rest)) >>= value_in) ≡ (r >>= λ v. Ok (Some v))
 answered r rest = grind (arith, nat_tests)
 
--- The answer if the source's bytes are known.
 pub settled_answer : (given : ℕ) (old new : Option (List ℕ)) (taken bytes : List ℕ)
     (r : Result PesValue PesFault)
     → Settles old new taken r
@@ -80,13 +69,14 @@ pub settled_answer : (given : ℕ) (old new : Option (List ℕ)) (taken bytes : 
 settled_answer given old new taken bytes r h ne reported =
     grind (arith, nat_tests, left, answer_packet, length-append, answered)
 
--- A fault: the bytes consumed are rejected for it, even if the source's bytes are not known.
+-- If the bytes consumed determine a fault, they are rejected for that fault, even if the source's
+-- bytes are not known.
 pub settled_refusal : (old new : Option (List ℕ)) (taken : List ℕ) (f : PesFault)
     → Settles old new taken (Err f)
     → TakesRefused old new f
 settled_refusal old new taken f h = grind (arith, nat_tests, append-nil taken)
 
--- A value: the bytes consumed are a valid packet with it.
+-- If the bytes consumed determine a value, they are a valid PES packet with that value.
 abbrev pub settled_packet : (old new : Option (List ℕ)) (taken : List ℕ) (v : PesValue)
     → Settles old new taken (Ok v)
     → AreBytes taken
@@ -100,7 +90,6 @@ settled_packet old new taken v h fit =
       consumed = h.consumed;
     }
 
--- A value with its data field, from byte 39 of the body on. For `PesPacketReportingLemmas`.
 pub settled_field : (old new : Option (List ℕ)) (taken body field : List ℕ) (v : PesValue)
     → Settles old new taken (Ok v)
     → AreBytes taken
@@ -112,7 +101,6 @@ settled_field old new taken body field v h fit same is = record {
   field_is = is ∙ ap (drop 39) same ∙ drop-drop 39 6 taken;
 }
 
--- The size in the first six bytes stays the same after more bytes were read. For `read_pes_packet`.
 pub size_kept : (got n : ℕ) (old new six : List ℕ) (r : Result ℕ PesFault)
     → 6 ≤ got
     → got ≤ n
@@ -125,9 +113,6 @@ size_kept got n old new six r le more kept is reported =
     ∙ take-take 6 got old le ∙ sym is)
     ∙ reported
 
--- ---- the reader's answer
-
--- The end of the source, with no byte consumed.
 pub reports_end : (given : ℕ) (old new : Option (List ℕ)) (taken : List ℕ)
     → Consumes old new taken
     → taken ≡ []
@@ -135,7 +120,6 @@ pub reports_end : (given : ℕ) (old new : Option (List ℕ)) (taken : List ℕ)
     → ReportsPacket (Reading given) old new (Ok None)
 reports_end given old new taken h none end = grind (arith, nat_tests, none_taken, nothing)
 
--- Bytes after the maximum number of packets.
 pub reports_too_many : (given : ℕ) (old new : Option (List ℕ)) (taken : List ℕ)
     → Consumes old new taken
     → 0 < length taken
@@ -143,7 +127,6 @@ pub reports_too_many : (given : ℕ) (old new : Option (List ℕ)) (taken : List
     → ReportsPacket (Reading given) old new (Err fault.TooMany)
 reports_too_many given old new taken h some full = grind (arith, nat_tests, too_many)
 
--- The bytes consumed determine the answer.
 pub reports_settled : (given : ℕ) (old new : Option (List ℕ)) (taken : List ℕ)
     (r : Result PesValue PesFault)
     → Settles old new taken r

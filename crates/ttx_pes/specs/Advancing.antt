@@ -1,4 +1,5 @@
--- Reading one PES packet, and the bytes that are left if only a limited number of packets may come.
+-- Specifies how a reader reads one PES packet, and which bytes are left if only a limited number of
+-- PES packets may be read.
 use Rattle.std.specs.Borrow.{GName}
 use Rattle.std.specs.Prelude.{◌≡◌, ℕ, zero, suc, ◌+◌, ◌-◌, ◌<◌, nat_lt, Bool, true, false, List, []}
 use Rattle.std.specs.Prelude.{Option, Some, None, Result, Ok, Err, length, take, if◌then◌else◌}
@@ -15,31 +16,34 @@ use Rattle.ttx_pes.specs.Reading.{size_at}
 use Rattle.ttx_pes.specs.declared.pes_packets.Received.{Received}
 use Rattle.ttx_pes.specs.declared.pes_packets.Received.TheVariants.{End, PesPacket, Rest}
 
--- ---- one packet
+-- ---- reading one PES packet
 
--- `count` bytes are not a complete packet of the size in its first six bytes, for this fault.
+-- The fault for which `count` bytes are not a complete PES packet, given the size in the packet's
+-- first six bytes. `None` if the packet is complete.
 abbrev pub fault_of_size : ℕ → Result ℕ PesFault → Option PesFault
 fault_of_size count (Ok size) = if nat_lt count size then Some Truncated else None
 fault_of_size count (Err f) = Some f
 
--- The bytes do not begin with a packet, for this fault.
+-- The fault for which the bytes do not begin with a PES packet, or `None` if they do.
 unfoldable pub rest_fault : List ℕ → Option PesFault
 rest_fault b =
     if nat_lt (length b) 6 then Some Truncated else fault_of_size (length b) (size_at (take 6 b))
 
--- Bytes that were read show that the remaining bytes begin no packet, whatever follows.
+-- The bytes that were read show by this fault that no PES packet begins here, whatever bytes
+-- follow.
 pub record ShowRest (following : Option (List ℕ)) (bytes : List ℕ) (f : PesFault) : Type 0 where
   pub some : 0 < length bytes
   pub all :
       (more : List ℕ) → (IsAtEnd following → more ≡ []) → rest_fault (bytes ++ more) ≡ Some f
 
--- The remaining bytes begin no packet, for this fault, and those that were read show it.
+-- The remaining bytes begin no PES packet, for this fault, and the bytes that were read show the
+-- fault.
 pub record IsRest (old following : Option (List ℕ)) (f : PesFault) : Type 0 where
   pub bytes : List ℕ
   pub consumed : Consumes old following bytes
   pub shows : ShowRest following bytes f
 
--- Exactly one packet was consumed, and a taker processed it.
+-- Exactly one PES packet was consumed, and the taker processed the packet.
 pub record TakesPesPacketBy
     {T A : Type 0} (is_take : T → List ℕ → A → T → Type 0) (old new : Option (List ℕ))
     (before : T) (answer : A) (after : T)
@@ -50,9 +54,10 @@ pub record TakesPesPacketBy
   pub consumed : Consumes old new bytes
   pub takes : is_take before bytes answer after
 
--- The effect of a call of `next`. `old` and `new` are the bytes left before and after it,
--- `following` those that the device has left. A packet is consumed completely, and the taker
--- processes it. Otherwise nothing is consumed; a failure happened within the next packet.
+-- The effect of a call of `next`. `old` and `new` are the bytes left before and after the call, and
+-- `following` are the bytes that the device has left. A PES packet is consumed completely, and the
+-- taker processes it. Without a PES packet, nothing is consumed; a failure happened within the next
+-- packet.
 abbrev pub Advances : {T A E : Type 0}
     → Option (List ℕ) → Option (List ℕ) → Option (List ℕ)
     → (T → List ℕ → A → T → Type 0) → T → T → Result (Received A) E → Type 0
@@ -65,33 +70,33 @@ Advances old new following is_take before after (Ok (Rest f)) =
 Advances old new following is_take before after (Err e) =
     Keeps old new × FailsWithin old following × (after ≡ before)
 
--- The result says that the remaining bytes begin no packet.
+-- The result says that the remaining bytes begin no PES packet.
 abbrev pub reports_rest : {A E : Type 0} → Result (Received A) E → Bool
 reports_rest (Ok (Rest f)) = true
 reports_rest _ = false
 
--- Nothing is known about avoiding calls of the device.
+-- A reader that never knows whether its next call uses the device.
 abbrev pub never_ready : {P : Type 0} → P → Bool
 never_ready pes_packets = false
 
--- It borrows no device.
+-- A reader that borrows no device.
 abbrev pub lends_none : {P : Type 0} → P → List GName
 lends_none pes_packets = []
 
--- ---- reading from a source
+-- ---- reading PES packets from a source
 
--- The buffered bytes, then those of the source, if they are known.
+-- The buffered bytes followed by the bytes of the source, if these are known.
 abbrev pub buffered_then : List ℕ → Option (List ℕ) → Option (List ℕ)
 buffered_then [] known_bytes = known_bytes
 buffered_then (x ∷ buffered) known_bytes = prepend_known (x ∷ buffered) known_bytes
 
--- The next packet needs no call of the source's device: the source lends it completely, or has an
--- invalid start code or length in the bytes that it lends.
+-- The next PES packet can be read without a call of the source's device: nothing is buffered, and
+-- the source lends the packet completely, or lends bytes with an invalid start code or length.
 abbrev pub lends_pes_packet : List ℕ → List ℕ → Bool
 lends_pes_packet [] borrowed = holds_packet borrowed
 lends_pes_packet (x ∷ buffered) borrowed = false
 
--- The meaning of the bytes that were read for one packet.
+-- What the bytes that were read for one PES packet mean for the result.
 abbrev pub AreRead : {E : Type 0} → Option (List ℕ) → List ℕ → Result (Received (Unit {0})) E → Type
     0
 AreRead new bytes (Ok End) = (bytes ≡ []) × IsAtEnd new
@@ -100,7 +105,7 @@ AreRead new bytes (Ok (PesPacket answer)) =
 AreRead new bytes (Ok (Rest f)) = ShowRest new bytes f
 AreRead new bytes (Err e) = IsBegun bytes
 
--- These bytes were read for one packet.
+-- The bytes that were read from the source for one PES packet, and their meaning for the result.
 pub record ReadsForPesPacket
     {E : Type 0} (old new : Option (List ℕ)) (bytes : List ℕ) (result : Result (Received (Unit {0}))
     E)
@@ -108,10 +113,10 @@ pub record ReadsForPesPacket
   pub consumed : Consumes old new bytes
   pub are_read : AreRead new bytes result
 
--- ---- several packets
+-- ---- skipping PES packets
 
--- Of the first n packets, k were skipped; skipping the others from here gives the same as skipping
--- all from the start.
+-- Of the first n PES packets, k were skipped; skipping the other n - k from here on gives the same
+-- as skipping all n from the start.
 abbrev pub HasSkipped : ℕ → ℕ → Option (List ℕ) → Option (List ℕ) → Type 0
 HasSkipped n k old new =
     IfKnown old (λ bytes. (rest : List ℕ)
@@ -119,43 +124,46 @@ HasSkipped n k old new =
     × (rest_after_pes_packets n bytes ≡ rest_after_pes_packets (n - k) rest)
     × (count_pes_packets n bytes ≡ k + count_pes_packets (n - k) rest))
 
--- The first n packets were skipped, or all if there are fewer, and `skipped` is their number.
+-- The first n PES packets were skipped, or all if the file has fewer, and `skipped` is the number
+-- of PES packets skipped.
 abbrev pub Passes : ℕ → Option (List ℕ) → Option (List ℕ) → ℕ → Type 0
 Passes n old new skipped =
     IfKnown old (λ bytes. (new ≡ Some (rest_after_pes_packets n bytes)) ×
     (skipped ≡ count_pes_packets n bytes))
 
--- ---- a limited number of packets
+-- ---- a limited number of PES packets
 
--- No more packets may come.
+-- The limit is reached: no more PES packets may be read.
 abbrev pub is_over : Option ℕ → Bool
 is_over None = false
 is_over (Some zero) = true
 is_over (Some (suc n)) = false
 
--- One fewer may come.
+-- The limit after one PES packet was read.
 abbrev pub one_less : Option ℕ → Option ℕ
 one_less None = None
 one_less (Some zero) = Some zero
 one_less (Some (suc n)) = Some n
 
--- How many may come after this result.
+-- The number of PES packets that may be read after this result. `None` means no limit.
 abbrev pub left_after : {A : Type 0} → Option ℕ → Received A → Option ℕ
 left_after left End = left
 left_after left (PesPacket answer) = one_less left
 left_after left (Rest f) = None
 
--- The bytes that are left under the limit.
+-- The bytes that may be read under the limit: those of that many PES packets, or all bytes if fewer
+-- packets are left.
 abbrev pub limited_known : Option ℕ → Option (List ℕ) → Option (List ℕ)
 limited_known None known_bytes = known_bytes
 limited_known (Some n) known_bytes = option_map (limited (Some n)) known_bytes
 
--- After bytes that begin no packet there is no limit.
+-- The remaining bytes are known to begin no PES packet. This implies that the limit was removed,
+-- since bytes after the last packet are not limited.
 abbrev pub limited_rest : Option ℕ → Bool → Bool
 limited_rest None rest = rest
 limited_rest (Some n) rest = false
 
--- The bytes that the device has left, under the limit.
+-- The bytes that the device has left, as far as the limit allows reading them.
 abbrev pub limited_remaining : Option ℕ → Option (List ℕ) → Option (List ℕ) → Option (List ℕ)
 limited_remaining None known following = following
 limited_remaining (Some n) known following = option_map (limited (Some n)) known

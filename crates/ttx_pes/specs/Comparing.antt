@@ -1,4 +1,4 @@
--- A reader that compares each PES packet with the one before.
+-- Specifies a reader that compares each PES packet with the PES packet before it.
 use Rattle.std.specs.Prelude.{◌≡◌, ℕ, ◌+◌, Bool, true, false, if◌then◌else◌, Option, Some, None}
 use Rattle.std.specs.Prelude.{Result, Ok, Err, List, drop}
 use Rattle.ttx_pes.specs.declared.comparing_reader.Compared.{Compared}
@@ -10,31 +10,35 @@ use Rattle.ttx_pes.specs.Fault.{is_of_pes_packet}
 use Rattle.ttx_pes.specs.PesGrammar.{PesValue}
 use Rattle.ttx_pes.specs.Reader.{TakesValidPesPacket}
 
--- The model of such a reader: its progress, the frame that it lends, and the data field of the last
--- packet, bytes 45 (data_identifier) to the end. The data field is empty before the first packet,
--- at the end and after a fault. Directly after the fault of a complete packet, `following` is how
--- many packets were consumed, including it.
+-- The model of a comparing reader: its progress, the frame that it lends, and the data field of the
+-- last PES packet, bytes 45 (data_identifier) to the end. The data field is empty before the first
+-- packet, at the end and after a fault. Directly after the fault of a complete packet, `following`
+-- is the number of packets consumed, including the faulty packet.
 pub record ComparingValue : Type 0 where
   pub progress : Progress
   pub frame : PesValue
   pub data_field : List ℕ
   pub following : Option ℕ
 
--- How many packets were consumed, if the answer is the fault of a complete packet.
+-- The number of PES packets consumed, if the answer is the fault of a complete packet; otherwise
+-- `None`.
 abbrev pub taken_count_after : Progress → Result Compared PesFault → Option ℕ
 taken_count_after (Reading given) (Err f) = if is_of_pes_packet f then Some (given + 1) else None
 taken_count_after _ _ = None
 
--- Directly after such a fault, reading continues after the packet.
+-- The state of a comparing reader that continues after a faulty packet. `None` leaves the state
+-- unchanged.
 abbrev pub going_on : ComparingValue → Option ℕ → ComparingValue
 going_on c None = c
 going_on c (Some given) = record c { progress = Reading given; following = None }
 
--- Continues if the last answer was such a fault; otherwise no change.
+-- The state of a comparing reader after `skip_packet`: it continues if its last answer was the
+-- fault of a complete packet; otherwise its state does not change.
 abbrev pub skipped_over : ComparingValue → ComparingValue
 skipped_over c = going_on c c.following
 
--- The answer in the form of `next_into`: `true` for a packet, the same or not.
+-- The answer of a comparing reader in the form of `next_into`: `true` for a packet, whether it
+-- repeats the packet before or not.
 abbrev pub as_yielded : Result Compared PesFault → Result Bool PesFault
 as_yielded (Ok End) = Ok false
 as_yielded (Ok Same) = Ok true

@@ -1,44 +1,46 @@
 -- Data units of a PES data field (EN 300 472, syntax of the PES data field): 46 bytes each. Some
--- carry a Teletext packet, the others are ignored.
+-- data units carry a Teletext packet, and a reader ignores the others.
 use Rattle.std.specs.Prelude.{◌≡◌, ℕ, zero, suc, ◌+◌, ◌-◌, ◌*◌, ◌<◌, ◌≤◌, Bool, false, ◌==◌, ◌||◌}
 use Rattle.std.specs.Prelude.{List, [], ◌∷◌, ◌++◌, length, map, replicate, Option, Some, None}
 use Rattle.std.specs.Option.{option_to_list}
 use Rattle.ttx_packet.specs.BitOrder.{mirror}
 use Rattle.ttx_packet.specs.PacketAddress.{IsPacket}
 
--- A Teletext unit: data_unit_id, the field (1 is the first, field_parity 1; 2 the second,
--- field_parity 0), line_offset, and the packet in Teletext's own order of bits.
+-- The contents of a Teletext unit: data_unit_id, the field (1 is the first, field_parity 1; 2 the
+-- second, field_parity 0), line_offset, and the packet in Teletext's own order of bits.
 pub record UnitValue : Type 0 where
   pub id : ℕ
   pub field : ℕ
   pub line : ℕ
   pub packet : List ℕ
 
--- Size of a data unit in bytes.
+-- The size of a data unit in bytes.
 abbrev pub data_unit_size : ℕ
 data_unit_size = 46
 
--- data_unit_id of EBU Teletext that is not subtitles.
+-- The data_unit_id of EBU Teletext that is not subtitles.
 abbrev pub teletext_id : ℕ
 teletext_id = 0x02
 
--- data_unit_id of EBU Teletext subtitles.
+-- The data_unit_id of EBU Teletext subtitles.
 abbrev pub subtitle_id : ℕ
 subtitle_id = 0x03
 
--- data_unit_id of stuffing, and each byte after the length of a stuffing unit that is written.
+-- The data_unit_id of a stuffing unit, and the value of each byte after its length if a writer
+-- creates the unit.
 abbrev pub stuffing : ℕ
 stuffing = 0xFF
 
--- The bytes of a data unit after its length.
+-- The number of bytes of a data unit after its field data_unit_length.
 abbrev pub data_unit_length : ℕ
 data_unit_length = 0x2C
 
--- The framing code of Teletext, its bits in the order of the data unit.
+-- The framing code of Teletext, with its bits in the order of a data unit.
 abbrev pub framing_code : ℕ
 framing_code = 0xE4
 
--- The possible values of a Teletext unit.
+-- The fields of a Teletext unit are in range: data_unit_id 2 or 3, field 1 or 2, line_offset below
+-- 32, and a packet of 42 bytes.
 pub record IsUnit (u : UnitValue) : Type 0 where
   pub id : (teletext_id ≤ u.id) × (u.id ≤ subtitle_id)
   pub field : (1 ≤ u.field) × (u.field ≤ 2)
@@ -49,11 +51,11 @@ pub record IsUnit (u : UnitValue) : Type 0 where
 abbrev pub is_teletext : ℕ → Bool
 is_teletext id = (id == teletext_id) || (id == subtitle_id)
 
--- The third byte of a Teletext unit: two reserved bits, field_parity, line_offset.
+-- Byte 2 of a Teletext unit, counted from 0: two reserved bits, field_parity, line_offset.
 abbrev pub field_and_line : ℕ → UnitValue → ℕ
 field_and_line reserved u = 64 * reserved + 32 * (2 - u.field) + u.line
 
--- A data unit that carries a Teletext packet, 46 bytes:
+-- The bytes b are a data unit that carries a Teletext packet, 46 bytes:
 --
 --   0      data_unit_id      02 not subtitles, 03 subtitles
 --   1      data_unit_length  2C
@@ -69,7 +71,8 @@ pub record IsTeletextUnit (u : UnitValue) (b : List ℕ) : Type 0 where
       b ≡ u.id ∷ data_unit_length ∷ field_and_line reserved u ∷ framing_code ∷ map mirror u.packet
   pub is_unit : IsUnit u
 
--- A data unit with any other data_unit_id, 46 bytes, of which a reader checks only the first two.
+-- The bytes b are a data unit with another data_unit_id than Teletext, 46 bytes, of which a reader
+-- checks only the first two.
 pub record IsSkippedUnit (b : List ℕ) : Type 0 where
   pub id : ℕ
   pub rest : List ℕ
@@ -77,12 +80,13 @@ pub record IsSkippedUnit (b : List ℕ) : Type 0 where
   pub other : is_teletext id ≡ false
   pub size : length rest ≡ data_unit_length
 
--- A data unit, and its Teletext unit, if it carries one.
+-- The bytes b are a data unit, with its Teletext unit if it carries one.
 abbrev pub IsDataUnit : Option UnitValue → List ℕ → Type 0
 IsDataUnit (Some u) b = IsTeletextUnit u b
 IsDataUnit None b = IsSkippedUnit b
 
--- n consecutive data units, and the Teletext units among them in order.
+-- The bytes b are n consecutive data units, and `units` are the Teletext units among them, in
+-- order.
 abbrev pub AreDataUnits : ℕ → List UnitValue → List ℕ → Type 0
 AreDataUnits zero units b = (units ≡ []) × (b ≡ [])
 AreDataUnits (suc n) units b =
@@ -90,10 +94,10 @@ AreDataUnits (suc n) units b =
     × IsDataUnit u first × AreDataUnits n others rest
     × (units ≡ option_to_list u ++ others) × (b ≡ first ++ rest)
 
--- The data unit that is written for a Teletext unit, with both reserved bits 1.
+-- The data unit that a writer creates for a Teletext unit, with both reserved bits 1.
 abbrev pub teletext_unit : UnitValue → List ℕ
 teletext_unit u = u.id ∷ data_unit_length ∷ field_and_line 3 u ∷ framing_code ∷ map mirror u.packet
 
--- The stuffing unit that is written.
+-- The stuffing unit that a writer creates.
 abbrev pub stuffing_unit : List ℕ
 stuffing_unit = stuffing ∷ data_unit_length ∷ replicate data_unit_length stuffing

@@ -1,10 +1,11 @@
--- The number and the name of a fault in reports (own), the faults of a device, and the faults after
--- which reading can continue.
+-- Faults of PES packets: their numbers and names in reports (own), faults of a device, and faults
+-- after which reading can continue.
 use Rattle.std.specs.Prelude.{Bool, true, false, codes}
 use Rattle.sub_io.specs.FaultCode.{FaultCodeValue, fault_code}
 use Rattle.ttx_pes.specs.declared.fault.PesFault.{PesFault}
 use Rattle.ttx_pes.specs.declared.fault.PesFault.TheVariants as fault
 
+-- The number and the name of a PES fault in reports (own).
 abbrev pub pes_code : PesFault → FaultCodeValue
 pes_code fault.Truncated = fault_code 30 (codes "Truncated")
 pes_code fault.Start = fault_code 31 (codes "Start")
@@ -23,7 +24,8 @@ pes_code fault.Ended = fault_code 43 (codes "Ended")
 pes_code fault.TooMany = fault_code 44 (codes "TooMany")
 pes_code fault.Lost = fault_code 45 (codes "Lost")
 
--- The fault is in a packet that is as long as its length field says, so another packet may follow.
+-- The fault is in the contents of a PES packet that is as long as its length field says, so another
+-- packet may follow.
 abbrev pub is_of_pes_packet : PesFault → Bool
 is_of_pes_packet fault.Flags = true
 is_of_pes_packet fault.NoTime = true
@@ -36,12 +38,12 @@ is_of_pes_packet fault.LineOrder = true
 is_of_pes_packet fault.Lost = true
 is_of_pes_packet _ = false
 
--- The source failed.
+-- The fault is that the source failed.
 abbrev pub is_read : PesFault → Bool
 is_read fault.Read = true
 is_read _ = false
 
--- The sink failed.
+-- The fault is that the sink failed.
 abbrev pub is_write : PesFault → Bool
 is_write fault.Write = true
 is_write _ = false

@@ -1,4 +1,4 @@
--- Laws of the format, over plain lists of bytes.
+-- Laws of the format of PES packets, stated for lists of bytes.
 use Rattle.std.specs.Prelude.{◌≡◌, ◌≢◌, ◌↔◌, ℕ, ◌^◌, ◌<◌, ◌≤◌, List, [], ◌++◌, length, map, Some}
 use Rattle.std.specs.Prelude.{None, Ok, Err, true}
 use Rattle.std.specs.Prelude.{IfSome, Option, min}
@@ -17,8 +17,8 @@ use Rattle.ttx_pes.specs.Refusal.{reported_fault, FailFirst}
 use Rattle.ttx_pes.specs.declared.fault.PesFault.{PesFault}
 use Rattle.ttx_pes.specs.declared.fault.PesFault.TheVariants.{TooMany}
 
--- A valid packet has one value, and none is a proper prefix of another. So a file splits into PES
--- packets in only one way.
+-- A valid PES packet has only one value, and no valid packet is a proper prefix of another. So a
+-- file splits into PES packets in only one way.
 abbrev pub LawOfOneValue : Type 0
 LawOfOneValue =
     (a b x y : List ℕ) (v w : PesValue)
@@ -27,23 +27,23 @@ LawOfOneValue =
     → a ++ x ≡ b ++ y
     → (a ≡ b) × (v ≡ w)
 
--- The value of a valid packet fits in a frame.
+-- The value of a valid PES packet fits in a frame.
 abbrev pub LawOfPacketValue : Type 0
 LawOfPacketValue = (v : PesValue) (b : List ℕ) → IsValidPesPacket v b → IsPesValue v
 
--- The canonical packet of each value that fits in a frame is a valid packet with that value. So the
--- bytes written for a frame mean that frame.
+-- The canonical packet of each value that fits in a frame is a valid PES packet with that value. So
+-- the bytes written for a frame mean that frame.
 abbrev pub LawOfCanonicalPacket : Type 0
 LawOfCanonicalPacket = (v : PesValue) → IsPesValue v → IsValidPesPacket v (canonical_packet v)
 
--- A valid packet is read as its value, whatever follows it. So a reader rejects nothing that
+-- A valid PES packet is read as its value, whatever bytes follow. So a reader rejects nothing that
 -- matches the grammar.
 abbrev pub LawOfReading : Type 0
 LawOfReading =
     (v : PesValue) (b rest : List ℕ) → IsValidPesPacket v b → packet_at (b ++ rest) ≡ Ok (v, rest)
 
--- Bytes that are read as a value are a valid packet with that value. So a reader accepts nothing
--- that does not match the grammar.
+-- Bytes that are read as a value begin with a valid PES packet of that value. So a reader accepts
+-- nothing that does not match the grammar.
 abbrev pub LawOfGrammar : Type 0
 LawOfGrammar =
     (v : PesValue) (bytes rest : List ℕ)
@@ -51,10 +51,10 @@ LawOfGrammar =
     → packet_at bytes ≡ Ok (v, rest)
     → (b : List ℕ) × IsValidPesPacket v b × (bytes ≡ b ++ rest)
 
--- If no packet is read, the fault is that of the first check that the bytes fail: some packet of
--- the grammar agrees with them in everything checked before, and none agrees with them there too.
--- If they fail a check, no packet is read. So the grammar and the order of the checks determine the
--- number of each fault.
+-- If no PES packet can be read from the bytes, the fault is that of the first check that they fail:
+-- some packet of the grammar agrees with the bytes in all earlier checks, and no such packet agrees
+-- with them in this check too. If the bytes fail a check, no PES packet is read. So the grammar and
+-- the order of the checks determine which fault is reported.
 abbrev pub LawOfRefusal : Type 0
 LawOfRefusal =
     (bytes : List ℕ)
@@ -64,9 +64,9 @@ LawOfRefusal =
     → (question : ℕ) × (reported_fault bytes question ≡ f) × FailFirst question bytes)
     × ((question : ℕ) → FailFirst question bytes → (f : PesFault) × (packet_at bytes ≡ Err f))
 
--- What an answer means for the remaining bytes, in terms of the grammar: at the end there are none;
--- after a fault of the format they begin with no valid PES packet; after `TooMany` there are more.
--- So where bytes determine an answer, it is known what the answer says about them.
+-- What a reader's answer means for the remaining bytes, in terms of the grammar: at the end no
+-- bytes remain; after a fault of the format the remaining bytes begin with no valid PES packet;
+-- after `TooMany` more bytes remain.
 abbrev pub LawOfAnswers : Type 0
 LawOfAnswers =
     (given : ℕ) (bytes : List ℕ)
@@ -77,8 +77,8 @@ LawOfAnswers =
     → BeginsNone bytes)
     × (answer_at given bytes ≡ Err TooMany → 0 < length bytes)
 
--- The bytes written for a frame are read as that frame, whatever follows, and what follows is left.
--- So a schedule is read as it was written.
+-- The bytes written for a frame are read as that frame, and the bytes that follow are left. So a
+-- schedule is read as it was written.
 abbrev pub LawOfReadingBack : Type 0
 LawOfReadingBack =
     (given : ℕ) (v : PesValue) (rest : List ℕ)
@@ -87,14 +87,14 @@ LawOfReadingBack =
     → (answer_at given (canonical_packet v ++ rest) ≡ Ok (Some v))
     × (rest_after (canonical_packet v ++ rest) ≡ rest)
 
--- Units are in line order exactly if, of any two with a defined line, the later one comes later in
--- that order. So the order is a property of pairs, independent of the place carried along in the
--- definition.
+-- Units are in line order exactly if, of any two units with a defined line, the later unit comes
+-- later in that order. So line order is a property of pairs of units, independent of the place that
+-- the definition carries along.
 abbrev pub LawOfLineOrder : Type 0
 LawOfLineOrder = (units : List UnitValue) → AreInLineOrder 0 units ↔ AllPairs RisesTo units
 
--- Teletext packets that are sent as one frame make a value that fits in a frame, and its units
--- carry these packets.
+-- Teletext packets that are sent as one frame form a value that fits in a frame, and the units of
+-- that value carry these packets.
 abbrev pub LawOfNumberedFrame : Type 0
 LawOfNumberedFrame =
     (pts : ℕ) (packets : List (List ℕ))
@@ -105,15 +105,15 @@ LawOfNumberedFrame =
     × (map (λ (u : UnitValue). u.packet) (numbered_units 0 packets) ≡ packets)
 
 -- Bytes split into the PES packets that are read from them: the longest list of byte strings with
--- correct length fields that, joined, begins the bytes. Each packet is read as its value by the
--- grammar, or its fault. So skipped packets are reported completely, and nothing else is.
+-- correct length fields at the front of the bytes. Each packet is read as its value by the grammar,
+-- or has its fault. So skipped packets are reported completely, and nothing else is.
 abbrev pub LawOfPesPackets : Type 0
 LawOfPesPackets = (bytes : List ℕ) → AreBytes bytes → SplitInto bytes (pes_packets_after 0 bytes)
 
--- A range of a file that splits into packets and a rest that begins no packet has the packets with
--- the numbers of the range, and the rest if the file has no packet with the last number. As many
--- packets precede its first one as the range says, if there are so many. So a range reads the same
--- packets as the file has there, with the same numbers.
+-- A range of a file contains the PES packets with the numbers of the range, and also the bytes
+-- after the last packet if the file has no packet with the range's last number. As many packets
+-- precede the range as `first` says, if the file has that many. So reading a range gives the
+-- packets that the file has at these numbers.
 abbrev pub LawOfRanges : Type 0
 LawOfRanges =
     (first : ℕ) (last : Option ℕ) (pes_packets : List (List ℕ)) (rest : List ℕ)

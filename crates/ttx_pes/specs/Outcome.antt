@@ -1,4 +1,5 @@
--- The result of reading a whole file of PES packets: its packets, then the end or a fault.
+-- The result of reading a whole file of PES packets: the values of its packets, then the end of the
+-- file or a fault.
 use Rattle.std.specs.Prelude.{◌≡◌, ℕ, Bool, true, false, List, [], ◌∷◌, Option, Some, None, Result}
 use Rattle.std.specs.Prelude.{Ok, Err}
 use Rattle.ttx_pes.specs.declared.fault.PesFault.{PesFault}
@@ -8,27 +9,29 @@ use Rattle.ttx_pes.specs.PesPackets.{pes_packets_after}
 use Rattle.ttx_pes.specs.Reading.{is_format_fault}
 use Rattle.ttx_pes.specs.Reader.{FailsWithin, TakesValidPesPacket, TakesRefused}
 
--- The packets of a file, then the end or a fault.
+-- The values of the PES packets of a file, then the end of the file or a fault.
 pub data PesOutcome : Type 0 where
   ends : PesOutcome
   fails : PesFault → PesOutcome
   gives : PesValue → PesOutcome → PesOutcome
 
--- The result up to the first rejected packet, or to the end of the remaining bytes.
+-- The result of reading up to the first rejected PES packet. If no packet is rejected, `left` is
+-- the fault of the bytes after the last packet, if any.
 abbrev pub until_refused : List (Result PesValue PesFault) → Option PesFault → PesOutcome
 until_refused [] None = ends
 until_refused [] (Some f) = fails f
 until_refused (Ok v ∷ pes_packets) left = gives v (until_refused pes_packets left)
 until_refused (Err f ∷ pes_packets) left = fails f
 
--- The result for the bytes after `given` PES packets. A reader that stops at the first fault
--- agrees, up to there, with one that continues.
+-- The result of reading the bytes after `given` PES packets. A reader that stops at the first fault
+-- has the same result, up to that fault, as a reader that continues.
 unfoldable pub outcome_after : ℕ → List ℕ → PesOutcome
 outcome_after given bytes =
     let value = pes_packets_after given bytes in until_refused value.pes_packets value.left
 
--- These PES packets were consumed from a source. If it failed, it failed within the next one. If
--- the next one is rejected for a fault of the format, the bytes consumed show that fault.
+-- The PES packets of the result were consumed from a source. If the source failed, it failed within
+-- the next packet. If the next packet is rejected for a fault of the format, the bytes consumed
+-- show that fault.
 abbrev pub ReadsPackets : Bool → Option (List ℕ) → PesOutcome → Option (List ℕ) → Type 0
 ReadsPackets failed known ends left = failed ≡ false
 ReadsPackets failed known (fails f) left =

@@ -1,4 +1,5 @@
--- PES packets with EBU Teletext (EN 300 472): the grammar, and the packet that is written.
+-- PES packets with EBU Teletext (EN 300 472): the grammar of valid packets, and the canonical
+-- packet that is written.
 use Rattle.std.specs.Prelude.{◌≡◌, ℕ, zero, suc, ◌+◌, ◌-◌, ◌*◌, ◌/◌, ◌%◌, ◌^◌, ◌<◌, ◌≤◌, List, []}
 use Rattle.std.specs.Prelude.{◌∷◌, ◌++◌, length, replicate}
 use Rattle.std.specs.List.{flat_map, AllByRecursion}
@@ -12,39 +13,41 @@ pub record PesValue : Type 0 where
   pub pts : ℕ
   pub units : List UnitValue
 
--- The value with PTS 0 and no units.
+-- The empty contents of a PES packet, with PTS 0 and no units.
 abbrev pub empty_value : PesValue
 empty_value = record { pts = 0; units = [] }
 
--- packet_start_code_prefix and stream_id, which is private_stream_1.
+-- Bytes 0 to 3 of a PES packet: packet_start_code_prefix and stream_id, which is private_stream_1.
 abbrev pub packet_start : List ℕ
 packet_start = 0x00 ∷ 0x00 ∷ 0x01 ∷ 0xBD ∷ []
 
--- Size of a payload in bytes. A PES packet fills 1 to 9 payloads.
+-- The size of a payload in bytes. A PES packet fills 1 to 9 payloads.
 abbrev pub payload_size : ℕ
 payload_size = 184
 
--- Size of the longest packet in bytes, nine payloads.
+-- The size of the longest PES packet in bytes, nine payloads.
 abbrev pub longest_packet : ℕ
 longest_packet = 1656
 
--- The number of bytes before the data units.
+-- The number of bytes of a PES packet before its data units.
 abbrev pub header_size : ℕ
 header_size = 46
 
--- The maximum number of Teletext units of a packet: nine payloads hold so many.
+-- The maximum number of Teletext units of a PES packet: nine payloads have 9 * 4 - 1 data units.
 abbrev pub most_units : ℕ
 most_units = 35
 
--- PES_packet_length of n payloads, which does not count the first 6 bytes.
+-- The field PES_packet_length of a PES packet of n payloads, which does not count the first 6
+-- bytes.
 abbrev pub packet_length : ℕ → ℕ
 packet_length n = payload_size * n - 6
 
--- PES_header_data_length.
+-- The field PES_header_data_length of a PES packet.
 abbrev pub header_data_length : ℕ
 header_data_length = 0x24
 
--- The PTS in five bytes. Its 33 bits are sent in three groups, each followed by a marker bit 1:
+-- The PTS of a PES packet as five bytes. Its 33 bits are sent in three groups, each followed by a
+-- marker bit 1:
 --
 --   0      0010 (4 bits), bits 32 to 30, 1
 --   1      bits 29 to 22
@@ -60,17 +63,20 @@ pts_bytes pts =
     ∷ (1 + 2 * (pts % 0x80))
     ∷ []
 
--- b is a valid PES packet with value v, n times 184 bytes:
+-- The bytes b are a valid PES packet with value v, n times 184 bytes for some n from 1 to 9:
 --
 --   0..3    packet_start_code_prefix, stream_id   00 00 01 BD
 --   4..5    PES_packet_length                     184 * n - 6, high byte first
 --   6       10 (2 bits), PES_scrambling_control 00, four arbitrary bits
 --   7       PTS_DTS_flags 10 (only a PTS), six arbitrary flags
 --   8       PES_header_data_length                24
---   9..13   PTS
+--   9..13   PTS, less than 2 ^ 33
 --   14..44  31 stuffing bytes, arbitrary
 --   45      data_identifier                       10 to 1F, EBU data
 --   46..    4 * n - 1 data units of 46 bytes
+--
+-- Bytes are counted from 0 and printed in hexadecimal. The Teletext units among the data units are
+-- the units of v, and are in line order (`AreInLineOrder`).
 pub record IsValidPesPacket (v : PesValue) (b : List ℕ) : Type 0 where
   pub n : ℕ
   pub flags : ℕ
@@ -93,19 +99,20 @@ pub record IsValidPesPacket (v : PesValue) (b : List ℕ) : Type 0 where
   pub are_units : AreDataUnits (4 * n - 1) v.units data_units
   pub in_order : AreInLineOrder 0 v.units
 
--- ---- the packet that is written
+-- ---- the canonical packet
 
--- The smallest number of payloads that holds so many Teletext units: 3 in the first, 4 in each
--- further one.
+-- The smallest number of payloads that holds this number of Teletext units: the first payload holds
+-- 3 units, each further payload 4.
 unfoldable pub payloads_for : ℕ → ℕ
 payloads_for units = units / 4 + 1
 
--- The bytes n times.
+-- The bytes b, repeated n times.
 abbrev pub repeated : ℕ → List ℕ → List ℕ
 repeated zero b = []
 repeated (suc n) b = b ++ repeated n b
 
--- The first 46 bytes: data alignment set, only a PTS, stuffing bytes FF, data_identifier 10.
+-- The first 46 bytes of a canonical packet of n payloads: data alignment set, only a PTS, stuffing
+-- bytes FF, data_identifier 10.
 unfoldable pub pes_packet_header : ℕ → ℕ → List ℕ
 pes_packet_header n pts =
     packet_start
@@ -113,8 +120,8 @@ pes_packet_header n pts =
     ++ ((0x84 ∷ 0x80 ∷ header_data_length ∷ [])
     ++ (pts_bytes pts ++ (replicate 31 stuffing ++ (0x10 ∷ [])))))
 
--- The canonical packet of a value: its units in order, then stuffing units, in the fewest payloads
--- that hold them (own).
+-- The canonical packet of a value: its Teletext units in order, then stuffing units, in the fewest
+-- payloads that hold them (own).
 unfoldable pub canonical_packet : PesValue → List ℕ
 canonical_packet v =
     let n = payloads_for (length v.units) in
@@ -122,13 +129,14 @@ canonical_packet v =
     ++ (flat_map teletext_unit v.units
     ++ repeated (4 * n - 1 - length v.units) stuffing_unit)
 
--- The values that fit in a `PesFrame`: those of valid PES packets.
+-- The value fits in a `PesFrame`, like the value of each valid PES packet: the PTS has 33 bits, and
+-- at most 35 valid units are in line order.
 pub record IsPesValue (v : PesValue) : Type 0 where
   pub pts : v.pts < 2 ^ 33
   pub few : length v.units ≤ most_units
   pub each : AllByRecursion IsUnit v.units
   pub in_order : AreInLineOrder 0 v.units
 
--- The value of Teletext packets that are sent as one frame.
+-- The contents of the PES packet that carries these Teletext packets as one frame.
 abbrev pub numbered_frame : ℕ → List (List ℕ) → PesValue
 numbered_frame pts packets = record { pts = pts; units = numbered_units 0 packets }

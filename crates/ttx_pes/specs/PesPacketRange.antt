@@ -1,4 +1,5 @@
--- Ranges of the PES packets of a file, by their numbers from 0: the bytes of a range.
+-- Ranges of the PES packets of a file, by their numbers counted from 0: which bytes of the file
+-- belong to a range.
 use Rattle.std.specs.Prelude.{◌≡◌, ◌==◌, ◌||◌, ℕ, zero, suc, ◌+◌, ◌-◌, nat_le, nat_lt}
 use Rattle.std.specs.Prelude.{if◌then◌else◌, List, [], ◌++◌, length, take, drop}
 use Rattle.std.specs.Prelude.{Option, Some, None, option_map}
@@ -7,91 +8,97 @@ use Rattle.std.specs.Result.{result_ok}
 use Rattle.ttx_pes.specs.PesPackets.{IsPesPacket}
 use Rattle.ttx_pes.specs.Reading.{size_at}
 
--- ---- the bytes
+-- ---- the bytes of PES packets
 
--- The size of the packet that these bytes would begin, from its first six bytes.
+-- The size in bytes of the PES packet at the front, as its first six bytes state it. `None` if they
+-- begin no PES packet.
 unfoldable pub stated_pes_packet : List ℕ → Option ℕ
 stated_pes_packet b = if nat_lt (length b) 6 then None else result_ok (size_at (take 6 b))
 
--- That size, if there are as many bytes.
+-- The size, if at least that many bytes are available.
 abbrev pub if_complete : ℕ → Option ℕ → Option ℕ
 if_complete count None = None
 if_complete count (Some size) = if nat_le size count then Some size else None
 
--- The size of the packet at the front of these bytes, if there is one.
+-- The size in bytes of the complete PES packet at the front of b, or `None` if b begins with no
+-- complete PES packet.
 unfoldable pub pes_packet_size : List ℕ → Option ℕ
 pes_packet_size b = if_complete (length b) (stated_pes_packet b)
 
--- `more` with the size of the packet at the front, or `none` if there is none.
+-- Applies `more` to the size of the PES packet at the front, or returns `none` if no packet is at
+-- the front.
 abbrev pub by_pes_packet : {A : Type 0} → Option ℕ → (ℕ → A) → A → A
 by_pes_packet None more none = none
 by_pes_packet (Some size) more none = more size
 
--- The bytes after the first n packets, or after all if there are fewer.
+-- The bytes after the first n PES packets, or after all packets if b has fewer.
 unfoldable pub rest_after_pes_packets : ℕ → List ℕ → List ℕ
 rest_after_pes_packets zero b = b
 rest_after_pes_packets (suc n) b = by_pes_packet (pes_packet_size b) (λ size. rest_after_pes_packets
     n (drop size b)) b
 
--- The first n packets; if there are fewer, all bytes.
+-- The bytes of the first n PES packets, or all bytes if b has fewer packets.
 unfoldable pub first_pes_packets : ℕ → List ℕ → List ℕ
 first_pes_packets zero b = []
 first_pes_packets (suc n) b =
     by_pes_packet (pes_packet_size b) (λ size. take size b ++ first_pes_packets n (drop size b)) b
 
--- How many of the first n packets exist.
+-- The number of PES packets at the front of b, at most n.
 unfoldable pub count_pes_packets : ℕ → List ℕ → ℕ
 count_pes_packets zero b = 0
 count_pes_packets (suc n) b =
     by_pes_packet (pes_packet_size b) (λ size. suc (count_pes_packets n (drop size b))) 0
 
--- At most n packets; all bytes without a limit.
+-- The bytes of at most n PES packets; without a limit, all bytes.
 abbrev pub limited : Option ℕ → List ℕ → List ℕ
 limited None b = b
 limited (Some n) b = first_pes_packets n b
 
--- The numbers of the first and the last packet of a range; without `last` it has no end.
+-- A range of PES packets: the numbers of its first and last packet. A range without `last` extends
+-- to the end of the file.
 pub record PesPacketRangeValue : Type 0 where
   pub first : ℕ
   pub last : Option ℕ
 
--- The range from `first` to `last`, if it is valid: `last` is not less than `first`, and not the
--- greatest number.
+-- The range from `first` to `last`, or `None` if it is not valid: `last` must not be less than
+-- `first`, and must be less than the greatest 64-bit number.
 unfoldable pub range_of : ℕ → Option ℕ → Option PesPacketRangeValue
 range_of first None = Some (record { first = first; last = None })
 range_of first (Some last) =
     if nat_lt last first || (last == 0xFFFF_FFFF_FFFF_FFFF) then None
     else Some (record { first = first; last = Some last })
 
--- How many packets the range has; `None` if it has no end.
+-- The number of PES packets of a range, or `None` if the range extends to the end of the file.
 abbrev pub most_of : PesPacketRangeValue → Option ℕ
 most_of r = option_map (λ last. last + 1 - r.first) r.last
 
--- The bytes of a range: its packets and, if the file has no packet with the last number, the bytes
--- after its last packet.
+-- The bytes of a range: its PES packets and, if the file has no packet with the last number, the
+-- bytes after its last packet.
 unfoldable pub in_range : PesPacketRangeValue → List ℕ → List ℕ
 in_range r b = limited (most_of r) (rest_after_pes_packets r.first b)
 
--- The number in the file of the first packet of a range. If the file has fewer packets, it is the
+-- The number in the file of the first PES packet of a range. If the file has fewer packets, the
 -- number of packets in the file.
 unfoldable pub first_index : PesPacketRangeValue → List ℕ → ℕ
 first_index r b = count_pes_packets r.first b
 
--- ---- skipped packets
+-- ---- PES packets before a range
 
--- The packets before a range: how many were skipped, and how many remain to be skipped.
+-- Progress in skipping the PES packets before a range: how many were skipped, and how many remain
+-- to be skipped.
 pub record AheadValue : Type 0 where
   pub skipped : ℕ
   pub to_skip : ℕ
 
--- ---- the range of a file that splits into packets
+-- ---- ranges by lists of PES packets
 
--- These bytes begin no packet.
+-- The bytes begin with no PES packet.
 abbrev pub BeginsNoPesPacket : List ℕ → Type 0
 BeginsNoPesPacket bytes = (p more : List ℕ) → IsPesPacket p → bytes ≡ p ++ more → ⊥
 
--- The part of a file from packet `first` to packet `last`. The file has these packets and then a
--- rest that begins no packet; the rest is included if the file ends before packet `last`.
+-- The part of a file from PES packet `first` to packet `last`. The file consists of these packets
+-- and then a rest that begins no packet; the rest belongs to the part if the file ends before
+-- packet `last`.
 abbrev pub chosen_of : ℕ → Option ℕ → List (List ℕ) → List ℕ → List ℕ
 chosen_of first None pes_packets rest = concat (drop first pes_packets) ++ rest
 chosen_of first (Some last) pes_packets rest =

@@ -1,4 +1,4 @@
--- What a reader of PES packets consumes and returns, and its progress.
+-- Specifies which bytes a reader of PES packets consumes, what it returns, and its progress.
 use Rattle.std.specs.Prelude.{◌≡◌, ◌≢◌, ◌↔◌, ℕ, ◌+◌, ◌<◌, ◌≤◌, ◌⊎◌, Bool, true, false, Option}
 use Rattle.std.specs.Prelude.{Some, None, Result, Ok, Err, IfOk, IfErr, IfSome, OnOk, List, ◌++◌}
 use Rattle.std.specs.Prelude.{length, take}
@@ -15,61 +15,61 @@ use Rattle.ttx_pes.specs.PesGrammar.{PesValue, IsValidPesPacket}
 use Rattle.ttx_pes.specs.Reading.{answer_at, is_format_fault, most_packets, packet_at, rest_after}
 use Rattle.ttx_pes.specs.Reading.{size_at}
 
--- A packet is counted; the end and faults are final.
+-- The progress of a reader after an answer: a packet is counted, and the end and faults are final.
 abbrev pub progress_after : Progress → Result (Option PesValue) PesFault → Progress
 progress_after p (Err _) = Broken
 progress_after (Reading given) (Ok (Some _)) = Reading (given + 1)
 progress_after p (Ok _) = AtEnd
 
--- At most `most` packets were read.
+-- The reader has read at most `most` PES packets.
 abbrev pub GivesAtMost : ℕ → Progress → Type 0
 GivesAtMost most (Reading given) = given ≤ most
 GivesAtMost most AtEnd = Unit {0}
 GivesAtMost most Broken = Unit {0}
 
--- The result of `next_into` with its frame, in the form of a result of `next`.
+-- The result of `next_into` together with its frame, in the form of a result of `next`.
 abbrev pub yielded_frame : Result Bool PesFault → PesValue → Result (Option PesValue) PesFault
 yielded_frame (Ok true) v = Ok (Some v)
 yielded_frame (Ok false) v = Ok None
 yielded_frame (Err f) v = Err f
 
--- Exactly one valid PES packet with this value was consumed.
+-- Exactly one valid PES packet with the value v was consumed.
 pub record TakesValidPesPacket (old new : Option (List ℕ)) (v : PesValue) : Type 0 where
   pub bytes : List ℕ
   pub is_packet : IsValidPesPacket v bytes
   pub consumed : Consumes old new bytes
 
--- The bytes are an incomplete packet: fewer than the six bytes that contain its size, or fewer than
--- that size.
+-- The bytes are an incomplete PES packet: fewer than the six bytes that contain its size, or fewer
+-- than that size.
 abbrev pub IsBegun : List ℕ → Type 0
 IsBegun bytes =
     (length bytes < 6)
     ⊎ ((size : ℕ) × (size_at (take 6 bytes) ≡ Ok size) × (length bytes < size))
 
--- The source failed within this packet: the bytes consumed are incomplete, and contain no fault.
+-- The source failed within a PES packet: the bytes consumed are incomplete, and contain no fault.
 pub record FailsWithin (old new : Option (List ℕ)) : Type 0 where
   pub bytes : List ℕ
   pub consumed : Consumes old new bytes
   pub begun : IsBegun bytes
 
--- The bytes consumed of a PES packet are rejected for this fault of the format. They have this
--- fault whatever the source gives next.
+-- The bytes consumed of a PES packet are rejected for the fault f of the format, whatever the
+-- source returns next.
 pub record TakesRefused (old new : Option (List ℕ)) (f : PesFault) : Type 0 where
   pub bytes : List ℕ
   pub consumed : Consumes old new bytes
   pub refused : packet_at bytes ≡ Err f
 
--- The meaning of each reader's answer. `before` is its progress before the call; `old` and `new`
--- are the bytes that its source has left before and after the call, if they are known.
+-- What each answer of a reader means. `before` is the reader's progress before the call; `old` and
+-- `new` are the bytes that its source has left before and after the call, if they are known.
 pub record ReportsPacket
     (before : Progress)
     (old new : Option (List ℕ))
     (answer : Result (Option PesValue) PesFault)
     : Type 0 where
-  -- A packet that is returned is the value of exactly the bytes consumed.
+  -- If the reader returns a packet, it is the value of exactly the bytes consumed.
   pub packet : IfOk answer (λ given. IfSome given (TakesValidPesPacket old new))
-  -- If the source's bytes are known and it does not fail, they determine the answer and the bytes
-  -- left.
+  -- If the source's bytes are known and the source does not fail, these bytes determine the answer
+  -- and the bytes left.
   pub exact :
       (given : ℕ)
       → before ≡ Reading given
@@ -82,11 +82,11 @@ pub record ReportsPacket
   -- not known.
   pub refused : IfErr answer (λ fault. is_format_fault fault ≡ true → TakesRefused old new fault)
   pub too_many : IfErr answer (λ fault. fault ≡ TooMany → before ≡ Reading most_packets)
-  -- A failing source failed within this packet, whose bytes so far contain no fault.
+  -- If the source fails, it fails within this PES packet, whose bytes so far contain no fault.
   pub within : failed is_read answer ≡ true → FailsWithin old new
   pub at_end : before ≡ AtEnd → answer ≡ Ok None
   pub ended : (before ≡ Broken) ↔ (answer ≡ Err Ended)
-  -- Nothing is written, so no sink fails, even if the source's bytes are not known.
+  -- No sink can fail, since a reader writes nothing.
   pub no_write : IfErr answer (λ fault. fault ≢ Write)
 
 -- Exactly n valid PES packets were consumed.
@@ -96,7 +96,7 @@ pub record TakesPackets (n : ℕ) (old new : Option (List ℕ)) : Type 0 where
   pub each : AllByRecursion (λ b. (v : PesValue) × IsValidPesPacket v b) packets
   pub consumed : Consumes old new (concat packets)
 
--- The source failed within PES packet n, counted from 0. Those before it were consumed.
+-- The source failed within PES packet n, counted from 0. The PES packets before it were consumed.
 pub record FailsAtPacket (n : ℕ) (old new : Option (List ℕ)) : Type 0 where
   pub following : Option (List ℕ)
   pub before : TakesPackets n old following

@@ -1,5 +1,5 @@
--- Reading a PES packet at the front of bytes. A function NAME_at returns what it reads there, or
--- the first fault in the order of the fields.
+-- Reading a PES packet at the front of a list of bytes. A function NAME_at returns the value that
+-- it reads, or the first fault in the order of the fields.
 use Rattle.std.specs.Prelude.{ℕ, zero, suc, ◌+◌, ◌-◌, ◌*◌, ◌/◌, ◌%◌, ◌^◌, Bool, true, false}
 use Rattle.std.specs.Prelude.{not, ◌==◌, ◌&&◌, nat_lt, nat_le, if◌then◌else◌, List, [], ◌∷◌, ◌++◌}
 use Rattle.std.specs.Prelude.{length, take, drop, map, slice_index, Option, Some, None, Result, Ok}
@@ -14,7 +14,7 @@ use Rattle.ttx_pes.specs.DataUnit.{framing_code, stuffing}
 use Rattle.ttx_pes.specs.LineOrder.{last_place, may_follow}
 use Rattle.ttx_pes.specs.PesGrammar.{PesValue, header_data_length, longest_packet, payload_size}
 
--- The Teletext unit in 46 bytes.
+-- The Teletext unit in the 46 bytes of a data unit.
 abbrev pub unit_of : List ℕ → UnitValue
 unit_of b = record {
   id = slice_index b 0;
@@ -23,7 +23,7 @@ unit_of b = record {
   packet = map mirror (drop 4 b);
 }
 
--- The Teletext unit of a data unit, if it carries one.
+-- The Teletext unit of a data unit, or `None` if the data unit carries no Teletext packet.
 unfoldable pub teletext_at : List ℕ → Result (Option UnitValue) PesFault
 teletext_at b =
     if not (slice_index b 1 == data_unit_length) then Err fault.UnitLength
@@ -31,30 +31,30 @@ teletext_at b =
     else if not (slice_index b 3 == framing_code) then Err fault.Framing
     else Ok (Some (unit_of b))
 
--- Appends a unit, if there is one.
+-- Appends a Teletext unit, if any, to the units read so far.
 abbrev pub with_unit : List UnitValue → Option UnitValue → Result (List UnitValue) PesFault
 with_unit units None = Ok units
 with_unit units (Some u) =
     if may_follow (last_place 0 units) u then Ok (units ++ u ∷ []) else Err fault.LineOrder
 
--- Appends the unit of a data unit.
+-- Appends the Teletext unit of a data unit, if it carries one, to the units read so far.
 unfoldable pub unit_at : List UnitValue → List ℕ → Result (List UnitValue) PesFault
 unit_at units b = do
   u ← teletext_at b
   with_unit units u
 
--- Appends the units of n data units.
+-- Appends the Teletext units of n data units to the units read so far.
 unfoldable pub units_at : ℕ → List UnitValue → List ℕ → Result (List UnitValue) PesFault
 units_at zero units b = Ok units
 units_at (suc n) units b = do
   more ← unit_at units (take data_unit_size b)
   units_at n more (drop data_unit_size b)
 
--- The byte at a place of the packet, in its bytes from byte 6 on.
+-- The byte at `place` of a PES packet, given its bytes from byte 6 on.
 abbrev pub byte_at : List ℕ → ℕ → ℕ
 byte_at b place = slice_index b (place - 6)
 
--- The 33 bits of the PTS in bytes 9 to 13.
+-- The 33 bits of the PTS in bytes 9 to 13 of a PES packet.
 abbrev pub pts_bits : List ℕ → ℕ
 pts_bits b =
     (byte_at b 9 / 2) % 8 * 2 ^ 30
@@ -63,7 +63,7 @@ pts_bits b =
     + byte_at b 12 * 2 ^ 7
     + byte_at b 13 / 2
 
--- Bytes 9 to 13 begin with 0010 and have their three marker bits.
+-- Bytes 9 to 13 of the PES packet begin with 0010, and the three marker bits of the PTS are set.
 abbrev pub has_markers : List ℕ → Bool
 has_markers b =
     (byte_at b 9 / 0x10 == 2)
@@ -71,20 +71,20 @@ has_markers b =
     && (byte_at b 11 % 2 == 1)
     && (byte_at b 13 % 2 == 1)
 
--- All bytes are FF, as from byte 6 on in a gap marker, which replaces lost PES packets (own). A
--- packet that is scrambled or has such flags does not look like this by chance.
+-- All bytes are FF, like those of a gap marker from byte 6 on, which replaces lost PES packets
+-- (own). A packet that is scrambled or has wrong flags is very unlikely to consist of FF only.
 abbrev pub is_filled : List ℕ → Bool
 is_filled b = list_all (λ byte. byte == stuffing) b
 
--- The packet is a gap marker: 184 bytes, FF from byte 6 on.
+-- The PES packet is a gap marker: 184 bytes, FF from byte 6 on.
 abbrev pub is_gap_marker : List ℕ → Bool
 is_gap_marker pes_packet = (length pes_packet == payload_size) && is_filled (drop 6 pes_packet)
 
--- The fault if byte 6 does not begin with 1000.
+-- The fault of a PES packet whose byte 6 does not begin with 1000.
 abbrev pub flags_fault : List ℕ → PesFault
 flags_fault b = if is_filled b then fault.Lost else fault.Flags
 
--- Bytes 6 to 45: the PTS.
+-- The PTS, read from bytes 6 to 45 of a PES packet.
 unfoldable pub pts_at : List ℕ → Result ℕ PesFault
 pts_at b =
     if not (byte_at b 6 / 0x10 == 8) then Err (flags_fault b)
@@ -94,14 +94,14 @@ pts_at b =
     else if not (byte_at b 45 / 0x10 == 1) then Err fault.DataId
     else Ok (pts_bits b)
 
--- Bytes 6 to the end: the packet's value.
+-- The value of a PES packet, read from its bytes from byte 6 on.
 unfoldable pub value_at : List ℕ → Result PesValue PesFault
 value_at b = do
   pts ← pts_at b
   units ← units_at (length (drop 40 b) / data_unit_size) [] (drop 40 b)
   Ok (record { pts = pts; units = units })
 
--- Bytes 0 to 3 are the start of a packet with private data.
+-- Bytes 0 to 3 are those of a PES packet with private data: 00 00 01 BD.
 abbrev pub is_start : List ℕ → Bool
 is_start b =
     (slice_index b 0 == 0x00)
@@ -109,11 +109,11 @@ is_start b =
     && (slice_index b 2 == 0x01)
     && (slice_index b 3 == 0xBD)
 
--- The size of the packet, from its length in bytes 4 and 5.
+-- The size in bytes of a PES packet, as the length field in bytes 4 and 5 states it.
 abbrev pub stated_size : List ℕ → ℕ
 stated_size b = 0x100 * slice_index b 4 + slice_index b 5 + 6
 
--- Bytes 0 to 5: the size of the packet, 1 to 9 times 184.
+-- The size of a PES packet, 1 to 9 times 184 bytes, read from its bytes 0 to 5.
 unfoldable pub size_at : List ℕ → Result ℕ PesFault
 size_at b =
     if not (is_start b) then Err fault.Start
@@ -121,7 +121,7 @@ size_at b =
     Err fault.Length
     else Ok (stated_size b)
 
--- The value of a packet, and the bytes after it.
+-- The value of the PES packet at the front of b, and the bytes after the packet.
 unfoldable pub packet_at : List ℕ → Result (PesValue × List ℕ) PesFault
 packet_at b = do
   head ← (if nat_lt (length b) 6 then Err fault.Truncated else Ok (take 6 b))
@@ -130,28 +130,28 @@ packet_at b = do
   v ← value_at body
   Ok (v, drop size b)
 
--- The maximum number of packets of a file: one for each frame of a day at 25 frames per second.
+-- The maximum number of PES packets of a file: one for each frame of a day at 25 frames per second.
 abbrev pub most_packets : ℕ
 most_packets = 2160000
 
--- The answer of a reader that has read `given` packets and has these bytes left, if its source does
--- not fail.
+-- The answer of a reader that has read `given` PES packets and has these bytes left, if its source
+-- does not fail.
 unfoldable pub answer_at : ℕ → List ℕ → Result (Option PesValue) PesFault
 answer_at given [] = Ok None
 answer_at given (x ∷ b) =
     if given == most_packets then Err fault.TooMany
     else (packet_at (x ∷ b) >>= λ p. Ok (Some p.0))
 
--- The bytes left after reading a packet; all if none was read.
+-- The bytes left after reading a PES packet, or all bytes if no packet was read.
 abbrev pub bytes_left_after : List ℕ → Result (PesValue × List ℕ) PesFault → List ℕ
 bytes_left_after b (Ok p) = p.1
 bytes_left_after b (Err _) = b
 
--- The bytes after the packet at the front of these bytes.
+-- The bytes after the PES packet at the front of b, or all bytes if b begins with no valid packet.
 unfoldable pub rest_after : List ℕ → List ℕ
 rest_after b = bytes_left_after b (packet_at b)
 
--- The fault is one of the format: `Truncated` to `LineOrder`, or `Lost`.
+-- The fault is a fault of the format: `Truncated` to `LineOrder`, or `Lost`.
 abbrev pub is_format_fault : PesFault → Bool
 is_format_fault fault.Read = false
 is_format_fault fault.Write = false

@@ -1,10 +1,10 @@
 -- The fault of the bytes of a PES packet, by the grammar alone: the checks in order, and the first
--- one in which no packet of the grammar agrees with the bytes (EN 300 472; the order of the checks
--- is (own)). The parser returns the same fault, but stating that about the parser alone would need
--- the same checks.
+-- check in which no packet of the grammar agrees with the bytes (EN 300 472; the order of the
+-- checks is (own)). The parser returns the same fault, but stating that about the parser alone
+-- would need the same checks.
 --
--- A check has a number. It concerns bytes of the packet or of data unit k, or how many bytes there
--- are, and has a fault:
+-- Each check has a number. It concerns bytes of the packet or of data unit k, or the number of
+-- bytes, and has a fault:
 --
 --   0            there are six bytes                                           Truncated
 --   1            0..3   packet_start_code_prefix, stream_id                     Start
@@ -28,40 +28,40 @@ use Rattle.ttx_pes.specs.DataUnit.{data_unit_size}
 use Rattle.ttx_pes.specs.PesGrammar.{PesValue, IsValidPesPacket, header_size, most_units}
 use Rattle.ttx_pes.specs.Reading.{flags_fault}
 
--- The bytes of a packet from 6 on, as many as PES_packet_length says.
+-- The bytes of a PES packet from byte 6 on, as many as PES_packet_length says.
 abbrev pub stated_body : List ℕ → List ℕ
 stated_body b = take (0x100 * slice_index b 4 + slice_index b 5) (drop 6 b)
 
--- The faults of the checks before the data units.
+-- The faults of the checks 0 to 8, which come before those of the data units.
 abbrev pub packet_faults : List ℕ → List PesFault
 packet_faults b =
     fault.Truncated ∷ fault.Start ∷ fault.Length ∷ fault.Truncated ∷ flags_fault (stated_body b)
     ∷ fault.NoTime ∷ fault.HeaderLength ∷ fault.Time ∷ fault.DataId ∷ []
 
--- The faults of the checks of each data unit, in order.
+-- The faults of the three checks of each data unit, in order.
 abbrev pub unit_faults : List PesFault
 unit_faults = fault.UnitLength ∷ fault.Framing ∷ fault.LineOrder ∷ []
 
--- The fault of check number i for these bytes.
+-- The fault of check number i for the bytes b.
 abbrev pub reported_fault : List ℕ → ℕ → PesFault
 reported_fault b i =
     slice_index_or (packet_faults b) i (slice_index_or unit_faults (i % 3) fault.Truncated)
 
--- A number after those of all checks, for bytes with arbitrary values: no packet has more units.
+-- A number greater than that of any check, for bytes that may have any value.
 abbrev pub no_question : ℕ
 no_question = 9 + 3 * most_units
 
--- For each byte before the data units, the number of its check.
+-- The number of the check for each of the 46 bytes before the data units.
 abbrev pub header_askers : List ℕ
 header_askers =
     (1 ∷ 1 ∷ 1 ∷ 1 ∷ 2 ∷ 2 ∷ 4 ∷ 5 ∷ 6 ∷ 7 ∷ 7 ∷ 7 ∷ 7 ∷ 7 ∷ [])
     ++ (replicate 31 no_question ++ (8 ∷ []))
 
--- The same for the first bytes of data unit 0.
+-- The number of the check for each of the first four bytes of data unit 0.
 abbrev pub unit_askers : List ℕ
 unit_askers = 10 ∷ 9 ∷ 11 ∷ 10 ∷ []
 
--- The number of the check that concerns the byte at a place.
+-- The number of the check that concerns the byte at `place` of a PES packet.
 abbrev pub asker : ℕ → ℕ
 asker place =
     let within = place - header_size in
@@ -69,8 +69,8 @@ asker place =
     (slice_index_or unit_askers (within % data_unit_size) no_question
     + 3 * (within / data_unit_size))
 
--- The bytes agree with a packet in all checks before this one: there are enough of them, and the
--- bytes checked are those of the packet, as far as it goes.
+-- The bytes agree with a valid packet in all checks before check number `question`: enough bytes
+-- are available, and each byte checked equals the packet's byte, as far as the packet extends.
 pub record AgreeBefore (question : ℕ) (bytes packet : List ℕ) : Type 0 where
   pub six : 0 < question → 6 ≤ length bytes
   pub all : 3 < question → length packet ≤ length bytes
@@ -80,8 +80,8 @@ pub record AgreeBefore (question : ℕ) (bytes packet : List ℕ) : Type 0 where
       → place < length packet
       → slice_index bytes place ≡ slice_index packet place
 
--- This is the first check that the bytes fail: some packet of the grammar agrees with them in all
--- checks before it, and none that does agrees in this one too.
+-- Check number `question` is the first check that the bytes fail: some packet of the grammar agrees
+-- with the bytes in all earlier checks, and no such packet agrees with them in this check too.
 pub record FailFirst (question : ℕ) (bytes : List ℕ) : Type 0 where
   pub value : PesValue
   pub packet : List ℕ

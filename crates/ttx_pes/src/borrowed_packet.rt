@@ -1,4 +1,5 @@
-//! Flushes pending reports before a PES packet is read that its source does not lend completely.
+//! Flushes pending reports before a read that may block, which is any read of a PES packet that the
+//! source does not lend completely.
 ghost use Rattle.std.specs.Prelude.{◌≡◌, OnOk, is_ok};
 ghost use Rattle.sub_io.specs.Flushing.{FlushesIfPending, BuffersOnlyWhilePending};
 ghost use Rattle.ttx_pes.specs.BorrowedPacket.{NothingIsPending, holds_packet};
@@ -9,7 +10,7 @@ use sub_io::{Live, Stopped};
 
 /// Returns whether lent bytes contain all that is read of the next PES packet: as many bytes as its
 /// length field says (EN 300 472, PES_packet_length). If the start code or the length is wrong,
-/// only the first six bytes are read.
+/// only the first six bytes of the packet are read.
 #[tactic(auto, using(crate::proofs::BorrowedPacketLemmas::holds_none))]
 pub fn holds_packet(borrowed: &[u8]) -> bool
     ensures { result ≡ holds_packet borrowed.now }

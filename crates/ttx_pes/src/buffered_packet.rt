@@ -1,4 +1,5 @@
-//! Facts about the PES packet in a buffer, so that a repetition is only compared and not parsed.
+//! Facts about the PES packet in a buffer, so that a repetition of the packet is only compared and
+//! not parsed.
 ghost use Rattle.std.specs.Prelude.{◌≡◌, ◌+◌, ◌/◌, ◌%◌, ◌≤◌, ◌↔◌, true, Ok, Err, OnOk, IfOk, IfErr};
 ghost use Rattle.std.specs.Prelude.{IfSome, length, drop, take, []};
 ghost use Rattle.ttx_pes.specs.DataUnit.{data_unit_size};
@@ -18,17 +19,17 @@ use crate::sent_units::SentUnits;
 use crate::unit_places::{UnitPlaces, take_places};
 use std::marker::Model;
 
-// The offset of the data field in a packet.
+// The offset of the data field in a PES packet.
 const FIELD: usize = 45;
 
 /// Facts about the PES packet at the front of a buffer: its PTS, the size of its data field (bytes
-/// 45 to the end), and the positions of the Teletext units in it.
+/// 45 to the end), and the offsets of its Teletext units.
 #[derive(Drop)]
 pub(crate) struct BufferedPacket {
     pts: u64,
     count: usize,
     places: UnitPlaces,
-    // The packet was a repetition of the one before. Then the next one may be, too.
+    // Whether the packet repeated the packet before it. Then the next packet may repeat it too.
     repeats: bool,
 }
 
@@ -43,9 +44,9 @@ impl Model for BufferedPacket {
     ghost invariant = { λ h. h.repeats ≡ true → IsFieldSize h.count };
 }
 
-// Changes the positions, which are those of the data field `kept`, to those of `field`. Usually the
-// data units of both begin in the same way, on the same lines of each frame. Then the positions
-// stay.
+// Changes the offsets of Teletext units from those in the data field `kept` to those in `field`.
+// Usually the data units of both fields begin in the same way, on the same lines of each frame.
+// Then the offsets do not change.
 #[inline(always)]
 fn find_places(places: &mut UnitPlaces, kept: &[u8], field: &[u8]) -> Result<(), PesFault>
     requires within { AreWithin (length kept.now) places.old }
@@ -69,8 +70,8 @@ fn find_places(places: &mut UnitPlaces, kept: &[u8], field: &[u8]) -> Result<(),
     take_places(places, field)
 }
 
-// Returns whether a data field is the stored one. Different ones usually differ in their first
-// eight bytes, or in those that are compared next.
+// Returns whether a data field equals the stored data field. Different data fields usually differ
+// in their first eight bytes, or in the bytes that are compared next.
 #[inline(always)]
 fn is_kept(kept: &[u8], field: &[u8]) -> bool
     requires { IsFieldSize (length field.now) }
@@ -80,7 +81,7 @@ fn is_kept(kept: &[u8], field: &[u8]) -> bool
 }
 
 impl BufferedPacket {
-    // Creates the facts about no packet.
+    // Creates the facts about an empty buffer.
     pub(crate) fn new() -> Self
         ensures { result ≡ no_packet }
     {
@@ -92,7 +93,7 @@ impl BufferedPacket {
         }
     }
 
-    // Resets it to the state of `new`.
+    // Resets the facts to those of an empty buffer.
     pub(crate) fn clear(&mut self)
         ensures { self.new ≡ no_packet }
     {
@@ -102,14 +103,15 @@ impl BufferedPacket {
         self.repeats = false;
     }
 
-    // Returns the PTS.
+    // Returns the PTS of the packet in the buffer, in ticks of 90 kHz.
     pub(crate) fn pts(&self) -> u64
         ensures { result ≡ self.now.pts }
     {
         self.pts
     }
 
-    // Returns the size of the packet. Without a packet this is 45, which no packet has.
+    // Returns the size of the packet in bytes. Without a packet this is 45, which is no size of a
+    // packet.
     pub(crate) fn size(&self) -> usize
         requires { self.now.count + 45 ≤ longest_packet }
         ensures { result ≡ self.now.count + 45 }
@@ -117,15 +119,15 @@ impl BufferedPacket {
         FIELD + self.count
     }
 
-    // Sets the PTS.
+    // Sets the PTS of the packet.
     pub(crate) fn set_pts(&mut self, pts: u64)
         ensures { self.new ≡ record self.old { pts = pts } }
     {
         self.pts = pts;
     }
 
-    // Returns whether the packet was a repetition, so that the next one may be, too. Only the way
-    // of reading depends on it, not the result.
+    // Returns whether the packet repeated the packet before it, so that the next packet may repeat
+    // it too. Only the way of reading depends on this, not the result.
     #[inline(always)]
     pub(crate) fn repeats(&self) -> bool
         ensures { result ≡ true → IsFieldSize self.now.count }
@@ -133,8 +135,8 @@ impl BufferedPacket {
         self.repeats
     }
 
-    // Returns the PTS of a packet that repeats the one in the buffer: it is valid, and has the same
-    // data field.
+    // Returns the PTS of a packet that repeats the packet in the buffer: the packet is valid, and
+    // has the same data field.
     #[inline(always)]
     pub(crate) fn pts_again(&self, before: &PacketBuffer, pes_packet: &[u8]) -> Option<u64>
         requires known { IsInBuffer (field_in self.now.count before.now) self.now }
@@ -156,7 +158,7 @@ impl BufferedPacket {
         }
     }
 
-    // Returns the data field in the packet's buffer.
+    // Returns the data field of the packet in the buffer.
     fn field<'a>(&self, room: &'a PacketBuffer) -> &'a [u8]
         requires { self.now.count + 45 ≤ longest_packet }
         ensures { result.now ≡ field_in self.now.count room.now }
@@ -166,7 +168,7 @@ impl BufferedPacket {
         field
     }
 
-    // Returns the Teletext units in the packet's buffer.
+    // Returns the Teletext units of the packet in the buffer.
     pub(crate) fn units<'a>(&'a self, room: &'a PacketBuffer) -> SentUnits<'a>
         requires { IsInBuffer (field_in self.now.count room.now) self.now }
         ensures value { result
@@ -175,8 +177,8 @@ impl BufferedPacket {
         SentUnits::new(self.field(room), self.places.as_slice())
     }
 
-    // Takes the facts about a packet from its bytes from byte 6 on. Returns whether its data field
-    // is that of the packet before, which is in the buffer `before`.
+    // Replaces the facts by those about a new packet, given its bytes from byte 6 on. Returns
+    // whether the data field equals that of the packet before, which is in the buffer `before`.
     #[inline(always)]
     #[tactic(auto, unfolding(crate::specs::Reading::value_at))]
     pub(crate) fn take(&mut self, before: &PacketBuffer, body: &[u8]) -> Result<bool, PesFault>

@@ -1,7 +1,7 @@
 //! Reads PES packets that mostly repeat the packet before.
 //!
 //! `check`, `listen` and `packets` each have their own loop over this reader. A common loop was
-//! tried and proved, but took more lemmas than it saved.
+//! proved as well, but needed more lemmas than it saved.
 ghost use Rattle.std.specs.Prelude.{◌≡◌, ℕ, ◌+◌, ◌≤◌, ◌≢◌, true, false, [], None, Ok, IfErr};
 ghost use Rattle.sub_io.specs.Device.{CanFail, CountsIf, failed};
 ghost use Rattle.ttx_pes.specs.Comparing.{as_yielded, taken_count_after, skipped_over};
@@ -25,26 +25,27 @@ use std::marker::Model;
 /// The result of reading with a `ComparingReader`.
 #[derive(Clone, Copy, Debug, PartialEq, Eq)]
 pub enum Compared {
-    /// The end of the file.
+    /// The file has ended.
     End,
-    /// A valid PES packet with the data field (bytes 45 to the end) of the packet before. Its units
-    /// are the same; its PTS may differ.
+    /// A valid PES packet with the data field (bytes 45 to the end) of the packet before. The units
+    /// of both packets are the same; their PTS may differ.
     Same,
-    /// A valid PES packet with a different data field, or the first one.
+    /// A valid PES packet with another data field than the packet before, or the first packet of
+    /// the file.
     Other,
 }
 
-/// Reads PES packets like `PesReader`, and compares the data field of each with the packet before.
-/// Keeps its progress, the bytes of the packet and the positions of the Teletext units in it. It
-/// lends the units in the order of transmission, without reversing bits.
+/// Reads PES packets like `PesReader`, and compares the data field of each packet with that of the
+/// packet before. The reader stores its progress, the bytes of the last packet and the offsets of
+/// its Teletext units. It lends the units in the order of transmission, without reversing bits.
 ///
 /// A subtitle transmission repeats the same page many times. If the data field is the same, only
 /// the header of the packet is parsed.
 #[derive(Drop)]
 pub struct ComparingReader {
     progress: Progress,
-    // Set after the fault of a complete packet: how many packets were consumed, including this one.
-    // `skip_packet` then continues; any other fault ends reading.
+    // The number of packets consumed, including the last packet, if the last answer was the fault
+    // of a complete packet. `skip_packet` then continues; any other fault ends reading.
     following: Option<u32>,
     kept: KeptFrame,
 }
@@ -68,7 +69,7 @@ impl Model for ComparingReader {
         × IfSome r.following (λ given. given ≤ most_packets) };
 }
 
-// Reads the next PES packet, and compares it with the stored one.
+// Reads the next PES packet, and compares it with the stored packet.
 #[inline(always)]
 fn read_compared<P: PesPackets>(
     given: u32,
@@ -129,26 +130,26 @@ impl ComparingReader {
         }
     }
 
-    /// Returns the PTS of the last PES packet in ticks of 90 kHz. It is 0 before the first packet,
-    /// at the end and after a fault.
+    /// Returns the PTS of the last PES packet in ticks of 90 kHz. The PTS is 0 before the first
+    /// packet, at the end and after a fault.
     pub fn pts(&self) -> u64
         ensures { result ≡ self.now.frame.pts }
     {
         self.kept.pts()
     }
 
-    /// Returns the Teletext units of the last PES packet, borrowed from its bytes. There are none
-    /// before the first packet, at the end and after a fault.
+    /// Returns the Teletext units of the last PES packet, borrowed from its bytes. The list is
+    /// empty before the first packet, at the end and after a fault.
     pub fn units(&self) -> SentUnits<'_>
         ensures value { result ≡ self.now.frame.units }
-        // Holds for every valid PES packet.
+        // The value of every valid PES packet fits in a frame.
         ensures frame { IsPesValue self.now.frame }
     {
         self.kept.units()
     }
 
     /// Reads the next PES packet, and returns whether it has the data field of the packet before
-    /// (EN 300 472, PES data field). `pts` and `units` then return its value.
+    /// (EN 300 472, PES data field). `pts` and `units` then return the value of the packet.
     ///
     /// `Same` and `Other` consume exactly the packet's bytes, 184 to 1656. Returns `End` at the end
     /// of the source and at each later call.
@@ -167,27 +168,28 @@ impl ComparingReader {
         ensures taken { as_yielded result ≡ Ok true → TakesDataField (P.remaining pes_packets.old)
             (P.left pes_packets.new) self.new.frame self.new.data_field }
         ensures empty { as_yielded result ≢ Ok true → self.new.frame ≡ empty_value }
-        // The meaning of `Same` and `Other`.
+        // `Same` means that the data field is unchanged, and `Other` that it has changed.
         ensures same { result ≡ Ok Same → self.new.data_field ≡ self.old.data_field }
         ensures units { result ≡ Ok Same → self.new.frame.units ≡ self.old.frame.units }
         ensures other { result ≡ Ok Other → self.new.data_field ≢ self.old.data_field }
 
-        // After the fault of a complete packet, its bytes were consumed.
+        // If the answer is the fault of a complete packet, the bytes of that packet were consumed.
         ensures pes_packet { IfErr result (λ fault. is_of_pes_packet fault ≡ true
             → TakesPesPacket (P.remaining pes_packets.old) (P.left pes_packets.new) fault) }
         ensures following { self.new.following ≡ taken_count_after self.old.progress result }
         ensures progress { self.new.progress
             ≡ progress_after self.old.progress (yielded_frame (as_yielded result) self.new.frame) }
         ensures few { (given : ℕ) → self.new.progress ≡ Reading given → given ≤ most_packets }
-        // Consumes nothing after the end or a fault.
+        // After the end of the source or a fault, the reader consumes nothing.
         ensures at_end { self.old.progress ≡ AtEnd → pes_packets.new ≡ pes_packets.old }
         ensures broken { self.old.progress ≡ Broken → pes_packets.new ≡ pes_packets.old }
-        // After a valid packet, or the fault of a complete one, no bytes have been read ahead.
+        // After a valid packet, or the fault of a complete packet, no further bytes have been read
+        // ahead.
         ensures settled { as_yielded result ≡ Ok true → P.left pes_packets.new ≡ P.remaining
             pes_packets.new }
         ensures pes_packet_settled { IfErr result (λ fault. is_of_pes_packet fault ≡ true
             → P.left pes_packets.new ≡ P.remaining pes_packets.new) }
-        // Cannot fail if no device is called.
+        // Reading cannot fail if no device is called.
         ensures ready { P.ready pes_packets.old ≡ true → failed is_read result ≡ false }
         ensures device { P.device pes_packets.new ≡ P.device pes_packets.old }
         ensures count { CountsIf P.failure_count pes_packets.old (failed is_read result)
@@ -222,7 +224,7 @@ impl ComparingReader {
         }
     }
 
-    // Clears the frame, and returns this answer.
+    // Clears the stored frame, and returns `answer`.
     #[inline(always)]
     fn give_none(&mut self, answer: Result<Compared, PesFault>) -> Result<Compared, PesFault>
         ensures answer { result ≡ answer }
@@ -232,8 +234,8 @@ impl ComparingReader {
         answer
     }
 
-    /// Continues after a packet with a fault, if the last answer was the fault of a complete
-    /// packet, whose length field says where it ends. Does nothing after any other answer.
+    /// Continues after a faulty packet, if the last answer was the fault of a complete packet,
+    /// whose length field says where it ends. Does nothing after any other answer.
     pub fn skip_packet(&mut self)
         ensures over { self.new ≡ skipped_over self.old }
         ensures few { (given : ℕ) → self.new.progress ≡ Reading given → given ≤ most_packets }

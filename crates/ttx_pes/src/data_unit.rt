@@ -13,10 +13,10 @@ use crate::unit::Unit;
 use crate::writer::{Bytes, add};
 use ttx_packet::{Packet, mirrored};
 
-/// Size of a data unit in bytes.
+/// The size of a data unit in bytes.
 pub(crate) const DATA_UNIT: usize = 46;
 
-// data_unit_length of every data unit.
+// The value of data_unit_length in every data unit.
 const LENGTH: u8 = 0x2C;
 
 // The framing code of a Teletext unit.
@@ -59,7 +59,7 @@ fn teletext_of(block: &[u8]) -> Result<Option<Unit>, PesFault>
     }
 }
 
-// Decodes the Teletext unit of a data unit.
+// Decodes the Teletext unit that a data unit carries.
 pub(crate) fn unit_in(block: &[u8]) -> Unit
     requires block { length block.now ≡ data_unit_size }
     requires id { (2 ≤ slice_index block.now 0) × (slice_index block.now 0 ≤ 3) }
@@ -72,7 +72,7 @@ pub(crate) fn unit_in(block: &[u8]) -> Unit
     Unit::new(block[0], field, line, packet)
 }
 
-// Appends the Teletext unit of a data unit, if it carries one.
+// Appends the Teletext unit of a data unit, if the data unit carries one, to a frame.
 #[tactic(auto, unfolding(crate::specs::Reading::unit_at))]
 fn take_unit(frame: &mut PesFrame, block: &[u8]) -> Result<(), PesFault>
     requires room { length frame.old.units + 1 ≤ most_units }
@@ -91,7 +91,7 @@ fn take_unit(frame: &mut PesFrame, block: &[u8]) -> Result<(), PesFault>
     Ok(())
 }
 
-// Appends the Teletext units of `count` data units, up to the first fault.
+// Appends the Teletext units of `count` data units to a frame, up to the first fault.
 #[tactic(auto, using(crate::proofs::DataUnitLemmas::units_left))]
 pub(crate) fn take_units(frame: &mut PesFrame, count: usize, blocks: &[u8]) -> Result<(), PesFault>
     requires room { length frame.old.units + count ≤ most_units }
@@ -110,7 +110,7 @@ pub(crate) fn take_units(frame: &mut PesFrame, count: usize, blocks: &[u8]) -> R
     Ok(())
 }
 
-// Appends the data unit of a Teletext unit.
+// Appends the data unit of a Teletext unit to the bytes of a packet.
 pub(crate) fn add_unit(out: &mut Bytes, unit: &Unit)
     requires { length out.old.items + data_unit_size ≤ longest_packet }
     ensures items { out.new.items ≡ out.old.items ++ teletext_unit unit.now }
@@ -121,7 +121,7 @@ pub(crate) fn add_unit(out: &mut Bytes, unit: &Unit)
     add(out, &unit.packet().mirrored());
 }
 
-// Appends a stuffing unit.
+// Appends a stuffing unit to the bytes of a packet.
 pub(crate) fn add_stuffing(out: &mut Bytes)
     requires { length out.old.items + data_unit_size ≤ longest_packet }
     ensures items { out.new.items ≡ out.old.items ++ stuffing_unit }

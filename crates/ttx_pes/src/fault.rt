@@ -8,7 +8,7 @@ use sub_io::{Failed, FaultCode};
 /// `PesReader::next` documents the order of the checks.
 #[derive(Clone, Copy, Debug, PartialEq, Eq)]
 pub enum PesFault {
-    /// The bytes end within a packet.
+    /// The bytes end within a PES packet.
     Truncated,
     /// Bytes 0 to 3 are not 00 00 01 BD: packet_start_code_prefix, and stream_id of
     /// private_stream_1.
@@ -17,7 +17,7 @@ pub enum PesFault {
     Length,
     /// Byte 6 does not begin with 1000: the bits 10, then PES_scrambling_control 00.
     Flags,
-    /// PTS_DTS_flags is not 10: there is no PTS, or also a DTS.
+    /// PTS_DTS_flags is not 10: the packet has no PTS, or also a DTS.
     NoTime,
     /// PES_header_data_length is not 24 (hexadecimal).
     HeaderLength,
@@ -29,18 +29,19 @@ pub enum PesFault {
     UnitLength,
     /// The framing code of a Teletext unit is not E4 (hexadecimal).
     Framing,
-    /// The line of a Teletext unit does not follow those of the units before it in the packet
+    /// The line of a Teletext unit does not follow the lines of the units before it in the packet
     /// (own).
     LineOrder,
-    /// The source failed.
+    /// The source failed during reading.
     Read,
-    /// The sink failed.
+    /// The sink failed during writing.
     Write,
-    /// A fault occurred before.
+    /// The reader or writer has reported a fault before.
     Ended,
     /// More bytes follow 2,160,000 packets, one for each frame of a day (own).
     TooMany,
-    /// All bytes from 6 on are FF: a gap marker, which replaces lost PES packets (own).
+    /// All bytes from 6 on are FF: the packet is a gap marker, which replaces lost PES packets
+    /// (own).
     Lost,
 }
 
@@ -72,7 +73,8 @@ impl PesFault {
     }
 
     /// Returns whether the fault is in the contents of a packet that is as long as its length field
-    /// says (EN 300 472, PES_packet_length). Then it is known where the next packet begins.
+    /// says (EN 300 472, PES_packet_length). The length field then says where the next packet
+    /// begins.
     pub fn is_of_pes_packet(self) -> bool
         ensures { result ≡ is_of_pes_packet self }
     {

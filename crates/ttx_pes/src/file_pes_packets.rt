@@ -1,4 +1,4 @@
-//! The PES packets of a source with the bytes of a PES file.
+//! Reads PES packets from a source that has the bytes of a PES file.
 ghost use Rattle.std.specs.Prelude.{◌≡◌, ◌≤◌, [], ◌∷◌, IfNone, IfSome, Ok, Some, length, take};
 ghost use Rattle.std.specs.Prelude.{true};
 ghost use Rattle.sub_io.specs.Device.{CanFail};
@@ -17,7 +17,7 @@ use sub_io::{Failed, Source};
 #[derive(Drop)]
 pub struct FilePesPackets<'a, S> {
     source: &'a mut S,
-    // The bytes read so far of a packet that the source did not lend completely.
+    // The bytes read so far of a PES packet that the source did not lend completely.
     begun: PesPacketBuffer,
 }
 
@@ -35,7 +35,7 @@ impl<'a, S: Source> FilePesPackets<'a, S> {
     }
 }
 
-// Returns the size of the PES packet at the front of `bytes`, if it is complete.
+// Returns the size of the PES packet at the front of `bytes`, if the packet is complete.
 #[inline(always)]
 fn complete_size(bytes: &[u8]) -> Option<usize>
     ensures reported { IfSome result (λ size. size_at (take 6 bytes.now) ≡ Ok size) }
@@ -57,8 +57,8 @@ fn complete_size(bytes: &[u8]) -> Option<usize>
     }
 }
 
-// Lets `taker` process the next packet if the source lends it completely, and skips it. Otherwise
-// does nothing and returns `None`.
+// Lets `taker` process the next PES packet if the source lends the packet completely, and skips the
+// packet. Otherwise does nothing and returns `None`.
 #[inline(always)]
 fn take_borrowed<S: Source, T: TakePesPacket>(source: &mut S, taker: &mut T) -> Option<T::Answer>
     requires count { CanFail (S.failure_count source.old) }
@@ -118,7 +118,7 @@ impl<S: Source> NumberedPesPackets for FilePesPackets<'_, S> {
 
     ghost skipped = { λ f. 0 };
 
-    /// Returns 0, since no packet is skipped.
+    /// Returns 0, since no PES packet is skipped before the first.
     fn find_first(&mut self) -> Result<u64, FailedAt> {
         Ok(0)
     }

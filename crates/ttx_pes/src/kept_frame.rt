@@ -1,4 +1,4 @@
-//! The PES packet that was read last.
+//! The PES packet that was read last, which a comparing reader stores.
 ghost use Rattle.std.specs.Prelude.{◌≡◌, ◌+◌, ◌%◌, ◌≤◌, [], drop, length, take};
 ghost use Rattle.ttx_pes.specs.PesGrammar.{IsPesValue, empty_value, longest_packet, payload_size};
 ghost use Rattle.ttx_pes.specs.PesPackets.{IsPesPacket};
@@ -12,10 +12,10 @@ use crate::pes_packets::TakePesPacket;
 use crate::sent_units::SentUnits;
 use std::marker::Model;
 
-/// A PTS and a data field (bytes 45 to the end of a packet) with its Teletext units.
+/// A PTS and a data field (bytes 45 to the end of a PES packet) with its Teletext units.
 #[derive(Drop)]
 pub(crate) struct KeptFrame {
-    // The stored packet.
+    // A buffer for the bytes of the stored packet.
     room: PacketBuffer,
     known: BufferedPacket,
 }
@@ -33,7 +33,7 @@ impl Model for KeptFrame {
     ghost invariant = { λ k. IsInBuffer (field_in k.known.count k.room) k.known };
 }
 
-// Returns the bytes of a packet from byte 6 on.
+// Returns the bytes of a PES packet from byte 6 on.
 #[inline(always)]
 #[tactic(auto, using(crate::proofs::PesPacketBufferLemmas::pes_packet_sized))]
 pub(crate) fn body_of_pes_packet(pes_packet: &[u8]) -> &[u8]
@@ -48,7 +48,7 @@ pub(crate) fn body_of_pes_packet(pes_packet: &[u8]) -> &[u8]
     body
 }
 
-// Copies a packet to the front of the buffer.
+// Copies a PES packet to the front of the buffer.
 #[inline(always)]
 fn put_in_buffer(room: &mut PacketBuffer, pes_packet: &[u8])
     requires { length pes_packet.now ≤ longest_packet }
@@ -69,14 +69,14 @@ impl KeptFrame {
         }
     }
 
-    // Returns the PTS.
+    // Returns the PTS of the stored packet, in ticks of 90 kHz.
     pub(crate) fn pts(&self) -> u64
         ensures { result ≡ self.now.frame.pts }
     {
         self.known.pts()
     }
 
-    // Returns the Teletext units.
+    // Returns the Teletext units of the stored packet.
     pub(crate) fn units(&self) -> SentUnits<'_>
         ensures value { result ≡ self.now.frame.units }
         ensures frame { IsPesValue self.now.frame }
@@ -84,15 +84,15 @@ impl KeptFrame {
         self.known.units(&self.room)
     }
 
-    // Resets it to the state of `new`.
+    // Resets the frame to an empty frame without a data field.
     pub(crate) fn clear(&mut self)
         ensures { self.new ≡ record { frame = empty_value; data_field = [] } }
     {
         self.known.clear();
     }
 
-    // Takes a packet that may differ from the stored one. Such packets are rare, so this is a
-    // function of its own, which makes the others faster.
+    // Stores a packet that may differ from the stored packet. Such packets are rare, so this
+    // function is not inlined, which makes its callers faster.
     #[inline(never)]
     fn take_other(&mut self, pes_packet: &[u8]) -> Result<bool, PesFault>
         requires { IsPesPacket pes_packet.now }
@@ -113,15 +113,15 @@ impl KeptFrame {
 }
 
 impl TakePesPacket for KeptFrame {
-    // `Ok(true)` if the data field is the stored one, `Ok(false)` if not, or the fault of the
-    // packet.
+    // `Ok(true)` if the data field equals the stored data field, `Ok(false)` if not, or the fault
+    // of the packet.
     type Answer = Result<bool, PesFault>;
 
     ghost is_take = { KeepsPesPacket };
 
-    // Stores the packet, and compares it with the stored one. Usually it is a repetition. This is
-    // tested only if the stored packet was a repetition too, so that no time is lost if every
-    // packet is different.
+    // Stores a packet, and compares it with the stored packet. Usually the packet is a repetition.
+    // Repetition is tested first only if the stored packet was a repetition too, so that no time is
+    // lost if every packet is different.
     #[inline(always)]
     fn take(&mut self, pes_packet: &[u8]) -> Result<bool, PesFault> {
         if self.known.repeats() {

@@ -1,4 +1,4 @@
-//! A limited number of PES packets.
+//! Reads a limited number of PES packets.
 ghost use Rattle.std.specs.Prelude.{◌≡◌, ◌∷◌, ◌<◌, ◌≤◌, OnErr, OnOk, false, is_ok, true};
 ghost use Rattle.sub_io.specs.Device.{CanFail, CountsFailure};
 ghost use Rattle.ttx_pes.specs.Advancing.{Advances, HasSkipped, Passes, is_over, limited_remaining};
@@ -13,12 +13,12 @@ use sub_io::Failed;
 #[derive(Drop)]
 pub struct LimitedPesPackets<'a, P> {
     inner: &'a mut P,
-    // How many packets may still come; `None` for no limit.
+    // How many PES packets may still be read. `None` means no limit.
     left: Option<u64>,
 }
 
 impl<'a, P: PesPackets> LimitedPesPackets<'a, P> {
-    /// Limits `inner` to `left` packets, or to none if `left` is `None`.
+    /// Limits `inner` to `left` PES packets, or not at all if `left` is `None`.
     pub fn new(inner: &'a mut P, left: Option<u64>) -> Self
         ensures same { result.inner.ghost_name ≡ inner.entry.ghost_name }
         ensures now { result.inner.now ≡ inner.old }
@@ -27,8 +27,8 @@ impl<'a, P: PesPackets> LimitedPesPackets<'a, P> {
         LimitedPesPackets { inner, left }
     }
 
-    /// Skips the first `n` packets, or all if there are fewer, without counting them towards the
-    /// limit. Returns how many it skipped, and whether the device failed.
+    /// Skips the first `n` PES packets, or all if the file has fewer, without counting them towards
+    /// the limit. Returns how many packets were skipped, and whether the device failed.
     pub(crate) fn skip_first(&mut self, n: u64) -> (u64, Result<(), Failed>)
         requires failures { CanFail (P.failure_count self.old.inner.now) }
         ensures most { result.0 ≤ n }
@@ -63,7 +63,7 @@ impl<P: PesPackets> PesPackets for LimitedPesPackets<'_, P> {
     #[inline(always)]
     fn next<T: TakePesPacket>(&mut self, taker: &mut T) -> Result<Received<T::Answer>, Failed>
         requires failures { CanFail (P.failure_count self.old.inner.now) }
-        // Reads nothing once the limit is reached.
+        // Once the limit is reached, no bytes are read.
         ensures over { is_over self.old.left ≡ true → self.new ≡ self.old }
         ensures received { Advances (limited_known self.old.left (P.remaining self.old.inner.now))
             (limited_known self.new.left (P.remaining self.new.inner.now))
@@ -95,7 +95,7 @@ impl<P: PesPackets> PesPackets for LimitedPesPackets<'_, P> {
     }
 }
 
-// Returns whether no more packets may come.
+// Returns whether the limit is reached, so that no more PES packets may be read.
 #[inline(always)]
 fn is_over(left: Option<u64>) -> bool
     ensures { result ≡ is_over left }
@@ -106,7 +106,7 @@ fn is_over(left: Option<u64>) -> bool
     }
 }
 
-// Returns how many packets may come after this one. After bytes that begin no packet there is no
+// Returns how many PES packets may be read after this result. Bytes that begin no packet end the
 // limit, since all of them belong to the range.
 #[inline(always)]
 fn left_after<A>(left: Option<u64>, received: &Received<A>) -> Option<u64>

@@ -1,4 +1,4 @@
-//! Teletext packets that are sent as one frame, on the lines of EN 300 472.
+//! Writes the Teletext packets of a frame on the lines of EN 300 472, as one PES packet.
 ghost use Rattle.std.specs.Prelude.{◌≡◌, ◌+◌, ◌^◌, ◌<◌, ◌≤◌, ◌==◌, false, length, IfErr};
 ghost use Rattle.sub_io.specs.Device.{CanFail, CountsIf, Writes, failed};
 ghost use Rattle.ttx_pes.specs.Fault.{is_write};
@@ -13,7 +13,7 @@ use crate::writer::PesWriter;
 use sub_io::Sink;
 use ttx_packet::Packet;
 
-// Returns the unit of the Teletext packet number `i` of a frame.
+// Returns the unit of Teletext packet number `i` of a frame, counted from 0.
 fn unit_of_number(i: usize, packet: &Packet) -> Unit
     requires { i < 32 }
     ensures value { result ≡ numbered_unit i packet.now }

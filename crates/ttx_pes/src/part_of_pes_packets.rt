@@ -1,4 +1,4 @@
-//! Some of the PES packets of a file or recording.
+//! Reads a range of the PES packets of a file or recording.
 ghost use Rattle.std.specs.Prelude.{◌≡◌, ◌∷◌, ◌≤◌, ℕ, IfErr, IfOk, OnErr, OnOk, Ok, Some};
 ghost use Rattle.std.specs.Io.KnownBytes.{Keeps};
 ghost use Rattle.sub_io.specs.Device.{CanFail, CountsFailure};
@@ -11,21 +11,22 @@ use crate::pes_packets::{PesPackets, REST_BUFFER_SIZE, Received, TakePesPacket};
 use crate::pes_packets_ahead::PesPacketsAhead;
 use sub_io::Failed;
 
-/// Reads a range of the PES packets of another reader. If that has no packet of the range's last
-/// number, this one ends in the same way. Nothing after the last packet is read.
+/// Reads a range of the PES packets of another reader. If that reader has no packet with the
+/// range's last number, both end in the same way. Nothing after the last packet of the range is
+/// read.
 ///
-/// Callers construct it in place: if a function returned it, the prover would not know what was
-/// borrowed two structs deep.
+/// Callers construct the value in place: if a function returned it, the prover would not know what
+/// was borrowed two structs deep.
 #[derive(Drop)]
 pub struct PartOfPesPackets<'a, P> {
-    /// All packets up to the last one of the range.
+    /// Reads all PES packets up to the last packet of the range.
     pub inner: LimitedPesPackets<'a, P>,
-    /// The packets before the range.
+    /// Counts the PES packets before the range.
     pub ahead: PesPacketsAhead,
 }
 
 impl<P: PesPackets> PartOfPesPackets<'_, P> {
-    // Skips the packets before the range.
+    // Skips the PES packets before the range.
     fn skip_others(&mut self) -> Result<u64, FailedAt>
         requires failures { CanFail (P.failure_count self.old.inner.inner.now) }
         ensures kept { Keeps

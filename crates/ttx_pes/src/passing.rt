@@ -1,4 +1,4 @@
-//! Skips PES packets.
+//! Skips PES packets without reading their contents.
 ghost use Rattle.std.specs.Prelude.{◌≡◌, ◌<◌, ◌≤◌, ⊤, Err, IfErr, None, Ok, OnErr, OnOk, false};
 ghost use Rattle.std.specs.Prelude.{true};
 ghost use Rattle.sub_io.specs.Device.{CanFail, CountsFailure, CountsIf, failed};
@@ -16,7 +16,7 @@ use sub_io::Failed;
 /// second.
 pub const MOST_PACKETS: u32 = 2_160_000;
 
-// Ignores a packet.
+// A taker that ignores each PES packet.
 #[derive(Drop)]
 pub(crate) struct SkipOver;
 
@@ -28,16 +28,16 @@ impl TakePesPacket for SkipOver {
     fn take(&mut self, _pes_packet: &[u8]) {}
 }
 
-/// Skips the first `n` packets, or all if there are fewer. Returns how many it skipped, and whether
-/// the device failed.
+/// Skips the first `n` PES packets, or all if the file has fewer. Returns how many packets were
+/// skipped, and whether the device failed.
 pub fn skip_pes_packets<P: PesPackets>(n: u64, pes_packets: &mut P) -> (u64, Result<(), Failed>)
     requires failures { CanFail (P.failure_count pes_packets.old) }
     ensures most { result.0 ≤ n }
-    // If it failed, fewer than `n` were skipped.
+    // If the device failed, fewer than `n` packets were skipped.
     ensures fewer { OnErr result.1 (result.0 < n) }
     ensures skipped { OnOk result.1
         (Passes n (P.remaining pes_packets.old) (P.remaining pes_packets.new) result.0) }
-    // Even if the device failed, it is known how many remain to be skipped.
+    // Even if the device failed, it is known how many packets remain to be skipped.
     ensures so_far { HasSkipped n result.0 (P.remaining pes_packets.old)
         (P.remaining pes_packets.new) }
     ensures same { P.device pes_packets.new ≡ P.device pes_packets.old }
@@ -58,7 +58,7 @@ pub fn skip_pes_packets<P: PesPackets>(n: u64, pes_packets: &mut P) -> (u64, Res
     (skipped, Ok(()))
 }
 
-// Reads on after the maximum number of packets: no byte may be left.
+// Reads on after the maximum number of PES packets, where no byte may be left.
 #[inline(never)]
 pub(crate) fn read_end<P: PesPackets>(given: u32, pes_packets: &mut P) -> Result<(), PesFault>
     requires count { CanFail (P.failure_count pes_packets.old) }

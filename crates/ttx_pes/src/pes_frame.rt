@@ -8,7 +8,7 @@ use crate::unit::Unit;
 use arrayvec::ArrayVec;
 use std::marker::Model;
 
-/// The maximum number of Teletext units in a PES packet: nine payloads hold so many.
+/// The maximum number of Teletext units in a PES packet: nine payloads have 9 * 4 - 1 data units.
 pub const MOST_UNITS: usize = 35;
 
 /// The contents of one PES packet: a PTS, and Teletext units in the order of their lines (EN 300
@@ -16,8 +16,8 @@ pub const MOST_UNITS: usize = 35;
 #[derive(Drop)]
 pub struct PesFrame {
     pts: u64,
-    // Only the first `count` belong to the frame. The rest is left from earlier frames; resetting
-    // it would cost a write for each.
+    // Only the first `count` units belong to the frame. The others are left from earlier frames;
+    // resetting them would cost a write for each.
     units: ArrayVec<Unit, MOST_UNITS>,
     count: usize,
     // The place in line order that the next unit has to follow.
@@ -72,18 +72,19 @@ impl PesFrame {
     /// Returns the Teletext units in the order of the packet, at most `MOST_UNITS`.
     pub fn units(&self) -> &[Unit]
         ensures value { result.now ≡ self.now.units }
-        // Holds for every frame.
+        // The value of every frame fits in a PES packet.
         ensures frame { IsPesValue self.now }
     {
         &self.units.as_slice()[..self.count]
     }
 
-    /// Appends a unit.
+    /// Appends a unit to the frame.
     ///
     /// # Errors
     ///
-    /// Returns the unit if there are `MOST_UNITS` already, or if its line does not follow those
-    /// before it. The frame does not change. A unit of line 0 may be anywhere.
+    /// Returns `unit` if the frame already has `MOST_UNITS` units, or if the line of `unit` does
+    /// not follow the lines of the units before it. The frame does not change. A unit of line 0 may
+    /// be anywhere.
     #[tactic(auto, using(crate::proofs::LineOrderLemmas::order))]
     pub fn add(&mut self, unit: Unit) -> Result<(), Unit>
         ensures variant { IsOk result ↔ ((length self.old.units < most_units)
@@ -105,7 +106,7 @@ impl PesFrame {
         Ok(())
     }
 
-    // Appends a unit that is known to fit.
+    // Appends a unit to a frame in which it is known to fit.
     #[tactic(auto, using(crate::proofs::LineOrderLemmas::order))]
     pub(crate) fn push(&mut self, unit: Unit)
         requires room { length self.old.units < most_units }
@@ -118,7 +119,7 @@ impl PesFrame {
         self.count += 1;
     }
 
-    // Sets the PTS, and keeps the units.
+    // Sets the PTS of the frame, and keeps the units.
     pub(crate) fn set_pts(&mut self, pts: u64)
         requires { pts < 2 ^ 33 }
         ensures { self.new ≡ record self.old { pts = pts } }
@@ -126,7 +127,7 @@ impl PesFrame {
         self.pts = pts;
     }
 
-    // Sets the PTS, and removes all units.
+    // Sets the PTS of the frame, and removes all units.
     pub(crate) fn restart(&mut self, pts: u64)
         requires { pts < 2 ^ 33 }
         ensures { self.new ≡ record { pts = pts; units = [] } }
@@ -137,7 +138,7 @@ impl PesFrame {
     }
 }
 
-// Stores a unit at a place: over one left from an earlier frame, or at the end.
+// Stores a unit at the index `place`: over a unit left from an earlier frame, or at the end.
 fn put_at(units: &mut ArrayVec<Unit, MOST_UNITS>, place: usize, unit: Unit)
     requires place { place ≤ length units.old.items }
     requires room { place < most_units }

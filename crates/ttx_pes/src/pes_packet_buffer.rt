@@ -14,15 +14,15 @@ use crate::pes_packets::{REST_BUFFER_SIZE, Received, TakePesPacket};
 use std::marker::Model;
 use sub_io::{Failed, Source};
 
-/// A buffer for one PES packet.
+/// A buffer for the bytes of one PES packet.
 pub(crate) type PacketBuffer = [u8; LONGEST_PACKET];
 
-// The bytes that contain the packet's size.
+// The number of first bytes that contain the size of a PES packet.
 const HEAD: usize = 6;
 
-/// The first bytes of a packet that is not complete yet, or bytes that begin no packet.
+/// The first bytes of a PES packet that is not complete yet, or bytes that begin no packet.
 ///
-/// Its model is the list of bytes.
+/// The model of the buffer is the list of these bytes.
 #[derive(Drop)]
 pub(crate) struct PesPacketBuffer {
     room: PacketBuffer,
@@ -41,9 +41,9 @@ impl Model for PesPacketBuffer {
     ghost invariant = { λ h. (h.len ≤ longest_packet) × IsSome (rest_fault (take h.len h.room)) };
 }
 
-// Pulls into `room`, which already has `buffered` bytes, until it has at least `least` bytes, or
-// the source ends or fails. Requests at most `most` bytes in total. Returns how many bytes it has,
-// and whether the source failed.
+// Pulls into `room`, which already has `buffered` bytes, until `room` has at least `least` bytes,
+// or the source ends or fails. Requests at most `most` bytes in total. Returns how many bytes
+// `room` has, and whether the source failed.
 fn fill_on<S: Source>(
     source: &mut S,
     room: &mut [u8],
@@ -80,8 +80,8 @@ fn fill_on<S: Source>(
     (at, false)
 }
 
-// Reads the packet whose first bytes are in the buffer, and returns how many bytes are in it then.
-// Checks the bytes for faults before each pull.
+// Reads the PES packet whose first bytes are in the buffer, and returns how many bytes are then in
+// the buffer. Checks the bytes for faults before each pull.
 fn read_pes_packet<S: Source>(
     source: &mut S,
     room: &mut PacketBuffer,
@@ -123,7 +123,7 @@ fn read_pes_packet<S: Source>(
     (all, Ok(Received::PesPacket(())))
 }
 
-// Returns the first `size` bytes.
+// Returns the first `size` bytes of a slice.
 #[inline(always)]
 pub(crate) fn prefix_of(bytes: &[u8], size: usize) -> &[u8]
     requires { size ≤ length bytes.now }
@@ -154,7 +154,7 @@ impl PesPacketBuffer {
         self.len == 0
     }
 
-    // Copies the bytes to `to`, and empties the buffer.
+    // Copies the buffered bytes to `to`, and empties the buffer.
     #[tactic(auto, unfolding(crate::specs::Advancing::rest_fault))]
     pub(crate) fn move_buffered(&mut self, to: &mut [u8; REST_BUFFER_SIZE]) -> usize
         ensures bound { result ≤ length to.new }
@@ -168,8 +168,9 @@ impl PesPacketBuffer {
         buffered
     }
 
-    // Reads the rest of the packet in the buffer, and lets `taker` process it. Few packets are not
-    // lent completely, so this is a function of its own, which makes the others faster.
+    // Reads the rest of the PES packet in the buffer, and lets `taker` process the packet. Few
+    // packets are not lent completely, so this function is not inlined, which makes its callers
+    // faster.
     #[inline(never)]
     pub(crate) fn next<S: Source, T: TakePesPacket>(
         &mut self,

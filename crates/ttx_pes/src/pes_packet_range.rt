@@ -5,7 +5,7 @@ ghost use Rattle.ttx_pes.specs.PesPacketRange.{most_of, range_of};
 use std::marker::Model;
 
 /// A range of PES packets by their numbers in the file, counted from 0. Invalid packets count if
-/// they are as long as their length field says. The model has the two numbers.
+/// they are as long as their length field says. The model of a range has its two numbers.
 #[derive(Clone, Copy, Debug, PartialEq, Eq)]
 pub struct PesPacketRange {
     first: u64,
@@ -28,7 +28,7 @@ impl Model for PesPacketRange {
 
 impl PesPacketRange {
     /// Creates the range from `first` to `last`, both included, or to the end of the file without
-    /// `last`. Returns `None` if `last` is less than `first`, or the greatest number.
+    /// `last`. Returns `None` if `last` is less than `first`, or the greatest 64-bit number.
     #[tactic(auto, unfolding(crate::specs::PesPacketRange::range_of))]
     pub fn new(first: u64, last: Option<u64>) -> Option<PesPacketRange>
         ensures { result ≡ range_of first last }
@@ -41,14 +41,14 @@ impl PesPacketRange {
         Some(PesPacketRange { first, last })
     }
 
-    /// Returns how many packets precede the range.
+    /// Returns how many PES packets precede the range.
     pub fn first(self) -> u64
         ensures { result ≡ self.first }
     {
         self.first
     }
 
-    /// Returns how many packets the range has. `None` if it has no end.
+    /// Returns how many PES packets the range has, or `None` if it extends to the end of the file.
     pub fn most(self) -> Option<u64>
         ensures { result ≡ most_of self }
     {

@@ -1,9 +1,9 @@
 //! Readers of PES packets. A PES packet is a byte string that is as long as its length field says;
 //! it may be invalid.
 //!
-//! `next` passes a packet to a taker while the source lends it, and then skips it. So no packet is
-//! copied, and none stays in the source. Bytes that begin no packet are read by a separate call,
-//! which only `extract` uses.
+//! `next` passes a packet to a taker while the source lends the packet, and then skips the packet.
+//! So no packet is copied, and none stays in the source. Bytes that begin no packet are read by a
+//! separate call, which only `extract` uses.
 ghost use Rattle.std.specs.Borrow.{GName};
 ghost use Rattle.std.specs.Prelude.{◌≡◌, ℕ, Bool, List, Option, is_ok, true};
 ghost use Rattle.std.specs.Io.{ReadsAtMost};
@@ -14,31 +14,32 @@ ghost use Rattle.ttx_pes.specs.PesPackets.{IsPesPacket};
 use crate::fault::PesFault;
 use sub_io::Failed;
 
-/// Size in bytes of a buffer for bytes that begin no packet. No reader has read more of them before
-/// it reports the fault.
+/// The size in bytes of a buffer for bytes that begin no PES packet. A reader has read at most this
+/// many of them before it reports the fault.
 pub const REST_BUFFER_SIZE: usize = 2048;
 
-/// What comes next; for a packet, with the taker's answer.
+/// What a reader of PES packets has received: a packet, with the taker's answer, or why no packet
+/// follows.
 #[derive(Clone, Copy, Debug, PartialEq, Eq)]
 pub enum Received<A> {
-    /// The end.
+    /// The end of the file or recording.
     End,
-    /// A PES packet.
+    /// A PES packet, with the taker's answer.
     PesPacket(A),
-    /// Bytes that begin no packet, for this fault: `Truncated`, `Start` or `Length`.
+    /// Bytes that begin no PES packet, for this fault: `Truncated`, `Start` or `Length`.
     Rest(PesFault),
 }
 
 /// Processes PES packets, and returns an answer for each.
 pub trait TakePesPacket {
-    /// The answer for one packet.
+    /// The answer of the taker for one PES packet.
     type Answer;
 
     // How processing a packet changes the taker: the state before, the packet, the answer, the
     // state after.
     ghost is_take: { Self → List ℕ → Self.Answer → Self → Type 0 };
 
-    /// Processes a packet, which is borrowed from the source.
+    /// Processes a PES packet, which is borrowed from the source.
     fn take(&mut self, pes_packet: &[u8]) -> Self::Answer
         requires { IsPesPacket pes_packet.now }
         ensures { is_take self.old pes_packet.now result self.new };
@@ -48,31 +49,31 @@ pub trait TakePesPacket {
 /// packet. A packet has a start code and is as long as its length field says (EN 300 472,
 /// PES_packet_length); it may be invalid.
 pub trait PesPackets {
-    // The bytes that are left, if they are known.
+    // The bytes that the reader has left, if they are known.
     ghost remaining: { Self → Option (List ℕ) };
 
-    // The bytes that the device has left. After a failure, or bytes that begin no packet, some of
-    // the remaining bytes have already been read from it.
+    // The bytes that the device has left. After a failure, or bytes that begin no packet, the
+    // reader has already read some of its remaining bytes from the device.
     ghost left: { Self → Option (List ℕ) };
 
-    // How many calls of the device have failed.
+    // How many calls of the reader's device have failed.
     ghost failure_count: { Self → ℕ };
 
-    // It has returned `Rest`: the remaining bytes begin no packet.
+    // Whether the reader has returned `Rest`, so that the remaining bytes begin no PES packet.
     ghost is_rest: { Self → Bool };
 
-    // The next call uses no device.
+    // Whether the next call uses no device.
     ghost ready: { Self → Bool } = { never_ready };
 
-    // The references by which it borrows its device, outermost first.
+    // The references by which the reader borrows its device, outermost first.
     ghost device: { Self → List GName } = { lends_none };
 
-    /// Lets `taker` process the next packet, if there is one. Otherwise the taker is not called,
-    /// and later calls consume nothing.
+    /// Lets `taker` process the next PES packet, if the reader has one. Without a packet, the taker
+    /// is not called, and later calls consume nothing.
     ///
     /// # Errors
     ///
-    /// Returns an error if the device fails. No byte of the packet was consumed.
+    /// Returns `Failed` if the device fails. No byte of the packet was consumed.
     fn next<T: TakePesPacket>(&mut self, taker: &mut T) -> Result<Received<T::Answer>, Failed>
         requires failures { CanFail (failure_count self.old) }
         ensures received { Advances (remaining self.old) (remaining self.new) (left self.new)
@@ -87,7 +88,7 @@ pub trait PesPackets {
     ///
     /// # Errors
     ///
-    /// Returns an error if the device fails. No byte was consumed.
+    /// Returns `Failed` if the device fails. No byte was consumed.
     fn read_rest(&mut self, room: &mut [u8; REST_BUFFER_SIZE]) -> Result<usize, Failed>
         requires rest { is_rest self.old ≡ true }
         requires failures { CanFail (failure_count self.old) }

@@ -1,12 +1,12 @@
 //! The progress of a reader of PES packets.
 
-/// The progress of a reader: the model of a `PesReader`.
+/// The progress of a reader of PES packets, which is the model of a `PesReader`.
 #[derive(Clone, Copy, Debug, PartialEq, Eq)]
 pub enum Progress {
-    /// So many packets were read, 0 to `MOST_PACKETS`.
+    /// The number of PES packets read so far, 0 to `MOST_PACKETS`.
     Reading(u32),
     /// The source has ended.
     AtEnd,
-    /// There was a fault.
+    /// The reader has reported a fault.
     Broken,
 }

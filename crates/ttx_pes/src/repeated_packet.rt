@@ -1,4 +1,4 @@
-//! PES packets that are sent repeatedly, each time with another PTS.
+//! PES packets that are sent repeatedly, each time with a new PTS.
 ghost use Rattle.std.specs.Prelude.{◌≡◌, ◌++◌, ◌^◌, ◌<◌, ◌≤◌, drop, length, take};
 ghost use Rattle.sub_io.specs.Device.{CanFail, CountsFailure, Writes};
 ghost use Rattle.ttx_pes.specs.PesGrammar.{canonical_packet, numbered_frame, pts_bytes};
@@ -13,11 +13,11 @@ use ttx_packet::Packet;
 
 /// A PES packet whose bytes are built once. For each transmission only its PTS is set (EN 300 472).
 ///
-/// Its model is its contents: the PTS and the units.
+/// Its model is the contents of the packet: the PTS and the units.
 #[derive(Drop)]
 pub struct RepeatedPacket {
     frame: PesFrame,
-    // The canonical packet of the frame.
+    // The bytes of the canonical packet of the frame.
     bytes: Bytes,
 }
 
@@ -33,10 +33,10 @@ impl Model for RepeatedPacket {
 }
 
 impl RepeatedPacket {
-    /// Creates one PES packet with these Teletext packets, on the lines of `put_frame`. Its PTS is
-    /// 0.
+    /// Creates one PES packet with these Teletext packets, on the lines that `put_frame` uses. Its
+    /// PTS is 0.
     ///
-    /// At most 32 packets.
+    /// At most 32 Teletext packets fit.
     pub fn of_packets(packets: &[Packet]) -> Self
         requires { length packets.now ≤ 32 }
         ensures { result ≡ numbered_frame 0 packets.now }
@@ -46,7 +46,7 @@ impl RepeatedPacket {
         RepeatedPacket { frame, bytes }
     }
 
-    /// Sets the PTS in ticks of 90 kHz, 33 bits. The units do not change.
+    /// Sets the PTS of the packet in ticks of 90 kHz, 33 bits. The units do not change.
     pub fn set_pts(&mut self, pts: u64)
         requires { pts < 2 ^ 33 }
         ensures { self.new ≡ record self.old { pts = pts } }
@@ -55,7 +55,7 @@ impl RepeatedPacket {
         put_pts(self.bytes.as_mut_slice(), pts);
     }
 
-    /// Writes the canonical packet of its PTS and its units.
+    /// Writes the canonical packet with this PTS and these units.
     ///
     /// # Errors
     ///
@@ -70,7 +70,7 @@ impl RepeatedPacket {
     }
 }
 
-// Sets the PTS in the bytes of a packet.
+// Sets the PTS in the bytes of a PES packet.
 fn put_pts(bytes: &mut [u8], pts: u64)
     requires room { 14 ≤ length bytes.old }
     requires fits { pts < 2 ^ 33 }

@@ -1,4 +1,4 @@
-//! Compares byte slices in blocks.
+//! Compares slices of bytes in blocks.
 ghost use Rattle.std.specs.Prelude.{◌≡◌, ◌↔◌, ◌≤◌, length, true};
 ghost use Rattle.ttx_pes.specs.Taking.{IsFieldSize};
 
@@ -7,7 +7,7 @@ mod lanes;
 use self::lanes::{is_same_block, is_same_long_block};
 use byteorder::{ByteOrder, LittleEndian};
 
-// Size in bytes of the data field in a packet of one payload.
+// The size in bytes of the data field of a PES packet of one payload.
 const ONE_PAYLOAD: usize = 139;
 
 // Returns whether two slices have the same first eight bytes.
@@ -20,8 +20,8 @@ pub(crate) fn begin_equally(a: &[u8], b: &[u8]) -> bool
     LittleEndian::read_u64(a) == LittleEndian::read_u64(b)
 }
 
-// Returns whether two data fields of the same length are equal. (Called where the buffer is chosen:
-// inlined there, it would load each byte of both buffers.)
+// Returns whether two data fields of the same length are equal. (Not inlined: inlined into the
+// function that chooses the buffer, it would load each byte of both buffers.)
 #[inline(never)]
 pub(crate) fn is_same(a: &[u8], b: &[u8]) -> bool
     requires size { IsFieldSize (length a.now) }
@@ -55,9 +55,9 @@ fn is_same_payload(a: &[u8], b: &[u8]) -> bool
     is_same_block::<16>(a.last_chunk().unwrap(), b.last_chunk().unwrap())
 }
 
-// Returns whether two slices are equal, in blocks of 256 bytes. The last block overlaps the one
-// before, so that no byte is left over. It is compared first, because different subtitles mostly
-// differ in the last row.
+// Returns whether two slices are equal, in blocks of 256 bytes. The last block overlaps the block
+// before, so that no byte is left over. The last block is compared first, because different
+// subtitles mostly differ in the last row.
 #[inline(always)]
 #[tactic(auto, using(crate::proofs::SameBytesLemmas::same_blocks))]
 fn is_same_by_long_blocks(a: &[u8], b: &[u8]) -> bool

@@ -1,5 +1,5 @@
-//! Compares the heads of the data units of two data fields. If they are equal, both have their
-//! Teletext units at the same positions.
+//! Compares the heads of the data units of two data fields. If the heads are equal, both data
+//! fields have their Teletext units at the same offsets.
 ghost use Rattle.std.specs.Prelude.{◌≡◌, ◌+◌, ◌%◌, ◌≤◌, length, true};
 ghost use Rattle.ttx_pes.specs.PesGrammar.{payload_size};
 ghost use Rattle.ttx_pes.specs.Taking.{AreSameHeads, IsSameHead};
@@ -8,11 +8,12 @@ use crate::data_unit::DATA_UNIT;
 use crate::pes_header::PAYLOAD;
 use byteorder::{ByteOrder, LittleEndian};
 
-// Size in bytes of the data field in the first payload: data_identifier and three data units.
+// The size in bytes of the data field in the first payload of a PES packet: data_identifier and
+// three data units.
 const FIRST: usize = 1 + 3 * DATA_UNIT;
 
-// Returns whether two data fields have the same head of the data unit at a position, compared as
-// one word.
+// Returns whether two data fields have the same head of the data unit at the offset `place`, by
+// comparing four bytes as one word.
 #[inline(always)]
 #[tactic(auto, using(crate::proofs::HeadLemmas::same_word))]
 fn is_same_head(a: &[u8], b: &[u8], place: usize) -> bool
@@ -25,7 +26,8 @@ fn is_same_head(a: &[u8], b: &[u8], place: usize) -> bool
     LittleEndian::read_u32(a_from) == LittleEndian::read_u32(b_from)
 }
 
-// Returns whether the heads of three data units are the same, the first of them at `place`.
+// Returns whether two data fields have the same heads of three data units, the first at the offset
+// `place`.
 #[inline(always)]
 fn are_same_three(a: &[u8], b: &[u8], place: usize) -> bool
     requires a { place + 96 ≤ length a.now }
@@ -40,7 +42,7 @@ fn are_same_three(a: &[u8], b: &[u8], place: usize) -> bool
 }
 
 // Returns whether two data fields of the same length have the same heads of all data units. Each
-// iteration compares the four of a payload; the first payload has three.
+// iteration compares the four data units of a payload; the first payload has three.
 #[tactic(auto, using(crate::proofs::HeadLemmas::same_heads))]
 pub(crate) fn are_same_heads(a: &[u8], b: &[u8]) -> bool
     requires long { 139 ≤ length a.now }

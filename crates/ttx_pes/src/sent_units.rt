@@ -13,12 +13,12 @@ use ttx_packet::SentPacket;
 /// The Teletext units of a PES packet in the order of transmission, borrowed from its data field
 /// (EN 300 472, PES data field).
 ///
-/// Its model is the list of the units.
+/// Its model is the list of these units.
 #[derive(Drop)]
 pub struct SentUnits<'a> {
-    // Bytes 45 to the end of the PES packet.
+    // The data field: bytes 45 to the end of the PES packet.
     field: &'a [u8],
-    // The offsets of the data units of the Teletext units.
+    // The offsets in the data field of the data units that carry the Teletext units.
     places: &'a [u16],
 }
 
@@ -39,7 +39,7 @@ impl<'a> Model for SentUnits<'a> {
 }
 
 impl<'a> SentUnits<'a> {
-    // Creates the list of units whose data units begin at these offsets of a data field.
+    // Creates the list of Teletext units whose data units begin at these offsets of a data field.
     pub(crate) fn new(field: &'a [u8], places: &'a [u16]) -> Self
         requires few { length places.now ≤ most_units }
         requires within { AreWithin (length field.now) places.now }
@@ -49,7 +49,7 @@ impl<'a> SentUnits<'a> {
         SentUnits { field, places }
     }
 
-    /// Returns the number of units, at most `MOST_UNITS`.
+    /// Returns the number of Teletext units, at most `MOST_UNITS`.
     #[inline(always)]
     pub fn len(&self) -> usize
         ensures value { result ≡ length self.now }
@@ -58,7 +58,7 @@ impl<'a> SentUnits<'a> {
         self.places.len()
     }
 
-    /// Returns the Teletext packet of a unit, by its number from 0.
+    /// Returns the Teletext packet of a unit, by the unit's number counted from 0.
     #[inline(always)]
     pub fn packet(&self, number: usize) -> SentPacket<'a>
         requires { number < length self.now }
@@ -69,7 +69,7 @@ impl<'a> SentUnits<'a> {
         SentPacket::new(block.last_chunk().unwrap())
     }
 
-    /// Returns a unit by its number from 0. This reverses the bits of its packet.
+    /// Returns a Teletext unit by its number counted from 0, with the bits of its packet reversed.
     pub fn unit(&self, number: usize) -> Unit
         requires { number < length self.now }
         ensures { (other : UnitValue) → result ≡ slice_index_or self.now number other }

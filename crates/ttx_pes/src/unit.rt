@@ -1,11 +1,12 @@
-//! Teletext units: a Teletext packet with the line on which it is sent.
+//! Teletext units: a Teletext packet with the line on which the packet is sent.
 ghost use Rattle.std.specs.Prelude.{◌≡◌, ◌<◌, ◌≤◌, ◌==◌, if◌then◌else◌, is_some, IfSome};
 ghost use Rattle.std.specs.Prelude.{replicate};
 
 use std::marker::Model;
 use ttx_packet::Packet;
 
-/// A data unit with a Teletext packet (EN 300 472, data unit syntax), without its reserved bits.
+/// The contents of a data unit with a Teletext packet (EN 300 472, data unit syntax), without its
+/// reserved bits.
 #[derive(Clone, Copy, Debug, PartialEq, Eq)]
 pub struct Unit {
     id: u8,
@@ -29,8 +30,8 @@ impl Model for Unit {
 }
 
 impl Default for Unit {
-    /// Returns the filler for unused places of a frame: data_unit_id 02, line 0 of the first field,
-    /// and zero bytes.
+    /// Returns the unit that fills unused places of a frame: data_unit_id 02, line 0 of the first
+    /// field, and zero bytes.
     fn default() -> Self
         ensures { result ≡ record { id = 2; field = 1; line = 0; packet = replicate 42 0 } }
     {
@@ -42,7 +43,7 @@ impl Unit {
     ghost use Rattle.ttx_pes.specs.DataUnit.{IsUnit};
     ghost use Rattle.ttx_pes.specs.LineOrder.{line_order_place, may_follow};
 
-    /// Creates a unit from its fields.
+    /// Creates a Teletext unit from its fields.
     ///
     /// `id` is data_unit_id, 02 or 03; `field` is 1 for the first field (field_parity 1) and 2 for
     /// the second; `line` is line_offset, 0 to 31, where 0 means that no line is defined.
@@ -69,7 +70,7 @@ impl Unit {
         self.id
     }
 
-    /// Returns the field: 1 if field_parity is 1, 2 if it is 0.
+    /// Returns the field of the unit: 1 if field_parity is 1, and 2 if field_parity is 0.
     pub fn field(&self) -> u8
         ensures value { result ≡ self.now.field }
         ensures range { (1 ≤ result) × (result ≤ 2) }
@@ -77,7 +78,7 @@ impl Unit {
         self.field
     }
 
-    /// Returns line_offset, 0 to 31: the line of the field, or 0 if it is not defined.
+    /// Returns line_offset, 0 to 31: the line of the field, or 0 if no line is defined.
     pub fn line(&self) -> u8
         ensures value { result ≡ self.now.line }
         ensures range { result < 32 }
@@ -85,14 +86,15 @@ impl Unit {
         self.line
     }
 
-    /// Returns the Teletext packet in Teletext's own bit order.
+    /// Returns the Teletext packet of the unit in Teletext's own bit order.
     pub fn packet(&self) -> &Packet
         ensures value { result.now ≡ self.now.packet }
     {
         &self.packet
     }
 
-    // Returns the place in line order after this unit, if the unit may follow the place `last`.
+    // Returns the place in line order that the next unit has to follow, if this unit may follow the
+    // place `last`.
     pub(crate) fn place_after(&self, last: u8) -> Option<u8>
         requires { last < 64 }
         ensures variant { is_some result ≡ may_follow last self.now }

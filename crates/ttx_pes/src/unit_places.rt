@@ -1,4 +1,4 @@
-//! The offsets of the Teletext units in a data field, so that they need not be copied.
+//! The offsets of the Teletext units in a data field, so that the units need not be copied.
 ghost use Rattle.std.specs.Prelude.{◌≡◌, ◌+◌, ◌*◌, ◌/◌, ◌<◌, ◌≤◌, [], ◌∷◌, ◌++◌, length, take};
 ghost use Rattle.std.specs.Prelude.{drop};
 ghost use Rattle.std.specs.Prelude.{Err, IfErr, IfOk, MatchOption, Ok, OnOk, false, true};
@@ -14,10 +14,10 @@ use crate::fault::PesFault;
 use crate::pes_frame::MOST_UNITS;
 use std::marker::Model;
 
-/// The offsets in a data field at which the data units of its Teletext units begin, in order.
+/// The offsets in a data field at which the data units with Teletext packets begin, in order.
 #[derive(Drop)]
 pub(crate) struct UnitPlaces {
-    // Only the first `count` are used.
+    // Only the first `count` offsets are used.
     places: [u16; MOST_UNITS],
     count: usize,
 }
@@ -34,7 +34,7 @@ impl Model for UnitPlaces {
 }
 
 impl UnitPlaces {
-    /// Creates an empty list.
+    /// Creates an empty list of offsets.
     pub fn new() -> Self
         ensures { result ≡ [] }
     {
@@ -44,14 +44,14 @@ impl UnitPlaces {
         }
     }
 
-    /// Resets it to the state of `new`.
+    /// Removes all offsets.
     pub fn clear(&mut self)
         ensures { self.new ≡ [] }
     {
         self.count = 0;
     }
 
-    /// Returns the offsets, at most `MOST_UNITS`.
+    /// Returns the offsets of the Teletext units, at most `MOST_UNITS`.
     pub fn as_slice(&self) -> &[u16]
         ensures value { result.now ≡ self.now }
         ensures few { length self.now ≤ most_units }
@@ -59,7 +59,7 @@ impl UnitPlaces {
         &self.places[..self.count]
     }
 
-    /// Appends an offset.
+    /// Appends an offset to the list.
     fn push(&mut self, place: u16)
         requires { length self.old < most_units }
         ensures { self.new ≡ self.old ++ place ∷ [] }
@@ -69,8 +69,8 @@ impl UnitPlaces {
     }
 }
 
-// Returns the place in line order after the unit of this data unit, if the unit may follow the
-// place `last`.
+// Returns the place in line order that the next unit has to follow, if the unit of this data unit
+// may follow the place `last`.
 #[inline(always)]
 fn place_after(last: u8, block: &[u8]) -> Option<u8>
     requires last { last < 64 }
@@ -88,8 +88,8 @@ fn place_after(last: u8, block: &[u8]) -> Option<u8>
     if last < place { Some(place) } else { None }
 }
 
-// Appends the offset of a data unit if it is a Teletext unit. `last` is the place in line order
-// that it has to follow; returns that for the next unit.
+// Appends the offset of a data unit if it carries a Teletext packet. `last` is the place in line
+// order that its unit has to follow; the result is the place that the next unit has to follow.
 #[inline(always)]
 #[tactic(auto, using(crate::proofs::SentUnitLemmas::one_more))]
 fn take_place(places: &mut UnitPlaces, last: u8, field: &[u8], place: u16) -> Result<u8, PesFault>
@@ -122,8 +122,8 @@ fn take_place(places: &mut UnitPlaces, last: u8, field: &[u8], place: u16) -> Re
     Ok(next)
 }
 
-/// Finds the Teletext units of a data field, up to the first fault. Reads no bytes of the Teletext
-/// packets.
+/// Finds the offsets of the Teletext units of a data field, up to the first fault. Reads no bytes
+/// of the Teletext packets.
 #[tactic(auto, using(crate::proofs::SentUnitLemmas::places_left))]
 pub(crate) fn take_places(places: &mut UnitPlaces, field: &[u8]) -> Result<(), PesFault>
     requires none { places.old ≡ [] }

@@ -1,4 +1,4 @@
-//! Writes PES packets.
+//! Writes the canonical packets of frames.
 ghost use Rattle.std.specs.Prelude.{◌≡◌, ◌+◌, ◌<◌, ◌≤◌, ◌++◌, length, Err, IfErr, is_err, true};
 ghost use Rattle.std.specs.Prelude.{false, if◌then◌else◌};
 ghost use Rattle.sub_io.specs.Device.{CanFail, CountsIf, Writes, failed};
@@ -14,10 +14,10 @@ use arrayvec::ArrayVec;
 use std::marker::Model;
 use sub_io::{Sink, put_all};
 
-/// The bytes of a packet.
+/// The bytes of a PES packet that is being written.
 pub(crate) type Bytes = ArrayVec<u8, LONGEST_PACKET>;
 
-// Appends bytes, for which there must be room.
+// Appends bytes to a packet that has room for them.
 pub(crate) fn add(out: &mut Bytes, bytes: &[u8])
     requires { length out.old.items + length bytes.now ≤ longest_packet }
     ensures items { out.new.items ≡ out.old.items ++ bytes.now }
@@ -43,7 +43,7 @@ pub(crate) fn packet_of(frame: &PesFrame) -> Bytes
     out
 }
 
-/// Writes PES packets with Teletext units, and remembers whether there was a fault.
+/// Writes PES packets with Teletext units, and remembers whether a fault occurred.
 #[derive(Drop)]
 pub struct PesWriter {
     broken: bool,
@@ -52,14 +52,14 @@ pub struct PesWriter {
 impl Model for PesWriter {
     ghost use Rattle.std.specs.Prelude.{Bool};
 
-    // There was a fault.
+    // The model of a writer: whether a fault occurred.
     ghost Value = { Bool };
 
     ghost view = { λ w. w.broken };
 }
 
 impl PesWriter {
-    /// Creates a writer without faults.
+    /// Creates a writer that has had no fault.
     pub fn new() -> Self
         ensures { result ≡ false }
     {

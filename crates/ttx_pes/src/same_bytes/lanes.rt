@@ -1,9 +1,9 @@
-//! Compares blocks of bytes at once, one byte per lane of a vector.
+//! Compares two blocks of bytes at once, one byte per lane of a vector.
 ghost use Rattle.std.specs.Prelude.{◌≡◌, ◌↔◌, ◌≤◌, true};
 
 use std::simd::prelude::*;
 
-// Returns whether two blocks are equal.
+// Returns whether two blocks of N bytes are equal.
 #[inline(always)]
 pub(super) fn is_same_block<const N: usize>(a: &[u8; N], b: &[u8; N]) -> bool
     requires { N ≤ 64 }
@@ -15,7 +15,7 @@ pub(super) fn is_same_block<const N: usize>(a: &[u8; N], b: &[u8; N]) -> bool
         == 0
 }
 
-// Returns whether 256 bytes are equal, without branches between their quarters.
+// Returns whether two blocks of 256 bytes are equal, without branches between their quarters.
 #[inline(always)]
 pub(super) fn is_same_long_block(a: &[u8; 256], b: &[u8; 256]) -> bool
     ensures { (result ≡ true) ↔ (a.now ≡ b.now) }

@@ -1,4 +1,4 @@
--- The result agrees with the definition for the first six bytes: holds_read.
+-- `holds_packet` agrees with its definition, which depends on the first six bytes: holds_read.
 use Rattle.std.proofs.Common.{◌≡◌, ◌≤◌, ◌∙◌, Err, Ok, ap, length, rules, take}
 use Rattle.ttx_pes.specs.Reading.{size_at}
 use Rattle.ttx_pes.proofs.BorrowedPacketLemmas.{holds_read}

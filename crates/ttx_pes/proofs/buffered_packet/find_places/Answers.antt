@@ -1,4 +1,5 @@
--- The units of a data field with the same heads as the stored one: by places_equal.
+-- A data field with the same heads as the stored data field has its Teletext units at the same
+-- offsets: places_equal.
 use Rattle.std.proofs.Common.{◌≡◌, length, arith, rules}
 use Rattle.ttx_pes.specs.Taking.{AreSameHeads}
 use Rattle.ttx_pes.proofs.HeadLemmas.{places_equal}

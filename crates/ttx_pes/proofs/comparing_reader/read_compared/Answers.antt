@@ -1,4 +1,5 @@
--- The answer for each result: by PesPacketReportingLemmas.
+-- The answer of a comparing reader for each result of receiving a PES packet: by
+-- PesPacketReportingLemmas.
 use Rattle.std.proofs.Common.{◌∙◌, Bool, Err, Ok, Result, false, rules, sym, true}
 use Rattle.std.proofs.lemmas.Bool.{true≢false}
 use Rattle.sub_io.specs.declared.source.Failed.{Failed}

@@ -1,4 +1,4 @@
--- A packet that is lent completely, and skipped: by PesPacketBufferLemmas.
+-- A PES packet that is lent completely is processed and skipped: by PesPacketBufferLemmas.
 use Rattle.std.proofs.Common.{arith, subst, sym}
 use Rattle.std.specs.Io.KnownBytes.{Consumes}
 use Rattle.sub_io.proofs.DeviceLemmas.{Consumes-skipped}

@@ -1,4 +1,5 @@
--- Each iteration of `fill_on` adds its bytes after those before it, by Consumes-more.
+-- Each iteration of `fill_on` places the bytes read after those of earlier iterations, by
+-- Consumes-more.
 use Rattle.std.proofs.Common.{◌+◌, ◌-◌, ◌≤◌, arith, length, take}
 use Rattle.std.proofs.lemmas.Bool.Decides.{nat_tests}
 use Rattle.std.proofs.KnownBytes.{Consumes-kept}

@@ -1,4 +1,5 @@
--- The answer for each result: by PesPacketReportingLemmas.
+-- The answer of `read_packet` for each result of receiving a PES packet: by
+-- PesPacketReportingLemmas.
 use Rattle.std.proofs.Common.{Err, Ok, Result, rules}
 use Rattle.sub_io.specs.declared.source.Failed.{Failed}
 use Rattle.ttx_pes.specs.declared.fault.PesFault.{PesFault}

@@ -1,4 +1,4 @@
--- The earlier blocks are the same.
+-- In each iteration of `is_same_by_long_blocks`, all earlier blocks are equal.
 use Rattle.std.proofs.Common.{◌≡◌, ◌*◌, take}
 use Rattle.ttx_pes.proofs.same_bytes.is_same_by_long_blocks.Given as goal
 

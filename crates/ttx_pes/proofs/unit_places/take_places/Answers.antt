@@ -1,4 +1,4 @@
--- The data unit with the fault is the next of the remaining ones: places_next.
+-- If a data unit has a fault, it is the next of the remaining data units: places_next.
 use Rattle.std.proofs.Common.{◌≡◌, ◌-◌, ◌/◌, length, drop, rules, sym, ap, ◌∙◌}
 use Rattle.std.proofs.lemmas.List.{length-drop}
 use Rattle.std.proofs.lemmas.Result.{err_from_is_err_and}

@@ -1,4 +1,5 @@
--- The units so far, and those of the remaining data units.
+-- After each iteration of `take_places`, the units found so far and those of the remaining data
+-- units are all units.
 use Rattle.std.proofs.Common.{◌≡◌, ◌≤◌, ◌<◌, ◌+◌, ◌-◌, ◌*◌, ◌++◌, [], length, drop}
 use Rattle.ttx_pes.specs.LineOrder.{last_place}
 use Rattle.ttx_pes.specs.Reading.{units_at}

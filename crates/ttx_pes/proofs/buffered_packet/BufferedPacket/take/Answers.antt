@@ -1,4 +1,4 @@
--- The facts about a packet from its header and its data field: known_anew, known_again.
+-- The facts about a PES packet follow from its header and its data field: known_anew, known_again.
 use Rattle.std.proofs.Common.{ap, ◌≡◌, arith, refl, rules}
 use Rattle.std.proofs.lemmas.Result.{err_from_is_err_and}
 use Rattle.ttx_pes.specs.Taking.{BufferedPacketValue}
@@ -6,7 +6,6 @@ use Rattle.ttx_pes.proofs.KeptFrameLemmas.{IsBody, known_again, known_anew, valu
 use Rattle.ttx_pes.proofs.buffered_packet.BufferedPacket.take.Goals as goal
 use Rattle.ttx_pes.proofs.buffered_packet.BufferedPacket.take.Goals.{In_ok-pts}
 
--- The bytes are those of a packet.
 is_body : (c : In_ok-pts) → IsBody c.args.body.now
 is_body c = record {
   short = c.requires.short;

@@ -1,4 +1,4 @@
--- The data field of the packet that was consumed.
+-- The data field that a comparing reader stores is that of the PES packet consumed.
 use Rattle.std.proofs.Common.{refl}
 use Rattle.ttx_pes.proofs.comparing_reader.ComparingReader.next.Goals as goal
 

@@ -1,4 +1,4 @@
--- Lent bytes contain the next packet if a prefix of them does.
+-- If a prefix of the lent bytes contains the next PES packet, so do all lent bytes.
 use Rattle.std.proofs.Common.{◌∙◌, sym}
 use Rattle.ttx_pes.proofs.BorrowedPacketLemmas.{buffered_holds}
 use Rattle.ttx_pes.proofs.PesPacketBufferLemmas.{lends_is}

@@ -1,4 +1,4 @@
--- There is no packet.
+-- A cleared frame stores no PES packet.
 use Rattle.ttx_pes.proofs.KeptFrameLemmas.{none_known}
 use Rattle.ttx_pes.proofs.kept_frame.KeptFrame.clear.Goals as goal
 

@@ -1,4 +1,4 @@
--- There is no packet.
+-- A new frame stores no PES packet.
 use Rattle.ttx_pes.proofs.KeptFrameLemmas.{none_known}
 use Rattle.ttx_pes.proofs.kept_frame.KeptFrame.new.Goals as goal
 

@@ -1,4 +1,4 @@
--- The next packet under a limit: by LimitedLemmas.
+-- Reading the next PES packet under a limit: by LimitedLemmas.
 use Rattle.std.proofs.Common.{◌∙◌, ℕ, Option, Result, Ok, subst, sym}
 use Rattle.sub_io.specs.declared.source.Failed.{Failed}
 use Rattle.ttx_pes.specs.Advancing.{Advances, limited_remaining, limited_known}
