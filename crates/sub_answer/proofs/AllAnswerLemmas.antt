@@ -46,7 +46,6 @@ use Rattle.sub_listing.proofs.PrintingLemmas.{printed-status}
 use Rattle.sub_answer.proofs.BothFilesLemmas.{Exactly, exactly-accepted, exactly-accepted_by}
 use Rattle.sub_answer.proofs.BothFilesLemmas.{pes-fails, status-reported, stl-fails}
 
--- A sink in a call, given its contents before and after.
 abbrev sink : Option (List ℕ) → ℕ → Option (List ℕ) → ℕ → SinkCall
 sink old old_count new new_count = record {
   old = old;
@@ -55,7 +54,6 @@ sink old old_count new new_count = record {
   new_count = new_count;
 }
 
--- Lines were written, and then a listing was printed.
 printed-after : (old mid new : Option (List ℕ)) (m n p : ℕ) (text : List ℕ) (listing : Listing)
     (status : Status)
     → Appends old mid text
@@ -72,7 +70,6 @@ printed-after old mid new m n p text listing status put same (inr (risen, part, 
       is,
     )
 
--- Lines were cut, whatever should follow them.
 printed-cut : (old new : Option (List ℕ)) (m n : ℕ) (text : List ℕ) (listing : Listing)
     → AppendsPrefix old new text
     → n ≡ m + 1
@@ -81,7 +78,6 @@ unfolding PrintsOrFails
 printed-cut old new m n text listing part risen =
     inr (risen, AppendsPrefix-first old new text listing.text part, refl)
 
--- There is no fault exactly if there is no first one.
 none-first : (events : List Event)
     → (min (refusals events) most_counted == 0) ≡ is_none (first_reported events)
 none-first [] = refl
@@ -90,7 +86,6 @@ none-first (Ended rule frame ∷ events) = let rest = none-first events in grind
 none-first (SkippedUntil f ∷ events) = let rest = none-first events in grind (arith, nat_tests)
 none-first (Trusted from to ∷ events) = let rest = none-first events in grind (arith, nat_tests)
 
--- The status of what was read, given whether there was a fault.
 abbrev by_first : Option CheckFault → Status
 by_first None = Done
 by_first (Some f) = Refused
@@ -110,14 +105,12 @@ never-fault : (o : Option CheckFault) → by_first o ≢ Fault
 never-fault None e = cc
 never-fault (Some f) e = cc
 
--- An answer with the status `Fault` is a failure.
 answer-fails : (first : ℕ) (events : List Event) (answer : Result (Option Accepted) CheckFault)
     → IfErr answer (λ f. is_failure f ≡ true)
     → (all_listing first events answer).status ≡ Fault
     → failed is_failure answer ≡ true
 answer-fails first events answer ended is = grind (arith, nat_tests, never-fault, read-status)
 
--- Want of memory is reported last, after faults of the subtitle file.
 memory-last : (drawing : Drawing) (options : OptionsValue) (reported pes old new : Option (List ℕ))
     (first : ℕ) (events : List Event) (answer : Result (Option Accepted) CheckFault) (block : ℕ)
     → answer ≡ Err (fault.Subtitles (load_fault block load.Memory))
@@ -133,14 +126,12 @@ memory-last drawing options reported pes old new first events answer block memor
       subst (AreListed drawing options file pes events) memory (listed file heard),
 )
 
--- Without a fault there are no events of the subtitle file.
 unreported : (fs : List LoadFault) (more : List Event)
     → first_reported (subtitle_events fs ++ more) ≡ None
     → fs ≡ []
 unreported [] more none = refl
 unreported (f ∷ fs) more none = cc
 
--- If nothing failed, the last line says that the files are accepted exactly if they are.
 done-exactly :
     (drawing : Drawing) (options : OptionsValue) (file bytes : List ℕ) (pes : Option (List ℕ))
     (first : ℕ) (events : List Event) (answer : Result (Option Accepted) CheckFault)
@@ -199,9 +190,7 @@ done-exactly drawing options file bytes pes first events (Ok (Some a)) Means kno
           cc,
     )
 
--- ---- the answer
-
--- The sink failed while events were reported. For `print_every_fault`.
+-- If the sink failed while events were reported, `check --all` answers with a prefix of its lines.
 pub answers_cut :
     (drawing : Drawing) (options : OptionsValue) (stl pes : SourceCall) (first : FirstNumber)
     (Untouched : Type 0) (old new : PrinterValue) (given : Result (Option Accepted) CheckFault)
@@ -212,7 +201,8 @@ pub answers_cut :
 answers_cut drawing options stl pes first Untouched old new given t failing =
     grind (arith, nat_tests, printed-cut)
 
--- All events were reported, and the last line was printed or cut. For `print_every_fault`.
+-- If all events were reported, `check --all` answers with all lines, or with a prefix of them if
+-- the sink failed at the last line.
 pub answers_end :
     (drawing : Drawing) (options : OptionsValue) (stl pes : SourceCall) (first : FirstNumber)
     (Untouched : Type 0) (old new : PrinterValue) (given : Result (Option Accepted) CheckFault)
@@ -278,7 +268,6 @@ answers_end
           block memory t.listed text);
     }
 
--- The answer is the same for sinks with the same contents and count. For `print_every_fault`.
 pub answers_at :
     (drawing : Drawing) (options : OptionsValue) (stl pes : SourceCall) (first : FirstNumber)
     (Untouched : Type 0) (old mid new : Option (List ℕ)) (m n p : ℕ) (status : Status)
@@ -289,9 +278,6 @@ pub answers_at :
 answers_at drawing options stl pes first Untouched old mid new m n p status answers same counted =
     rw (same, counted) answers
 
--- ---- counts
-
--- A device whose failure ends with `Fault` fails at most once, and only then.
 pub counted_by : (b : Bool) (old new : ℕ) (status : Status)
     → RisesIf old b new
     → (b ≡ true → status ≢ Fault → ⊥)
@@ -308,7 +294,6 @@ fault-status : (is_one : CheckFault → Bool)
 fault-status is_one fails first events (Ok a) is = absurd (true≢false (sym is))
 fault-status is_one fails first events (Err f) is = ap (λ b. status_of (kind_by b)) (fails f is)
 
--- The source of either file fails at most once, and only if the status is `Fault`.
 pub counts : (drawing : Drawing) (options : OptionsValue) (stl pes : SourceCall)
     (first : FirstNumber) (Untouched : Type 0) (out : SinkCall) (status : Status)
     → AnswersAll drawing options stl pes first Untouched out status

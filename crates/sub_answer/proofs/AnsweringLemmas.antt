@@ -40,7 +40,6 @@ use Rattle.sub_answer.proofs.BothFilesLemmas.{Exactly, exactly-accepted, exactly
 use Rattle.sub_answer.proofs.BothFilesLemmas.{status-reported}
 use Rattle.sub_answer.proofs.BothFilesLemmas.{reported-fails, reported-not_done, reported-runs}
 
--- If the PES file was read, the subtitle file gives a programme. For `done-exactly`.
 has_programme :
     (drawing : Drawing) (file : List ℕ) (answer : Result Accepted CheckFault)
     → (((programme : ProgrammeValue) → loaded drawing file ≢ Ok programme)
@@ -57,8 +56,6 @@ has_programme drawing file answer refused looked = go (loaded drawing file) refl
     go (Err f) is =
         let is_refused = refused (λ programme same. cc) in cc
 
--- A file that gives a programme is refused only for want of memory or a failing source. For
--- `looked-at`.
 failure-of_programme :
     (drawing : Drawing) (file : List ℕ) (programme : ProgrammeValue) (block : ℕ)
     (kind : LoadFaultKind)
@@ -69,8 +66,6 @@ failure-of_programme drawing file programme block (load.File stl.Read) is report
 failure-of_programme drawing file programme block load.Memory is reported = refl
 failure-of_programme drawing file programme block kind is reported = cc
 
--- The subtitle file gives a programme, so a fault that is no failure is not one of it. For
--- `done-exactly`.
 looked-at :
     (drawing : Drawing) (file : List ℕ) (programme : ProgrammeValue) (f : CheckFault)
     → loaded drawing file ≡ Ok programme
@@ -79,7 +74,6 @@ looked-at :
     → (is_subtitle_fault f ≡ false) × (is_pes_read f ≡ false)
 looked-at drawing file programme f is reported runs = grind (arith, nat_tests, failure-of_programme)
 
--- The status is `Done` exactly if the files are accepted.
 done-exactly :
     (drawing : Drawing) (options : OptionsValue) (file bytes : List ℕ)
     (first : ℕ) (answer : Result Accepted CheckFault) (Means : Type 0)
@@ -100,14 +94,12 @@ done-exactly drawing options file bytes first (Err f) Means are exact other = (
       cc,
 )
 
--- An answer with the status `Fault` is a failure.
 answer-fails : (first : ℕ) (answer : Result Accepted CheckFault)
     → (verdict first answer).status ≡ Fault
     → failed is_failure answer ≡ true
 answer-fails first (Ok a) is = cc
 answer-fails first (Err f) is = reported-fails (is_failure f) is
 
--- The answer of `check_files` for both files, and the line that is printed. For `print_verdict`.
 pub as_answered :
     (drawing : Drawing) (options : OptionsValue) (stl pes : SourceCall) (first : FirstNumber)
     (Untouched : Type 0) (out : SinkCall) (status : Status) (number : ℕ)
@@ -151,13 +143,10 @@ as_answered
           ));
     }
 
--- The answer if the source failed before its first PES packet was found, with any options. For
--- `check_from`.
 pub no_pes_packet_read : (programme : ProgrammeValue) (options : OptionsValue) (bytes : List ℕ)
     → IsCheckedBy programme options bytes (Err (fault.Pes 0 pes_fault.Read))
 no_pes_packet_read programme options bytes = grind (arith, nat_tests, no_events)
 
--- An answer that reports a failed source has the status `Fault`.
 verdict-fault : (is_one : CheckFault → Bool)
     → ((f : CheckFault) → is_one f ≡ true → is_failure f ≡ true)
     → (first : ℕ) (answer : Result Accepted CheckFault)
@@ -166,8 +155,6 @@ verdict-fault : (is_one : CheckFault → Bool)
 verdict-fault is_one fails first (Ok a) is = absurd (true≢false (sym is))
 verdict-fault is_one fails first (Err f) is = ap (λ b. status_of (kind_by b)) (fails f is)
 
--- A source whose failure such an answer reports fails at most once, and only then. For
--- `print_verdict`.
 pub source_counts : (is_one : CheckFault → Bool)
     → ((f : CheckFault) → is_one f ≡ true → is_failure f ≡ true)
     → (out : SinkCall) (status : Status) (first old new : ℕ) (answer : Result Accepted CheckFault)

@@ -35,32 +35,24 @@ use Rattle.sub_listing.specs.declared.status.Status.TheVariants.{Done, Fault}
 use Rattle.sub_listing.proofs.PrintingLemmas.{did_not_rise, printed-status, printed-whole}
 use Rattle.sub_answer.specs.BothFiles.{ReportsSources, IsStatusOfFiles}
 
--- ---- the line of a fault, and its status
-
--- It is never `Done`.
 pub reported-not_done : (b : Bool) → status_of (kind_by b) ≢ Done
 reported-not_done true e = cc
 reported-not_done false e = cc
 
--- It is `Fault` only for a failure.
 pub reported-fails : (b : Bool) → status_of (kind_by b) ≡ Fault → b ≡ true
 reported-fails true e = refl
 reported-fails false e = cc
 
--- Otherwise it is another status.
 pub reported-runs : (b : Bool) → status_of (kind_by b) ≢ Fault → b ≡ false
 reported-runs true other = absurd (other refl)
 reported-runs false other = refl
 
--- A failed source of the subtitle file is a failure.
 pub stl-fails : (f : CheckFault) → is_stl_read f ≡ true → is_failure f ≡ true
 stl-fails f is = grind (arith, nat_tests)
 
--- A failed source of the PES file is a failure.
 pub pes-fails : (f : CheckFault) → is_pes_read f ≡ true → is_failure f ≡ true
 pes-fails f is = grind (arith, nat_tests)
 
--- A failure of neither source is want of memory.
 memory-kind : (kind : LoadFaultKind)
     → is_failure_kind kind ≡ true
     → is_read_kind kind ≡ false
@@ -80,8 +72,6 @@ memory-fault (Err (fault.Subtitles f)) fails read fine =
     (f.block, ap (λ k. Err (fault.Subtitles (load_fault f.block k))) kind)
 memory-fault (Err (fault.Pes pes pes_fault.Read)) fails read fine = cc
 memory-fault (Err f) fails read fine = cc
-
--- ---- acceptance
 
 -- If the subtitle file gives a programme, an answer without a failed device is `Ok` exactly if the
 -- files are accepted.
@@ -130,7 +120,6 @@ exactly-accepted_by drawing options file bytes answer loading checked = record {
   loads = accepted-loads_by drawing options file bytes loading;
 }
 
--- What the status that was printed with a listing says about the files.
 pub status-reported :
     {Counts : Type 0} {AtBlock AtPes : ℕ → Type 0} {Untouched : Type 0} {is_of_subtitles : Bool}
     (drawing : Drawing) (options : OptionsValue) (stl pes : SourceCall) (out : SinkCall)
@@ -172,8 +161,6 @@ status-reported drawing options stl pes out listing status answer PrintsMemory p
           memory wanted.0 wanted.1 whole.0;
     }
 
--- What an answer says about the sources of both files, if `Untouched` is replaced by another
--- statement. For EndingLemmas.
 pub sources-untouched :
     {Counts : Type 0} (AtBlock AtPes : ℕ → Type 0) (Untouched Other : Type 0) (is : Bool)
     (stl pes : SourceCall) (answer : Result Counts CheckFault)

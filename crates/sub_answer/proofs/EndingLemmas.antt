@@ -1,5 +1,5 @@
--- How a run ends, with weaker properties of devices: ends_weaker; what it has written and flushed
--- before its source failed: written_before, followed_before.
+-- How a run ends, with weaker properties of devices: ends_weaker; which bytes were written and
+-- flushed before a source failed: written_before, followed_before.
 use Rattle.std.proofs.lemmas.Bool.Decides.{nat_tests}
 use Rattle.std.proofs.Common.{arith}
 use Rattle.std.proofs.Common.{◌≡◌, ◌∙◌, ap, refl, subst, ℕ, List, [], ◌∷◌, ◌++◌}
@@ -19,7 +19,6 @@ use Rattle.sub_request.specs.declared.request.Request.TheVariants as ask
 use Rattle.ttx_pes.specs.Advancing.{buffered_then}
 use Rattle.sub_answer.specs.Ending.{EndsWith, BuffersOneLineOnly, IsEmptySource, Lines, lines_in}
 
--- The answer, if `Untouched` is replaced by a weaker statement.
 untouched :
     (request : Request) (first second : InputCall) (Untouched Other : Type 0) (file out : SinkCall)
     (status : Status)
@@ -29,7 +28,6 @@ untouched :
 untouched request first second Untouched Other file out status other is =
     grind (arith, nat_tests, sources-untouched)
 
--- The answer if the first input of the request is a source. For `answer`.
 pub answers_second :
     (request : Request) (first second pes_packets : InputCall) (Untouched Other : Type 0)
     (file out : SinkCall) (status : Status)
@@ -46,7 +44,6 @@ answers_second request first second pes_packets Untouched Other file out status 
     file out
     status) source is))
 
--- Which input is the first one of a request.
 pub first_source : (request : Request) (source pes_packets : InputCall) → reads_pes_packets request
     ≡ false
     → first_input request source pes_packets ≡ source
@@ -75,19 +72,16 @@ first_empty request source pes_packets input is h1 h2 =
     subst (λ (i : InputCall). i.call.known ≡ Some []) (sym is)
     (either_empty (reads_pes_packets request) source pes_packets h1 h2)
 
--- The PES packets of an empty source. For `answer_alone`.
 pub reported_nothing : (buffered bytes : List ℕ) → buffered ≡ [] → bytes ≡ []
     → buffered_then buffered (Some bytes) ≡ Some []
 reported_nothing buffered bytes none empty = rw (none, empty) refl
 
--- An empty input.
 abbrev nothing : InputCall
 nothing = record {
   call = record { known = Some []; left = Some []; old_count = 0; new_count = 0 };
   number = record { known = Some 0; left = Some 0; skipped = 0 };
 }
 
--- The answer of a request that reads PES packets does not depend on the second input.
 any_second :
     (request : Request) (first second other : InputCall) (Untouched Other : Type 0)
     (file out : SinkCall) (status : Status)
@@ -118,7 +112,6 @@ any_second
 any_second (ask.Survey recording options) first second other U V file out status reads is =
     absurd (true≢false (sym reads))
 
--- Nor does what it flushes before.
 any_second_followed :
     (request : Request) (First Second Other IsAlone : Type 0)
     → reads_pes_packets request ≡ true
@@ -141,7 +134,6 @@ any_second_followed
     absurd (true≢false (sym reads))
 any_second_followed (ask.Survey recording options) First Second Other IsAlone reads is = is
 
--- How a run ends that reads only PES packets. For `answer_pes_packets`.
 pub ends_alone :
     {IsAlone : Lines → Type 0} (request : Request)
     (IsFirst IsSecond IsFirst' : InputCall → Type 0) (Untouched : Type 0)
@@ -170,7 +162,6 @@ ends_alone
       flushed = is.flushed;
     }
 
--- How a run ends, with weaker properties of devices.
 pub ends_weaker :
     {IsAlone : Lines → Type 0} (request : Request)
     (IsFirst IsSecond IsFirst' IsSecond' : InputCall → Type 0)
@@ -204,7 +195,6 @@ none_of : (buffered : List ℕ) → length buffered ≡ 0 → buffered ≡ []
 none_of [] is = refl
 none_of (byte ∷ more) is = grind (arith, nat_tests)
 
--- What is flushed before, with other statements of which source failed and what is held back.
 flushes_so :
     (request : Request) (First First' Second Second' IsAlone IsAlone' : Type 0)
     → (First' → First)
@@ -234,7 +224,6 @@ flushes_so
 flushes_so (ask.Listen pes listening) F F' S S' A A' first second alone is = tt
 flushes_so (ask.Extract recording pes stream) F F' S S' A A' first second alone is = tt
 
--- What is written before, in the same way.
 writes_so :
     (request : Request) (First First' None None' : Type 0)
     → (First' → First)
@@ -254,7 +243,6 @@ writes_so (ask.Check stl pes options national layout scope all) F F' N N' first 
 writes_so (ask.Listen pes listening) F F' N N' first none is = tt
 writes_so (ask.Survey recording options) F F' N N' first none is = tt
 
--- What is written before, from the bytes in a buffer. For `answer_and_flush`.
 pub written_before :
     (request : Request) (Fails : Type 0) (old new : List ℕ)
     → old ≡ []
@@ -266,8 +254,6 @@ written_before request Fails old new none is =
 fails_so : (input other : InputCall) → input ≡ other → fails other → fails input
 fails_so input other same is = subst (λ (i : InputCall). fails i) (sym same) is
 
--- What is flushed and written before, if the first input of the request is a source or gives PES
--- packets. For `answer`.
 pub followed_with_file :
     (request : Request) (first pes_packets : InputCall) (SecondFails None IsAlone : Type 0)
     → reads_pes_packets request ≡ false
@@ -290,7 +276,6 @@ written_with_file request first pes_packets Before None source is none =
     writes_so request _ _ _ _ (fails_so _ _ (first_source request first pes_packets source))
     (λ so. so none) is
 
--- What is flushed before, if the request reads PES packets, whatever the second source does.
 followed_pes_packets :
     (request : Request) (Second Other None IsAlone First : Type 0)
     → reads_pes_packets request ≡ true
@@ -329,7 +314,6 @@ written_of_pes_packets request source pes_packets FirstFails Before None reads f
     (λ f. fails_so _ _ (first_pes_packets request source pes_packets reads) (first f))
     (λ so. so none) is
 
--- What is flushed before, from the bytes that the lines hold back. For `answer_and_flush`.
 pub followed_before :
     {O : Type 0} (contents : O → Option (List ℕ)) (buffer_state : O → List ℕ)
     (buffered failure_count : O → ℕ)
@@ -359,14 +343,12 @@ followed_before
     })
     is
 
--- A source that is read completely, from its first PES packet.
 pub entire_source : {D : Type 0} (remaining : D → Option (List ℕ)) (failure_count : D → ℕ)
     (old new : D) (input : InputCall)
     → input ≡ input_call remaining failure_count (λ s. Some 0) (λ s. 0) old new
     → IsPartOf entire_file remaining failure_count old new input
 entire_source remaining failure_count old new input is = grind (arith, nat_tests)
 
--- Calls followed by others are calls in turn. For `open_and_answer`.
 pub calls_go_on : {I O D : Type 0} (IsCall : D → FileCall I O → D → Type 0) (old mid new : D)
     (calls more : List (FileCall I O))
     → CallsInOrder IsCall old mid calls

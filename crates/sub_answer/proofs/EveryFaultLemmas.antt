@@ -42,14 +42,10 @@ use Rattle.sub_listing.proofs.PrinterLemmas.{prints-renumbered, prints-taken, pr
 use Rattle.sub_listing.proofs.PrinterLemmas.{prints_all, still_goes}
 use Rattle.sub_answer.proofs.PesEventLemmas.{decided}
 
--- ---- the subtitle file
-
--- Each fault of the subtitle file counts once.
 refusals-subtitles : (fs : List LoadFault) → refusals (subtitle_events fs) ≡ length fs
 refusals-subtitles [] = refl
 refusals-subtitles (f ∷ fs) = let rest = refusals-subtitles fs in omega (arith, rest)
 
--- The fault that an error of the subtitle file names.
 named : (f g : LoadFault)
     → (let r : Result (Option Accepted) CheckFault = Err (fault.Subtitles f) in r)
     ≡ Err (fault.Subtitles g)
@@ -68,7 +64,6 @@ module _ {D : Type 0} (IsReported : D → LoadFault → D → Type 0) (value : D
   printed items reported = prints_all IsReported value subtitle_event one old new items goes few
       reported
 
-  -- The subtitle file can't be read on: these were reported before.
   ended_at : (block : ℕ) (kind : LoadFaultKind) (items : List LoadFault)
       → (value new).failed ≡ false
       → Reports IsReported old new items
@@ -102,7 +97,6 @@ module _ {D : Type 0} (IsReported : D → LoadFault → D → Type 0) (value : D
     listed = are;
   }
 
-  -- An allocation was refused.
   at_memory : (block : ℕ)
       → (value new).failed ≡ false
       → ReportsSome IsReported old new
@@ -119,7 +113,6 @@ module _ {D : Type 0} (IsReported : D → LoadFault → D → Type 0) (value : D
       (λ is. cc) refl
       (λ file reported. (ap subtitle_events (items.2 file reported), (wants file reported).ends))
 
-  -- The source failed.
   at_read : (block : ℕ)
       → (value new).failed ≡ false
       → ReportsSome IsReported old new
@@ -137,7 +130,6 @@ module _ {D : Type 0} (IsReported : D → LoadFault → D → Type 0) (value : D
       (λ is. record { bytes = f.bytes; consumed = f.consumed; block_is = f.block_is }) refl
       (λ file reported. ap subtitle_events (items.2 file reported))
 
-  -- The subtitle file can't be read on. For `report_every_fault`.
   pub after_error : (block : ℕ) (kind : LoadFaultKind)
       → (value new).failed ≡ false
       → (kind ≡ load.Memory) ⊎ (kind ≡ load.File stl_fault.Read)
@@ -152,7 +144,6 @@ module _ {D : Type 0} (IsReported : D → LoadFault → D → Type 0) (value : D
   after_error block kind fault_free kinds some count memory read =
       grind (arith, nat_tests, at_memory, at_read)
 
-  -- The part of a list that was reported, whether the sink failed or not.
   prints-faults : (items : List LoadFault) (stopped b : Bool)
       → (value new).failed ≡ b
       → (b ≡ false → stopped ≡ false)
@@ -172,8 +163,6 @@ module _ {D : Type 0} (IsReported : D → LoadFault → D → Type 0) (value : D
           prints-taken subtitle_event (value old) (value new) p.0 items is
           (printed (take p.0 items) p.3)
 
-  -- The subtitle file is refused: these are its faults, of which the sink may have a part. For
-  -- `report_every_fault`.
   pub after_faults : (stopped : Bool)
       → ((value new).failed ≡ false → (value new).count ≡ (value old).count → stopped ≡ false)
       → ReportsOfFile IsReported old new
@@ -214,8 +203,6 @@ module _ {D : Type 0} (IsReported : D → LoadFault → D → Type 0) (value : D
             (ap subtitle_events (items.2 file heard), rw (refusals-subtitles items.0) items.1.1);
       }
 
-  -- At least one fault was reported, and the sink failed when the lines were to be flushed.
-  -- For `report_every_fault`.
   pub after_unhanded : (fs : List LoadFault)
       → (value new).failed ≡ true
       → Reports IsReported old new fs
@@ -245,9 +232,6 @@ module _ {D : Type 0} (IsReported : D → LoadFault → D → Type 0) (value : D
         (ap subtitle_events (are file heard), rw (refusals-subtitles fs) some);
   }
 
--- ---- flushed lines
-
--- A printer that can't be flushed has failed. For `report_every_fault`.
 pub stops_failed : (old new : PrinterValue) (events : List Event)
     → PrintsEvents old events new
     → old.count < 0xFFFF_FFFF_FFFF_FFFF
@@ -255,7 +239,6 @@ pub stops_failed : (old new : PrinterValue) (events : List Event)
     → new.failed ≡ true
 stops_failed old new events prints room stopped = grind (arith, nat_tests, still_goes)
 
--- Something was reported to a printer that waits. For `report_every_fault`.
 pub some_reported : {D : Type 0} (IsReported : D → LoadFault → D → Type 0) (has_pending : D → Bool)
     (old new : D) (fs : List LoadFault)
     → Reports IsReported old new fs
@@ -266,7 +249,6 @@ some_reported IsReported has_pending old new [] reported still pending =
     absurd (true≢false (sym pending ∙ ap has_pending reported.one_by_one ∙ still))
 some_reported IsReported has_pending old new (f ∷ fs) reported still pending = omega arith
 
--- If it holds nothing back unless it waits, that stays true after events. For `report_every_fault`.
 pub buffered_reported : {D : Type 0} (IsReported : D → LoadFault → D → Type 0)
     (has_pending : D → Bool)
     (buffered : D → ℕ)
@@ -281,12 +263,9 @@ buffered_reported IsReported has_pending buffered one old new [] holds reported 
 buffered_reported IsReported has_pending buffered one old new (f ∷ fs) holds (mid, first, rest) =
     buffered_reported IsReported has_pending buffered one mid new fs (one old mid f first) rest
 
--- A property of errors. For `report_every_fault`.
 pub when_err : {X E : Type 0} {Q : Type 0} (r : Result X E) → is_err r ≡ true → IfErr r (λ _. Q) → Q
 when_err (Ok x) is holds = absurd (true≢false (sym is))
 when_err (Err e) is holds = holds
-
--- ---- both files
 
 module _ (drawing : Drawing) (options : OptionsValue) (stl pes : SourceCall) (first : FirstNumber)
     (Untouched : Type 0) (old mid new : PrinterValue) (judged : JudgedValue)
@@ -296,7 +275,6 @@ module _ (drawing : Drawing) (options : OptionsValue) (stl pes : SourceCall) (fi
     (stl_count : RisesIf stl.old_count false stl.new_count)
     (by : IfKnown stl.known (λ file. JudgesBy drawing file judged))
     (are : IfKnown stl.known (λ file. fs ≡ faults drawing file)) where
-  -- All lines of the first file followed by those of the second.
   both_printed : (number : ℕ) (events : List Event)
       → PrintsEvents (record mid { first = number }) events new
       → PrintsEvents (record old { first = number }) (subtitle_events fs ++ events) new
@@ -304,7 +282,6 @@ module _ (drawing : Drawing) (options : OptionsValue) (stl pes : SourceCall) (fi
       prints-two (record old { first = number }) (record mid { first = number }) new
       (subtitle_events fs) events (prints-renumbered number old mid fs before) goes more
 
-  -- The events then.
   both_listed : (events : List Event) (answer : Result Accepted ℕ)
       → IfKnown pes.known (λ bytes. AreListedOfPes judged options bytes events answer)
       → IfKnown stl.known (λ file.
@@ -317,7 +294,8 @@ module _ (drawing : Drawing) (options : OptionsValue) (stl pes : SourceCall) (fi
     listed = listed;
   }
 
-  -- If the file gives a programme it has no events, and all of it is known.
+  -- If the subtitle file gives a programme it has no events, so the events of the PES file decide
+  -- the answer of `check`.
   verdict : (events : List Event) (a : Accepted)
       → IfKnown pes.known (λ bytes.
       (programme : ProgrammeValue)
@@ -336,8 +314,6 @@ module _ (drawing : Drawing) (options : OptionsValue) (stl pes : SourceCall) (fi
       subst (λ gs. IsAnswer programme options bytes (first_answer (subtitle_events gs ++ events) a))
       (sym nothing) (checked bytes reported programme (whole.1 ∙ ap known one))
 
-  -- The faults of the subtitle file were reported, and then the events of the PES file. For
-  -- `report_every_fault`.
   pub after_judged : (given : Result (Option Accepted) CheckFault)
       → ReportsPes judged options pes first mid new given
       → ReportsBoth drawing options stl pes first Untouched old new given

@@ -1,4 +1,4 @@
--- The source of the PES file failed: what is reported then, and what is not. Main lemmas:
+-- The reports if the source of the PES file failed, and what is not reported. Main lemmas:
 -- reports_none, cut_reads, last_line.
 use Rattle.std.proofs.lemmas.Bool.Decides.{nat_tests}
 use Rattle.std.proofs.Common.{◌≡◌, refl, sym, subst, arith, ℕ, ◌<◌}
@@ -29,30 +29,25 @@ use Rattle.sub_listing.specs.FaultLine.{line_of, counted_from}
 use Rattle.sub_answer.specs.EveryFault.{ReportsBoth}
 use Rattle.sub_listing.specs.Printer.{PrinterValue}
 
--- Without PES packets there are no events.
 pub no_events : (programme : ProgrammeValue) (options : OptionsValue) (bytes : List ℕ)
     → events_of_first_pes_packets programme options bytes 0 ≡ []
 unfolding events_of_pes_packets all_announced reported_after steps_of_each
 no_events programme options bytes = refl
 
--- Nor are there if subtitles were refused.
 no_events_by : (judged : JudgedValue) (options : OptionsValue) (bytes : List ℕ)
     → events_of_first_by judged options bytes 0 ≡ []
 unfolding events_of_pes_packets all_announced reported_after steps_of_each
 no_events_by judged options bytes = refl
 
--- The source failed before its first PES packet was found. For `report_transmission`.
 pub reports_none : {D : Type 0} (IsReported : D → Event → D → Type 0) (judged : JudgedValue)
     (options : OptionsValue) (bytes : List ℕ) (old : D)
     → ReportsEvents judged options bytes IsReported old old (Err (fault.Pes 0 pes_fault.Read))
 reports_none IsReported judged options bytes old = grind (arith, nat_tests, no_events_by)
 
--- A result other than `Ok` is an error. For `flush_reports`.
 pub not_is_err : {X E : Type 0} (r : Result X E) → not (is_ok r) ≡ is_err r
 not_is_err (Ok x) = refl
 not_is_err (Err e) = refl
 
--- A property of errors holds for one of these.
 pub error_fails : {X E : Type 0} (Q : Type 0) (is_one : E → Bool) (r : Result X E)
     → IfErr r (λ _. Q)
     → failed is_one r ≡ true
@@ -68,7 +63,6 @@ ok_keeps : (answer : Result (Option Accepted) CheckFault) (old new : ℕ)
 ok_keeps (Ok a) old new ok same risen = omega (arith, same, risen)
 ok_keeps (Err f) old new ok same risen = absurd (true≢false (sym ok))
 
--- Then the printer has not failed.
 pub cut_reads : {drawing : Drawing} {options : OptionsValue} {stl pes : SourceCall}
     {first : FirstNumber} {Untouched : Type 0} {old new : PrinterValue}
     {given : Result (Option Accepted) CheckFault}
@@ -79,7 +73,6 @@ pub cut_reads : {drawing : Drawing} {options : OptionsValue} {stl pes : SourceCa
 cut_reads reported failing risen =
     ok_keeps reported.answer _ _ (reported.cut failing) reported.sources.pes_count risen
 
--- The line of the failure was written, and nothing before it is held back.
 pub last_line : {K : Type 0} (contents : K → Option (List ℕ)) (buffered : K → ℕ)
     (IsPush : K → List ℕ → Option ℕ → K → Type 0) (before new end : K) (number : ℕ)
     (answer : Result (Option Accepted) CheckFault)

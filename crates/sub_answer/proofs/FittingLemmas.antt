@@ -9,7 +9,6 @@ use Rattle.sub_files.specs.declared.opening.Opened.{Opened}
 use Rattle.sub_files.specs.declared.opening.Opened.TheVariants.{Extract, Write}
 use Rattle.sub_answer.specs.Ending.{Fits}
 
--- If the output was created, the result contains it.
 created :
     {I O : Type 0} (made : O → Opened I O) (b : Bool) (output : List ℕ)
     (calls : List (FileCall I O)) (opened : Opened I O)
@@ -17,7 +16,6 @@ created :
     → (file : O) × (opened ≡ made file)
 created made b output calls opened is = grind (arith, nat_tests)
 
--- It also contains the input.
 made_of :
     {I O : Type 0} (made : I → O → Opened I O) (input output : List ℕ)
     (calls : List (FileCall I O)) (opened : Opened I O)
@@ -25,7 +23,6 @@ made_of :
     → (file : I) × (created : O) × (opened ≡ made file created)
 made_of made input output calls opened is = grind (arith, nat_tests, created)
 
--- For `open_and_answer`.
 pub fits : {I O : Type 0} (request : FileNames) (calls : List (FileCall I O)) (opened : Opened I O)
     → Opens request calls (Some opened)
     → Fits request opened

@@ -26,7 +26,6 @@ use Rattle.ttx_page.specs.Page.{Rows}
 use Rattle.sub_listen.specs.declared.listening.ListenFault.{ListenFault}
 use Rattle.sub_request.specs.declared.listening.Listening.{Listening}
 
--- The output of a run of a receiver that was tuned. For `listen`.
 pub listens_from : (leaves : ℕ → ℕ) (l : Listening) (first : ℕ) (frames : Transmission)
     → (unread : Option Unread) (reported left : Option (List ℕ)) (w : PageIdValue)
     → (old end : Display) (result : Result (Unit {0}) ListenFault) (page : Rows)
@@ -43,8 +42,6 @@ listens_from
     is_old hears seen =
     grind (arith, nat_tests)
 
--- The answer depends only on what a receiver leaves in a cell whose byte has even parity. For
--- `answer`.
 pub answers_as : (leaves left : ℕ → ℕ) (l : Listening) (pes : SourceCall) (first : FirstNumber)
     → (out : SinkCall) (status : Status)
     → leaves ≡ left
@@ -52,7 +49,6 @@ pub answers_as : (leaves left : ℕ → ℕ) (l : Listening) (pes : SourceCall) 
     → AnswersListen leaves l pes first out status
 answers_as leaves left l pes first out status same answers = rw same answers
 
--- What is received after the first PES packet was found. For `print_listening`.
 pub heard_kept : (leaves : ℕ → ℕ) (l : Listening) (number : ℕ) (old mid left : Option (List ℕ))
     (old_count mid_count new_count : ℕ) (out : SinkCall) (status : Status)
     → Keeps old mid
@@ -86,7 +82,6 @@ heard_kept leaves l number old mid left old_count mid_count new_count out status
           );
     }
 
--- The source failed before that. For `print_listening`.
 pub none_heard : (leaves : ℕ → ℕ) (l : Listening) (number : ℕ) (pes : SourceCall) (out : SinkCall)
     (status : Status)
     → Keeps pes.known pes.left

@@ -25,7 +25,6 @@ use Rattle.sub_answer.specs.FilesInMemory.{LawOfFilesInMemory, known_of_memory}
 use Rattle.sub_answer.specs.Part.{part_requested, through_range, through_stream, entire_file}
 use Rattle.sub_answer.specs.declared.part.Part.{Part}
 
--- Two files with these names were opened.
 record BothOpened
     (stl pes : List ℕ) (files : MemFilesValue) (opened : Opened (List ℕ) Written)
     : Type 0 where
@@ -44,14 +43,13 @@ both_opened :
     → BothOpened stl pes before opened
 both_opened stl pes before after calls more opened made opens = grind (arith, nat_tests)
 
--- The bytes of a file in memory, or of a part of it, in the calls of an answer.
+-- An input that reads a file in memory, or a part of it, has the bytes of the file or of that part.
 read_reported : (part : Part) (file : List ℕ) (left : Option (List ℕ)) (input : InputCall)
     → IsSourceOf known_of_memory part (Some file) left input
     → input.call.known ≡ through_range part.range (through_stream part.stream (Some file))
 read_reported part file None input is = absurd is
 read_reported part file (Some left) input is = is.is_part.reported
 
--- A run that does not end as a failure ends as the answer did.
 same_status :
     (printed new : Lines) (status result : Status)
     → FlushesBufferedLines printed status new result
@@ -59,7 +57,6 @@ same_status :
     → result ≡ status
 same_status printed new status result h runs = grind (arith, nat_tests)
 
--- What a check that ended like this says about these bytes.
 abbrev Reports : Request → List ℕ → List ℕ → Status → Type 0
 Reports (ask.Check stl pes options national layout scope all) file bytes status =
     (read : List ℕ)
@@ -108,7 +105,6 @@ reports (ask.Listen pes listening) _ _ _ _ _ _ _ _ _ _ _ _ = tt
 reports (ask.Extract recording pes stream) _ _ _ _ _ _ _ _ _ _ _ _ = tt
 reports (ask.Survey recording options) _ _ _ _ _ _ _ _ _ _ _ _ = tt
 
--- Two files that were opened are read.
 over_both :
     (request : Request) (opened : Opened (List ℕ) Written) (first second : List ℕ)
     (left : FilesLeft (List ℕ) Written) (IsAlone : Lines → Type 0) (old new : Lines)
@@ -122,7 +118,6 @@ over_both :
 over_both request opened first second left IsAlone old new result opened_is ends =
     grind (arith, nat_tests)
 
--- A file has only one content.
 same_bytes :
     (reported : Option (List ℕ)) (a b : List ℕ) → reported ≡ Some a → reported ≡ Some b → a ≡ b
 same_bytes reported a b one other = let e = sym one ∙ other in cc

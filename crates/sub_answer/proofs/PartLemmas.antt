@@ -1,5 +1,5 @@
--- A part of a source, by how it was made. Main lemmas: all_of_source, file_of_source,
--- stream_of_source, all_of_pes_packets, range_of_pes_packets.
+-- A part of a source, for each way in which it can be selected. Main lemmas: all_of_source,
+-- file_of_source, stream_of_source, all_of_pes_packets, range_of_pes_packets.
 use Rattle.std.proofs.lemmas.Bool.Decides.{nat_tests}
 use Rattle.std.proofs.Common.{◌≡◌, ◌∙◌, ap, arith, ℕ, List, Option, Some, None, true, false}
 use Rattle.std.specs.Prelude.{◌⊎◌, option_map}
@@ -14,11 +14,8 @@ use Rattle.sub_answer.specs.Part.{entire_file}
 use Rattle.sub_answer.specs.declared.part.Part.{Part}
 use Rattle.sub_answer.proofs.EndingLemmas.{entire_source}
 
--- ---- of a source
-
 module _ {D : Type 0} (remaining : D → Option (List ℕ)) (failure_count : D → ℕ)
     (old left : D) (input : InputCall) where
-  -- The whole source, if the request reads no PES packets.
   pub all_of_source : (request : Request) (p : Part)
       → (p ≡ entire_file) ⊎ (reads_pes_packets request ≡ true)
       → reads_pes_packets request ≡ false
@@ -26,7 +23,6 @@ module _ {D : Type 0} (remaining : D → Option (List ℕ)) (failure_count : D �
       → IsPartOf p remaining failure_count old left input
   all_of_source request p fits none is = grind (arith, nat_tests, entire_source)
 
-  -- A range of a file.
   pub file_of_source : {P : Type 0} (given following : P → Option (List ℕ)) (count : P → ℕ)
       (before after : P) (p : Part)
       → IsRangeOf p.range given following count before after input
@@ -44,7 +40,6 @@ module _ {D : Type 0} (remaining : D → Option (List ℕ)) (failure_count : D �
     left_is = λ whole. is.left_is (ap (λ (q : Part). q.range) whole) ∙ leaves;
   }
 
-  -- A range of what a transport stream carries.
   pub stream_of_source : {P : Type 0} (given following : P → Option (List ℕ)) (count : P → ℕ)
       (before after : P) (p : Part) (s : TransportStream)
       → IsRangeOf p.range given following count before after input
@@ -61,11 +56,8 @@ module _ {D : Type 0} (remaining : D → Option (List ℕ)) (failure_count : D �
     left_is = λ whole. let none = ap (λ (q : Part). q.stream) whole in absurd cc;
   }
 
--- ---- of PES packets
-
 module _ {P : Type 0} (given following : P → Option (List ℕ)) (count : P → ℕ) (before after : P)
     (input : InputCall) where
-  -- All of them.
   pub all_of_pes_packets : (first : P → Option ℕ) (skipped : P → ℕ)
       → first before ≡ Some 0
       → input ≡ pes_packets_call given following count first skipped before after
@@ -78,7 +70,6 @@ module _ {P : Type 0} (given following : P → Option (List ℕ)) (count : P →
     left_is = λ none. ap (λ (i : InputCall). i.call.left) is;
   }
 
-  -- Those of a range, given the source of all.
   pub range_of_pes_packets : (part : InputCall) (r : PesPacketRangeValue)
       → input ≡ part
       → part.call.known ≡ option_map (in_range r) (given before)

@@ -39,7 +39,6 @@ use Rattle.sub_listing.specs.Printer.{PrinterValue, PrintsEvent, PrintsEvents}
 use Rattle.sub_listing.proofs.PrinterLemmas.{as_reported, prints-taken}
 use Rattle.sub_listing.proofs.PrinterLemmas.{prints_all}
 
--- If the bytes of a source are known, a value that they decide exists.
 pub decided : {A : Type 0} (Q : A → Type 0) (reported : Option (List ℕ)) (given : List ℕ → A)
     (some : A)
     → Q some
@@ -53,7 +52,6 @@ decided Q (Some bytes) given some holds reported = (
       same,
 )
 
--- The first frame is not after the latest one.
 latest-first : (frames : Transmission) (n : ℕ)
     → frame_at frames 0 ≤ latest frames (suc n)
 unfolding latest
@@ -61,7 +59,6 @@ latest-first frames zero = grind (arith, nat_tests)
 latest-first frames (suc n) =
     let before = latest-first frames n in grind (arith, nat_tests)
 
--- What was read can be counted.
 some_counts : (page : PageIdValue) (frames : Transmission) (n : ℕ) → length frames ≡ n
     → (a : Accepted) × CountsRead page frames a
 some_counts page frames zero is = (
@@ -88,17 +85,14 @@ some_counts page frames (suc n) is =
       },
     )
 
--- If the source of the PES file failed, the fault names the PES packet in which it did. A separate
--- lemma, since `cc` is slow to refute its cases when more is known.
+-- If the source of the PES file failed, the fault names the PES packet in which the failure
+-- happened. A separate lemma, since `cc` is slow to refute its cases when more is known.
 read_at : (f : CheckFault)
     → is_pes_read f ≡ true
     → (n : ℕ) × (f ≡ fault.Pes n pes_fault.Read)
 read_at (fault.Pes n pes_fault.Read) is = (n, refl)
 read_at f is = cc
 
--- The answer of `check_all` with any options, and if each header has to erase the page, which has
--- to be right at the end of each frame, for a programme without refused subtitles. For
--- `report_transmission`.
 pub all_answers : (judged : JudgedValue) (options : OptionsValue) (pes : Option (List ℕ))
     (r : Result (Option Accepted) CheckFault)
     → ((programme : ProgrammeValue)
@@ -123,7 +117,6 @@ all_answers judged options pes (Ok (Some a)) by at_once bytes heard programme is
 all_answers judged options pes (Ok None) by at_once bytes heard programme is = tt
 all_answers judged options pes (Err f) by at_once bytes heard programme is = tt
 
--- If no subtitle was refused, the events are those for its programme.
 events_known : (judged : JudgedValue) (programme : ProgrammeValue) (options : OptionsValue)
     (bytes : List ℕ)
     → judged ≡ known programme
@@ -143,7 +136,6 @@ module _ {D : Type 0} (IsReported : D → Event → D → Type 0) (value : D →
       as_reported (value old) (value new) items
       (prints_all IsReported value (λ (e : Event). e) one old new items goes few reported)
 
-  -- The source of the PES file failed.
   after_pes_error : (f : CheckFault)
       → is_pes_read f ≡ true
       → (value new).failed ≡ false
@@ -198,7 +190,6 @@ module _ {D : Type 0} (IsReported : D → Event → D → Type 0) (value : D →
             listed = are;
           }
 
-  -- These are the events of the PES file, of which the sink may have a part.
   read_pes : (items : List Event) (a : Accepted) (given : Result (Option Accepted) CheckFault)
       → PrintsEvents (value old) items (value new)
       → ((value new).failed ≡ false → Ok (Some a) ≡ given)
@@ -228,7 +219,6 @@ module _ {D : Type 0} (IsReported : D → Event → D → Type 0) (value : D →
     listed = are;
   }
 
-  -- The PES file was read.
   after_all : (given : Accepted)
       → ReportsSome IsReported old new
       → IfKnown pes.known (λ bytes. ReportsEvents judged options bytes IsReported old new
@@ -253,7 +243,6 @@ module _ {D : Type 0} (IsReported : D → Event → D → Type 0) (value : D →
       (sym (events.2 bytes heard ∙ events_known judged programme options bytes is))
       (first_is bytes heard programme is))
 
-  -- The sink failed.
   after_stop : (value new).failed ≡ true
       → ReportsSome IsReported old new
       → IfKnown pes.known (λ bytes. ReportsEvents judged options bytes IsReported old new (Ok None))
@@ -280,7 +269,6 @@ module _ {D : Type 0} (IsReported : D → Event → D → Type 0) (value : D →
       rw (events.2 bytes heard) (refl, (counts bytes).1))
       (λ fault_free. absurd (true≢false (sym failing ∙ fault_free)))
 
-  -- The PES file was read, or its source failed, or the sink. For `report_transmission`.
   pub after_pes : (r : Result (Option Accepted) CheckFault) (stopped : Bool)
       → ((value new).failed ≡ true → stopped ≡ true)
       → ((value new).failed ≡ false → (value new).count ≡ (value old).count → stopped ≡ false)
@@ -316,7 +304,6 @@ module _ {D : Type 0} (IsReported : D → Event → D → Type 0) (value : D →
       calm true e = absurd (true≢false (sym (stops e) ∙ goes_on))
       calm false e = e
 
--- The events, if the printer had another first number before. For `report_transmission`.
 pub with_first : (judged : JudgedValue) (options : OptionsValue) (pes : SourceCall)
     (first : FirstNumber) (old new : PrinterValue) (number : ℕ)
     (given : Result (Option Accepted) CheckFault)

@@ -84,5 +84,5 @@ printed-reported _ _ out mid _ reported status grows same (inr p) is_fault other
   };
 }
 
--- For `print_survey`: `using(crate::proofs::SurveyListingLemmas::surveys)`.
+-- Lemmas for `print_survey`, which it uses by `using(crate::proofs::SurveyListingLemmas::surveys)`.
 pub ruleset surveys = (printed-done, printed-cut)

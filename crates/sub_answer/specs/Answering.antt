@@ -44,7 +44,7 @@ use Rattle.sub_request.specs.declared.request.Request.TheVariants as ask
 use Rattle.sub_listing.specs.declared.status.Status.{Status}
 use Rattle.sub_listing.specs.declared.status.Status.TheVariants.{Done, Fault}
 
--- Whether the answer needs memory: for a programme, a whole file, or the state of a survey.
+-- The answer to the request needs memory: for a programme, a whole file, or the state of a survey.
 abbrev pub takes_memory : Request → Bool
 takes_memory (ask.Normal input output) = true
 takes_memory (ask.Schedule stl pes options serial national layout scope) = true
@@ -62,13 +62,13 @@ drawing_of _ = drawing_by English default_layout
 
 -- ---- the answer of each command
 
--- The line of an answer, with the status, if the first PES packet that is read has the number
--- `first` in its file.
+-- The printed line of an answer of `check`, with the status. `first` is the number of the first PES
+-- packet in its file.
 abbrev pub verdict : ℕ → Result Accepted CheckFault → Listing
 verdict first (Ok a) = done (accepted_line a)
 verdict first (Err f) = fault_listing (counted_from first (check_line f))
 
--- `check` has one answer, which the bytes of both files decide, and prints it. `first` is the
+-- `check` has one answer, which the bytes of both files decide, and prints its line. `first` is the
 -- number of the first PES packet in its file; `Untouched` says that no byte of the PES file was
 -- read.
 pub record AnswersCheck
@@ -79,7 +79,7 @@ pub record AnswersCheck
   -- PES packets are reported by their numbers in the file.
   pub number : ℕ
   pub starts : failed is_subtitle_fault answer ≡ false → StartsAt first pes number
-  -- Its line is printed, or `out` failed and has a prefix of it.
+  -- The line of the answer is printed, or `out` failed and has a prefix of the line.
   pub printed : PrintsOrFails out (verdict number answer) status
   -- A failed source is reported at the block that was being read, with no fault before it, or at
   -- the PES packet in which it failed.
@@ -87,19 +87,20 @@ pub record AnswersCheck
       ReportsSources (FailsLoading drawing stl.known stl.left)
       (λ index. FailsAtPacket index pes.known pes.left)
       Untouched (failed is_subtitle_fault answer) stl pes answer
-  -- If the bytes of the files are known, they decide the answer. What is accepted is robust, with
-  -- lost rows, too: every receiver shows each due page within the repeat bound, except for cells
-  -- whose byte was hit. Receivers recover whatever they contained before, and if complete pages are
-  -- required, the due page is on their screens. If `within` is not 0, each due page is shown like
-  -- this at the end of at least one of its frames. A subtitle file without a programme is refused.
+  -- If the bytes of the files are known, they decide the answer. An accepted transmission is
+  -- robust, with lost rows, too: every receiver shows each due page within the repeat bound, except
+  -- for cells whose byte was hit. Receivers recover whatever they contained before, and if complete
+  -- pages are required, the due page is on their screens. If `within` is not 0, receivers show each
+  -- due page at the end of at least one of its frames. A subtitle file without a programme is
+  -- refused.
   pub checked : IfKnown stl.known (λ file. AreChecked drawing options file pes.known answer)
   pub ends :
       IsStatusOfFiles drawing options stl pes out (PrintsMemory drawing stl.known out.old out.new)
       status
 
 -- The output shows the state of a receiver that received the frames of the PES file, and leaves the
--- code `leaves` in a cell whose byte has even parity; or the refusal. The first PES packet has the
--- number `first` in its file.
+-- code `leaves` in a cell whose byte has even parity; or the refusal. `first` is the number of the
+-- first PES packet in its file.
 pub record PrintsHeard
     (leaves : ℕ → ℕ) (listening : Listening) (first : ℕ) (pes : SourceCall) (out : SinkCall)
     (status : Status)
@@ -112,15 +113,16 @@ pub record PrintsHeard
       → (listing : Listing)
       × Listens leaves listening first frames unread pes.known pes.left listing
       × PrintsOrFails out listing status)
-  -- A failed source is reported at the PES packet in which it failed, if nothing before it is
-  -- refused.
+  -- A failed source is reported at the PES packet in which it failed, if no fault before it is
+  -- reported.
   pub read :
       pes.new_count ≢ pes.old_count
       → (f : ListenFault)
       × FailsListening listening pes.known pes.left f
       × PrintsOrFails out (fault_listing (counted_from first (listen_line f))) status
 
--- `listen` prints that. `first` is the number of the first PES packet in its file.
+-- `listen` prints the state of the receiver, or the refusal. `first` is the number of the first PES
+-- packet in its file.
 pub record AnswersListen
     (leaves : ℕ → ℕ) (listening : Listening) (pes : SourceCall) (first : FirstNumber)
     (out : SinkCall) (status : Status)
@@ -130,13 +132,14 @@ pub record AnswersListen
   pub starts : StartsAt first pes number
   pub heard : PrintsHeard leaves listening number pes out status
 
--- An input in a call, and the number of the first PES packet that it gives in its file.
+-- The bytes of an input before and after a call, and the number, in its file, of the first PES
+-- packet that the input gives.
 pub record InputCall : Type 0 where
   pub call : SourceCall
   pub number : FirstNumber
 
--- An input in a call, given its remaining bytes and count of failures, that number, and how many
--- PES packets of the file were skipped.
+-- An input in a call, given its remaining bytes, its count of failures, the number of its first PES
+-- packet, and how many PES packets of the file were skipped.
 abbrev pub input_call :
     {S : Type 0}
     → (S → Option (List ℕ)) → (S → ℕ) → (S → Option ℕ) → (S → ℕ) → S → S → InputCall
@@ -150,8 +153,8 @@ abbrev pub entire_call : {S : Type 0} → (S → Option (List ℕ)) → (S → �
 entire_call remaining failure_count old new =
     input_call remaining failure_count (λ s. Some 0) (λ s. 0) old new
 
--- PES packets in a call, given those still to come, what their device still has and its count of
--- failures, and the number of the first one.
+-- An input of PES packets in a call, given the bytes of the PES packets to come, the bytes left in
+-- its device, its count of failures, and the number of the first PES packet.
 abbrev pub pes_packets_call :
     {P : Type 0}
     → (P → Option (List ℕ)) → (P → Option (List ℕ)) → (P → ℕ) → (P → Option ℕ) → (P → ℕ) → P → P
@@ -165,7 +168,7 @@ pes_packets_call remaining left failure_count number skipped old new = record {
 abbrev pub fails : InputCall → Type 0
 fails input = input.call.old_count < input.call.new_count
 
--- The first input of the request gives PES packets: they are listed, received or written.
+-- The first input of the request gives PES packets that are listed, received or written.
 abbrev pub reads_pes_packets : Request → Bool
 reads_pes_packets (ask.Packets pes) = true
 reads_pes_packets (ask.Listen pes listening) = true
@@ -176,11 +179,11 @@ reads_pes_packets _ = false
 abbrev pub reads_source : Request → Bool
 reads_source request = reads_one (files_of request) && not (reads_pes_packets request)
 
--- An input of the request gives PES packets: the first, or the second of a check.
+-- An input of the request gives PES packets: the first input, or the second input of a check.
 abbrev pub reads_some_pes_packets : Request → Bool
 reads_some_pes_packets request = reads_pes_packets request || reads_two (files_of request)
 
--- The first input of the request: a source, or one that gives PES packets.
+-- The first input of the request: a source of bytes, or an input that gives PES packets.
 abbrev pub first_input : Request → InputCall → InputCall → InputCall
 first_input request source pes_packets = if reads_pes_packets request then pes_packets else source
 
@@ -234,19 +237,19 @@ pub record CountsFaults
       → first.old_count + second.old_count + file.old_count + out.old_count
       < first.new_count + second.new_count + file.new_count + out.new_count
 
--- If the status is `Done`, an output file holds no byte back.
+-- If the status is `Done`, the buffer of an output file is empty.
 abbrev pub FlushesWritten : Request → Status → ℕ → Type 0
 FlushesWritten request status buffered =
     writes_one (files_of request) ≡ true → status ≡ Done → buffered ≡ 0
 
--- It is stored then.
+-- If the status is `Done`, an output file is stored.
 abbrev pub StoresWritten : Request → Status → Bool → Type 0
 StoresWritten request status is_stored =
     writes_one (files_of request) ≡ true → status ≡ Done → is_stored ≡ true
 
--- A request whose output can be followed while its PES file or recording arrives: this holds if its
--- source failed. That is the first source of `packets` and `survey`, and the second of `check
--- --all`.
+-- For a request whose output can be followed while its PES file or recording arrives: `IsAlone`
+-- holds if the source failed. The source is the first input of `packets` and `survey`, and the
+-- second input of `check --all`.
 abbrev pub FlushesBefore : Request → Type 0 → Type 0 → Type 0 → Type 0
 FlushesBefore (ask.Packets pes) FirstFails SecondFails IsAlone = FirstFails → IsAlone
 FlushesBefore (ask.Survey recording options) FirstFails SecondFails IsAlone = FirstFails → IsAlone
@@ -255,16 +258,16 @@ FlushesBefore
     SecondFails → IsAlone
 FlushesBefore _ FirstFails SecondFails IsAlone = ⊤
 
--- A request that writes what its first source gives as soon as it has come: if that failed, the
--- file holds nothing back.
+-- For a request that writes bytes as soon as its first source gives them: if the source failed,
+-- `BuffersNothing` holds.
 abbrev pub WritesBefore : Request → Type 0 → Type 0 → Type 0
 WritesBefore (ask.Extract recording pes stream) FirstFails BuffersNothing = FirstFails →
     BuffersNothing
 WritesBefore _ FirstFails BuffersNothing = ⊤
 
--- A request was answered from a source and one that gives PES packets. `Untouched` says that no
--- byte of the PES packets was read, `BuffersNothing` that the file holds nothing back, `IsAlone`
--- that only the line of a fault is not flushed.
+-- A request was answered from a source and an input that gives PES packets. `Untouched` says that
+-- no byte of the PES packets was read, `BuffersNothing` that the buffer of the file is empty,
+-- `IsAlone` that only the line of a fault is not flushed.
 pub record AnswersOver
     (request : Request) (source pes_packets : InputCall) (Untouched : Type 0) (file out : SinkCall)
     (BuffersNothing IsAlone : Type 0) (status : Status)
@@ -272,12 +275,13 @@ pub record AnswersOver
   -- The output and the written file, command by command.
   pub answers :
       Answers request (first_input request source pes_packets) pes_packets Untouched file out status
-  -- Before the source of a recording may ask its device, everything written has reached the device
-  -- of the file.
+  -- All bytes written have reached the device of the file before the source of a recording may ask
+  -- its device.
   pub written :
       WritesBefore request (fails (first_input request source pes_packets)) BuffersNothing
-  -- Before the source of the PES file or recording may ask its device, which may fail, all output
-  -- has reached its device. So if it failed, only the line of its failure may be held back.
+  -- All output has reached its device before the source of the PES file or recording may ask its
+  -- device, which may fail. So if the source failed, only the line of its failure may still be in
+  -- the buffer.
   pub followed :
       FlushesBefore request (fails (first_input request source pes_packets)) (fails pes_packets)
       IsAlone

@@ -1,4 +1,4 @@
--- What the answers of `check` and of `check --all` have in common about both files.
+-- The parts of the answers of `check` and of `check --all` about both files that are the same.
 use Rattle.std.specs.Prelude.{◌≡◌, ◌≢◌, ◌↔◌, ℕ, Bool, true, IsFalse, Result, Err}
 use Rattle.sub_io.specs.Device.{RisesIf, failed}
 use Rattle.sub_io.specs.Reading.{IfKnown}
@@ -15,30 +15,32 @@ use Rattle.sub_listing.specs.DeviceCall.{SinkCall, SourceCall}
 use Rattle.sub_listing.specs.declared.status.Status.{Status}
 use Rattle.sub_listing.specs.declared.status.Status.TheVariants.{Done, Fault}
 
--- What an answer says about the sources of both files, given the meaning of a failure at a block or
--- at a PES packet.
+-- What an answer says about the sources of both files. `FailsAtBlock` and `FailsAtPes` define a
+-- failure at a block or at a PES packet.
 pub record ReportsSources
     {Counts : Type 0} (FailsAtBlock FailsAtPes : ℕ → Type 0) (Untouched : Type 0)
     (is_of_subtitles : Bool) (stl pes : SourceCall) (answer : Result Counts CheckFault)
     : Type 0 where
-  -- It says which of them failed.
+  -- The answer shows which of the two sources failed.
   pub stl_count : RisesIf stl.old_count (failed is_stl_read answer) stl.new_count
   pub pes_count : RisesIf pes.old_count (failed is_pes_read answer) pes.new_count
   -- A failed source is reported where it failed.
   pub stl_read :
       (f : LoadFault) → answer ≡ Err (Subtitles f) → is_load_read f ≡ true → FailsAtBlock f.block
   pub pes_read : (index : ℕ) → answer ≡ Err (Pes index Read) → FailsAtPes index
-  -- If it refuses the subtitle file or could not read it, no PES byte is read.
+  -- If the answer refuses the subtitle file, or reports that it could not be read, no byte of the
+  -- PES file is read.
   pub before : is_of_subtitles ≡ true → Untouched
 
--- What the status says about both files, given the output if an allocation was refused.
+-- What the status says about both files. `PrintsMemory` describes the output if an allocation was
+-- refused.
 pub record IsStatusOfFiles
     (drawing : Drawing) (options : OptionsValue) (stl pes : SourceCall) (out : SinkCall)
     (PrintsMemory : Type 0) (status : Status)
     : Type 0 where
-  -- Unless a device fails or an allocation is refused, it is `Done` exactly if the files are
-  -- accepted: if each header of the page has to erase it, and the page has to be right at the end
-  -- of each frame; and with any options, `done_by`.
+  -- Unless a device fails or an allocation is refused, the status is `Done` exactly if the files
+  -- are accepted: `done` if each header of the page has to erase it and the page has to be right at
+  -- the end of each frame, and `done_by` with any options.
   pub done :
       IsFalse options.keeps
       → options.within ≡ 0
@@ -51,7 +53,7 @@ pub record IsStatusOfFiles
       IfKnown pes.known (λ bytes.
       status ≢ Fault
       → (status ≡ Done) ↔ IsAcceptedBy drawing options file bytes))
-  -- It is `Fault` only if a device failed, or want of memory is printed.
+  -- The status is `Fault` only if a device failed, or the line about refused memory is printed.
   pub fault :
       status ≡ Fault
       → stl.new_count ≡ stl.old_count

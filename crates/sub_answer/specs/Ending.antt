@@ -1,5 +1,5 @@
--- How a run ends that answers a request with its files: the answer, what was flushed, and the
--- status.
+-- How a run that answers a request with its files ends: the answer, which output was flushed, and
+-- the status.
 use Rattle.std.specs.Prelude.{◌≡◌, ◌⊎◌, ℕ, ◌+◌, ◌<◌, List, [], ◌∷◌, ◌++◌, length, Option, Some}
 use Rattle.std.specs.Prelude.{Bool, None, false}
 use Rattle.std.specs.Io.KnownBytes.{Keeps, append_known, prepend_known}
@@ -27,24 +27,25 @@ use Rattle.sub_answer.specs.Answering.{WritesBefore, fails}
 use Rattle.sub_answer.specs.Part.{IsPartOf, part_requested, entire_file}
 use Rattle.sub_answer.specs.declared.part.Part.{Part}
 
--- A sink behind a buffer: the bytes written to it, those that the buffer still has, and its count
--- of failures.
+-- A sink with a buffer: the bytes written to it, the bytes that are still in the buffer, and its
+-- count of failures.
 pub record Lines : Type 0 where
   pub taken : Option (List ℕ)
   pub buffered : List ℕ
   pub count : ℕ
 
--- The same from a sink.
+-- The `Lines` of any sink, given its contents, the bytes in its buffer, and its count of failures.
 abbrev pub lines_in : {O : Type 0}
     → (O → Option (List ℕ)) → (O → List ℕ) → (O → ℕ) → O → Lines
 lines_in contents buffer_state failure_count o =
     record { taken = contents o; buffered = buffer_state o; count = failure_count o }
 
--- The count of bytes that are held back is correct.
+-- The number of bytes in the buffer is counted correctly.
 abbrev pub CountsBuffered : {O : Type 0} → (O → ℕ) → (O → List ℕ) → Type 0
 CountsBuffered {O} buffered buffer_state = (o : O) → buffered o ≡ length (buffer_state o)
 
--- A buffer, given the contents of the sink behind it and its count of failures.
+-- The `Lines` of a buffer, given the contents of the sink behind the buffer and its count of
+-- failures.
 abbrev pub lines_of : {D : Type 0} → (D → Option (List ℕ)) → (D → ℕ) → BufferState D → Lines
 lines_of contents failure_count k = record {
   taken = append_known (contents k.device) k.buffered;
@@ -52,15 +53,16 @@ lines_of contents failure_count k = record {
   count = failures_and_refused (failure_count k.device) k.refused;
 }
 
--- A buffer in a call, given the contents of the sink behind it and its count of failures.
+-- A buffered sink in a call, given the contents of the sink behind the buffer and its count of
+-- failures.
 abbrev pub buffered_call : {D : Type 0}
     → (D → Option (List ℕ)) → (D → ℕ) → BufferState D → BufferState D → SinkCall
 buffered_call contents failure_count old new =
     sink_call (λ k. (lines_of contents failure_count k).taken)
     (λ k. (lines_of contents failure_count k).count) old new
 
--- The buffer is flushed for a run that would end with this status: it ends with it, and the sink
--- has all bytes; or one more call has failed, and it ends with `Fault`.
+-- The buffer is flushed for a run that would end with `status`: the run ends with `status`, and the
+-- sink has all bytes; or one more call has failed, and the run ends with `Fault`.
 pub record FlushesBufferedLines (old : Lines) (status : Status) (new : Lines) (result : Status)
     : Type 0 where
   pub kept : Keeps old.taken new.taken
@@ -69,8 +71,8 @@ pub record FlushesBufferedLines (old : Lines) (status : Status) (new : Lines) (r
       ⊎ ((result ≡ Fault) × (new.count ≡ old.count + 1))
 
 -- Everything printed before the line of a fault was flushed, and since then only this line was
--- written. The sink is given by its contents, the bytes that it holds back, its count of failures,
--- and its pushes.
+-- written. The sink is given by its contents, the bytes in its buffer, its count of failures, and
+-- its pushes.
 pub record BuffersOneLineOnly
     {O : Type 0} (contents : O → Option (List ℕ)) (buffer_state : O → List ℕ)
     (failure_count : O → ℕ)
@@ -80,8 +82,9 @@ pub record BuffersOneLineOnly
   pub lines_are : lines ≡ lines_in contents buffer_state failure_count sink
   pub last : BuffersLastLineOnly contents (λ o. length (buffer_state o)) IsPush sink
 
--- The same for a buffer, given the contents of the sink behind it, its count of failures, and its
--- pushes.
+-- For a buffered sink: everything printed before the line of a fault was flushed, and since then
+-- only this line was written. The sink behind the buffer is given by its contents, its count of
+-- failures, and its pushes.
 abbrev pub BufferHoldsOneLineOnly :
     {D : Type 0}
     → (D → Option (List ℕ)) → (D → ℕ) → (D → List ℕ → Option ℕ → D → Type 0) → Lines → Type 0
@@ -89,13 +92,13 @@ BufferHoldsOneLineOnly contents failure_count IsPush =
     BuffersOneLineOnly (λ k. append_known (contents k.device) k.buffered) (λ k. k.buffered)
     (λ k. failures_and_refused (failure_count k.device) k.refused) (PushesBuffered IsPush)
 
--- No byte is held back, and no call has failed since.
+-- The buffer is empty, and no call has failed since the state `old`.
 pub record BuffersNothing
     {O : Type 0} (buffer_state : O → List ℕ) (failure_count : O → ℕ) (old new : O) : Type 0 where
   pub none : buffer_state new ≡ []
   pub count : failure_count new ≡ failure_count old
 
--- The last action was to flush the lines, while the file was in this state.
+-- The last action was to flush the lines, while the file was in the given state.
 pub record FlushesWithFile
     {O F : Type 0} (IsFlushed : O → BufferState F → Status → O → Status → Type 0)
     (file : BufferState F) (new : O) (result : Status)
@@ -104,9 +107,9 @@ pub record FlushesWithFile
   pub status : Status
   pub call : IsFlushed printed file status new result
 
--- A request was answered from sources and to a file with these properties in their calls, and then
--- the lines were flushed. `Untouched` says that no byte of the second source was read, and
--- `IsAlone` that all lines except that of a fault were flushed.
+-- A request was answered from sources and to a file with the given properties, and then the lines
+-- were flushed. `Untouched` says that no byte of the second source was read, and `IsAlone` that all
+-- lines except that of a fault were flushed.
 pub record EndsWith
     (request : Request) (IsFirst IsSecond : InputCall → Type 0) (Untouched : Type 0)
     (IsFile : InputCall → SinkCall → Type 0) (IsAlone : Lines → Type 0) (old new : Lines)
@@ -129,13 +132,14 @@ pub record EndsWith
         new_count = printed.count;
       })
       status
-  -- Before the source of the PES file or recording may ask its device, which may fail, all output
-  -- has reached its device. So if it failed, only the line of its failure may be held back.
+  -- All output has reached its device before the source of the PES file or recording may ask its
+  -- device, which may fail. So if the source failed, only the line of its failure may still be in
+  -- the buffer.
   pub followed :
       old.buffered ≡ [] → FlushesBefore request (fails first) (fails second) (IsAlone printed)
   pub flushed : FlushesBufferedLines printed status new result
 
--- The source has no bytes.
+-- The source of the input has no bytes.
 abbrev pub IsEmptySource : InputCall → Type 0
 IsEmptySource input = input.call.known ≡ Some []
 
@@ -143,8 +147,8 @@ IsEmptySource input = input.call.known ≡ Some []
 abbrev pub IsEmptyFile : InputCall → SinkCall → Type 0
 IsEmptyFile first call = call.old ≡ Some []
 
--- A file behind a buffer in the calls of the answer to a request, together with those of its first
--- source, given its contents and count of failures. It was closed as they left it.
+-- A buffered file in the calls of the answer to a request, given its contents and count of
+-- failures. The file was closed as the calls left it.
 pub record IsClosedAfter
     {D : Type 0} (contents : D → Option (List ℕ)) (failure_count : D → ℕ) (IsClose : D → D → Type 0)
     (request : Request) (old new : BufferState D) (first : InputCall) (call : SinkCall)
@@ -154,13 +158,13 @@ pub record IsClosedAfter
   pub closed : IsClose left.device new.device
   -- The bytes in the buffer are unchanged.
   pub buffered_is : new.buffered ≡ left.buffered
-  -- Before the source of a recording may ask its device, which may fail, everything written has
-  -- reached the device of the file. So if it failed, nothing is held back.
+  -- All bytes written have reached the device of the file before the source of a recording may ask
+  -- its device, which may fail. So if the source failed, the buffer of the file is empty.
   pub written : WritesBefore request (first.call.old_count < first.call.new_count)
       (left.buffered ≡ [])
 
--- A file of which this part is read, in the calls of an answer, which leave it in this state: an
--- empty buffer is before it, and no other device.
+-- The input is part `part` of a file, which the calls of an answer leave in the state `left`. The
+-- file has an empty buffer before it, and no other device.
 pub record IsReadFrom
     {I : Type 0} (part : Part) (remaining : I → Option (List ℕ)) (failure_count : I → ℕ)
     (file left : I) (input : InputCall)
@@ -175,10 +179,9 @@ pub record IsReadFrom
       new
       input
 
--- A file that is written, in the calls of the answer to a request, together with those of its first
--- source, and was closed as they left it: a buffer is before it, which was empty, and no other
--- device. If the run ends with `Done` the buffer is empty, no call has failed, and the file is
--- stored.
+-- A file that the answer to a request writes, and which was closed as the calls left it. The file
+-- has a buffer before it, which was empty, and no other device. If the run ends with `Done` the
+-- buffer is empty, no call has failed, and the file is stored.
 pub record IsWrittenTo
     {O : Type 0} (contents : O → Option (List ℕ)) (failure_count : O → ℕ) (is_stored : O → Bool)
     (IsClose : O → O → Type 0) (request : Request) (result : Status) (file left : O)
@@ -197,8 +200,9 @@ pub record IsWrittenTo
       (record { device = file; buffered = []; room = room; failed = false; refused = 0 }) new
   pub stored : StoresWritten request result (is_stored new.device)
 
--- What is known of input and output files: the bytes that are still to be read, and those that were
--- written; their counts of failures; and whether the system has stored what was written.
+-- The known properties of input and output files: the bytes that are still to be read, and the
+-- bytes that were written; their counts of failures; and whether the system has stored the written
+-- bytes.
 pub record KnownOfFiles (I O : Type 0) : Type 0 where
   pub remaining : I → Option (List ℕ)
   pub reads_failed : I → ℕ
@@ -206,7 +210,7 @@ pub record KnownOfFiles (I O : Type 0) : Type 0 where
   pub writes_failed : O → ℕ
   pub stored : O → Bool
 
--- The same from its parts.
+-- The known properties of input and output files, one by one.
 abbrev pub known_of_files :
     {I O : Type 0}
     → (I → Option (List ℕ)) → (I → ℕ) → (O → Option (List ℕ)) → (O → ℕ) → (O → Bool)
@@ -219,8 +223,8 @@ known_of_files remaining reads_failed contents writes_failed stored = record {
   stored = stored;
 }
 
--- A source is this part of this file, which is left in this state, or an empty one if no file was
--- opened.
+-- The input reads part `part` of the opened file, which is left in the state `left`; or it is empty
+-- if no file was opened.
 abbrev pub IsSourceOf :
     {I O : Type 0} → KnownOfFiles I O → Part → (opened left : Option I) → InputCall → Type 0
 IsSourceOf known part (Some file) (Some left) =
@@ -228,8 +232,8 @@ IsSourceOf known part (Some file) (Some left) =
 IsSourceOf known part None None = IsEmptySource
 IsSourceOf known part opened left = λ input. ⊥
 
--- The file of a request is the one that was created, which is left in this state, or an empty one
--- if none was.
+-- The sink writes to the created file, which is left in the state `left`; or it is an empty file if
+-- no file was created.
 abbrev pub IsSinkOf :
     {I O : Type 0}
     → KnownOfFiles I O → (O → O → Type 0) → Request → Status → (created left : Option O) → InputCall
@@ -246,17 +250,18 @@ pub record Devices (I O : Type 0) : Type 0 where
   pub second : Option I
   pub file : Option O
 
--- Only sources, the first of them completely or in part.
+-- The devices of a request that reads sources, the first of them completely or in part, and writes
+-- no file.
 abbrev pub sources : {I O : Type 0} → Part → Option I → Option I → Devices I O
 sources part first second =
     record { first = first; part = part; second = second; file = None }
 
--- One source, and the file.
+-- The devices of a request that reads one source and writes a file.
 abbrev pub source_and_file : {I O : Type 0} → Part → I → O → Devices I O
 source_and_file part source file =
     record { first = Some source; part = part; second = None; file = Some file }
 
--- Which they are. This part is read of a file of PES packets and of a recording.
+-- The devices for the opened files. Only `part` is read of a file of PES packets or of a recording.
 abbrev pub devices_of : {I O : Type 0} → Part → Opened I O → Devices I O
 devices_of part Nothing = sources entire_file None None
 devices_of part (ReadStl stl) = sources entire_file (Some stl) None
@@ -281,22 +286,22 @@ pub record FilesLeft (I O : Type 0) : Type 0 where
   pub second : Option I
   pub file : Option O
 
--- An input file is released, if there is one, before these calls.
+-- The calls after an input file was released, if there was one.
 abbrev pub input_before :
     {I O : Type 0} → Option I → List (FileCall I O) → List (FileCall I O)
 input_before (Some file) calls = LetGoInput file ∷ calls
 input_before None calls = calls
 
--- An output file is released, if there is one.
+-- The call that releases an output file, if there is one.
 abbrev pub output_alone : {I O : Type 0} → Option O → List (FileCall I O)
 output_alone (Some file) = LetGoOutput file ∷ []
 output_alone None = []
 
--- Each is released once, as it was left.
+-- The calls that release each file once, as it was left.
 abbrev pub let_go : {I O : Type 0} → FilesLeft I O → List (FileCall I O)
 let_go left = input_before left.first (input_before left.second (output_alone left.file))
 
--- A request was answered with devices, which are left in this state; and then the lines were
+-- A request was answered with devices, which are left in the state `left`; and then the lines were
 -- flushed. A second source is the PES file, of which the request reads a part; if no byte of it was
 -- read, it is left as it was opened.
 abbrev pub EndsOver :
@@ -320,8 +325,8 @@ pub record EndsAndLetsGo
   pub are_let_go : AreMade (let_go left)
   pub ends : EndsOver known IsClose request devices left IsAlone old new result
 
--- The files that a request names were opened, it was answered with them, and the lines were
--- flushed; then the files were released as they were left. These are all the calls that were made.
+-- The files that a request names were opened, the request was answered with them, and the lines
+-- were flushed; then the files were released as they were left. No other calls were made.
 pub record Ends
     {I O : Type 0} (AreMade : List (FileCall I O) → Type 0) (known : KnownOfFiles I O)
     (IsClose : O → O → Type 0) (request : Request) (IsAlone : Lines → Type 0) (old new : Lines)

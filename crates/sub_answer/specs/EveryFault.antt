@@ -38,15 +38,16 @@ use Rattle.sub_listing.specs.FaultLine.{line_of}
 use Rattle.sub_listing.specs.declared.status.Status.{Status}
 use Rattle.sub_listing.specs.declared.status.Status.TheVariants.{Fault}
 
--- An answer refuses the subtitle file or could not read it. It is `Ok None` if no transmission can
--- be judged because of refused subtitles.
+-- The answer refuses the subtitle file, or reports that it could not be read. The answer is `Ok
+-- None` if no transmission can be judged because of refused subtitles.
 abbrev pub is_of_subtitles : Result (Option Accepted) CheckFault → Bool
 is_of_subtitles (Ok None) = true
 is_of_subtitles (Ok (Some a)) = false
 is_of_subtitles (Err f) = is_subtitle_fault f
 
--- The events if the subtitle file can't be read on at this block: the faults found before it. If an
--- allocation was refused, it was for a subtitle that ends there, which has no event.
+-- The events if the subtitle file can't be read on at this block: the faults found before the
+-- block. If an allocation was refused, it was for a subtitle that ends at the block and has no
+-- event.
 abbrev pub AreListedBefore : Drawing → List ℕ → List Event → ℕ → LoadFaultKind → Type 0
 AreListedBefore drawing file events block (File stl_fault.Read) =
     events ≡ subtitle_events (filter (is_reported_before block) (faults drawing file))
@@ -57,7 +58,7 @@ AreListedBefore drawing file events block Memory =
 AreListedBefore drawing file events block kind = ⊥
 
 -- The events of the PES file: of all its PES packets, whose frames are counted; or if its source
--- failed, of those before.
+-- failed, of the PES packets before the failure.
 abbrev pub AreListedOfPes :
     JudgedValue → OptionsValue → List ℕ → List Event → Result Accepted ℕ → Type 0
 AreListedOfPes judged options bytes events (Ok a) =
@@ -67,8 +68,8 @@ AreListedOfPes judged options bytes events (Err n) =
     (n ≤ length (pes_packet_file_of (clock_of options) bytes).pes_packets)
     × (events ≡ events_of_first_by judged options bytes n)
 
--- The events of both files, if a transmission can be judged by the subtitle file: all faults of
--- that, followed by the events of the PES file, compared with what can be judged in spite of these.
+-- The events of both files, if a transmission can be judged by the subtitle file: all faults of the
+-- subtitle file, followed by the events of the PES file, compared with the reliable subtitles.
 pub record IsListedOf
     (drawing : Drawing) (options : OptionsValue) (file : List ℕ) (pes : Option (List ℕ))
     (events : List Event) (answer : Result Accepted ℕ) : Type 0 where
@@ -78,8 +79,8 @@ pub record IsListedOf
   pub both : events ≡ subtitle_events (faults drawing file) ++ more
   pub listed : IfKnown pes (λ bytes. AreListedOfPes judged options bytes more answer)
 
--- These are the events of both files: all faults of the subtitle file, followed by all events of
--- the PES file, if it can be judged.
+-- The list has the events of both files: all faults of the subtitle file, followed by all events of
+-- the PES file, if a transmission can be judged by the subtitle file.
 abbrev pub AreListed :
     Drawing → OptionsValue → List ℕ → Option (List ℕ) → List Event
     → Result (Option Accepted) CheckFault → Type 0
@@ -93,7 +94,7 @@ AreListed drawing options file pes events (Err (Pes n Read)) =
     IsListedOf drawing options file pes events (Err n)
 AreListed drawing options file pes events (Err f) = ⊥
 
--- The source of a subtitle file failed at the block that was being read: the first one after the
+-- The source of a subtitle file failed at the block that was being read: the first block after the
 -- consumed bytes.
 pub record FailsAtBlock (known left : Option (List ℕ)) (block : ℕ) : Type 0 where
   pub bytes : List ℕ
@@ -109,8 +110,8 @@ IsAnswer programme options bytes answer =
     IsCheckedBy programme options bytes answer
     × (IsFalse options.keeps → options.within ≡ 0 → IsChecked programme options bytes answer)
 
--- If both files were read, the answer of `check`, which the first event decides, fits the bytes:
--- what is accepted is good and robust.
+-- If both files were read, the answer of `check`, which the first event decides, fits the bytes: an
+-- accepted transmission is good and robust.
 abbrev pub IsVerdict :
     Drawing → OptionsValue → List ℕ → List ℕ → List Event → Result (Option Accepted) CheckFault
     → Type 0
@@ -120,7 +121,8 @@ IsVerdict drawing options file bytes events (Ok (Some a)) =
     → IsAnswer programme options bytes (first_answer events a)
 IsVerdict drawing options file bytes events answer = ⊤
 
--- Want of memory is printed after the lines of these faults of the subtitle file.
+-- The line about refused memory is printed after the lines of the faults of the subtitle file that
+-- were found before.
 abbrev pub PrintsMemoryLast :
     Drawing → Option (List ℕ) → Option (List ℕ) → Option (List ℕ) → Type 0
 PrintsMemoryLast drawing known old new =
@@ -130,13 +132,13 @@ PrintsMemoryLast drawing known old new =
     × Appends old new (event_lines first events ++ line_of (load_line Memory block))
     × IfKnown known (λ file. AreListedBefore drawing file events block Memory)
 
--- The answer for what was read of the PES file: all of it, or its source failed at this PES packet.
+-- The answer after the PES file was read completely, or after its source failed at PES packet n.
 abbrev pub read_answer : Result Accepted ℕ → Result (Option Accepted) CheckFault
 read_answer (Ok a) = Ok (Some a)
 read_answer (Err n) = Err (Pes n Read)
 
--- The events of the PES file reported to a printer, and the answer, which is the given one unless
--- its sink failed.
+-- The events of the PES file were reported to a printer, and the answer is `given`, unless the
+-- printer's sink failed.
 pub record ReportsPes
     (judged : JudgedValue) (options : OptionsValue) (pes : SourceCall) (first : FirstNumber)
     (old new : PrinterValue) (given : Result (Option Accepted) CheckFault)
@@ -162,7 +164,7 @@ pub record ReportsPes
 
 -- What the answer says about the sources of both files: a failure is reported at the block that was
 -- being read, or at the PES packet in which it happened. If the subtitle file is refused or can't
--- be read, no PES byte is read.
+-- be read, no byte of the PES file is read.
 abbrev pub ReportsBothSources :
     SourceCall → SourceCall → Type 0 → Result (Option Accepted) CheckFault → Type 0
 ReportsBothSources stl pes Untouched answer =
@@ -170,8 +172,8 @@ ReportsBothSources stl pes Untouched answer =
     pes.left)
     Untouched (is_of_subtitles answer) stl pes answer
 
--- The events of both files reported to a printer, and the answer, which is the given one unless
--- its sink failed.
+-- The events of both files were reported to a printer, and the answer is `given`, unless the
+-- printer's sink failed.
 pub record ReportsBoth
     (drawing : Drawing) (options : OptionsValue) (stl pes : SourceCall) (first : FirstNumber)
     (Untouched : Type 0) (old new : PrinterValue) (given : Result (Option Accepted) CheckFault)
@@ -196,9 +198,9 @@ pub record ReportsBoth
   pub listed :
       IfKnown stl.known (λ file. AreListed drawing options file pes.known events answer)
 
--- `check --all` prints events, and has one answer; the bytes of both files decide them. `first` is
--- the number of the first PES packet in its file; `Untouched` says that no byte of the PES file was
--- read.
+-- `check --all` prints events and has one answer; the bytes of both files decide the events and the
+-- answer. `first` is the number of the first PES packet in its file; `Untouched` says that no byte
+-- of the PES file was read.
 pub record AnswersAll
     (drawing : Drawing) (options : OptionsValue) (stl pes : SourceCall) (first : FirstNumber)
     (Untouched : Type 0) (out : SinkCall) (status : Status)
@@ -209,7 +211,7 @@ pub record AnswersAll
   pub number : ℕ
   pub starts : is_of_subtitles answer ≡ false → StartsAt first pes number
   -- The lines of the events and the last line are printed, or `out` failed and has a prefix of
-  -- them.
+  -- these lines.
   pub printed : PrintsOrFails out (all_listing number events answer) status
   pub sources : ReportsBothSources stl pes Untouched answer
   -- If the bytes of the files are known, they decide the events.

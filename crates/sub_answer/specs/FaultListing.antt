@@ -1,4 +1,4 @@
--- The output of `check --all`: a line for each event, and a last one. The first PES packet that is
+-- The output of `check --all`: a line for each event, and a last line. The first PES packet that is
 -- read has the number `first` in its file.
 use Rattle.std.specs.Prelude.{ℕ, ◌==◌, min, List, ◌++◌, codes, decimal, Option, Some, None}
 use Rattle.std.specs.Prelude.{Result, Ok, Err, if◌then◌else◌}
@@ -11,26 +11,27 @@ use Rattle.sub_listing.specs.Listing.{Listing, done, followed, fault_listing}
 use Rattle.sub_listing.specs.FaultLine.{counted_from}
 use Rattle.sub_listing.specs.declared.status.Status.TheVariants.{Refused}
 
--- An accepted transmission: the frames of the day from that of the first PES packet to that of the
--- last one, and the headers of the page.
+-- The line of an accepted transmission: the number of frames of the day from the first PES packet's
+-- frame to the greatest one, and the number of headers of the page.
 abbrev pub accepted_line : Accepted → List ℕ
 accepted_line a = codes "accepted " ++ decimal a.frames ++ codes " frames "
     ++ decimal a.transmissions ++ codes " transmissions\n"
 
--- The number of faults.
+-- The line with the number of faults.
 abbrev pub faults_listing : ℕ → Listing
 faults_listing n = record { text = decimal n ++ codes " faults\n"; status = Refused }
 
--- The last line after so many faults: that of a failed device or of want of memory; otherwise their
--- number or, if there was none, the accepted transmission. `None` is a refused subtitle file.
+-- The last line after `refused` faults: the line of a failed device or of refused memory; otherwise
+-- the number of faults or, if there was none, the line of the accepted transmission. `None`: no
+-- transmission could be judged by the subtitle file.
 abbrev pub last_listing : ℕ → ℕ → Result (Option Accepted) CheckFault → Listing
 last_listing first refused (Err f) = fault_listing (counted_from first (check_line f))
 last_listing first refused (Ok None) = faults_listing refused
 last_listing first refused (Ok (Some a)) =
     if refused == 0 then done (accepted_line a) else faults_listing refused
 
--- The lines of all events, and the last line. The greatest number that is counted stands for any
--- above it.
+-- The lines of all events, and the last line. A greater number of faults than can be counted is
+-- printed as the greatest number.
 abbrev pub all_listing : ℕ → List Event → Result (Option Accepted) CheckFault → Listing
 all_listing first events answer =
     followed (event_lines first events)

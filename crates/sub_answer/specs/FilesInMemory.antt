@@ -1,5 +1,5 @@
 -- What the status of `check` says about files in memory: the clauses about runs with files apply to
--- them.
+-- such files.
 use Rattle.std.specs.Prelude.{◌≡◌, ◌≢◌, ◌↔◌, ⊤, ℕ, List, Some, true}
 use Rattle.sub_io.specs.Memory.{Written}
 use Rattle.stl_rows.specs.Layout.{drawing_within}
@@ -13,7 +13,7 @@ use Rattle.sub_listing.specs.declared.status.Status.TheVariants.{Done, Fault}
 use Rattle.sub_answer.specs.Ending.{Ends, KnownOfFiles, Lines, known_of_files}
 use Rattle.sub_answer.specs.Part.{through_range, through_stream}
 
--- What is known of such files: all their bytes.
+-- The known properties of files in memory: all their bytes.
 abbrev pub known_of_memory : KnownOfFiles (List ℕ) Written
 known_of_memory =
     known_of_files (λ left. Some left) (λ left. 0) (λ file. Some file.bytes)
@@ -31,9 +31,9 @@ DecidesAccepted (ask.Check stl pes options national layout scope all) files stat
     ↔ IsAcceptedBy (drawing_within national layout scope) options subtitles read
 DecidesAccepted _ files status = ⊤
 
--- If a request was answered with files in memory, as `open_and_answer` says, whatever standard
--- output is, its status says this, unless output fails or an allocation is refused. So the clauses
--- about the bytes of files apply to files that exist.
+-- If a request was answered with files in memory by `open_and_answer`, whatever standard output is,
+-- the status is `Done` exactly if the bytes are accepted, unless output fails or an allocation is
+-- refused. So the clauses about the bytes of files apply to files that exist.
 abbrev pub LawOfFilesInMemory : (Lines → Type 0) → Type 0
 LawOfFilesInMemory IsAlone =
     (request : Request) (before after : MemFilesValue) (old new : Lines) (status : Status)

@@ -10,16 +10,16 @@ use Rattle.sub_listing.specs.declared.status.Status.{Status}
 use Rattle.sub_listing.specs.declared.status.Status.TheVariants.{Done, Fault}
 use Rattle.ts_survey.specs.Listed.{IsSurveyed}
 
--- The line of a fault comes after what was printed before.
+-- The text ends in the line of a fault, after the lines that were printed before.
 pub record EndsInFault (text : List ℕ) : Type 0 where
   pub before : List ℕ
   pub fault : FaultLine
   pub is_fault : status_of fault.kind ≡ Fault
   pub reported : text ≡ before ++ line_of fault
 
--- Lines were printed, all of them or, if the sink failed, a prefix. With `Done` they are those of
--- the recording, surveyed as requested. Otherwise the status is `Fault`, and unless the sink
--- failed, the line of what failed is the last one.
+-- All lines were printed or, if the sink failed, a prefix. If the status is `Done` the lines are
+-- those of the recording, surveyed as requested. Otherwise the status is `Fault`, and unless the
+-- sink failed, the last line reports the failure.
 pub record PrintsSurvey
     (options : SurveyOptions) (recording : Option (List ℕ)) (out : SinkCall) (status : Status)
     : Type 0 where
@@ -30,7 +30,7 @@ pub record PrintsSurvey
   pub fault : status ≢ Done → status ≡ Fault
   pub line : status ≢ Done → out.new_count ≡ out.old_count → EndsInFault listing.text
 
--- They were printed for a recording, which was read to its end if the status is `Done`.
+-- The lines were printed for a recording, which was read to its end if the status is `Done`.
 pub record Surveys
     (options : SurveyOptions) (recording : SourceCall) (out : SinkCall) (status : Status)
     : Type 0 where

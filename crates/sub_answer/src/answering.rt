@@ -1,7 +1,8 @@
 //! Answers a request.
 //!
-//! `sub_listing` has the commands that need no checker, and a file of `answering/` each of the
-//! others. Here a request is passed to its command, and the lines of refused arguments are printed.
+//! `sub_listing` has the commands that need no checker; each other command has a file in
+//! `answering/`. This module passes a request to its command, and prints the line for refused
+//! arguments.
 
 mod check;
 mod check_all;
@@ -40,9 +41,9 @@ use ttx_pes::{FilePesPackets, NumberedPesPackets};
 /// Answers a request that `Request::parse` returned.
 ///
 /// `first` is the subtitle file or the only input, `second` the PES file of a check, `file` the
-/// output file and `out` the standard output. A source of PES packets gives all those of its file.
-/// Devices that the request does not name are not used. Returns `Fault` if a device failed or
-/// memory ran out; what was printed before stays.
+/// output file and `out` the standard output. A source of PES packets gives all PES packets of its
+/// file. Devices that the request does not name are not used. Returns `Fault` if a device failed or
+/// memory ran out; everything printed before remains.
 pub fn answer<S: Source, T: Source, F: Close, K: Flush>(
     alloc: Global,
     request: &Request<'_>,
@@ -64,7 +65,7 @@ pub fn answer<S: Source, T: Source, F: Close, K: Flush>(
         (sink_call F.contents F.failure_count file.old file.new)
         (sink_call K.contents K.failure_count out.old out.new) result }
 
-    // Devices that are not named stay as they are.
+    // Devices that the request does not name are unchanged.
     ensures first { reads_one (files_of request.now) ≡ false → first.new ≡ first.old }
     ensures second { reads_two (files_of request.now) ≡ false → second.new ≡ second.old }
     ensures file { writes_one (files_of request.now) ≡ false → file.new ≡ file.old }
@@ -77,20 +78,20 @@ pub fn answer<S: Source, T: Source, F: Close, K: Flush>(
         (sink_call F.contents F.failure_count file.old file.new)
         (sink_call K.contents K.failure_count out.old out.new) result }
 
-    // If the status is `Done`, an output file holds no byte back, and is stored.
+    // If the status is `Done`, an output file is stored, and its buffer is empty.
     ensures buffered { FlushesWritten request.now result (F.buffered file.new) }
     ensures stored { StoresWritten request.now result (F.is_stored file.new) }
 
-    // Before the source of the PES file or recording may ask its device, which may fail, all output
-    // has reached the device of `out`. So if it failed, only the line of its failure may be held
-    // back.
+    // All output has reached the device of `out` before the source of the PES file or recording may
+    // ask its device, which may fail. So if the source failed, only the line of its failure may
+    // still be in the buffer.
     ensures followed { K.buffered out.old ≡ 0 → FlushesBefore request.now
         (S.failure_count first.old < S.failure_count first.new)
         (T.failure_count second.old < T.failure_count second.new)
         (BuffersLastLineOnly K.contents K.buffered K.is_push out.new) }
 
-    // Before the source of a recording may ask its device, everything written has reached the
-    // device of `file`.
+    // All bytes written have reached the device of `file` before the source of a recording may ask
+    // its device.
     ensures written { F.buffered file.old ≡ 0 → WritesBefore request.now
         (S.failure_count first.old < S.failure_count first.new) (F.buffered file.new ≡ 0) }
 {
@@ -103,7 +104,7 @@ pub fn answer<S: Source, T: Source, F: Close, K: Flush>(
     answer_over(alloc, request, first, &mut pes_packets, file, out)
 }
 
-/// Returns whether the first input of a request gives PES packets: they are listed, received or
+/// Returns whether the first input of a request gives PES packets that are listed, received or
 /// written.
 pub fn reads_pes_packets(request: &Request<'_>) -> bool
     ensures { result ≡ reads_pes_packets request.now }
@@ -115,11 +116,11 @@ pub fn reads_pes_packets(request: &Request<'_>) -> bool
 }
 
 /// Answers a request that `Request::parse` returned, like `answer`, with the PES packets that the
-/// request selects: of a file or of a recording, all of them or some.
+/// request selects: from a file or a recording, all or some.
 ///
 /// `first` is the subtitle file, or the recording that is surveyed, and `pes` gives the PES packets
 /// that are listed, received, checked or written. Devices that the request does not name are not
-/// used. Returns `Fault` if a device failed or memory ran out; what was printed before stays.
+/// used. Returns `Fault` if a device failed or memory ran out; everything printed before remains.
 pub fn answer_over<S: Source, P: NumberedPesPackets, F: Close, K: Flush>(
     alloc: Global,
     request: &Request<'_>,
@@ -133,8 +134,8 @@ pub fn answer_over<S: Source, P: NumberedPesPackets, F: Close, K: Flush>(
     requires file { CanFail (F.failure_count file.old) }
     requires out { CanFail (K.failure_count out.old) }
 
-    // The output and the written file, command by command, and what is flushed before a source has
-    // to wait.
+    // The output and the written file, command by command, and which output is flushed before a
+    // source has to wait.
     ensures answers { AnswersOver request.now
         (entire_call S.remaining S.failure_count first.old first.new)
         (pes_packets_call P.remaining P.left P.failure_count P.first P.skipped pes.old pes.new)
@@ -145,7 +146,7 @@ pub fn answer_over<S: Source, P: NumberedPesPackets, F: Close, K: Flush>(
         (K.buffered out.old ≡ 0 → BuffersLastLineOnly K.contents K.buffered K.is_push out.new)
         result }
 
-    // Devices that are not named stay as they are.
+    // Devices that the request does not name are unchanged.
     ensures first { reads_source request.now ≡ false → first.new ≡ first.old }
     ensures pes { reads_some_pes_packets request.now ≡ false → pes.new ≡ pes.old }
     ensures device { P.device pes.new ≡ P.device pes.old }
@@ -158,7 +159,7 @@ pub fn answer_over<S: Source, P: NumberedPesPackets, F: Close, K: Flush>(
         (sink_call F.contents F.failure_count file.old file.new)
         (sink_call K.contents K.failure_count out.old out.new) result }
 
-    // If the status is `Done`, an output file holds no byte back, and is stored.
+    // If the status is `Done`, an output file is stored, and its buffer is empty.
     ensures buffered { FlushesWritten request.now result (F.buffered file.new) }
     ensures stored { StoresWritten request.now result (F.is_stored file.new) }
 {
@@ -206,9 +207,9 @@ fn drawing_of(request: &Request<'_>) -> Drawing
     }
 }
 
-/// Prints the line of a fault of the arguments, or of a file that can't be opened.
+/// Prints the line for a fault of the arguments, or for a file that can't be opened.
 ///
-/// The status is `Fault`, also if `out` fails, which has a prefix of the line then.
+/// The status is `Fault`. If `out` fails, a prefix of the line has been printed.
 pub fn say<K: Sink>(fault: &UsageFault, out: &mut K) -> Status
     requires { CanFail (K.failure_count out.old) }
     ensures printed { PrintsOrFails (sink_call K.contents K.failure_count out.old out.new)

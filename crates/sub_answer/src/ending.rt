@@ -1,7 +1,8 @@
 //! Answers a request with devices, closes the file and flushes the lines; or prints why there is no
 //! answer.
 //!
-//! Functions of their own pass an empty device for each one that the request does not name.
+//! A function for each kind of request passes an empty device for each device that the request does
+//! not name.
 ghost use Rattle.std.specs.Prelude.{◌≡◌, ⊤, false, true, []};
 ghost use Rattle.sub_io.specs.Buffered.{Flushes, failures_and_refused};
 ghost use Rattle.sub_io.specs.Device.{CanFail};
@@ -37,7 +38,7 @@ pub fn answer_alone<K: Sink>(
     answer_pair(alloc, request, &mut first, &mut pes, out)
 }
 
-/// Answers a request that reads a source, and the PES packets of another one.
+/// Answers a request that reads a source, and the PES packets of another source.
 pub fn answer_pair<S: Source, P: NumberedPesPackets, K: Sink>(
     alloc: Global,
     request: &Request<'_>,
@@ -131,8 +132,8 @@ pub fn answer_pes_packets<P: NumberedPesPackets, F: Close, O: FlushPending<F>>(
 // Answers a request with these devices, closes the file as the answer left it, and then flushes the
 // lines.
 //
-// If the status is 0, nothing is held back of the file or the lines, and no call of either sink has
-// failed: the devices behind them have all bytes, and an output file is stored.
+// If the status is 0, the buffers of the file and of the lines are empty, and no call of either
+// sink has failed: the devices have all bytes, and an output file is stored.
 fn answer_and_flush<S: Source, P: NumberedPesPackets, F: Close, O: FlushPending<F>>(
     alloc: Global,
     request: &Request<'_>,
@@ -162,7 +163,7 @@ fn answer_and_flush<S: Source, P: NumberedPesPackets, F: Close, O: FlushPending<
         × BuffersNothing O.buffer_state O.failure_count out.old out.new }
     ensures stored { StoresWritten request.now result (F.is_stored file.new.device) }
     ensures closed { F.is_closed file.new.device ≡ true }
-    // The lines were flushed when the file was in its last state, and so after it was closed.
+    // The lines were flushed when the file was in its last state, so after the file was closed.
     ensures after { FlushesWithFile O.is_flushed file.new out.new result }
 {
     let status = answer_over(alloc, request, first, pes, file, out);
@@ -170,7 +171,7 @@ fn answer_and_flush<S: Source, P: NumberedPesPackets, F: Close, O: FlushPending<
     out.flush_pending(status, file)
 }
 
-/// Prints the line of a fault if no request is answered, and flushes it.
+/// Prints the line of a fault if no request is answered, and flushes the line.
 pub fn say_and_flush<K: Sink>(fault: &UsageFault, out: &mut BufferedSink<'_, K>) -> Status
     requires { failures_and_refused (K.failure_count out.old.device) out.old.refused ≡ 0 }
     ensures says { PrintsFault fault.now (lines_of K.contents K.failure_count out.old)

@@ -1,4 +1,4 @@
-//! Flushes the lines after the file of a run was closed.
+//! Flushes the printed lines after the output file of a run was closed.
 ghost use Rattle.std.specs.Prelude.{◌≡◌, ℕ, List, true};
 ghost use Rattle.std.proofs.Common.{refl};
 ghost use Rattle.sub_io.specs.Buffered.{BufferState, failures_and_refused};
@@ -9,20 +9,20 @@ ghost use Rattle.sub_answer.specs.Ending.{CountsBuffered, FlushesBufferedLines, 
 use sub_io::{BufferedSink, Close, Flush, Sink};
 use sub_listing::Status;
 
-/// Lines that are flushed after a file was closed.
+/// Printed lines that are flushed after the output file was closed.
 ///
-/// If the system gave the program no standard output, the file may have its number. So lines that
-/// are flushed while the file is open could be written to it.
+/// If the system gave the program no standard output, the file may have got the number of standard
+/// output. So lines that are flushed while the file is open could be written to the file.
 pub trait FlushPending<F: Close>: Flush {
-    // The bytes that it still holds back.
+    // The bytes that are still in the buffer of the lines.
     ghost buffer_state: { Self → List ℕ };
 
-    // Its flushing calls: the lines before, the file then, the status of the answer, the lines
-    // afterwards, the status of the run.
+    // The relation of a flushing call: the lines before, the file at that time, the status of the
+    // answer, the lines afterwards, the status of the run.
     ghost is_flushed: { Self → BufferState F → Status → Self → Status → Type 0 };
 
-    /// Flushes the lines for a run whose answer has this status, and returns the status with which
-    /// the run ends.
+    /// Flushes the lines for a run whose answer has the status `status`, and returns the status
+    /// with which the run ends.
     fn flush_pending(&mut self, status: Status, file: &BufferedSink<'_, F>) -> Status
         requires count { CanFail (Self.failure_count self.old) }
         requires closed { F.is_closed file.now.device ≡ true }
@@ -31,7 +31,7 @@ pub trait FlushPending<F: Close>: Flush {
             (lines_in Self.contents buffer_state Self.failure_count self.old) status
             (lines_in Self.contents buffer_state Self.failure_count self.new) result };
 
-    // The count of bytes that are held back is correct.
+    // `buffered` counts the bytes in the buffer of the lines.
     ghost buffered_is: { CountsBuffered Self.buffered buffer_state };
 }
 
@@ -43,13 +43,14 @@ impl<F: Close, K: Sink> FlushPending<F> for BufferedSink<'_, K> {
     ghost is_flushed = { λ old file status new result.
         F.is_closed file.device ≡ true };
 
-    /// Flushes the lines.
+    /// Flushes the lines; the file does not matter.
     fn flush_pending(&mut self, status: Status, _file: &BufferedSink<'_, F>) -> Status {
         flush_all(status, self)
     }
 }
 
-/// Flushes the lines for a run that ends with this status.
+/// Flushes the lines for a run that ends with `status`, and returns the status; `Fault` if flushing
+/// fails.
 pub fn flush_all<K: Sink>(status: Status, out: &mut BufferedSink<'_, K>) -> Status
     requires { CanFail (failures_and_refused
         (K.failure_count out.old.device) out.old.refused) }

@@ -1,6 +1,6 @@
 //! The clauses about runs with files apply to files whose bytes are known.
 //!
-//! The function does nothing: its contract is a law about the definitions of `specs/`.
+//! The function has no body: its contract is a law about the definitions of `specs/`.
 ghost use Rattle.sub_answer.specs.Ending.{BufferHoldsOneLineOnly};
 ghost use Rattle.sub_answer.specs.FilesInMemory.{LawOfFilesInMemory};
 

@@ -1,8 +1,9 @@
 //! The program's answer to a request: its output, the file that it writes, and its status.
 //!
 //! `answer` answers a `Request` of `sub_request` with any devices, and `say` prints why arguments
-//! make no request. `open_and_answer` does it with the files that the request names, and flushes
-//! the output. Uses all lower libraries except `sub_words`, which parses requests.
+//! make no request. `open_and_answer` opens the files that the request names, answers the request,
+//! and flushes the output. This crate uses all lower libraries except `sub_words`, which parses
+//! requests.
 //!
 //! ```text
 //! let words = ["subttx", "check", "film.stl", "air.ts", "--pid", "257"];

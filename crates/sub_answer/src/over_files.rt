@@ -1,5 +1,5 @@
-//! Opens the files that a request names, and answers it with them, by a function for each way of
-//! opening.
+//! Opens the files that a request names, and answers the request with these files. There is a
+//! function for each combination of files.
 ghost use Rattle.std.specs.Prelude.{◌≡◌, ◌⊎◌, ◌≤◌, ⊤, IfErr, IfOk, None, Some, false, length, true};
 ghost use Rattle.sub_io.specs.Buffered.{failures_and_refused};
 ghost use Rattle.sub_request.specs.Files.{files_of};
@@ -21,8 +21,8 @@ use sub_listing::Status;
 use sub_request::{Request, UsageFault};
 
 /// Opens the files that the request names, allocates their buffers, and answers the request; then
-/// flushes the lines, and releases the files as they were left. `files` is asked only for these
-/// files.
+/// flushes the lines, and releases the files as they were left. `files` is asked only for the files
+/// that the request names.
 ///
 /// # Errors
 ///
@@ -59,8 +59,8 @@ pub fn open_and_answer<D: FileSystem, K: Sink>(
     }
 }
 
-// Answers a request with its files, each behind a buffer, and releases them. The buffers share the
-// allocated room.
+// Answers a request with its files, each with a buffer, and releases the files. The buffers share
+// the allocated room.
 fn answer_opened<D: FileSystem, K: Sink>(
     alloc: Global,
     files: &mut D,

@@ -8,13 +8,15 @@ use ttx_pes::PesPacketRange;
 /// The part of a file of PES packets, or of a recording, that is read.
 #[derive(Clone, Copy)]
 pub struct Part {
-    /// The transport packets that carry the PES packets; `None` if they are in the file directly.
+    /// The PID and packet size of the transport packets that carry the PES packets; `None` if the
+    /// file itself consists of PES packets.
     pub stream: Option<TransportStream>,
-    /// The selected PES packets; `None` for all.
+    /// The selected PES packets, by their numbers in the file; `None` for all.
     pub range: Option<PesPacketRange>,
 }
 
-/// Returns the part that a request reads of its PES file or recording; the whole of any other file.
+/// Returns the part that a request reads of its PES file or recording; any other file is read
+/// completely.
 pub fn part_requested(request: &Request<'_>) -> Part
     ensures { result ≡ specs.part_requested request.now }
 {
@@ -39,7 +41,7 @@ pub fn part_requested(request: &Request<'_>) -> Part
     }
 }
 
-/// Returns the whole of a file that is no transport stream.
+/// Returns the part that is a complete file, which is no transport stream.
 pub fn entire_file() -> Part
     ensures { result ≡ specs.entire_file }
 {

@@ -1,5 +1,5 @@
-//! Answers a request with a part of what a source gives; the readers of PES packets, for a file or
-//! a recording, are created here.
+//! Answers a request with a part of a source. The readers of PES packets, for a file or a
+//! recording, are created here.
 ghost use Rattle.std.specs.Prelude.{◌≡◌, ◌⊎◌, ⊤, None, Some, [], false, true};
 ghost use Rattle.sub_io.specs.Buffered.{Flushes, failures_and_refused};
 ghost use Rattle.sub_io.specs.Device.{CanFail};
@@ -67,7 +67,8 @@ pub fn answer_part<S: Source + Drop, F: Close, O: FlushPending<F>>(
     }
 }
 
-// Answers a request that reads the PES packets of a range, or all.
+// Answers a request that reads the PES packets of a range, or all PES packets, and may write a
+// file.
 fn answer_range<P: NumberedPesPackets, F: Close, O: FlushPending<F>>(
     alloc: Global,
     request: &Request<'_>,
@@ -105,8 +106,8 @@ fn answer_range<P: NumberedPesPackets, F: Close, O: FlushPending<F>>(
     }
 }
 
-/// Answers a request that reads a source and a part of another one; returns that one as it was
-/// left.
+/// Answers a request that reads a source and a part of a second source; returns the second source
+/// as it was left.
 pub fn answer_second_part<S: Source, T: Source + Drop, K: Sink>(
     alloc: Global,
     request: &Request<'_>,
@@ -142,7 +143,8 @@ pub fn answer_second_part<S: Source, T: Source + Drop, K: Sink>(
     }
 }
 
-// Answers a request that reads a source, and the PES packets of a range, or all.
+// Answers a request that reads a source, and the PES packets of a range, or all PES packets, of a
+// second source.
 fn answer_second_range<S: Source, P: NumberedPesPackets, K: Sink>(
     alloc: Global,
     request: &Request<'_>,

@@ -7,9 +7,9 @@
 //! and returns the first reported fault (`Events`) for any other:
 //!
 //! ```text
-//!  check(&programme, &mut source, &options)?; // Accepted { frames: 51, transmissions: 2 }
-//!  check_all(&programme, &mut source, &options, &mut audience)?; // reports every fault
-//!  law_of_good: Good programme transmission options → HasPromises programme transmission options
+//! check(&programme, &mut source, &options)?; // Accepted { frames: 51, transmissions: 2 }
+//! check_all(&programme, &mut source, &options, &mut audience)?; // reports every fault
+//! law_of_good: Good programme transmission options → HasPromises programme transmission options
 //! ```
 #![tactic(auto)]
 

@@ -54,19 +54,19 @@ sent_as sending units = record { frame = sending.frame; packets = packets_of_uni
 
 -- The state of the checker:
 --
---    programme         the subtitles, with `judging` also those around refused ones
---    any_refused       subtitles of the file were refused
---    every             repeat bound: at most so many frames from one header of the page to the next
---    within            the page has to be right within so many frames
---    pace              maximum distance of PES packets in frames, if `--pace` is given
---    listener          what the packets received so far leave on the page
---    first, latest     the frame of the first PES packet, and the greatest frame so far
---    frame             the current frame; `listener` compares with the page that is due there
---    last              the frame whose end was checked last
---    active_faults     the faults that were active at that end
---    first_unfinished  the first frame from which on the page has been wrong without a break
---    late_at           one more than the first frame at whose end the repeat bound is exceeded
---    counts            counts of the PES packets received so far
+--   programme         the subtitles, with `judging` also those around refused ones
+--   any_refused       subtitles of the file were refused
+--   every             repeat bound: at most so many frames from one header of the page to the next
+--   within            the page has to be right within so many frames
+--   pace              maximum distance of PES packets in frames, if `--pace` is given
+--   listener          what the packets received so far leave on the page
+--   first, latest     the frame of the first PES packet, and the greatest frame so far
+--   frame             the current frame; `listener` compares with the page that is due there
+--   last              the frame whose end was checked last
+--   active_faults     the faults that were active at that end
+--   first_unfinished  the first frame from which on the page has been wrong without a break
+--   late_at           one more than the first frame at whose end the repeat bound is exceeded
+--   counts            counts of the PES packets received so far
 pub record CheckerValue : Type 0 where
   pub programme : ProgrammeValue
   pub judging : JudgedValue

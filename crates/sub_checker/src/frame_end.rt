@@ -1,13 +1,13 @@
 //! The end of a frame: which faults are active at the end, and which changes are reported.
 //!
 //! ```text
-//!  end_pending_frame    the last frame, if its end is still open
-//!    end_open
-//!      end_sent   a frame of PES packets: does the first one have a header?
-//!  end_of_frame   any frame of the day; `end_sent` calls it too
-//!    end_without_faults  no fault was active, and none is
-//!    end_otherwise
-//!      end_at_once, end_within   depending on whether `within` is 0
+//! end_pending_frame    the last frame, if its end is still open
+//!   end_open
+//!     end_sent   a frame of PES packets: does the first one have a header?
+//! end_of_frame   any frame of the day; `end_sent` calls it too
+//!   end_without_faults  no fault was active, and none is
+//!   end_otherwise
+//!     end_at_once, end_within   depending on whether `within` is 0
 //! ```
 ghost use Rattle.std.specs.Prelude.{◌≡◌, ◌==◌, ◌&&◌, ℕ, suc, ◌+◌, ◌<◌, List, IsTrue, None};
 ghost use Rattle.std.specs.Prelude.{false, is_err, length, nat_le, not, true};

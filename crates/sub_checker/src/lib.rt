@@ -5,8 +5,8 @@
 //! for receivers.
 //!
 //! ```text
-//!  report_pes_packets(&Judging::known(&programme), &mut source, &options, &mut audience)?;
-//!  // Accepted { frames: 51, .. }
+//! report_pes_packets(&Judging::known(&programme), &mut source, &options, &mut audience)?;
+//! // Accepted { frames: 51, .. }
 //! ```
 #![tactic(auto)]
 

@@ -4,7 +4,7 @@
 //! The examples test the definitions of `sub_rules` and `sub_laws`. No other crate uses this one.
 //!
 //! ```text
-//!  example_of_good: a transmission of one frame, its programme and its options are `Good`
+//! example_of_good: a transmission of one frame, its programme and its options are `Good`
 //! ```
 #![tactic(auto)]
 

@@ -6,7 +6,7 @@
 //! each function is a law.
 //!
 //! ```text
-//!  law_of_good: Good programme transmission options → HasPromises programme transmission options
+//! law_of_good: Good programme transmission options → HasPromises programme transmission options
 //! ```
 #![tactic(auto)]
 

@@ -4,7 +4,7 @@
 //! receivers. This crate checks no rules.
 //!
 //! ```text
-//!  listen(&mut receiver, &mut source, &listening)?; // the receiver has decoded the file
+//! listen(&mut receiver, &mut source, &listening)?; // the receiver has decoded the file
 //! ```
 #![tactic(auto)]
 

@@ -5,9 +5,9 @@
 //! This crate contains no program: each function is a law.
 //!
 //! ```text
-//!  law_of_trusted_repeats: Contains (all_of_pes_packets g list) (Trusted from to) → MayStayBy ..
-//!  law_of_trusted_known: .. → from ≤ f + g.within → .. → IsFalse (g.undecided f)
-//!  law_of_all_trusted: CanStay g list a b → .. → Contains (all_of_pes_packets g list) ..
+//! law_of_trusted_repeats: Contains (all_of_pes_packets g list) (Trusted from to) → MayStayBy ..
+//! law_of_trusted_known: .. → from ≤ f + g.within → .. → IsFalse (g.undecided f)
+//! law_of_all_trusted: CanStay g list a b → .. → Contains (all_of_pes_packets g list) ..
 //! ```
 #![tactic(auto)]
 

@@ -29,7 +29,7 @@ use ttx_pes::{NumberedPesPackets, PesFault};
 
 /// Checks a PES file against a subtitle file, and prints the line of the verdict.
 ///
-/// `stl` is read to its end before any byte of `pes`, and `pes` is not used if it is refused.
+/// `stl` is read to its end before any byte of `pes`, and `pes` is not used if `stl` is refused.
 /// Returns `Done` if the files are accepted, and prints how many frames of the day the PES file
 /// covers and how many headers of the page it has; `Refused` with the first fault; `Fault` if a
 /// device failed or memory ran out.
@@ -61,14 +61,15 @@ pub fn print_verdict<S: Source, P: NumberedPesPackets, K: Sink>(
     print_answer(answer.first, answer.result, out)
 }
 
-/// The answer of a check, and the number of the first PES packet in its file.
+/// The answer of a check, and the number of its first PES packet in the file.
 #[derive(Clone, Copy)]
 struct Answer {
     first: u64,
     result: Result<Accepted, CheckFault>,
 }
 
-// Loads a subtitle file, and checks a PES file against it, from its first PES packet.
+// Loads a subtitle file, and checks a PES file against it, starting with the first PES packet that
+// `pes` gives.
 fn check_files<S: Source, P: NumberedPesPackets>(
     alloc: Global,
     stl: &mut S,
@@ -111,7 +112,7 @@ fn check_files<S: Source, P: NumberedPesPackets>(
     }
 }
 
-// Checks a PES file against a programme, from its first PES packet.
+// Checks a PES file against a programme, starting with the first PES packet that `pes` gives.
 fn check_from<P: NumberedPesPackets>(
     programme: &Programme,
     pes: &mut P,
@@ -147,7 +148,7 @@ fn check_from<P: NumberedPesPackets>(
     }
 }
 
-// Prints the line of an answer, if the first PES packet has this number in its file.
+// Prints the line of an answer. `first` is the number of the first PES packet in the file.
 fn print_answer<K: Sink>(first: u64, answer: Result<Accepted, CheckFault>, out: &mut K) -> Status
     requires { CanFail (K.failure_count out.old) }
     ensures printed { PrintsOrFails (sink_call K.contents K.failure_count out.old out.new)

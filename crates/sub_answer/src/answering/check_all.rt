@@ -27,13 +27,13 @@ use sub_plan::Options;
 use ttx_pes::{NumberedPesPackets, PesFault};
 
 /// Checks a PES file against a subtitle file. Prints a line for each fault, and one for the last
-/// frame at whose end a reported rule is broken, as they are found, those of the subtitle file
-/// first; then the number of faults, or the line of an accepted transmission.
+/// frame at whose end a reported rule is broken, as they are found, starting with the faults of the
+/// subtitle file; then the number of faults, or the line of an accepted transmission.
 ///
-/// If subtitles are refused, the PES file is compared with the reliable ones; `pes` is not used if
-/// these do not suffice. Returns `Done` if the files are accepted; `Refused` if there is a fault;
-/// `Fault` if a device failed or memory ran out, with its line last. After `out` failed nothing
-/// more is read or printed.
+/// If subtitles are refused, the PES file is compared with the reliable subtitles; `pes` is not
+/// used if these do not suffice. Returns `Done` if the files are accepted; `Refused` if there is a
+/// fault; `Fault` if a device failed or memory ran out, with its line last. After `out` failed
+/// nothing more is read or printed.
 pub fn print_every_fault<S: Source, P: NumberedPesPackets, K: Flush>(
     alloc: Global,
     stl: &mut S,
@@ -55,8 +55,8 @@ pub fn print_every_fault<S: Source, P: NumberedPesPackets, K: Flush>(
     ensures device { P.device pes.new ≡ P.device pes.old }
     ensures pes_count { CountsFault P.failure_count pes.old result pes.new }
     ensures out_count { CountsFault K.failure_count out.old result out.new }
-    // Before the source of the PES file may ask its device, which may fail, all output is flushed.
-    // So if it failed, only its line may be held back.
+    // All output is flushed before the source of the PES file may ask its device, which may fail.
+    // So if the source failed, only the line of its failure may still be in the buffer.
     ensures followed { K.buffered out.old ≡ 0
         → P.failure_count pes.old < P.failure_count pes.new
         → BuffersLastLineOnly K.contents K.buffered K.is_push out.new }
@@ -83,9 +83,9 @@ pub fn print_every_fault<S: Source, P: NumberedPesPackets, K: Flush>(
     print_end(first, refused, answer, out)
 }
 
-// Reports to a printer the faults of the subtitle file, and then those of the PES file, if it can
-// be judged. Returns `None` if it can't, or the printer said stop, otherwise what was read of the
-// PES file.
+// Reports the faults of the subtitle file to a printer, and then those of the PES file, if a
+// transmission can be judged by the subtitle file. Returns `None` if it can't be judged or the
+// printer stopped the check, otherwise the counts of the PES file.
 fn report_every_fault<S: Source, P: NumberedPesPackets, K: Flush>(
     alloc: Global,
     stl: &mut S,
@@ -120,7 +120,7 @@ fn report_every_fault<S: Source, P: NumberedPesPackets, K: Flush>(
         Err(fault) => Err(CheckFault::Subtitles(fault)),
         Ok(None) => Ok(None),
         Ok(Some(judged)) => {
-            // Reading the PES file may block.
+            // All lines are flushed first, since reading the PES file may block.
             if flush_reports(printer).is_err() {
                 return Ok(None);
             }
@@ -129,7 +129,7 @@ fn report_every_fault<S: Source, P: NumberedPesPackets, K: Flush>(
     }
 }
 
-// Flushes a device after the faults of a subtitle file, if it may hold something back.
+// Flushes a device after the faults of a subtitle file, if lines may be pending.
 fn flush_reports<A: LiveAudience<LoadFault>>(audience: &mut A) -> Result<(), Stopped>
     requires { A.has_stopped audience.old ≡ false }
     ensures reported { KeepsReported A.is_reported A.has_pending_reports audience.old audience.new }
@@ -145,8 +145,7 @@ fn flush_reports<A: LiveAudience<LoadFault>>(audience: &mut A) -> Result<(), Sto
     audience.flush_pending()
 }
 
-// Reports to a printer the events of the PES file, compared with what can be judged of the subtitle
-// file.
+// Reports to a printer the events of the PES file, compared with the reliable subtitles.
 fn report_transmission<P: NumberedPesPackets, K: Flush>(
     judging: &Judging<'_>,
     pes: &mut P,
@@ -186,8 +185,8 @@ fn report_transmission<P: NumberedPesPackets, K: Flush>(
     }
 }
 
-// Prints the last line after so many faults, and returns the status. The first PES packet has the
-// number `first` in its file.
+// Prints the last line after `refused` faults, and returns the status. `first` is the number of the
+// first PES packet in its file.
 fn print_end<K: Sink>(
     first: u64,
     refused: u64,
@@ -216,7 +215,7 @@ fn print_end<K: Sink>(
     }
 }
 
-// Prints the number of faults.
+// Prints the line with the number of faults.
 #[tactic(auto, unfolding(sub_listing::specs::Listing::PrintsOrFails))]
 fn print_count<K: Sink>(refused: u64, out: &mut K) -> Status
     requires { CanFail (K.failure_count out.old) }

@@ -17,12 +17,13 @@ use sub_rules::FaultPlace;
 use ttx_page::{Blank, Keep, Page, Receiver};
 use ttx_pes::{NumberedPesPackets, PesPackets};
 
-/// Runs the requested receiver over the PES packets of a file up to TIME, and prints what it has
-/// received and shows, or why the file is refused (`listen` of `sub_listen`).
+/// Runs the requested receiver over the PES packets of a file up to TIME, and prints the page that
+/// it has received and shows, or why the file is refused (`listen` of `sub_listen`).
 ///
 /// The receiver is tuned to the page with an old page that has 3F in every cell. Nothing is printed
-/// before the last packet was received. If complete pages are required, the output is its screen: a
-/// page is put on it when a header of another page ends it. Otherwise it has no screen.
+/// before the last packet was received. If complete pages are required, the output is the
+/// receiver's screen: a page is put on it when a header of another page ends the page. Otherwise
+/// the receiver has no screen.
 pub fn print_listening<P: NumberedPesPackets, K: Sink>(
     pes: &mut P,
     listening: &Listening,
@@ -31,8 +32,8 @@ pub fn print_listening<P: NumberedPesPackets, K: Sink>(
     requires first { CanFail (P.failure_count pes.old) }
     requires out { CanFail (K.failure_count out.old) }
     // If the bytes of the source are known and it does not fail, they are read as frames, and the
-    // output is the state of a receiver that gets its part of them, or the refusal. A source that
-    // fails is reported at the PES packet in which it failed, after what was received.
+    // output is the state of a receiver of these frames, or the refusal. A source that fails is
+    // reported at the PES packet in which it failed, after the packets that were received.
     ensures exact { AnswersListen (left_by listening.now.receiver) listening.now
         (read_call P.remaining P.left P.failure_count pes.old pes.new)
         (first_number P.first P.skipped pes.old pes.new)
@@ -45,7 +46,8 @@ pub fn print_listening<P: NumberedPesPackets, K: Sink>(
         < P.failure_count pes.new + K.failure_count out.new }
 {
     match listening.receiver {
-        // One that drops rows stores none with a byte of even parity.
+        // A receiver that drops rows stores no row with a byte of even parity, so its choice for
+        // such bytes does not matter.
         ReceiverKind::Keep | ReceiverKind::DropRow => {
             print_state_of::<Keep, P, K>(pes, listening, out)
         }
@@ -56,7 +58,7 @@ pub fn print_listening<P: NumberedPesPackets, K: Sink>(
     }
 }
 
-// Runs a receiver of this type.
+// Runs a receiver of type `R`, and prints its state.
 fn print_state_of<R: Receiver + Drop, P: NumberedPesPackets, K: Sink>(
     pes: &mut P,
     listening: &Listening,
@@ -81,7 +83,8 @@ fn print_state_of<R: Receiver + Drop, P: NumberedPesPackets, K: Sink>(
     }
 }
 
-// Runs it from the first PES packet, which has this number in its file.
+// Runs a receiver from the first PES packet, which has the number `first` in its file, and prints
+// the receiver's state.
 fn print_heard<R: Receiver + Drop, P: PesPackets, K: Sink>(
     pes: &mut P,
     first: u64,

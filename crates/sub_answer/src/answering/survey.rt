@@ -15,7 +15,7 @@ use ttx_pes::FailedAt;
 
 /// Prints a line for each fact about a recording, which is read to its end.
 ///
-/// Returns `Fault` if a device failed or memory ran out; what was printed before stays.
+/// Returns `Fault` if a device failed or memory ran out; everything printed before remains.
 #[tactic(auto, using(crate::proofs::SurveyListingLemmas::surveys))]
 pub fn print_survey<S: Source, K: Flush>(
     alloc: Global,
@@ -27,12 +27,12 @@ pub fn print_survey<S: Source, K: Flush>(
     requires out { CanFail (K.failure_count out.old) }
     ensures printed { PrintsSurvey options (S.remaining source.old)
         (sink_call K.contents K.failure_count out.old out.new) result }
-    // It is read to its end.
+    // If the status is `Done`, the recording was read to its end.
     ensures ended { result ≡ Status.Done → IsAtEnd (S.remaining source.new) }
     ensures source_count { CountsFault S.failure_count source.old result source.new }
     ensures out_count { CountsFault K.failure_count out.old result out.new }
-    // Before the source may ask its device, which may fail, all output is flushed. So if it failed,
-    // only the line of its failure may be held back.
+    // All output is flushed before the source may ask its device, which may fail. So if the source
+    // failed, only the line of its failure may still be in the buffer.
     ensures followed { K.buffered out.old ≡ 0
         → S.failure_count source.old < S.failure_count source.new
         → BuffersLastLineOnly K.contents K.buffered K.is_push out.new }

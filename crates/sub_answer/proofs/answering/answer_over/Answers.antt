@@ -1,4 +1,4 @@
--- The contract of the command's function gives that of the request.
+-- The contract of each command's function gives the contract of its request.
 use Rattle.sub_answer.proofs.answering.answer_over.Goals as goal
 
 pub returns-in-Packets-clause-answers : goal.returns-in-Packets-clause-answers

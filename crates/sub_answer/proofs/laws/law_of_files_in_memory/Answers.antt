@@ -1,4 +1,3 @@
--- The law: MemoryLemmas.
 use Rattle.sub_answer.proofs.MemoryLemmas as lemma
 use Rattle.sub_answer.proofs.laws.law_of_files_in_memory.Goals as goal
 

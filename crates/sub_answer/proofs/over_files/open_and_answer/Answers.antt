@@ -1,4 +1,4 @@
--- The files were opened, as fits says, and then released: calls_go_on.
+-- The files that the request names were opened, as fits says, and then released: calls_go_on.
 use Rattle.sub_request.specs.Files.{files_of}
 use Rattle.sub_answer.specs.Ending.{let_go}
 use Rattle.sub_answer.proofs.EndingLemmas.{calls_go_on}

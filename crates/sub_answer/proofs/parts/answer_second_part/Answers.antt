@@ -1,4 +1,5 @@
--- A part of a source, by how it was made: file_of_source, stream_of_source.
+-- A part of the second source, for each way in which it can be selected: file_of_source,
+-- stream_of_source.
 use Rattle.std.proofs.Common.{ap, refl, rules}
 use Rattle.mpeg_ts.specs.Recording.{RecordingValue}
 use Rattle.ttx_pes.specs.declared.file_pes_packets.FilePesPackets.{FilePesPackets}

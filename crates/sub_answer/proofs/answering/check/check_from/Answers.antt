@@ -1,4 +1,5 @@
--- The first PES packet was found, or the source failed before.
+-- The check begins at the first PES packet, or the source failed before the first PES packet was
+-- found.
 use Rattle.std.proofs.Common.{◌≡◌}
 use Rattle.sub_listing.proofs.FirstPacketLemmas.{fails_first_packet, fails_packet_kept}
 use Rattle.sub_answer.proofs.AnsweringLemmas.{no_pes_packet_read}

@@ -1,4 +1,5 @@
--- The events of the subtitle file, and then of the PES file: by EveryFaultLemmas.
+-- The events of the subtitle file are reported, and then those of the PES file: by
+-- EveryFaultLemmas.
 use Rattle.std.proofs.Common.{◌≡◌, ◌∙◌, refl, sym, subst, arith, ℕ, List, Option, false}
 use Rattle.std.proofs.lemmas.Bool.{true≢false}
 use Rattle.std.specs.Prelude.{◌≤◌}
@@ -19,12 +20,10 @@ use Rattle.sub_listing.proofs.PrinterLemmas.{cannot_fail, counted-few, prints_al
 use Rattle.sub_listing.proofs.PrinterLemmas.{still_goes}
 use Rattle.sub_answer.proofs.answering.check_all.report_every_fault.Goals as goal
 
--- The printer, from what is known of its sink.
 abbrev value_of : {K : Type 0} → (K → Option (List ℕ)) → (K → ℕ) → Printer K → PrinterValue
 value_of contents count p =
     printer_value (contents p.out.now) (count p.out.now) p.refused p.failed p.first
 
--- Its state after a fault.
 abbrev IsReportedFault : {K : Type 0} → (K → Option (List ℕ)) → (K → ℕ) → (K → ℕ)
     → Printer K → LoadFault → Printer K → Type 0
 IsReportedFault contents count buffered s x t = (t.out.ghost_name ≡ s.out.ghost_name)

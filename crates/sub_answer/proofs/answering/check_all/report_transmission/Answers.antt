@@ -1,4 +1,4 @@
--- The events of the PES file: by PesEventLemmas and FailedReadLemmas.
+-- The events of the PES file are reported: by PesEventLemmas and FailedReadLemmas.
 use Rattle.std.proofs.Common.{◌≡◌, ◌∙◌, refl, sym, arith, ℕ, ◌+◌, List, [], false, inl, inr, Err}
 use Rattle.std.proofs.lemmas.Bool.{true≢false}
 use Rattle.ttx_pes.specs.declared.fault.PesFault.TheVariants.{Read}
@@ -16,12 +16,10 @@ use Rattle.sub_answer.proofs.FailedReadLemmas.{error_fails, reports_none}
 use Rattle.sub_listing.proofs.PrinterLemmas.{has_stopped, same_all, still_goes}
 use Rattle.sub_answer.proofs.answering.check_all.report_transmission.Goals as goal
 
--- The printer, from what is known of its sink.
 abbrev value_of : {K : Type 0} → (K → Option (List ℕ)) → (K → ℕ) → Printer K → PrinterValue
 value_of contents count p =
     printer_value (contents p.out.now) (count p.out.now) p.refused p.failed p.first
 
--- Its state after an event.
 abbrev IsReportedEvent : {K : Type 0} → (K → Option (List ℕ)) → (K → ℕ) → (K → ℕ)
     → Printer K → Event → Printer K → Type 0
 IsReportedEvent contents count buffered s x t = (t.out.ghost_name ≡ s.out.ghost_name)
