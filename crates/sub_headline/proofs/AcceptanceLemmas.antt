@@ -1,4 +1,4 @@
--- For `law_of_plain_acceptance`: both files mean a programme, `programme_of`; a transmission is
+-- For `law_of_plain_acceptance`: both files contain a programme, `programme_of`; a transmission is
 -- good by the options exactly if it is good.
 use Rattle.std.proofs.Common.{◌≡◌, ℕ, Bool, List, [], ◌∷◌, sym, subst}
 use Rattle.std.specs.Prelude.{All, IsFalse}
@@ -27,7 +27,6 @@ all_subtitles (t ∷ ts) (g ∷ gs) e =
 
 module _ (drawing : Drawing) (options : OptionsValue) (stl pes : List ℕ)
     (subtitles : List SubtitleValue) (t : Transmission) where
-  -- The files mean a programme.
   pub programme_of :
       Mean drawing options.origin stl pes subtitles t
       → IsProgramme drawing subtitles
@@ -37,7 +36,7 @@ module _ (drawing : Drawing) (options : OptionsValue) (stl pes : List ℕ)
     drawable = mean.drawable;
   }
 
-  -- If `within` is 0, they mean the same.
+  -- If `within` is 0, the contents of both files do not depend on how exact each PTS is.
   exact_of :
       options.within ≡ 0
       → MeanWithin drawing options stl pes subtitles t

@@ -1,5 +1,5 @@
--- For `law_of_chosen_arguments`: the rows for `check STL PES` with choices, `rows_say`, give the
--- request, `check_is`.
+-- For `law_of_chosen_arguments`: the rows of arguments for `check STL PES` with choices,
+-- `rows_say`, give the request, `check_is`.
 use Rattle.std.proofs.Common.{◌≡◌, ◌∙◌, Bool, true, false, List, [], ◌∷◌, ◌++◌, Option, Some}
 use Rattle.std.proofs.Common.{ℕ, None, Ok, Err, refl, sym, ap, arith, codes, drop, ◌^◌, ◌-◌}
 use Rattle.std.proofs.Common.{inl, inr, subst, append_assoc, append-nil}
@@ -55,17 +55,14 @@ use Rattle.sub_headline.proofs.PlainWordLemmas.{at_rest, held_of_two, walked_pla
 use Rattle.sub_headline.proofs.RowLemmas.{default_at, defaulted, first_is, first_text, values_at}
 use Rattle.sub_headline.proofs.RowLemmas.{or_default}
 
--- ---- the value of an argument
-
--- The values of an argument after these options.
 abbrev given_by : Text → List (List Text) → List DisplayOption → List (List Text)
 given_by id vs parts = fold (values_with_choice id) vs parts
 
--- The text of the values, or the default.
+-- The text of an argument's values, or the default text.
 abbrev text_in : Text → List (List Text) → Text
 text_in default vs = unwrap_or (first_text (or_default vs (default ∷ []))) []
 
--- The arguments that these options may give.
+-- The arguments of `check` for which an option may give a value.
 abbrev keys : List Text
 keys =
     codes "page" ∷
@@ -128,15 +125,14 @@ not_given id apart vs (part ∷ parts) =
     (apart part)
     ∙ not_given id apart vs parts
 
--- The meaning of a text, if there is one.
 abbrev emitted_by : {A : Type 0} → (Text → Option A) → Option Text → Option (Option A)
 emitted_by stated text = option_map_or (λ text. option_map Some (stated text)) text (Some None)
 
--- The meaning of the text of `--pace`.
+-- The number of frames that the text of `--pace` gives, 1 to the number of frames of a day.
 abbrev pace_of_text : Text → Option ℕ
 pace_of_text text = between 1 day (number_of_text text)
 
--- The values of the arguments mean this reading and drawing.
+-- The values of the arguments give these settings for reading and drawing.
 record Meant (held : Text → List (List Text)) (l : DisplayOptions) : Type 0 where
   pub page_is :
       page_of_text (text_in (codes "888") (held (codes "page"))) ≡ Some l.reading.options.page
@@ -177,7 +173,6 @@ with_options r o = record r { options = o }
 abbrev with_reading : DisplayOptions → Reading → DisplayOptions
 with_reading l r = record l { reading = r }
 
--- The values after one more option.
 abbrev then_all : (Text → List (List Text)) → DisplayOption → Text → List (List Text)
 then_all held part id = values_with_choice id (held id) part
 
@@ -201,7 +196,6 @@ meant_then held l (Of OpenToo) m =
 meant_then held l (Letters text n name is) m = assumption (is, m)
 meant_then held l (Lines text n name is) m = assumption (is, m)
 
--- The values after these options, starting from given ones.
 abbrev values_by_parts : (Text → List (List Text)) → List DisplayOption → Text → List (List Text)
 values_by_parts held parts id = given_by id (held id) parts
 
@@ -216,7 +210,6 @@ english_named : option_named (codes "english") ≡ Some English
 unfolding option_named sub_set
 english_named = refl
 
--- No values.
 abbrev nothing : Text → List (List Text)
 nothing id = []
 
@@ -240,7 +233,6 @@ meant_at_first = record {
   layout_is = refl;
 }
 
--- Each value has a text.
 abbrev HasText : List (List Text) → Type 0
 HasText [] = ⊤
 HasText ([] ∷ vs) = ⊥
@@ -287,9 +279,6 @@ no_default : (vs : List (List Text)) → first_text (or_default vs []) ≡ first
 no_default [] = refl
 no_default (v ∷ vs) = refl
 
--- ---- the rows
-
--- Their meaning, argument by argument, given the values of options.
 record RowsSay (rows : List Row) (stl recording : Text) (held : Text → List (List Text))
     : Type 0 where
   pub stl_is : first_of (codes "stl") rows ≡ Some stl
@@ -322,7 +311,6 @@ module _ (stl pes : Text) (parts : List DisplayOption) where
   abbrev pub all_held : Held
   all_held = fold next (held_of_two stl pes) parts
 
-  -- The text of an argument, from the values of two words.
   first_by :
       (id : Text) (vs : List (List Text))
       → bytes_eq id id ≡ true
@@ -416,8 +404,6 @@ module _ (stl pes : Text) (parts : List DisplayOption) where
         (key_apart (codes "keeping") refl);
   }
 
--- ---- the request
-
 within_number : number_of_text (codes "0") ≡ Some 0
 unfolding number_of_text
 within_number = refl
@@ -435,7 +421,6 @@ unfolding pes_selection_of
 pes_selection_is rows name size pid pes r recording pid_is size_is pes_is pid_says size_says
     pes_says = rw (pid_is, pid_says, size_is, size_says, pes_is, pes_says, recording) refl
 
--- The options that can be chosen, with defaults for all others.
 abbrev options_in : OptionsValue → OptionsValue
 options_in o = record {
   page = o.page;
@@ -455,7 +440,6 @@ pacing_is : (options : OptionsValue) (rows : List Row) (pace : Option Text) (fra
 pacing_is options rows None frames none first says = grind (arith, nat_tests)
 pacing_is options rows (Some text) frames none first says = grind (arith, nat_tests)
 
--- The time that is given, or the default.
 time_by : (text : Option Text) (default frame : ℕ)
     → option_map_or frame_of_text text (Some default) ≡ Some frame
     → (o : Option ℕ)
@@ -487,7 +471,7 @@ scope_is rows from to also scope from_is to_is open_is from_says to_says open_sa
       open_says,
     ) refl
 
--- Each fault is listed.
+-- The arguments ask that every fault is listed.
 abbrev lists_all : (Text → List (List Text)) → Bool
 lists_all held = bytes_eq (text_in (codes "false") (held (codes "all"))) (codes "true")
 
@@ -543,7 +527,6 @@ module _ (rows : List Row) (stl recording : Text) (held : Text → List (List Te
         say.stl_is,
       ) refl
 
-  -- If these rows request a check, it is that one.
   in_range :
       (near time : Bool) (requested : Requested)
       → nat_le 1 l.reading.options.every && nat_le l.reading.options.every day ≡ near
@@ -565,7 +548,7 @@ options_are : (o : OptionsValue)
     → options_in o ≡ o
 options_are o within keeps = grind (arith, nat_tests)
 
--- With these options `within` is 0 and no repeat may keep the page.
+-- With any of these options `within` is 0 and no repeat may keep the page.
 pub plain_by : (parts : List DisplayOption)
     → ((looking_of parts).reading.options.within ≡ 0)
     × IsFalse (looking_of parts).reading.options.keeps
@@ -573,9 +556,7 @@ plain_by parts =
     let m = meant_by nothing (looking_of []) parts meant_at_first in
     (m.within_is, m.keeps_is)
 
--- ---- the arguments
-
--- After the name of a command each word is one of its own.
+-- After the name of a command, each word is an argument of that command.
 stopped_walk : (c : List Rule) (names : Names) (name : Text) (arguments more : List Text) (w : Walk)
     → w.stopped ≡ Some (name, arguments)
     → (fold (walked c names) w more).stopped ≡ Some (name, arguments ++ more)
@@ -627,7 +608,6 @@ no_version : (program stl pes : Text) (more : List Text)
 unfolding requests_version
 no_version program stl pes more = refl
 
--- The rows give the request that the arguments make.
 requested_so : (arguments : List Text) (rows : List Row) (requested : Requested)
     → command_in arguments ≡ Some (codes "check", rows)
     → asked_for arguments ≡ Some (Ok requested)
@@ -672,8 +652,6 @@ law_of_display_arguments program stl pes parts request is_stl is_pes (inr (inr a
     (rows_after rules [] (stl ∷ pes ∷ flat_map arguments_for parts)) (requested_by request)
     (command_of program (stl ∷ pes ∷ flat_map arguments_for parts)) asks.2.requested)
 
--- ---- options of a recording alone
-
 arguments_of_parts : (parts : List Portion)
     → flat_map arguments_for (map Of parts) ≡ flat_map arguments_in parts
 arguments_of_parts [] = refl
@@ -703,8 +681,6 @@ law_of_part_arguments program stl pes parts request is_stl is_pes asks =
           at,
       subst (λ (l : DisplayOptions). l.reading.options.origin < 2 ^ 33) at so.2,
     )
-
--- ---- choices alone
 
 pub arguments_any : (choices : List Choice)
     → flat_map arguments_in (map Any choices) ≡ flat_map arguments_of_choice choices

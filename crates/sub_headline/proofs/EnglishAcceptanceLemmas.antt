@@ -1,6 +1,6 @@
--- For `law_of_english_acceptance`: the files mean subtitles and a transmission exactly if they
--- contain them, `files_of` and `mean_of`; and a transmission is good exactly if it is by the page
--- and rules for English, `english_of` and `good_of`.
+-- For `law_of_english_acceptance`: the files have subtitles and a transmission as their contents
+-- exactly if they match the formats, `files_of` and `mean_of`; and a transmission is good exactly
+-- if it is by the page and rules for English, `english_of` and `good_of`.
 use Rattle.std.proofs.Common.{◌≡◌, ◌∙◌, ℕ, Bool, false, List, Result, ap, subst, sym}
 use Rattle.std.specs.Prelude.{All, IsFalse, IsOk, IsTrue}
 use Rattle.ttx_packet.specs.declared.header.Header.{Header}
@@ -26,8 +26,6 @@ use Rattle.sub_headline.proofs.EnglishLemmas.{ok_of_complete, same_drawn}
 use Rattle.stl_file.specs.Scope.{whole}
 use Rattle.stl_file.specs.declared.scope.Scope.{Scope}
 use Rattle.stl_rows.specs.declared.fault.RowFault.{RowFault}
-
--- ---- a header
 
 abbrev bits_of : Bool → Bool → Bool → NationalBits
 bits_of a b c = record { c12 = a; c13 = b; c14 = c }
@@ -65,8 +63,6 @@ subtitle_header h is = record {
   displayed = is.displayed;
   option = option_is h is.first_option is.second_option is.third_option;
 }
-
--- ---- a transmission
 
 module _ (options : OptionsValue) (subtitles : List SubtitleValue) (transmission : Transmission)
     (drawn : All IsDrawn subtitles) where
@@ -118,9 +114,6 @@ module _ (options : OptionsValue) (subtitles : List SubtitleValue) (transmission
         ∙ ap (λ (due : Rows). cell due row column) (sym (due_is subtitles f drawn));
   }
 
--- ---- both files
-
--- The default options with this PTS of frame 0.
 abbrev from_origin : ℕ → OptionsValue
 from_origin origin = record default_options { origin = origin }
 

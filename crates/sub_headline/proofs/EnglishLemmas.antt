@@ -35,14 +35,12 @@ use Rattle.sub_headline.specs.EnglishPage.{Fit, IsFit, IsRead, IsDrawnWhole, eng
 use Rattle.sub_headline.specs.EnglishPage.{english_due}
 use Rattle.sub_headline.specs.EnglishPage.{english_lines, english_page, page_or_blank, put}
 
--- ---- the cells of bytes
-
--- A character that is no diacritical mark is not part of a pair.
+-- A character that is no diacritical mark is not part of a pair of bytes.
 no_mark : (x : Bool) (a rest : Option ℕ) → rest ≡ None → (if x && false then a else rest) ≡ None
 no_mark true a rest e = e
 no_mark false a rest e = e
 
--- English has no such pairs.
+-- English has no characters that are coded by two bytes.
 no_second : (byte next : ℕ) → cell_in (sub_set English).characters (Some byte) next ≡ None
 unfolding sub_set has_bytes
 no_second byte next =
@@ -59,7 +57,7 @@ unfolding cell_of_pair
 no_pair byte None = none_either (is_diacritical byte) None refl
 no_pair byte (Some next) = none_either (is_diacritical byte) _ (no_second byte next)
 
--- Its characters, each by its byte.
+-- A character of one byte is found by this byte alone.
 by_itself : (x : Bool) (a p q : Option ℕ) → p ≡ q
     → (if x && true then a else p) ≡ (if x then a else q)
 by_itself true a p q e = refl
@@ -74,9 +72,6 @@ cell_is byte =
     (by_itself (0xA4 == byte) _ _ _
     (by_itself (0x40 == byte) _ _ _ (by_itself (0x23 == byte) _ _ _ refl)))))
 
--- ---- the lines of a text
-
--- Each byte has a meaning of its own.
 codes_step : (place byte : ℕ) (bytes : List ℕ)
     → codes_after English place 0 (byte ∷ bytes)
     ≡ (place, text_code English byte) ∷ codes_after English (place + 1) 0 bytes
@@ -100,8 +95,6 @@ lines_are place (byte ∷ bytes) =
     ap lines_of_codes (codes_step place byte bytes)
     ∙ ap (with_code (text_code English byte)) (lines_are (place + 1) bytes)
     ∙ put_by (english_cell byte) byte (english_lines bytes) (cell_is byte)
-
--- ---- the bytes that are handled
 
 none_read : (byte place : ℕ)
     → refused_code place (code_of_other byte) ≡ None
@@ -149,8 +142,6 @@ all_read place (byte ∷ bytes) e =
     All-cons IsRead byte bytes (read_of (english_cell byte) byte place (cell_is byte) of.0)
     (all_read (place + 1) bytes of.1)
 
--- ---- the page of a subtitle
-
 none_of_ok : {A E : Type 0} (es : List E) (value : A) → IsOk (unless es value) → es ≡ []
 none_of_ok [] value ok = refl
 none_of_ok (e ∷ es) value ok = cc
@@ -189,7 +180,6 @@ not_under [] under e is = refl
 not_under (c ∷ cells) true e is = cc
 not_under (c ∷ cells) false e is = cc
 
--- A line without a fault.
 fit_line : (row : ℕ) (under : Bool) (line : List ℕ)
     → line_fault_kinds row under line ≡ []
     → IsFit row under line
@@ -264,8 +254,6 @@ all_drawn (t ∷ ts) each ok =
     (all_drawn ts (All-tail IsSubtitle t ts each)
     (All-tail (λ t. IsOk (drawn default_drawing t)) t ts ok))
 
--- ---- the page that is due
-
 due_by : (is : Bool) (t : SubtitleValue) (rest : Option SubtitleValue)
     → drawn default_drawing t ≡ Ok (english_page t)
     → drawn_or_blank default_drawing rest ≡ page_or_blank rest
@@ -289,9 +277,7 @@ pub due_is : (ts : List SubtitleValue) (f : ℕ)
 unfolding due
 due_is ts f each = found_is ts f each
 
--- ---- a part of the file
-
--- How a subtitle is drawn does not depend on the requested part.
+-- How a subtitle is drawn does not depend on the requested part of the file.
 abbrev pub english_within : Scope → Drawing
 english_within scope = drawing_within English default_layout scope
 
@@ -311,8 +297,6 @@ pub due_within : (scope : Scope) (ts : List SubtitleValue) (f : ℕ)
     → due (english_within scope) ts f ≡ english_due ts f
 unfolding due
 due_within scope ts f each = same_page scope (find (is_due f) ts) ∙ due_is ts f each
-
--- ---- a subtitle that is drawn completely
 
 both_none : {A : Type 0} (xs ys : List A) → xs ≡ [] → ys ≡ [] → xs ++ ys ≡ []
 both_none [] ys e f = f

@@ -16,9 +16,6 @@ use Rattle.sub_rules.specs.Transmission.{SentFrame, Transmission}
 use Rattle.sub_headline.specs.PlainReading.{frame_read, frames_by_place, packet_read, packets_read}
 use Rattle.sub_headline.specs.PlainReading.{pieces_of, pts_read, size_read}
 
--- ---- parts of one size
-
--- Skips one part of the bytes.
 pes_packet_after : (size : ℕ) (first rest : List ℕ) (k : ℕ)
     → length first ≡ size
     → drop (size * suc k) (first ++ rest) ≡ drop (size * k) rest
@@ -44,7 +41,6 @@ pes_packets_after size first rest a b (suc n) is next =
     ∙ ap (λ (ps : List (List ℕ)). pes_packet_at size rest a ∷ ps)
     (pes_packets_after size first rest (a + 1) (b + 1) n is (omega arith))
 
--- The first part is cut off.
 pub pieces_cons : (size : ℕ) (first rest : List ℕ)
     → length first ≡ size
     → length (first ++ rest) / size ≡ suc (length rest / size)
@@ -54,12 +50,9 @@ pieces_cons size first rest is count =
     let others = pes_packets_after size first rest 0 1 (length rest / size) is refl in
     rw (count, none, take_at first rest size is) (ap (λ (ps : List (List ℕ)). first ∷ ps) others)
 
--- ---- data units
-
 teletext_id : (id : ℕ) → 2 ≤ id → id ≤ 3 → (id == 0x02) || (id == 0x03) ≡ true
 teletext_id id low high = grind (arith, nat_tests)
 
--- The packets of data units.
 abbrev packets_in : List UnitValue → List (List ℕ)
 packets_in units = map (λ (u : UnitValue). u.packet) units
 
@@ -90,13 +83,9 @@ units_are (suc n) units b (u, others, first, rest, held, after, units_are_so, b_
       units_are_so,
     ) (sym (map-append (λ (u : UnitValue). u.packet) (option_to_list u) others))
 
--- ---- a PES packet
-
--- Its size, read from its first six bytes.
 size_is : (n : ℕ) (more : List ℕ) → 1 ≤ n → n ≤ 9 → size_read (six_of n ++ more) ≡ 184 * n
 size_is n more low high = grind (arith, nat_tests)
 
--- Its PTS, read from its five bytes.
 pts_back : (t : ℕ)
     → t < 2 ^ 33
     → (0x21 + 2 * (t / 2 ^ 30)) / 2 % 8 * 2 ^ 30
@@ -152,9 +141,6 @@ frame_is origin v p s fits h sent =
     ∙ units_are (4 * h.n - 1) v.units h.data_units h.are_units
     ∙ sym sent.packets)
 
--- ---- the file
-
--- The first PES packet is cut off.
 packet_cut : (most : ℕ) (p rest : List ℕ)
     → 0 < length p
     → size_read (p ++ rest) ≡ length p

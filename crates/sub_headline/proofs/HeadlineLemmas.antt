@@ -85,7 +85,6 @@ check_by stl pes stream range options national layout scope all =
     layout
     scope all
 
--- The request is this one.
 record IsCheckBy
     (stl0 name : Text) (stream0 : Option TransportStream) (range0 : Option PesPacketRangeValue)
     (options0 : OptionsValue) (national0 : National) (layout0 : Layout) (scope0 : Scope)
@@ -116,7 +115,6 @@ is_check_by :
 is_check_by stl0 name stream0 range0 options0 national0 layout0 scope0 all0 stl pes stream range
     options national layout scope all e = grind (arith, nat_tests)
 
--- What the status of such a check says.
 reports :
     (request : Request) (stl pes : Text) (stream : Option TransportStream)
     (range : Option PesPacketRangeValue) (options : OptionsValue) (national : National)
@@ -177,18 +175,15 @@ reports
     (ask.Survey a b) stl pes st ra o n y c all file bytes read files s e at_stl at_pes r reported =
     cc
 
--- The program has only one list of arguments.
 given_arguments :
     (given : Result (List Text) UsageFault) (a b : List Text) → given ≡ Ok a → given ≡ Ok b → a ≡ b
 given_arguments given a b one other = let e = sym one ∙ other in cc
 
--- What both files mean, if the transmission is good.
 module _ (scope : Scope) (options : OptionsValue) (stl pes : List ℕ)
     (is : IsAccepted (english_within scope) options stl pes) where
   files : AreFilesOf scope options.origin stl pes is.subtitles is.transmission
   files = files_of scope options.origin stl pes is.subtitles is.transmission is.mean
 
-  -- It keeps the headline.
   each : (class : ReceiverClass)
       → EachOfClassGets class options.page options.every is.subtitles is.transmission
   each class = λ g j f arrived got old new is_got hears.
@@ -212,7 +207,6 @@ module _ (scope : Scope) (options : OptionsValue) (stl pes : List ℕ)
             (served.cells header row column is_cell);
       }
 
-  -- If complete pages were required, they are on the screens.
   complete : IsTrue options.asks_complete
       → EachDisplayShows options.page is.subtitles is.transmission
   complete asks = λ class g j f arrived got old new is_got shows header.
@@ -251,7 +245,6 @@ module _ (scope : Scope) (options : OptionsValue) (stl pes : List ℕ)
         receivers = each Storing;
       }
 
-  -- A property of what they mean holds for what is read by place.
   read : options.origin < 2 ^ 33
       → (IsSo : List SubtitleValue → Transmission → Type 0)
       → IsSo is.subtitles is.transmission
@@ -262,7 +255,6 @@ module _ (scope : Scope) (options : OptionsValue) (stl pes : List ℕ)
       (subst (λ (t : Transmission). IsSo is.subtitles t)
       (sym (frames_are options.origin pes is.transmission fits files.carries)) so)
 
-  -- The same for other receivers and screens.
   kept : options.origin < 2 ^ 33
       → ServesOthers options (subtitles_within scope stl) (frames_by_place options.origin pes)
   kept fits = record {
@@ -274,7 +266,6 @@ module _ (scope : Scope) (options : OptionsValue) (stl pes : List ℕ)
     complete = λ asks. read fits (EachDisplayShows options.page) (complete asks);
   }
 
--- The whole subtitle file.
 read_to_the_end : (options : OptionsValue) (stl pes : List ℕ)
     (is : IsAccepted default_drawing options stl pes)
     → options.origin < 2 ^ 33
@@ -288,9 +279,7 @@ read_to_the_end options stl pes is fits IsSo so =
     (subst (λ (t : Transmission). IsSo is.subtitles t)
     (sym (frames_are options.origin pes is.transmission fits of.carries)) so)
 
--- ---- the headline with any national option and layout
-
--- The due page does not depend on the requested part.
+-- The due page does not depend on the requested part of the subtitle file.
 drawn_within : (national : National) (layout : Layout) (scope : Scope) (o : Option SubtitleValue)
     → drawn_or_blank (drawing_within national layout scope) o
     ≡ drawn_or_blank (drawing_by national layout) o
@@ -352,8 +341,6 @@ module _ (national : National) (layout : Layout) (scope : Scope) (options : Opti
       (subst (λ (t : Transmission). IsSo is.subtitles t)
       (sym (frames_are options.origin pes is.transmission fits is.mean.carries)) drawn_headline)
 
--- ---- the selected part of a recording
-
 abbrev stream_of : Reading → Option TransportStream
 stream_of r = option_map (λ pid. record { pid = pid; packet_size = r.size }) r.pid
 
@@ -370,10 +357,8 @@ read_so : (pid : Option ℕ) (size : PacketSize) (range : Option PesPacketRangeV
 read_so None size range bytes = range_so range bytes
 read_so (Some pid) size range bytes = range_so range (carried_by (Some pid) size bytes)
 
--- ---- a run
-
--- The arguments request nothing but a check of these files, and of this part of the recording, if
--- `within` is 0 and no repeat may keep the page.
+-- The arguments can only request a check of the given files and of the given part of the recording,
+-- in which `within` is 0 and no repeat may keep the page.
 record RequestsCheck
     (arguments : List Text) (stl pes : Text) (stream : Option TransportStream)
     (range : Option PesPacketRangeValue) (options : OptionsValue) (national : National)
@@ -388,7 +373,7 @@ record RequestsCheck
   pub none : options.within ≡ 0
   pub off : IsFalse options.keeps
 
--- What the code of a run says about the bytes of both files then.
+-- The exit code of a run of `check` agrees with the bytes of both files.
 record TellsBytes
     (drawing : Drawing) (options : OptionsValue) (file read : List ℕ) (code : ℕ)
     : Type 0 where
@@ -439,7 +424,6 @@ module _ {K : Type 0} (contents : K → Option (List ℕ)) (failure_count : K �
           );
         }
 
-  -- The arguments for a recording.
   requests_check_parts :
       (program stl pes : Text) (parts : List Portion)
       → IsName stl
@@ -468,7 +452,6 @@ module _ {K : Type 0} (contents : K → Option (List ℕ)) (failure_count : K �
       (requests_check_parts program stl pes parts is_stl is_pes) given_is stl_is pes_is
       (read_so r.pid r.size r.range bytes) not_two
 
-  -- The arguments with everything that may be chosen.
   display_reports : OfDisplay given before
       (λ l file bytes.
       code ≢ 2
@@ -489,7 +472,6 @@ module _ {K : Type 0} (contents : K → Option (List ℕ)) (failure_count : K �
         off = by.1;
       }) given_is stl_is pes_is (read_so r.pid r.size r.range bytes) not_two
 
-  -- The arguments with choices.
   requests_check_chosen :
       (program stl pes : Text) (choices : List Choice)
       → IsName stl
@@ -519,7 +501,6 @@ module _ {K : Type 0} (contents : K → Option (List ℕ)) (failure_count : K �
       (requests_check_chosen program stl pes choices is_stl is_pes) given_is stl_is pes_is refl
       not_two
 
-  -- If the code is 0, a property of all accepted files holds for what is read by place.
   of_accepted :
       (IsSo : OptionsValue → List ℕ → List ℕ → List SubtitleValue → Transmission → Type 0)
       → ((o : OptionsValue) (file bytes : List ℕ) (is : IsAccepted default_drawing o file bytes)

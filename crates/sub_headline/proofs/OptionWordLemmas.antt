@@ -1,5 +1,5 @@
 -- For `law_of_chosen_arguments`: the words of choices after `check STL PES` put their values into
--- the rows, `held_by`.
+-- the rows of arguments, `held_by`.
 use Rattle.std.proofs.Common.{◌≡◌, ◌∙◌, ℕ, Bool, true, false, List, [], ◌∷◌, Option, Some}
 use Rattle.std.proofs.Common.{None, refl, sym, ap, arith, codes, drop, subst}
 use Rattle.std.proofs.lemmas.Bool.Decides.{nat_tests}
@@ -38,8 +38,6 @@ use Rattle.sub_headline.specs.RecordingOptions.Portion.{Any}
 use Rattle.sub_headline.specs.PlainArguments.{IsName}
 use Rattle.sub_headline.proofs.PlainWordLemmas.{at_rest, check_shape, no_dashes, no_long, no_short}
 use Rattle.sub_headline.proofs.RowLemmas.{values_at, same_id, set_other, set_row, set_same}
-
--- ---- the texts of options are values
 
 page_is_name : (text : Text) (page : PageIdValue) → page_of_text text ≡ Some page → IsName text
 unfolding page_of_text
@@ -116,9 +114,7 @@ range_is_name (x ∷ xs) range is = λ e.
     let at : x ≡ 0x2D = cc in
     no_range xs range (subst (λ (c : ℕ). range_of_text (c ∷ xs) ≡ Some range) at is)
 
--- ---- a value after its option
-
--- The state after an option, before its value.
+-- The state of `clap` after an option, before its value.
 abbrev at_option : Text → Held → Walk
 at_option id h = record {
   held = h;
@@ -150,12 +146,9 @@ value_walked c id h word name =
     ap (λ (met : Held × Step). after_step c word (at_option id h) met.0 met.1)
     (value_word c id word h name)
 
--- ---- the words of a choice
-
 abbrev pub rules : List Rule
 rules = check_shape.rules
 
--- Its argument, and the values that this has then.
 abbrev pub key : DisplayOption → Text
 key (Of (Any (Page text page is))) = codes "page"
 key (Of (Any (Every text frames is))) = codes "every"
@@ -191,7 +184,6 @@ vals (Lines text layout name is) = text ∷ []
 abbrev rule_at : Text → Rule
 rule_at id = unwrap_or (arg_by_id rules id) (new_rule [])
 
--- The state after an option, after its value, or after a flag.
 abbrev waiting_held : Text → Held → Held
 waiting_held id h = record (settled rules h) { pending = Some (id, []) }
 
@@ -431,9 +423,6 @@ walk_all h (choice ∷ choices) =
     (walk_step h choice)
     ∙ walk_all (next h choice) choices
 
--- ---- the rows of a choice
-
--- The rows of a state.
 abbrev pub rows_held : Held → List Row
 rows_held h = (settled rules h).rows
 

@@ -1,5 +1,6 @@
--- For `law_of_plain_arguments`. A word that is no option is a value, `plain_other`; so two of them
--- are the two files, `rows_are`, and request a check with the default options, `requested_are`.
+-- For `law_of_plain_arguments`. A word that is no option is a value, `plain_other`; so two such
+-- words are the two files, `rows_are`, and request a check with the default options,
+-- `requested_are`.
 use Rattle.std.proofs.Common.{◌≡◌, ◌∙◌, ℕ, Bool, false, List, [], ◌∷◌, Option, Some, None}
 use Rattle.std.proofs.Common.{Ok, Result, refl, sym, ap, arith, codes, inl, inr}
 use Rattle.std.proofs.lemmas.Bool.Decides.{nat_tests}
@@ -32,31 +33,23 @@ use Rattle.sub_words.specs.Version.{requests_version}
 use Rattle.sub_headline.specs.PlainArguments.{IsName, LawOfPlainArguments, default_options}
 use Rattle.sub_headline.specs.PlainArguments.{entire_pes_file}
 
--- ---- a name
-
--- It does not begin with a hyphen.
 no_hyphen : (x : ℕ) (xs : Text) → IsName (x ∷ xs) → nat_eq x 45 ≡ false
 no_hyphen x xs name = grind (arith, nat_tests)
 
--- It is not `--`.
 pub no_dashes : (word : Text) → IsName word → bytes_eq word (45 ∷ 45 ∷ []) ≡ false
 no_dashes [] name = refl
 no_dashes (x ∷ xs) name =
     ap (λ (b : Bool). b && bytes_eq xs (45 ∷ [])) (no_hyphen x xs name)
 
--- These arguments request no help,
 no_help : (program stl pes : Text)
     → requests_help (program ∷ codes "check" ∷ stl ∷ pes ∷ []) ≡ false
 unfolding requests_help
 no_help program stl pes = refl
 
--- nor the version.
 no_version : (program stl pes : Text)
     → requests_version (program ∷ codes "check" ∷ stl ∷ pes ∷ []) ≡ false
 unfolding requests_version
 no_version program stl pes = refl
-
--- ---- a word that is no option is a value
 
 pub no_long : (word : Text) → IsName word → long_of word ≡ None
 no_long [] name = refl
@@ -87,7 +80,7 @@ plain_other c position word h name =
     ∙ ap (λ o. long_or_other c idle word o h) (no_long word name)
     ∙ ap (λ o. short_or_plain c idle word o h) (no_short word name)
 
--- The state in which no option waits for a value.
+-- The state of `clap` in which no option waits for a value.
 abbrev pub at_rest : Held → ℕ → Walk
 at_rest h position =
     record { held = h; waiting = idle; position = position; is_trailing = false; stopped = None }
@@ -101,15 +94,12 @@ walked_plain c h position word name =
     ap (λ (met : Held × Step). after_step c word (at_rest h position) met.0 met.1)
     (plain_other c position word h name)
 
--- ---- the words of `check`
-
--- The definition of the command `check`.
+-- The definition of the command `check`, as `clap` builds it.
 abbrev pub check_shape : Shape
 check_shape =
     unwrap_or (find (λ s. answers_to (codes "check") (label_of s)) (built subttx_app).subs)
     (built subttx_app).top
 
--- The state after two words.
 abbrev pub held_of_two : (stl pes : Text) → Held
 held_of_two stl pes =
     let c = check_shape.rules in

@@ -1,5 +1,6 @@
--- For `law_of_chosen_arguments`: the values of the rows for an argument, by its id, after it is
--- used again, `set_same` and `set_other`, and after defaults are added, `defaulted`.
+-- For `law_of_chosen_arguments`: the values that the rows of arguments have for an argument, by its
+-- id, after it is used again, `set_same` and `set_other`, and after defaults are added,
+-- `defaulted`.
 use Rattle.std.proofs.Common.{◌≡◌, ◌∙◌, Bool, true, false, List, [], ◌∷◌, ◌++◌, Option, Some}
 use Rattle.std.proofs.Common.{None, refl, sym, ap, drop}
 use Rattle.std.proofs.lemmas.Slice.Eq.{bytes_eq-Decides}
@@ -11,17 +12,16 @@ use Rattle.clap.specs.declared.builder.value_parser.Reading.{Reading}
 use Rattle.clap.specs.declared.parser.matches.ValueSource.{ValueSource}
 use Rattle.clap.specs.declared.parser.matches.ValueSource.TheVariants.{CommandLine, DefaultValue}
 
--- The values of each row with an id.
+-- The values of each row with the given id.
 abbrev pub values_at : Text → List Row → List (List Text)
 values_at id [] = []
 values_at id (r ∷ rs) = if bytes_eq r.id id then r.values ∷ values_at id rs else values_at id rs
 
--- Their first text.
+-- The first text of the first value.
 abbrev pub first_text : List (List Text) → Option Text
 first_text [] = None
 first_text (v ∷ vs) = slice_get v 0
 
--- Whether there is one.
 abbrev is_there : List (List Text) → Bool
 is_there [] = false
 is_there (v ∷ vs) = true
@@ -32,8 +32,6 @@ set_row id how vals rows = with_values id how CommandLine vals (without id rows)
 
 pub same_id : (a b : Text) → bytes_eq a b ≡ true → a ≡ b
 same_id a b is = (bytes_eq-Decides a b).0 is
-
--- ---- the values of rows
 
 first_by : (b : Bool) (id : Text) (r : Row) (rs : List Row)
     → first_of id rs ≡ first_text (values_at id rs)
@@ -57,13 +55,11 @@ has_is : (id : Text) (rows : List Row) → has_row id rows ≡ is_there (values_
 has_is id [] = refl
 has_is id (r ∷ rs) = has_by (bytes_eq r.id id) id r rs (has_is id rs)
 
--- ---- another id
-
 module _ (id other : Text) (apart : bytes_eq id other ≡ false) where
   row_apart : (r : Row) → bytes_eq r.id id ≡ true → bytes_eq r.id other ≡ false
   row_apart r is = ap (λ (x : Text). bytes_eq x other) (same_id r.id id is) ∙ apart
 
-  -- A change of the rows of one id does not affect another.
+  -- A change of the rows with one id does not affect the values of another id.
   module _ (change : Row → List Row) (missing : List Row)
       (changed : (r : Row) → bytes_eq r.id other ≡ false
       → (rs : List Row) → values_at other (change r ++ rs) ≡ values_at other rs)
@@ -106,8 +102,6 @@ module _ (id other : Text) (apart : bytes_eq id other ≡ false) where
       → values_at other (set_row id how vals rows) ≡ values_at other rows
   set_other how vals rows =
       with_other how CommandLine vals (without id rows) ∙ without_other rows
-
--- ---- the same id
 
 module _ (id : Text) (same : bytes_eq id id ≡ true) where
   without_by : (b : Bool) (r : Row) (rs : List Row)
@@ -157,9 +151,7 @@ module _ (id : Text) (same : bytes_eq id id ≡ true) where
   set_same how vals rows short =
       with_new how CommandLine vals (without id rows) (without_same rows ∙ short)
 
--- ---- defaults
-
--- The values, or else the default ones.
+-- The given values, or the default values if there are none.
 abbrev pub or_default : List (List Text) → List Text → List (List Text)
 or_default [] [] = []
 or_default [] (v ∷ vs) = (v ∷ vs) ∷ []

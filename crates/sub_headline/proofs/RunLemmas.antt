@@ -11,13 +11,12 @@ use Rattle.sub_listing.specs.declared.status.Status.TheVariants.{Done, Fault}
 use Rattle.sub_answer.specs.Ending.{BufferHoldsOneLineOnly, KnownOfFiles, Lines, PrintsFault}
 use Rattle.sub_headline.specs.Run.{Answered, EndsRun, RunsProgram}
 
--- A run that reports a fault ends with `Fault`.
 stated : (fault : UsageFault) (old new : Lines) (result : Status)
     → PrintsFault fault old new result
     → result ≡ Fault
 stated fault old new result says = grind (arith, nat_tests)
 
--- It answered its request, and the code is that of the answer's status.
+-- The run answered its request, and the exit code is that of the answer's status.
 pub record HasAnswered
     {I O : Type 0} (AreMade : List (FileCall I O) → Type 0) (reported : KnownOfFiles I O)
     (IsClose : O → O → Type 0) (given : Result (List Text) UsageFault) (IsAlone : Lines → Type 0)

@@ -1,5 +1,5 @@
--- The characters on an English page: law_of_english_characters; if the headline is kept, the
--- screens of every receiver: screens_of.
+-- The characters on an English page: law_of_english_characters; if the headline holds, the screens
+-- of every receiver: screens_of.
 use Rattle.std.proofs.lemmas.Bool.Decides.{nat_tests}
 use Rattle.std.proofs.Common.{arith}
 use Rattle.std.proofs.Common.{◌≡◌, ◌⊎◌, ◌∙◌, ℕ, Bool, List, Some, None, ap, inl, inr}
@@ -16,14 +16,13 @@ use Rattle.sub_headline.specs.EnglishScreen.{EachScreenShows, LawOfEnglishCharac
 use Rattle.sub_headline.specs.EnglishScreen.{blank_character}
 use Rattle.sub_headline.specs.EnglishScreen.{english_character, text_character}
 
--- A byte whose cell has its own number is at no place of the sub-set.
+-- A byte whose cell has the byte's own number is at no place of the national sub-set.
 elsewhere : (place byte : ℕ)
     → is_common place ≡ false
     → is_common byte ≡ true
     → (place == byte) ≡ false
 elsewhere place byte is common = grind (arith, nat_tests)
 
--- Such a cell shows the byte's character.
 common_shows : (byte : ℕ) → is_common byte ≡ true → english_character byte ≡ text_character byte
 unfolding is_common english_character text_character
 common_shows byte is =
@@ -43,7 +42,6 @@ common_shows byte is =
       elsewhere 0xA4 byte refl is,
     ) refl
 
--- The places of the sub-set that a text uses.
 pound : english_character 0x23 ≡ text_character 0xA3
 unfolding english_character text_character
 pound = refl
@@ -97,7 +95,6 @@ space_is : english_character space ≡ blank_character
 unfolding english_character
 space_is = refl
 
--- The character of a cell with the due code, or an excused space.
 seen_so : (is due : ℕ) (IsExcused : Type 0)
     → (is ≡ due) ⊎ ((is ≡ space) × IsExcused)
     → (english_character is ≡ english_character due)
@@ -105,7 +102,6 @@ seen_so : (is due : ℕ) (IsExcused : Type 0)
 seen_so is due IsExcused (inl same) = inl (ap english_character same)
 seen_so is due IsExcused (inr (none, excused)) = inr (ap english_character none ∙ space_is, excused)
 
--- The screens of receivers for which the headline holds.
 pub screens_of : (page : PageIdValue) (every : ℕ) (subtitles : List SubtitleValue)
     (transmission : Transmission)
     → ((class : ReceiverClass) → EachOfClassGets class page every subtitles transmission)

@@ -20,19 +20,17 @@ use Rattle.sub_headline.specs.PlainReading.{begins_in, subtitles_by_place, subti
 use Rattle.sub_headline.specs.PlainReading.{time_read}
 use Rattle.sub_headline.proofs.FrameReadingLemmas.{pieces_cons}
 
--- ---- blocks
-
 blocks_are : (bs : List (List ℕ)) → AllByRecursion IsBlock bs → pieces_of 128 (concat bs) ≡ bs
 blocks_are [] each = refl
 blocks_are (b ∷ bs) each =
     pieces_cons 128 b (concat bs) each.0 (omega (arith, length-append b (concat bs), each.0))
     ∙ ap (λ (rest : List (List ℕ)). b ∷ rest) (blocks_are bs each.1)
 
--- The block is no comment.
 abbrev IsNoComment : List ℕ → Type 0
 IsNoComment b = cf b ≡ 0
 
--- Both tests agree for a block that is kept, which is no comment, and for one that is skipped.
+-- The test of a subtitle's blocks by place agrees with the test of the grammar, for a block that is
+-- kept, which is no comment, and for a block that is skipped.
 same_kept : (e c : ℕ)
     → c ≡ 0
     → not ((e == 0xFE) || ((nat_lt e 0xF0 || (e == 0xFF)) && (c == 0x01))) ≡ true
@@ -44,7 +42,6 @@ same_skipped : (e c : ℕ)
     → not ((e == 0xFE) || (c == 0x01)) ≡ false
 same_skipped e c is = grind (arith, nat_tests)
 
--- The blocks that a test keeps, if the other test keeps the same.
 kept_by : (is : Bool) (b : List ℕ) (bs : List (List ℕ))
     → is_kept b ≡ is
     → AllByRecursion IsNoComment (if is then b ∷ filter is_kept bs else filter is_kept bs)
@@ -58,8 +55,6 @@ kept_are : (bs : List (List ℕ))
 kept_are [] none = refl
 kept_are (b ∷ bs) none =
     let by = kept_by (is_kept b) b bs refl none in rw (by.0, kept_are bs by.1) refl
-
--- ---- groups
 
 abbrev joined : List (List (List ℕ)) → List (List ℕ)
 joined groups = flat_map (λ group. group) groups
@@ -85,7 +80,6 @@ not_last e low = grind (arith, nat_tests)
 last : (e : ℕ) → e ≡ 0xFF → (e == 0xFF) ≡ true
 last e is = grind (arith, nat_tests)
 
--- The blocks of one subtitle are cut off.
 group_cut : (sgn_is sn_is : ℕ) (g rest : List (List ℕ))
     → AreLinked sgn_is sn_is g
     → groups_read (g ++ rest) ≡ g ∷ groups_read rest
@@ -94,9 +88,6 @@ group_cut sgn_is sn_is (b ∷ []) rest linked = rw (last (ebn b) linked.1) refl
 group_cut sgn_is sn_is (b ∷ c ∷ g) rest linked =
     rw (not_last (ebn b) linked.1, group_cut sgn_is sn_is (c ∷ g) rest linked.2) refl
 
--- ---- subtitles
-
--- A time code, read by place.
 time_is : (b : List ℕ) (at : ℕ) → time_read b at ≡ frame_in (take 4 (drop at b))
 unfolding frame_in
 time_is b at =
@@ -129,9 +120,7 @@ subtitle_is t g of =
       text_is,
     ) refl
 
--- ---- the groups of a file, some of which are outside the part
-
--- Linked blocks, with any numbers.
+-- The blocks are linked by one SGN and SN, whatever these are.
 abbrev AreOneSubtitle : List (List ℕ) → Type 0
 AreOneSubtitle g = (sgn_is : ℕ) × (sn_is : ℕ) × AreLinked sgn_is sn_is g
 
@@ -151,7 +140,6 @@ outside_rest : (scope : Scope) (out : Bool) (g : List (List ℕ)) (outs : List (
 outside_rest scope true g outs outside = outside.1
 outside_rest scope false g outs outside = outside
 
--- The remaining subtitles after a group.
 abbrev left_by : Bool → List SubtitleValue → List SubtitleValue
 left_by true ts = ts
 left_by false [] = []
@@ -165,7 +153,6 @@ are_rest true ts g ins are = are
 are_rest false [] g ins are = absurd are
 are_rest false (t ∷ ts) g ins are = are.1
 
--- Each group is the blocks of one subtitle.
 all_linked : (scope : Scope) (ts : List SubtitleValue) (groups : List (List (List ℕ)))
     → AllByRecursion (AreOutside scope) (filter (is_outside scope) groups)
     → AllZip AreBlocksOf ts (filter (is_inside scope) groups)
@@ -198,7 +185,6 @@ groups_cut (g ∷ groups) each =
       groups_cut groups each.1,
     ) refl
 
--- A first block is not outside if its time is in the part.
 outside_by : (scope : Scope) (b : List ℕ)
     → begins_outside scope b ≡ true
     → (nat_le scope.from (frame_in (tci b)) && nat_lt (frame_in (tci b)) scope.to) ≡ false
@@ -230,7 +216,6 @@ begins_so scope t g of is =
     ap (λ (n : ℕ). nat_le scope.from n && nat_lt n scope.to) of.begins.tci_is.is
     ∙ inside_by scope of.first of.begins.tci_is.in_range here
 
--- The subtitles of the part are those of the groups that are inside.
 taken_by : (scope : Scope) (out : Bool) (ts : List SubtitleValue) (g : List (List ℕ))
     (groups ins outs : List (List (List ℕ)))
     → is_outside scope g ≡ out
@@ -268,7 +253,6 @@ taken_are scope ts (g ∷ groups) outside are =
     (taken_are scope (left_by out ts) groups (outside_rest scope out g outs outside)
     (are_rest out ts g ins are))
 
--- All of them.
 each_is : (ts : List SubtitleValue) (groups : List (List (List ℕ)))
     → AllZip AreBlocksOf ts groups
     → map subtitle_read groups ≡ ts
@@ -277,9 +261,6 @@ each_is [] (g ∷ groups) each = absurd each
 each_is (t ∷ ts) [] each = absurd each
 each_is (t ∷ ts) (g ∷ groups) each = rw (subtitle_is t g each.0, each_is ts groups each.1) refl
 
--- ---- the file
-
--- The groups of a file are read from it.
 groups_are : (scope : Scope) (bytes gsi : List ℕ) (ts : List SubtitleValue)
     (file : IsFileFor scope bytes gsi ts)
     → subtitles_by_place bytes ≡ map subtitle_read file.rest.groups
@@ -297,7 +278,6 @@ groups_are scope bytes gsi ts file =
       groups_cut file.rest.groups each,
     ) refl
 
--- The subtitles of a file, and those of the part, are read from it.
 pub subtitles_are : (bytes gsi : List ℕ) (ts : List SubtitleValue)
     → IsFile bytes gsi ts
     → subtitles_by_place bytes ≡ ts

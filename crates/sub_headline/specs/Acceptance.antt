@@ -8,8 +8,8 @@ use Rattle.sub_plan.specs.Options.{OptionsValue}
 use Rattle.sub_check.specs.CheckedFiles.{IsAccepted, IsAcceptedBy}
 use Rattle.sub_headline.specs.PlainAcceptance.{IsPlainlyAccepted}
 
--- Files are then accepted by the options exactly if they mean subtitles and a good transmission of
--- these.
+-- If `within` is 0 and no repeat may keep the page, files are accepted by the options exactly if
+-- they contain subtitles and a good transmission of these subtitles.
 abbrev pub LawOfPlainAcceptance : Type 0
 LawOfPlainAcceptance =
     (drawing : Drawing) (options : OptionsValue) (stl pes : List ℕ)
@@ -17,12 +17,12 @@ LawOfPlainAcceptance =
     → options.within ≡ 0
     → IsAcceptedBy drawing options stl pes ↔ IsAccepted drawing options stl pes
 
--- English letters, the default layout, the whole file.
+-- Subtitles are drawn in English with the default layout, and the subtitle file is read completely.
 abbrev pub default_drawing : Drawing
 default_drawing = drawing_by English default_layout
 
--- With these, files are accepted by any options exactly if they are by the page and the rules for
--- English.
+-- In English with the default layout, files are accepted by any options exactly if they are
+-- accepted by the page and the rules for English.
 abbrev pub LawOfEnglishAcceptance : Type 0
 LawOfEnglishAcceptance =
     (options : OptionsValue) (stl pes : List ℕ)

@@ -1,5 +1,5 @@
--- The headline for receivers of both classes: those that store rows with a wrong byte, and those
--- that drop them.
+-- The headline for receivers of both classes: receivers that store rows with a byte of even parity,
+-- and receivers that drop such rows.
 use Rattle.std.specs.Prelude.{ℕ, Bool, List}
 use Rattle.ttx_packet.specs.PageId.{PageIdValue}
 use Rattle.ttx_page.specs.DroppedRows.{ExcusedBy}
@@ -11,8 +11,8 @@ use Rattle.sub_laws.specs.LostRows.{IsGot}
 use Rattle.sub_headline.specs.EnglishPage.{english_due}
 use Rattle.sub_headline.specs.PlainHeadline.{Gets}
 
--- Every receiver of the class gets what the headline says. If it drops rows, a space is excused if
--- any byte of its row was hit, or the row was lost.
+-- The headline holds for every receiver of the class. If the receiver drops rows, a space is
+-- excused if any byte of its row was hit, or the row was lost.
 abbrev pub EachOfClassGets :
     ReceiverClass → PageIdValue → ℕ → List SubtitleValue → Transmission → Type 0
 EachOfClassGets class page every subtitles transmission =

@@ -30,7 +30,7 @@ pub data DisplayOption : Type 0 where
       → DisplayOption
   Of : Portion → DisplayOption
 
--- Its arguments.
+-- The arguments of an option for a recording, a national option or a layout.
 abbrev pub arguments_for : DisplayOption → List Text
 arguments_for (Letters text national name is) = codes "--option" ∷ text ∷ []
 arguments_for (Lines text layout name is) = codes "--layout" ∷ text ∷ []
@@ -42,21 +42,22 @@ pub record DisplayOptions : Type 0 where
   pub national : National
   pub layout : Layout
 
--- The same with one more option.
+-- The settings for reading and drawing with one more option.
 abbrev pub displayed_by : DisplayOptions → DisplayOption → DisplayOptions
 displayed_by l (Letters text national name is) = record l { national = national }
 displayed_by l (Lines text layout name is) = record l { layout = layout }
 displayed_by l (Of part) = record l { reading = read_by l.reading part }
 
--- English and the default layout, unless chosen otherwise.
+-- The settings that a list of options gives. English and the default layout are used unless the
+-- list chooses others.
 abbrev pub looking_of : List DisplayOption → DisplayOptions
 looking_of display_options =
     fold displayed_by
     (record { reading = reading_of []; national = English; layout = default_layout })
     display_options
 
--- These arguments, after the program's name, request a check of these two files, read and drawn in
--- this way, and their origin is a PTS.
+-- The arguments `check STL RECORDING` and options, after the program's name, request a check of
+-- these two files, read and drawn as the options say, and the PTS of frame 0 is less than 2^33.
 abbrev pub LawOfDisplayArguments : Type 0
 LawOfDisplayArguments =
     (program stl recording : Text) (display_options : List DisplayOption) (request : Request)

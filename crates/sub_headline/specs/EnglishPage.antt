@@ -21,18 +21,19 @@ english_cell byte =
     else (if 0x23 == byte then Some 0x5F  -- #
     else None)))))
 
--- Puts a byte in front of lines: its cell; the end of a line; or nothing, for italics, underline
--- and boxing.
+-- The lines of a text with one more byte in front of them: the byte is a cell; the end of a line;
+-- or nothing, for italics, underline and boxing.
 abbrev pub put : Option ℕ → ℕ → List (List ℕ) → List (List ℕ)
 put (Some cell) byte lines = onto_first cell lines
 put None byte lines = if byte == new_line then [] ∷ lines else lines
 
--- The lines of cells of a text.
+-- The lines of a subtitle's text, as cells.
 abbrev pub english_lines : List ℕ → List (List ℕ)
 english_lines [] = [] ∷ []
 english_lines (byte ∷ bytes) = put (english_cell byte) byte (english_lines bytes)
 
--- A byte that is handled in this way. A text with any other byte is not drawn completely.
+-- The byte is a cell, a new line, or the code for italics, underline or boxing. A text with any
+-- other byte is not drawn completely.
 abbrev pub IsRead : ℕ → Type 0
 IsRead byte =
     (english_cell byte ≢ None) ⊎ (byte ≡ new_line) ⊎ (is_within 0x80 0x85 byte ≡ true)
@@ -52,7 +53,7 @@ Fit row is_under_double [] = ⊤
 Fit row is_under_double (line ∷ lines) =
     IsFit row is_under_double line × Fit (row + 1) (is_double line) lines
 
--- The prepared lines of a subtitle: each one with cells is in a box.
+-- The prepared lines of a subtitle: each line with cells is in a box.
 abbrev pub boxed_lines : SubtitleValue → List (List ℕ)
 boxed_lines t = map prepared (english_lines t.text)
 
@@ -62,7 +63,8 @@ pub record IsDrawnWhole (t : SubtitleValue) : Type 0 where
   pub read : All IsRead t.text
   pub fit : Fit t.vp false (boxed_lines t)
 
--- The line of a row: line 0 goes to row VP; rows above it and below the last line are empty.
+-- The line in a row of a subtitle's page: line 0 goes to row VP; rows above VP and below the last
+-- line are empty.
 abbrev pub english_line : SubtitleValue → ℕ → List ℕ
 english_line t row =
     if nat_lt row t.vp then [] else slice_index_or (boxed_lines t) (row - t.vp) []
@@ -71,12 +73,12 @@ english_line t row =
 abbrev pub english_page : SubtitleValue → Rows
 english_page t = map (λ row. row_of t.jc (english_line t row)) (range_with_len 1 24)
 
--- The page of a subtitle, or a blank page.
+-- The page of a subtitle, or a blank page if there is no subtitle.
 abbrev pub page_or_blank : Option SubtitleValue → Rows
 page_or_blank None = blank
 page_or_blank (Some t) = english_page t
 
--- The page that is due at a frame: that of the subtitle whose TCI is not after the frame and whose
--- TCO is.
+-- The page that is due at a frame: the page of the subtitle whose TCI is not after the frame and
+-- whose TCO is after it; blank if there is no such subtitle.
 abbrev pub english_due : List SubtitleValue → ℕ → Rows
 english_due subtitles frame = page_or_blank (find (is_due frame) subtitles)

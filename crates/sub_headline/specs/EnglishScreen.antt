@@ -42,8 +42,8 @@ unfoldable pub text_character : ℕ → ℕ
 text_character byte =
     if nat_lt byte 0x20 then blank_character else (if 0xA4 == byte then 0x24 else byte)
 
--- The cell of a byte shows its character. So a viewer of the due page reads the text of the
--- subtitle file.
+-- The cell of a byte of text shows the character of that byte. So a viewer of the due page reads
+-- the text of the subtitle file.
 abbrev pub LawOfEnglishCharacters : Type 0
 LawOfEnglishCharacters =
     (byte code : ℕ)
@@ -55,8 +55,8 @@ abbrev pub seen : Rows → ℕ → ℕ → ℕ
 seen page row column = english_character (cell page row column)
 
 -- The screen of every receiver, at the end of frame f, shows in each cell the character of the due
--- page, or a space if that is excused. The receiver is one of those of `EachOfClassGets`, and a
--- header of the page was sent since it was switched on in frame g.
+-- page, or a space if the cell is excused. The receiver is one of those of `EachOfClassGets`, and a
+-- header of the page was sent since the receiver was switched on in frame g.
 abbrev pub EachScreenShows : PageIdValue → List SubtitleValue → Transmission → Type 0
 EachScreenShows page subtitles transmission =
     (class : ReceiverClass) (g j f : ℕ) (arrived : List Bool) (got : List (List ℕ))

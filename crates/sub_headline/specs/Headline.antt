@@ -53,8 +53,9 @@ ImpliesHeadline given files code =
     code ≡ 0
     → Headline page_888 250 english_due (subtitles_by_place file) (frames_by_place 0 bytes))
 
--- If the program was called with `check STL PES`, followed by these options in any order, `IsSo`
--- holds for the chosen options and the contents of these two files.
+-- If the program was called with `check STL PES`, followed by options for which `Choice` has a
+-- constructor, in any order, `IsSo` holds for the chosen options and the contents of these two
+-- files.
 abbrev pub OfChosen :
     Result (List Text) UsageFault → MemFilesValue
     → (OptionsValue → List ℕ → List ℕ → Type 0) → Type 0
@@ -109,9 +110,9 @@ ImpliesComplete given files code =
     (λ o subtitles transmission.
     IsTrue o.asks_complete → EachDisplayShows o.page subtitles transmission)
 
--- If the program was called with `check STL RECORDING`, followed by these options in any order,
--- `IsSo` holds for how both files are read and for their contents. RECORDING is a PES file or, with
--- `--pid`, a transport stream.
+-- If the program was called with `check STL RECORDING`, followed by options for which `Portion` has
+-- a constructor, in any order, `IsSo` holds for how both files are read and for their contents.
+-- RECORDING is a PES file or, with `--pid`, a transport stream.
 abbrev pub OfRecording :
     Result (List Text) UsageFault → MemFilesValue → (Reading → List ℕ → List ℕ → Type 0) → Type 0
 OfRecording given files IsSo =
@@ -133,8 +134,8 @@ ImpliesRecording given files code =
     → Headline r.options.page r.options.every english_due (subtitles_within r.scope file)
     (frames_by_place r.options.origin (bytes_read r bytes)))
 
--- The promises to receivers that ignore damaged rows, for what receivers show, and for receivers
--- that wait for complete pages.
+-- The promises to receivers that ignore damaged rows, for the characters on screens, and to
+-- receivers that wait for complete pages.
 pub record ServesOthers
     (o : OptionsValue) (subtitles : List SubtitleValue) (transmission : Transmission)
     : Type 0 where
@@ -153,7 +154,8 @@ ImpliesRecordingToo given files code =
     (frames_by_place r.options.origin (bytes_read r bytes)))
 
 -- If the exit code is 0, the selected bytes are a PES file that contains these frames and nothing
--- else; the subtitle file contains these subtitles, and others only outside of the selected part.
+-- else; the subtitle file contains these subtitles, and other subtitles only outside of the
+-- selected part.
 abbrev pub ImpliesRecordingFiles : Result (List Text) UsageFault → MemFilesValue → ℕ → Type 0
 ImpliesRecordingFiles given files code =
     OfRecording given files
@@ -162,9 +164,9 @@ ImpliesRecordingFiles given files code =
     → AreFilesOf r.scope r.options.origin file (bytes_read r bytes) (subtitles_within r.scope file)
     (frames_by_place r.options.origin (bytes_read r bytes)))
 
--- If the program was called with `check STL RECORDING`, followed by any of these options in any
--- order, `IsSo` holds for how both files are read, how subtitles are drawn, and for the contents of
--- the files.
+-- If the program was called with `check STL RECORDING`, followed by options for which
+-- `DisplayOption` has a constructor, in any order, `IsSo` holds for how both files are read, how
+-- subtitles are drawn, and for the contents of the files.
 abbrev pub OfDisplay :
     Result (List Text) UsageFault → MemFilesValue → (DisplayOptions → List ℕ → List ℕ → Type 0) →
     Type 0
@@ -196,9 +198,10 @@ abbrev pub DecidesAcceptance : Result (List Text) UsageFault → MemFilesValue �
 DecidesAcceptance given files code =
     OfChosen given files (λ o file bytes. code ≢ 2 → (code ≡ 0) ↔ IsPlainlyAccepted o file bytes)
 
--- The exit code of each run of the program says all this. The files are modelled in memory, and
--- `before` has their contents when the program starts. Standard output is any device, described by
--- its contents, its failure count and its calls. `given` is the command line, `code` the exit code.
+-- All `Implies..` statements and `DecidesAcceptance` hold for the exit code of each run of the
+-- program. The files are modelled in memory, and `before` has their contents when the program
+-- starts. Standard output is any device, described by its contents, its failure count and its
+-- calls. `given` is the command line, `code` the exit code.
 abbrev pub LawOfHeadline :
     {K : Type 0}
     → (K → Option (List ℕ)) → (K → ℕ) → (K → List ℕ → Option ℕ → K → Type 0) → Type 0

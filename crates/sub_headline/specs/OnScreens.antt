@@ -1,4 +1,4 @@
--- The screens of displays, if complete pages were required.
+-- The screens of receivers that show only complete pages, if complete pages were required.
 use Rattle.std.specs.Prelude.{◌≡◌, ◌⊎◌, ℕ, Bool, IsTrue, List, Some}
 use Rattle.ttx_packet.specs.PageId.{PageIdValue}
 use Rattle.ttx_page.specs.Screen.{Display, ShowsBy}
@@ -13,9 +13,9 @@ use Rattle.sub_rules.specs.Transmission.{Transmission, first_frame, last_frame, 
 use Rattle.sub_laws.specs.LostRows.{IsGot}
 use Rattle.sub_headline.specs.EnglishPage.{english_due}
 
--- Each display, which shows a page only after all of it has come, shows a page after a header of it
--- was sent since it was switched on, whatever it showed before: in each cell the code of the due
--- page or, if that is excused, a space.
+-- Each receiver that shows a page only after it is complete shows a page after a header of the page
+-- was sent since the receiver was switched on, whatever the receiver showed before: in each cell
+-- the code of the due page or, if the cell is excused, a space.
 abbrev pub EachDisplayShows : PageIdValue → List SubtitleValue → Transmission → Type 0
 EachDisplayShows page subtitles transmission =
     (class : ReceiverClass) (g j f : ℕ) (arrived : List Bool) (got : List (List ℕ))

@@ -1,5 +1,5 @@
--- What `check STL PES` with choices accepts: the seven rules of `Good` for English subtitles, in as
--- few words as possible.
+-- The files that `check STL PES` with choices accepts: the seven rules of `Good` for English
+-- subtitles, in as few definitions as possible.
 use Rattle.std.specs.Prelude.{◌≡◌, ℕ, ◌<◌, ◌≤◌, IfSome, IsFalse, IsTrue, List, length}
 use Rattle.ttx_packet.specs.declared.header.Header.{Header}
 use Rattle.ttx_packet.specs.PageHeader.{HasExactWords, c10, c12, c13, c14, c4, c5, c6, c7}
@@ -33,7 +33,7 @@ pub record IsEnglishHeader (h : Header) : Type 0 where
   pub second_option : IsFalse (c13 h)
   pub third_option : IsFalse (c14 h)
 
--- If the packet is a header of the page, it has these control bits.
+-- If the packet is a header of the page, it has the control bits of an English subtitle.
 abbrev pub IsControlledInEnglish : PageIdValue → List ℕ → Type 0
 IsControlledInEnglish page packet =
     (h : Header) → kind page packet ≡ ThisPage h → IsEnglishHeader h
@@ -49,12 +49,12 @@ ShowsEnglishPages page subtitles transmission =
     → shown page (on_air_until transmission f) row column
     ≡ cell (english_due subtitles f) row column
 
--- A good transmission of these subtitles by the seven rules, on the page of the options.
+-- A good transmission of the subtitles by the seven rules, on the page of the options.
 pub record IsEnglishGood
     (o : OptionsValue) (subtitles : List SubtitleValue) (transmission : Transmission)
     : Type 0 where
   -- 1. There is at least one frame, the frames are in rising order, and packets have 42 bytes. The
-  -- first frame is not after the first TCI, and the last frame is not before the last TCO.
+  --    first frame is not after the first TCI, and the last frame is not before the last TCO.
   pub not_empty : 0 < length transmission
   pub rising : IsRising transmission
   pub whole : EachPacket (λ packet. length packet ≡ 42) transmission
@@ -71,18 +71,17 @@ pub record IsEnglishGood
   -- packet X/25 to X/28 of its magazine.
   pub spans : HasCleanSpans o.page transmission
   -- 6. The first frame contains a header of the page, and so does at least one of any `every`
-  -- consecutive frames.
+  --    consecutive frames.
   pub opens : HoldsHeader o.page transmission (first_frame transmission)
   pub repeats : Repeats o.page o.every transmission
   -- 7. At the end of each frame, the page that is due is shown.
   pub content : ShowsEnglishPages o.page subtitles transmission
-  -- If the options require it, PES packets are at most so many frames apart, and pages are
-  -- complete.
+  -- If the options require it, PES packets are at most `pace` frames apart, and pages are complete.
   pub paced : KeepsPace o.pace transmission
   pub complete : IsTrue o.asks_complete → Complete transmission o
 
 -- The bytes of both files are accepted: they contain some subtitles and a good transmission of
--- these.
+-- these subtitles.
 pub record IsPlainlyAccepted (o : OptionsValue) (stl pes : List ℕ) : Type 0 where
   pub subtitles : List SubtitleValue
   pub transmission : Transmission

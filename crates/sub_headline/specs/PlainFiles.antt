@@ -8,17 +8,18 @@ use Rattle.sub_rules.specs.PesFrames.{Carries}
 use Rattle.sub_rules.specs.Transmission.{Transmission}
 use Rattle.sub_headline.specs.EnglishPage.{IsDrawnWhole}
 
--- The contents of both files, given the PTS of frame 0 and the requested part of the subtitles.
+-- The subtitles and the frames that both files contain, given the PTS of frame 0 and the requested
+-- part of the subtitle file.
 pub record AreFilesOf
     (scope : Scope) (origin : ℕ) (stl pes : List ℕ) (subtitles : List SubtitleValue)
     (transmission : Transmission)
     : Type 0 where
-  -- The subtitle file is a GSI block and the TTI blocks of subtitles (EBU Tech 3264). Those of the
-  -- requested part are these, in order, and their texts can be drawn completely.
+  -- The subtitle file is a GSI block and the TTI blocks of subtitles (EBU Tech 3264). The subtitles
+  -- of the requested part are `subtitles`, in order, and their texts can be drawn completely.
   pub gsi : List ℕ
   pub subtitle_file : IsFileFor scope stl gsi subtitles
   pub in_order : AreInOrder subtitles
   pub texts : All IsDrawnWhole subtitles
-  -- The PES file is PES packets (EN 300 472), one for each frame of this transmission, with the PTS
+  -- The PES file is PES packets (EN 300 472), one for each frame of the transmission, with the PTS
   -- of that frame.
   pub carries : Carries origin pes transmission

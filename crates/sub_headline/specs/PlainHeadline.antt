@@ -11,11 +11,14 @@ use Rattle.stl_file.specs.Subtitle.{SubtitleValue}
 use Rattle.sub_rules.specs.Transmission.{Transmission, first_frame, last_frame, on_air}
 use Rattle.sub_laws.specs.LostRows.{IsGot}
 
--- What a receiver has at the end of frame f, if it was switched on in frame g and the packets
--- `sent` were transmitted since. The repeat bound `every` is a number of frames: so many frames
--- after g, at the latest, a header of the page has been sent. The receiver has received a header of
--- the page exactly if it had before or one was sent since. After one was sent, each cell has the
--- code of the due page or, if the cell is excused, a space.
+-- The page that a receiver has at the end of frame f. The receiver was switched on in frame g and
+-- observed at the end of frame f; `sent` are the packets on air between these points, and `old` and
+-- `new` are the receiver's states at them.
+--
+-- If f is at least `every` frames after g, `sent` has a header of the page (`every` is the repeat
+-- bound). The receiver has received a header of the page exactly if it had before or `sent` has
+-- one. If `sent` has a header of the page, each cell has the code of the due page or, if the cell
+-- is excused, a space.
 pub record Gets
     (page : PageIdValue) (every : ℕ) (due : Rows) (g f : ℕ)
     (sent : List (List ℕ)) (IsExcused : ℕ → ℕ → Type 0) (old new : State)
@@ -29,12 +32,15 @@ pub record Gets
       → (cell new.page row column ≡ cell due row column)
       ⊎ ((cell new.page row column ≡ space) × IsExcused row column)
 
--- Every receiver gets this: wherever it is switched on (at packet j of frame g) and observed (at
--- the end of frame f) within the transmission; whichever packets arrive, as long as all page
--- headers do, and each packet that arrives has at most one wrong bit in each byte; whatever the
--- receiver had before, any page, open or not, with or without a header; and whatever it chooses at
--- bytes of even parity. A cell is excused if, since the last header of the page, a packet of its
--- row was lost, or received with another byte in its column.
+-- Every receiver of page `page` has the due page in the sense of `Gets`: wherever it is switched on
+-- (before packet j of frame g) and observed (at the end of frame f) within the transmission;
+-- whichever packets arrive, if all page headers arrive, and each packet that arrives has at most
+-- one wrong bit in each byte; whatever page the receiver contained before, open or not, with or
+-- without a header; and whatever the receiver chooses at bytes of even parity.
+--
+-- A cell is excused if a packet of its row was lost, or received with another byte in the cell's
+-- column. Only packets of the page count that were sent since its last header, and before a header
+-- that ended the page.
 abbrev pub EachReceiverGets : PageIdValue → ℕ → (ℕ → Rows) → Transmission → Type 0
 EachReceiverGets page every due transmission =
     (g j f : ℕ) (arrived : List Bool) (got : List (List ℕ)) (old new : State)
@@ -49,8 +55,10 @@ pub record Headline
     (page : PageIdValue) (every : ℕ) (due : List SubtitleValue → ℕ → Rows)
     (subtitles : List SubtitleValue) (transmission : Transmission)
     : Type 0 where
-  -- The transmission has all frames from the first TCI to the last TCO, and may have more.
+  -- The first frame of the transmission is not after the TCI of any subtitle, and the last frame is
+  -- not before the TCO of any subtitle.
   pub covers :
       All (λ t. (first_frame transmission ≤ t.tci) × (t.tco ≤ last_frame transmission)) subtitles
-  -- From its first frame to its last, every receiver gets the due page in the sense of `Gets`.
+  -- From the first frame of the transmission to the last, every receiver has the due page in the
+  -- sense of `Gets`.
   pub receivers : EachReceiverGets page every (due subtitles) transmission

@@ -1,6 +1,6 @@
 -- The options that may follow `check STL PES`, in any order, and their meaning. The definition of
--- how `clap` reads arguments has 700 lines: this list replaces them, and that arguments request it
--- is proved.
+-- how `clap` reads arguments has 700 lines. This list replaces that definition, and a proof shows
+-- that the arguments request the options of the list.
 use Rattle.std.specs.Prelude.{◌≡◌, ◌<◌, ◌^◌, ℕ, Bool, true, List, [], ◌∷◌, Some, codes, fold}
 use Rattle.std.specs.List.{flat_map}
 use Rattle.clap.specs.Words.{Text}
@@ -25,7 +25,7 @@ pub data Choice : Type 0 where
   Complete : Choice
   EveryFault : Choice
 
--- Its arguments.
+-- The arguments of a choice.
 abbrev pub arguments_of_choice : Choice → List Text
 arguments_of_choice (Page text page is) = codes "--page" ∷ text ∷ []
 arguments_of_choice (Every text frames is) = codes "--every" ∷ text ∷ []
@@ -48,7 +48,7 @@ abbrev pub options_by : List Choice → OptionsValue
 options_by choices = fold with_choice default_options choices
 
 -- The arguments `check STL PES` and choices, after the program's name, request a check of these two
--- files with their options, whose origin is a PTS.
+-- files with the chosen options, and the PTS of frame 0 is less than 2^33.
 abbrev pub LawOfChosenArguments : Type 0
 LawOfChosenArguments =
     (program stl pes : Text) (choices : List Choice) (request : Request)

@@ -1,7 +1,7 @@
--- What the bytes of both files contain at the places of their formats: the subtitles, and the
--- frames and packets. Nothing is tested here; that the bytes match these formats, and contain
--- nothing else, is `AreFilesOf`. Fixed places spare a reader of the headline the grammars of both
--- formats, which were two fifths of what had to be read.
+-- The subtitles, frames and packets in the bytes of both files, read from the fixed places of their
+-- formats. These definitions test nothing; `AreFilesOf` states that the bytes match the formats and
+-- contain nothing else. Fixed places spare a reader of the headline the grammars of both formats,
+-- which were two fifths of the definitions to read.
 use Rattle.std.specs.Prelude.{ℕ, zero, suc, ◌+◌, ◌-◌, ◌*◌, ◌/◌, ◌%◌, ◌^◌, Bool, not, ◌==◌, ◌||◌}
 use Rattle.std.specs.Prelude.{List}
 use Rattle.std.specs.Prelude.{[], ◌∷◌, length, take, drop, map, filter, slice_index, slice_index_or}
@@ -26,7 +26,7 @@ pieces_of size bytes =
 abbrev pub size_read : List ℕ → ℕ
 size_read b = 0x100 * slice_index b 4 + slice_index b 5 + 6
 
--- The PES packets of a file, one after another, at most so many.
+-- The PES packets of a file, one after another, at most as many as the first argument.
 abbrev pub packets_read : ℕ → List ℕ → List (List ℕ)
 packets_read zero b = []
 packets_read (suc most) [] = []
@@ -43,8 +43,8 @@ pts_read b =
     + slice_index b 12 * 2 ^ 7
     + slice_index b 13 / 2
 
--- The packet of a data unit (EN 300 472), if it is one of Teletext (data_unit_id, byte 0, is 02 or
--- 03): bytes 4 to 45, each with its bits in reverse order.
+-- The Teletext packet of a data unit (EN 300 472), if the unit carries one (data_unit_id, byte 0,
+-- is 02 or 03): bytes 4 to 45, each with its bits in reverse order.
 abbrev pub packet_read : List ℕ → List (List ℕ)
 packet_read unit =
     if (slice_index unit 0 == 0x02) || (slice_index unit 0 == 0x03)
@@ -52,15 +52,16 @@ packet_read unit =
     else []
 
 -- The frame of a PES packet, given the PTS of frame 0: its number, where a frame has 3600 ticks of
--- the PTS, which has 33 bits; and the packets of its data units (EN 300 472), 46 bytes each from
--- byte 46 on.
+-- the PTS, which has 33 bits; and the Teletext packets of its data units (EN 300 472), 46 bytes
+-- each from byte 46 on.
 abbrev pub frame_read : ℕ → List ℕ → SentFrame
 frame_read origin b = record {
   frame = (pts_read b + (2 ^ 33 - origin)) % 2 ^ 33 / 3600;
   packets = flat_map packet_read (pieces_of 46 (drop 46 b));
 }
 
--- The frames of a PES file, given that PTS. It has at most as many packets as bytes.
+-- The frames of a PES file, given the PTS of frame 0. The file has at most as many PES packets as
+-- bytes.
 abbrev pub frames_by_place : ℕ → List ℕ → Transmission
 frames_by_place origin bytes = map (frame_read origin) (packets_read (length bytes) bytes)
 
@@ -79,7 +80,7 @@ groups_read (b ∷ blocks) =
     then (b ∷ []) ∷ groups_read blocks
     else onto_first b (groups_read blocks)
 
--- The frame of the day in four bytes from a place on: hours, minutes, seconds, frames.
+-- The frame of the day in the four bytes from `at` on: hours, minutes, seconds, frames.
 abbrev pub time_read : List ℕ → ℕ → ℕ
 time_read b at =
     frame_of (slice_index b at) (slice_index b (at + 1)) (slice_index b (at + 2))
@@ -106,10 +107,10 @@ abbrev pub subtitles_by_place : List ℕ → List SubtitleValue
 subtitles_by_place bytes =
     map subtitle_read (groups_read (filter is_of_subtitle (pieces_of 128 (drop 1024 bytes))))
 
--- The subtitle begins in the requested part, by its TCI.
+-- The subtitle begins in the requested part of the file, by its TCI.
 abbrev pub begins_in : Scope → SubtitleValue → Bool
 begins_in scope t = nat_le scope.from t.tci && nat_lt t.tci scope.to
 
--- The subtitles of that part.
+-- The subtitles of the requested part of a file.
 abbrev pub subtitles_within : Scope → List ℕ → List SubtitleValue
 subtitles_within scope bytes = filter (begins_in scope) (subtitles_by_place bytes)

@@ -37,7 +37,7 @@ pub data Portion : Type 0 where
   OpenToo : Portion
   Any : Choice → Portion
 
--- Its arguments.
+-- The arguments of an option for a recording.
 abbrev pub arguments_in : Portion → List Text
 arguments_in (Pid text pid is) = codes "--pid" ∷ text ∷ []
 arguments_in (Size text size is) = codes "--packet-size" ∷ text ∷ []
@@ -47,8 +47,9 @@ arguments_in (To text frame name is) = codes "--to" ∷ text ∷ []
 arguments_in OpenToo = codes "--open" ∷ []
 arguments_in (Any choice) = arguments_of_choice choice
 
--- How both files are read: the options; the recording as a transport stream, if there is a PID,
--- with this packet size; which of its PES packets, if not all; and which subtitles.
+-- How both files are read: the options; the PID of the transport packets, if the recording is a
+-- transport stream, and their size; the range of PES packets, if not all; and the part of the
+-- subtitle file.
 pub record Reading : Type 0 where
   pub options : OptionsValue
   pub pid : Option ℕ
@@ -56,7 +57,7 @@ pub record Reading : Type 0 where
   pub range : Option PesPacketRangeValue
   pub scope : Scope
 
--- The same with one more option.
+-- The settings for reading with one more option.
 abbrev pub read_by : Reading → Portion → Reading
 read_by r (Pid text pid is) = record r { pid = Some pid }
 read_by r (Size text size is) = record r { size = size }
@@ -72,7 +73,8 @@ read_by r OpenToo = record r {
 }
 read_by r (Any choice) = record r { options = with_choice r.options choice }
 
--- The whole of a PES file and of a subtitle file with the default options, unless chosen otherwise.
+-- The settings for reading that a list of options gives. A complete PES file and a complete
+-- subtitle file are read with the default options, unless the list chooses otherwise.
 abbrev pub reading_of : List Portion → Reading
 reading_of parts =
     fold read_by
@@ -85,21 +87,21 @@ reading_of parts =
     })
     parts
 
--- The PES packets that a transport stream carries; all bytes if there is no PID.
+-- The bytes of PES packets that the transport packets of a PID carry; all bytes if there is no PID.
 abbrev pub carried_by : Option ℕ → PacketSize → List ℕ → List ℕ
 carried_by None size bytes = bytes
 carried_by (Some pid) size bytes = carried pid (bytes_of size) bytes
 
--- The PES packets of a range; all if there is none.
+-- The bytes of the PES packets in a range; all bytes if there is no range.
 abbrev pub numbered_by : Option PesPacketRangeValue → List ℕ → List ℕ
 numbered_by None bytes = bytes
 numbered_by (Some range) bytes = in_range range bytes
 
--- The bytes of a PES file that are selected from those of a recording.
+-- The bytes of PES packets that are selected from a recording.
 abbrev pub bytes_read : Reading → List ℕ → List ℕ
 bytes_read r bytes = numbered_by r.range (carried_by r.pid r.size bytes)
 
--- The request for a recording with this name.
+-- The request for a recording, by its name and the settings for reading.
 abbrev pub recording_requested : Text → Reading → PesRequested
 recording_requested name r = record {
   name = name;
@@ -108,7 +110,7 @@ recording_requested name r = record {
 }
 
 -- The arguments `check STL RECORDING` and options, after the program's name, request a check of
--- these two files, read in this way, and their origin is a PTS.
+-- these two files, read as the options say, and the PTS of frame 0 is less than 2^33.
 abbrev pub LawOfPartArguments : Type 0
 LawOfPartArguments =
     (program stl recording : Text) (parts : List Portion) (request : Request)

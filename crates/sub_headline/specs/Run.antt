@@ -1,5 +1,5 @@
 -- How a run of the program ends, given its arguments: with the answer to a request, or with the
--- reason why there is none.
+-- reason why no request is answered.
 use Rattle.std.specs.Prelude.{◌≡◌, ◌⊎◌, ℕ, List, [], Option, None, Result, Ok, Err, false}
 use Rattle.clap.specs.Words.{Text}
 use Rattle.sub_io.specs.Buffered.{BufferState}
@@ -15,8 +15,8 @@ use Rattle.sub_listing.specs.declared.status.Status.{Status}
 use Rattle.sub_answer.specs.Ending.{BufferHoldsOneLineOnly, Ends, KnownOfFiles, Lines, PrintsFault}
 use Rattle.sub_answer.specs.Ending.{lines_of}
 
--- The arguments made a request, which was answered. Files were opened and closed by the calls that
--- were made.
+-- The arguments made a request, which was answered. Files were opened and released by exactly the
+-- calls that were made.
 pub record Answered
     {I O : Type 0} (AreMade : List (FileCall I O) → Type 0) (known : KnownOfFiles I O)
     (IsClose : O → O → Type 0) (given : Result (List Text) UsageFault) (IsAlone : Lines → Type 0)
@@ -28,8 +28,8 @@ pub record Answered
   pub requested : IsRequestOf arguments request
   pub ends : Ends AreMade known IsClose request IsAlone old new result
 
--- Why arguments have no answer: files that they name could not be opened, by the calls that were
--- made; or memory ran out, or the arguments have this fault, and no file was opened.
+-- Why arguments have no answer: files that they name could not be opened; or memory ran out, or the
+-- arguments have the fault, and no file was opened.
 abbrev pub IsWhy :
     {I O : Type 0} → (List (FileCall I O) → Type 0) → List Text → UsageFault → Type 0
 IsWhy AreMade arguments usage.Memory = AreMade []
@@ -37,7 +37,7 @@ IsWhy AreMade arguments usage.Open =
     (request : Request) × IsRequestOf arguments request × OpensBy AreMade (files_of request) None
 IsWhy AreMade arguments fault = IsFaultOf arguments fault × AreMade []
 
--- Why a run answers no request: because of its arguments, or because the system gave none.
+-- Why a run answers no request: because of its arguments, or because the system gave no arguments.
 abbrev pub IsCause :
     {I O : Type 0}
     → (List (FileCall I O) → Type 0) → Result (List Text) UsageFault → UsageFault → Type 0
@@ -53,8 +53,9 @@ pub record IsUnanswered
   pub cause : IsCause AreMade given fault
   pub says : PrintsFault fault old new result
 
--- How a run ends: the calls for files, the contents of these and which files close without a
--- failure, the printed lines, of which all were flushed except for that of a fault, and the status.
+-- How a run ends: the calls for files, the contents of the files and which of them were closed
+-- without a failure, the printed lines, of which all were flushed except for the line of a fault,
+-- and the status.
 abbrev pub EndsRun :
     {I O : Type 0}
     → (List (FileCall I O) → Type 0) → KnownOfFiles I O → (O → O → Type 0)
@@ -64,8 +65,8 @@ EndsRun AreMade known IsClose given IsAlone old new result =
     ⊎ IsUnanswered AreMade given old new result
 
 -- A run of the program, from its arguments, its files and standard output to the exit status, and
--- standard output afterwards. Before standard output is a buffer, which was empty, and no other
--- device; nothing is printed after what is named here.
+-- standard output afterwards. Standard output has a buffer before it, which was empty, and no other
+-- device; nothing else is printed.
 pub record RunsProgram
     {I O K : Type 0} (AreMade : List (FileCall I O) → Type 0) (known : KnownOfFiles I O)
     (IsClose : O → O → Type 0) (given : Result (List Text) UsageFault)

@@ -1,6 +1,6 @@
 //! The meaning of exit status 0 of `check`: from a run of the program to the headline.
 //!
-//! The functions do nothing: their contracts are laws about the definitions of `specs/`.
+//! The functions have no body: their contracts are laws about the definitions of `specs/`.
 #![tactic(auto)]
 
 mod laws;

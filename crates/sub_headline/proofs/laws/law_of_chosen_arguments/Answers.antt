@@ -1,4 +1,3 @@
--- The law is the lemma.
 use Rattle.sub_headline.proofs.ChosenWordLemmas as lemmas
 use Rattle.sub_headline.proofs.laws.law_of_chosen_arguments.Goals as goal
 

@@ -1,4 +1,3 @@
--- The law is the lemma.
 use Rattle.sub_headline.proofs.ScreenLemmas as lemmas
 use Rattle.sub_headline.proofs.laws.law_of_english_characters.Goals as goal
 

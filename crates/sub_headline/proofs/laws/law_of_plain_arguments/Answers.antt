@@ -1,4 +1,3 @@
--- The law is the lemma.
 use Rattle.sub_headline.proofs.PlainWordLemmas as lemmas
 use Rattle.sub_headline.proofs.laws.law_of_plain_arguments.Goals as goal
 
