@@ -1,4 +1,5 @@
--- Reading a recording step by step returns what the packets of the PID carry: carried_given.
+-- Reading a recording step by step returns what the transport packets of the PID carry:
+-- carried_given.
 use Rattle.std.proofs.Common.{◌≡◌, ℕ, zero, suc, ◌+◌, ◌≤◌, ◌<◌, List, [], ◌∷◌, ◌++◌, length, drop}
 use Rattle.std.proofs.Common.{Bool, true, false, Option, None, refl, sym, ap, ◌∙◌, subst}
 use Rattle.std.proofs.Common.{arith}
@@ -24,9 +25,6 @@ use Rattle.mpeg_ts.proofs.OutcomeLemmas.{HavePayloads, by_bool, output, outcomes
 use Rattle.mpeg_ts.proofs.OutcomeLemmas.{with_gap_markers-nothing}
 use Rattle.mpeg_ts.proofs.StreamLemmas.{items_end, items_packet, items_skipped}
 
--- ---- packets have payloads
-
--- Each packet has 188 bytes.
 abbrev AreComplete : List Item → Type 0
 AreComplete [] = Unit {0}
 AreComplete (Packet p ∷ more) = (length p ≡ 188) × AreComplete more
@@ -47,7 +45,6 @@ items_complete distance in_step (suc room) bytes =
     (λ skips. subst AreComplete (sym (items_skipped distance in_step room bytes long skips))
     (items_complete distance false room (drop 1 bytes))))
 
--- The last condition for an unusable packet.
 last_reason : (x y a h n : Bool)
     → (x || y || (a && h && n)) ≡ false
     → a ≡ true
@@ -55,7 +52,7 @@ last_reason : (x y a h n : Bool)
     → n ≡ false
 last_reason x y a h n h1 h2 h3 = grind (arith, nat_tests)
 
--- The payload of a usable packet is not empty.
+-- The payload of a usable transport packet is not empty.
 payload_some : (p : List ℕ)
     → length p ≡ 188
     → is_wrong p ≡ false
@@ -83,9 +80,6 @@ notes_sound distance number run (Skipped ∷ more) whole =
     let rest = notes_sound distance number (run + 1) more whole in
     by_bool (run + 1 == loss_size distance) (λ yes. rw yes rest) (λ no. rw no rest)
 
--- ---- from the start
-
--- A gap before the first PES packet has no marker.
 no_gap_marker_yet : (b : Bool) (more : List PartOutcome)
     → gap_marker_where (b && false) ++ output (last_output_after b given.Nothing) more
     ≡ output given.Nothing more
@@ -100,7 +94,7 @@ no_packet_yet : (wrong : Bool)
 unfolding with_gap_markers
 no_packet_yet wrong = grind (arith, nat_tests)
 
--- From the start, the good packets yield the bytes of their parts.
+-- From the start of a recording, the reassembly of good packets returns the bytes of their parts.
 joined_start : (wrong : Bool) (goods : List GoodPacket)
     → FirstIsCut goods
     → HavePayloads goods
@@ -119,7 +113,7 @@ joined_start wrong (g ∷ more) cut all =
     ∙ sym (ap (output given.Nothing) (outcomes-from wrong (part_of g) more))
     ∙ sym (with_gap_markers-nothing false (outcomes wrong (parts (g ∷ more)))))
 
--- Reading a recording from its start returns what the packets of the PID carry.
+-- Reading a recording from its start returns what the transport packets of the PID carry.
 pub carried_given : (number distance : ℕ) (recording : List ℕ)
     → output_of (start_of_stream number distance) recording ≡ carried number distance recording
 unfolding stream_output carried
@@ -140,7 +134,6 @@ carried_given number distance recording =
     ∙ joined_start good.wrong_after good.packets (first_is_cut history all refl)
     (good_payloads history all sound)
 
--- The same, if the source's bytes are known.
 pub carried_known : (number distance : ℕ) (known_bytes : Option (List ℕ))
     → remaining_output (start_of_stream number distance) known_bytes
     ≡ option_map (carried number distance) known_bytes

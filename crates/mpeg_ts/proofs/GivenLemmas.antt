@@ -1,4 +1,4 @@
--- The bytes returned for a recording are those in the bytes consumed from it; main lemmas:
+-- The bytes returned for a recording are those that the bytes consumed from it carry; main lemmas:
 -- gives_then, failed_read, next_gives.
 use Rattle.std.proofs.Common.{◌≡◌, ℕ, List, [], ◌++◌, take, Option, Some, None, sym, ap, ◌∙◌}
 use Rattle.std.proofs.Common.{append_assoc, subst}
@@ -16,7 +16,6 @@ use Rattle.mpeg_ts.proofs.CarriedLemmas.{carried_given}
 use Rattle.mpeg_ts.proofs.StreamLemmas.{given_prefix}
 use Rattle.mpeg_ts.proofs.TakenBytesLemmas.{takes_on}
 
--- The output of two calls in a row.
 pub gives_then : (u v w : StreamValue) (before mid after : Option (List ℕ))
     → OutputsOn u v before mid
     → OutputsOn v w mid after
@@ -39,8 +38,8 @@ gives_then u v w before mid after first then = record {
         ∙ ap (λ (l : List ℕ). ys ++ l) (alike more)
         ∙ sym (append_assoc ys zs (output_of w more)))
 
--- From the start of a recording, the bytes returned are those in the bytes consumed, if these yield
--- no more.
+-- If the bytes consumed from the start of a recording yield no more output, the bytes returned are
+-- what they carry.
 carried_taken : (number distance : ℕ) (v : StreamValue) (bytes given : List ℕ)
     → ((more : List ℕ)
     → output_of (start_of_stream number distance) (bytes ++ more) ≡ given ++ output_of v more)
@@ -53,7 +52,6 @@ carried_taken number distance v bytes given same none =
     ∙ ap (λ (l : List ℕ). given ++ l) none
     ∙ append-nil given
 
--- So the recording carries these bytes, followed by the rest.
 carried_left : (number distance : ℕ) (v : StreamValue) (all taken rest given : List ℕ)
     → all ≡ taken ++ rest
     → ((more : List ℕ)
@@ -67,8 +65,8 @@ carried_left number distance v all taken rest given is same none =
     ∙ ap (λ (l : List ℕ). l ++ output_of v rest)
     (sym (carried_taken number distance v taken given same none))
 
--- If a read fails within a PES packet, it fails within the same packet of the bytes before the
--- rest.
+-- If a read fails within a PES packet of the recording, it fails within the same packet of the
+-- bytes before the rest.
 failed_before : (index : ℕ) (all prefix left : List ℕ)
     → all ≡ prefix ++ left
     → FailsAtPacket index (Some all) (Some left)
@@ -100,7 +98,6 @@ failed_before index all prefix left is failed =
       };
     }
 
--- The bytes consumed determine this. For `law_of_failed_read`.
 pub failed_read : (number distance : ℕ) (v : StreamValue) (recording rest : List ℕ)
     → OutputsOn (start_of_stream number distance) v (Some recording) (Some rest)
     → output_of v [] ≡ []
@@ -122,9 +119,6 @@ failed_read number distance v recording rest on none = reported on.given on.take
               (carried number distance taken) (output_of v rest) all failed;
         }
 
--- ---- one call
-
--- The first item that was ready was returned.
 prefix_gives : (before reported : Option (List ℕ)) (u v w : StreamValue) (pes_packet : List ℕ)
     → TakesPrefix (output_of u) (output_of v) before reported
     → v.joining.pending ≡ pes_packet ++ w.joining.pending
@@ -142,7 +136,6 @@ prefix_gives before reported u v w pes_packet takes prefix same only = record {
     whole : w ≡ record v { joining = record v.joining { pending = w.joining.pending } }
     whole = only ∙ ap (λ (j : JoiningValue). record v { joining = j }) same
 
--- Nothing was returned.
 nothing_gives : (before reported : Option (List ℕ)) (u v w : StreamValue)
     → TakesPrefix (output_of u) (output_of v) before reported
     → w.joining ≡ v.joining
@@ -153,7 +146,8 @@ nothing_gives before reported u v w takes same only =
     (sym (only ∙ ap (λ (j : JoiningValue). record v { joining = j }) same))
     (record { given = []; takes = takes })
 
--- After reading on, the first item that is ready was returned. For `next`.
+-- If reading on has made an item ready and that item was returned, the bytes consumed contain the
+-- item.
 pub next_gives : (before reported : Option (List ℕ)) (u v w : StreamValue) (n : Next)
     → TakesPrefix (output_of u) (output_of v) before reported
     → TakesNext v.joining n w.joining

@@ -1,4 +1,5 @@
--- The output of packet after packet is that of the parts; main lemmas: claims, new_part.
+-- The output of the reassembly of packet after packet is the output of their parts; main lemmas:
+-- claims, new_part.
 use Rattle.std.proofs.lemmas.Bool.Decides.{nat_tests}
 use Rattle.std.proofs.Common.{◌≡◌, ℕ, List, [], ◌∷◌, ◌++◌, length, take, Bool, true, false}
 use Rattle.std.proofs.Common.{refl, sym, ap, ◌∙◌, subst, arith, append_assoc}
@@ -28,8 +29,8 @@ use Rattle.mpeg_ts.proofs.OutcomeLemmas.{other_with_last, outcome-headless, outc
 use Rattle.mpeg_ts.proofs.OutcomeLemmas.{fault_free_after, tail, tail-whole, up_to-last}
 use Rattle.mpeg_ts.proofs.OutcomeLemmas.{complete_found}
 
--- The output of good packets in order, after everything that was ready was returned; `wrong`: an
--- unusable packet follows the last one.
+-- The output of good packets in order, after everything that was ready was returned. `wrong`: an
+-- unusable packet follows the last good packet.
 abbrev pub joined : JoiningValue → Bool → List GoodPacket → List ℕ
 joined v wrong [] = if has_ended v.part then [] else gap_marker_where (wrong && gave_packet v.given)
 joined v wrong (g ∷ more) =
@@ -38,61 +39,53 @@ joined v wrong (g ∷ more) =
     (after_good g.link v g.packet).pending
     ++ joined (delivered (after_good g.link v g.packet)) wrong more
 
--- After the end there is no output.
 pub joined-ended : (v : JoiningValue) (wrong : Bool) (goods : List GoodPacket)
     → has_ended v.part ≡ true
     → joined v wrong goods ≡ []
 joined-ended v wrong [] e = rw e refl
 joined-ended v wrong (g ∷ more) e = rw e refl
 
--- The output of good packets, by the progress of the part before them.
+-- The output of good packets is that of their parts, for each progress of the part before them.
 pub record Claims (wrong : Bool) (goods : List GoodPacket) : Type 0 where
-  -- A part that does not begin a PES packet.
   pub headless :
       (v : JoiningValue) (part : Part)
       → part.begins ≡ false
       → joined (record v { part = Headless }) wrong goods ≡ output v.given (tail wrong part goods)
-  -- A part with an incomplete PES packet.
   pub opened :
       (v : JoiningValue) (part : Part)
       → part.begins ≡ true
       → found_in (part_bytes part) ≡ found.Unfinished
       → joined (record v { part = Open; bytes = part_bytes part }) wrong goods
       ≡ output v.given (tail wrong part goods)
-  -- A part whose PES packet was returned.
   pub complete :
       (v : JoiningValue) (excess : Bool)
       → (excess ≡ true → gave_packet v.given ≡ false)
       → joined (record v { part = Complete }) wrong goods
       ≡ output v.given (following excess wrong goods)
 
--- ---- a part with bytes
-
--- The output of an open part, by its contents, and what follows.
+-- The output of an open part whose bytes contain f, followed by the output of more good packets.
 abbrev pub settled_gives : Found → JoiningValue → Bool → List GoodPacket → List ℕ
 settled_gives f v wrong more =
     (settled_as f v).pending ++ joined (delivered (settled_as f v)) wrong more
 
--- The output of a part with these bytes, after a gap or not.
+-- The output of an open part with these bytes, after a gap or not, followed by the output of more
+-- good packets.
 abbrev pub given_open : Bool → JoiningValue → List ℕ → Bool → List GoodPacket → List ℕ
 given_open gap v bytes wrong more =
     settled_gives (found_in bytes) (with_gap gap (record v { part = Open; bytes = bytes })) wrong
     more
 
--- After a PES packet with more bytes, a gap marker was returned last.
 fault_free_excess : (excess : Bool)
     → excess ≡ true
     → gave_packet (if excess then given.GapMarker else given.Packet) ≡ false
 fault_free_excess excess h1 = grind (arith, nat_tests)
 
--- The gap marker after a PES packet.
 excess_given : (excess wrong : Bool) (more : List GoodPacket)
     → gap_marker_where excess
     ++ output (if excess then given.GapMarker else given.Packet) (following excess wrong more)
     ≡ output given.Packet (following excess wrong more)
 excess_given excess wrong more = grind (arith, nat_tests, output-excess)
 
--- The output of a part, by its contents.
 settle_by : (gap : Bool) (v : JoiningValue) (part : Part) (wrong : Bool) (more : List GoodPacket)
     → HavePayloads more
     → Claims wrong more
@@ -141,7 +134,6 @@ settle_by gap v part wrong more all claims begins last (found.Whole size) e =
     (sym (ap (output (last_output_after gap v.given))
     (tail-whole wrong part size more all begins w)))
 
--- The output of a part.
 settle : (gap : Bool) (v : JoiningValue) (part : Part) (wrong : Bool) (more : List GoodPacket)
     → HavePayloads more
     → Claims wrong more
@@ -152,14 +144,10 @@ settle : (gap : Bool) (v : JoiningValue) (part : Part) (wrong : Bool) (more : Li
     ++ output (last_output_after gap v.given) (tail wrong part more)
 settle gap v part wrong more h1 h2 h3 h4 = grind (arith, nat_tests, settle_by)
 
--- ---- a new part
-
--- The only payload of a part is its last.
 up_to-one : (g : GoodPacket) → up_to 6 (part_of g).payloads ≡ part_bytes (part_of g)
 up_to-one g =
     up_to-last 6 [] (payload g.packet) (omega arith) ∙ sym (append-nil (payload g.packet))
 
--- The output of a new part, by whether it begins a PES packet.
 new_part_by : (wrong : Bool) (more : List GoodPacket) (v : JoiningValue) (g : GoodPacket)
     → HavePayloads more
     → Claims wrong more
@@ -184,7 +172,6 @@ new_part_by wrong more v g all claims false e =
     ap (λ l. gap_marker_where (gap && gave_packet v.given) ++ l)
     (claims.headless (delivered state) (part_of g) e)
 
--- The output of a new part.
 pub new_part : (wrong : Bool) (more : List GoodPacket) (v : JoiningValue) (g : GoodPacket)
     → HavePayloads more
     → Claims wrong more
@@ -198,21 +185,17 @@ pub new_part : (wrong : Bool) (more : List GoodPacket) (v : JoiningValue) (g : G
 new_part wrong more v g all claims =
     new_part_by wrong more v g all claims (begins g.packet) refl
 
--- ---- all packets
-
 pub or_true : (b : Bool) → (b || true) ≡ true
 or_true b = grind (arith, nat_tests)
 
 or_false : (b : Bool) → (b || false) ≡ b
 or_false b = grind (arith, nat_tests)
 
--- After a gap marker, another gap yields nothing.
 output-excess_fault_free : (g : Given) (excess : Bool) (rest : List PartOutcome)
     → (excess ≡ true → gave_packet g ≡ false)
     → output g rest ≡ output g (gap_where excess ++ rest)
 output-excess_fault_free g excess rest h1 = grind (arith, nat_tests, output-silent)
 
--- A new part after an incomplete one, which is a gap.
 after_unfinished : (wrong : Bool) (more : List GoodPacket) (part : Part) (h : Given)
     (g : GoodPacket)
     → outcome false part ≡ gap_where true
@@ -228,7 +211,8 @@ after_unfinished wrong more part h g h1 = grind (
   output-again,
 )
 
--- The output of good packets from any state.
+-- The output of good packets is the output of their parts, from any state of reassembly (by
+-- induction over the packets).
 pub claims : (wrong : Bool) (goods : List GoodPacket) → HavePayloads goods → Claims wrong goods
 claims wrong [] all = record {
   headless = λ v part begins.

@@ -1,4 +1,5 @@
--- The output of events in order is that of the good packets among them; main lemma: notes_joined.
+-- The output of the events of a PID in order is the output of the good packets among them; main
+-- lemma: notes_joined.
 use Rattle.std.proofs.lemmas.Bool.Decides.{nat_tests}
 use Rattle.std.proofs.Common.{◌≡◌, ℕ, ◌<◌, List, [], ◌∷◌, ◌++◌, length, Bool, true, false}
 use Rattle.std.proofs.Common.{Option, Some, None, refl, sym, ap, ◌∙◌, subst, arith, append_assoc}
@@ -28,15 +29,13 @@ use Rattle.mpeg_ts.specs.declared.joining.PartState.TheVariants.{Open}
 use Rattle.mpeg_ts.proofs.JoinedLemmas.{joined, joined-ended, or_true}
 use Rattle.mpeg_ts.proofs.OutcomeLemmas.{HavePayloads, by_bool, fault_free_after}
 
--- ---- the state after a good packet
-
--- The state stores this packet as the last good one.
+-- The state of reassembly stores the transport packet p as the last good packet.
 pub record IsLast (v : JoiningValue) (p : List ℕ) : Type 0 where
   pub head : v.header ≡ packet_header p
   pub load : v.last ≡ payload p
   pub jump : v.announced ≡ announces_jump p
 
--- Nothing came since then.
+-- The state of reassembly stores p as the last good packet, and no event came after p.
 pub record IsFresh (v : JoiningValue) (p : List ℕ) : Type 0 where
   pub is_last : IsLast v p
   pub no_repeat : v.has_repeat ≡ false
@@ -60,18 +59,15 @@ gone_on_fresh : (part : PartState) (v : JoiningValue) (p : List ℕ)
     → IsFresh (gone_on part (remembering v p) (payload p)) p
 gone_on_fresh part v p = grind (arith, nat_tests, grown_fresh)
 
--- A good packet becomes the last good one.
 good_fresh : (link : Link) (v : JoiningValue) (p : List ℕ) → IsFresh (after_good link v p) p
 good_fresh link v p = grind (arith, nat_tests, begun_fresh, gone_on_fresh)
 
--- ---- events since the last good packet
-
--- The state stores the last good packet, if there is one.
+-- The state of reassembly stores the last good packet, if any.
 abbrev pub KeepsLast : JoiningValue → Option (List ℕ) → Type 0
 KeepsLast v None = v.last ≡ []
 KeepsLast v (Some q) = IsLast v q × (0 < length (payload q))
 
--- The state agrees with the events since the last good packet.
+-- The state of reassembly agrees with the history of events since the last good packet.
 pub record Knows (v : JoiningValue) (s : PacketHistory) : Type 0 where
   pub repeat : v.has_repeat ≡ s.has_repeat
   pub jump : v.has_jump ≡ s.has_jump
@@ -80,20 +76,16 @@ pub record Knows (v : JoiningValue) (s : PacketHistory) : Type 0 where
   pub none : s.good ≡ None → gave_packet v.given ≡ false
   pub last : KeepsLast v s.good
 
--- The same conditions in another order.
 and_order : (a b c d e : Bool)
     → (not a && (not b && (c && (d && e)))) ≡ ((d && e) && not a && not b && c)
 and_order a b c d e = grind (arith, nat_tests)
 
--- If the last condition fails, the conjunction fails.
 and_last : (a b c d : Bool) → (not a && (not b && (c && (d && false)))) ≡ false
 and_last a b c d = grind (arith, nat_tests)
 
--- The empty list differs from a nonempty one.
 nil_not_some : (xs : List ℕ) → 0 < length xs → bytes_eq [] xs ≡ false
 nil_not_some xs h1 = grind (arith, nat_tests)
 
--- A packet repeats the last good one.
 repeats_by : (v : JoiningValue) (s : PacketHistory) (o : Option (List ℕ)) (p : List ℕ)
     → KeepsLast v o
     → v.has_repeat ≡ s.has_repeat
@@ -102,7 +94,6 @@ repeats_by : (v : JoiningValue) (s : PacketHistory) (o : Option (List ℕ)) (p :
     → repeats v p ≡ is_repeat_of o s p
 repeats_by v s o p h1 h2 h3 h4 = grind (arith, nat_tests, nil_not_some, and_last, and_order)
 
--- The link of a packet to the one before.
 abbrev pub link_by : Bool → Bool → Bool → Link
 link_by lost jumps follows =
     if lost then Break else if jumps then Seam else if follows then Follows else Break
@@ -113,13 +104,12 @@ link_some : (v : JoiningValue) (l p : List ℕ)
     ≡ link_by v.has_break (v.has_jump || announces_jump p) (counter_goes_on v.header p)
 link_some v l p h1 = grind (arith, nat_tests)
 
--- The counter is in the first four bytes.
 counter_kept : (v : JoiningValue) (q p : List ℕ)
     → v.header ≡ packet_header q
     → counter_goes_on v.header p ≡ counts_on q p
 counter_kept v q p h1 = grind (arith, nat_tests, get_or-take)
 
--- Both definitions of the link agree.
+-- The link in the state of reassembly agrees with the link by the history of events.
 link_same : (v : JoiningValue) (s : PacketHistory) (o : Option (List ℕ)) (p : List ℕ)
     → KeepsLast v o
     → v.has_jump ≡ s.has_jump
@@ -127,16 +117,13 @@ link_same : (v : JoiningValue) (s : PacketHistory) (o : Option (List ℕ)) (p : 
     → link_after v v.last p ≡ link_from o s p
 link_same v s o p h1 h2 h3 = grind (arith, nat_tests, link_some, counter_kept)
 
--- ---- the events
-
--- Each payload of a packet is not empty.
+-- Each transport packet among the events that has a payload has a nonempty payload.
 abbrev pub AreSound : List Note → Type 0
 AreSound [] = Unit {0}
 AreSound (Valid p ∷ more) = (has_payload p ≡ true → 0 < length (payload p)) × AreSound more
 AreSound (Wrong ∷ more) = AreSound more
 AreSound (Loss ∷ more) = AreSound more
 
--- A packet without a payload.
 good-no_payload : (s : PacketHistory) (p : List ℕ) (more : List Note)
     → has_payload p ≡ false
     → good_after s (Valid p ∷ more)
@@ -144,7 +131,6 @@ good-no_payload : (s : PacketHistory) (p : List ℕ) (more : List Note)
 unfolding good_after
 good-no_payload s p more none = rw none refl
 
--- A repeat.
 good-repeat : (s : PacketHistory) (p : List ℕ) (more : List Note)
     → has_payload p ≡ true
     → is_repeat s p ≡ true
@@ -152,7 +138,6 @@ good-repeat : (s : PacketHistory) (p : List ℕ) (more : List Note)
 unfolding good_after
 good-repeat s p more some again = rw (some, again) refl
 
--- A good packet.
 good-good : (s : PacketHistory) (p : List ℕ) (more : List Note)
     → has_payload p ≡ true
     → is_repeat s p ≡ false
@@ -161,7 +146,6 @@ good-good : (s : PacketHistory) (p : List ℕ) (more : List Note)
 unfolding good_after
 good-good s p more some other = rw (some, other) refl
 
--- The state after each event.
 valid-no_payload : (v : JoiningValue) (p : List ℕ)
     → has_payload p ≡ false
     → after_valid v p ≡ record v { has_jump = v.has_jump || announces_jump p }
@@ -182,7 +166,6 @@ valid-good : (v : JoiningValue) (p : List ℕ)
 unfolding after_valid
 valid-good v p some other = rw (some, other) refl
 
--- Two lists are equal if they are equal before and after the end.
 step_by : (v : JoiningValue) (n : Note) (more : List Note) (all : List ℕ)
     → (has_ended v.part ≡ true → [] ≡ all)
     → (has_ended v.part ≡ false
@@ -193,28 +176,24 @@ step_by : (v : JoiningValue) (n : Note) (more : List Note) (all : List ℕ)
 unfolding later_output
 step_by v n more all h1 h2 = grind (arith, nat_tests)
 
--- Events since the last good packet do not change the output of good packets.
 joined-flags : (v : JoiningValue) (a b c wrong : Bool) (goods : List GoodPacket)
     → joined (delivered (record v { has_repeat = a; has_jump = b; has_break = c })) wrong goods
     ≡ joined (delivered v) wrong goods
 joined-flags v a b c wrong [] = refl
 joined-flags v a b c wrong (g ∷ more) = refl
 
--- No more events.
 no_note : (ended wrong given : Bool)
     → (wrong ≡ true → given ≡ false)
     → ◌≡◌ {A = List ℕ} [] (if ended then [] else gap_marker_where (wrong && given))
 no_note ended wrong given h1 = grind (arith, nat_tests)
 
--- ---- an unusable packet
-
--- Data was lost before the first of these good packets; without good packets, an unusable packet
+-- Data was lost before the first of these good packets; if the list is empty, an unusable packet
 -- follows.
 abbrev pub BeginBroken : Bool → List GoodPacket → Type 0
 BeginBroken wrong [] = wrong ≡ true
 BeginBroken wrong (g ∷ more) = g.link ≡ Break
 
--- This holds after an unusable packet that follows a good one.
+-- After an unusable packet that follows a good packet, the next good packet comes after a break.
 begin_broken : (s : PacketHistory) (q : List ℕ) (all : List Note)
     → s.has_wrong ≡ true
     → s.good ≡ Some q
@@ -236,7 +215,6 @@ begin_broken s q (Valid p ∷ more) wrong good =
       (begin_broken (record s { has_jump = s.has_jump || announces_jump p }) q more wrong good),
     )
 
--- What is ready comes before the output of a part.
 pending_first : (f : Found) (v : JoiningValue) (wrong : Bool) (more : List GoodPacket)
     → (settled_as f (record v { pending = gap_marker })).pending
     ++ joined (delivered (settled_as f (record v { pending = gap_marker }))) wrong more
@@ -244,7 +222,8 @@ pending_first : (f : Found) (v : JoiningValue) (wrong : Bool) (more : List GoodP
     ++ joined (delivered (settled_as f (record v { pending = [] }))) wrong more)
 pending_first f v wrong more = grind (arith, nat_tests, append_assoc, joined)
 
--- A part after lost data, whether or not the gap marker was returned before.
+-- If data was lost before a part, the output is the same whether the gap marker was returned before
+-- the part or comes with it.
 begun_first : (b : Bool) (v : JoiningValue) (p : List ℕ) (wrong : Bool) (more : List GoodPacket)
     → (begun true b (remembering (delivered (record v { given = given.Packet })) p)
     (payload p)).pending
@@ -266,7 +245,6 @@ begun_first true v p wrong more =
     }) wrong more
 begun_first false v p wrong more = refl
 
--- A good packet after lost data.
 broken_first : (v : JoiningValue) (link : Link) (p : List ℕ) (wrong : Bool) (more : List GoodPacket)
     → link ≡ Break
     → (after_good link (delivered (record v { given = given.Packet })) p).pending
@@ -283,7 +261,7 @@ broken_first v Break p wrong more is =
     let cut : (begins p || true) ≡ true = or_true (begins p) in
     rw cut (begun_first (begins p) v p wrong more)
 
--- After an unusable packet a gap marker comes first.
+-- After an unusable packet, a gap marker comes before the output of further good packets.
 gap_first : (v : JoiningValue) (g : Given) (wrong : Bool) (goods : List GoodPacket)
     → has_ended v.part ≡ false
     → (gave_packet g ≡ true → BeginBroken wrong goods)
@@ -302,9 +280,6 @@ gap_first v given.Packet wrong [] going broken =
 gap_first v given.Packet wrong (g ∷ more) going broken =
     rw going (broken_first v g.link g.packet wrong more (broken refl))
 
--- ---- all events
-
--- An unusable packet before any good one has no gap marker.
 after_wrong_broken : (v : JoiningValue) (s : PacketHistory) (o : Option (List ℕ)) (all : List Note)
     → s.good ≡ o
     → (s.good ≡ None → gave_packet v.given ≡ false)
@@ -313,13 +288,13 @@ after_wrong_broken : (v : JoiningValue) (s : PacketHistory) (o : Option (List �
     (good_after (record s { has_wrong = true }) all).packets
 after_wrong_broken v s o all h1 h2 h3 = grind (arith, nat_tests, begin_broken)
 
--- The output of events is that of the good packets among them.
+-- The output of the events is the output of the good packets among them, for this state and this
+-- history.
 abbrev pub Agrees : JoiningValue → PacketHistory → List Note → Type 0
 Agrees v s all =
     later_output (delivered v) all
     ≡ joined (delivered v) (good_after s all).wrong_after (good_after s all).packets
 
--- This also holds with a packet without a payload in front.
 agree_no_payload : (v : JoiningValue) (s : PacketHistory) (p : List ℕ) (more : List Note)
     → has_payload p ≡ false
     → Agrees (record v { has_jump = v.has_jump || announces_jump p })
@@ -338,7 +313,6 @@ agree_no_payload v s p more none rest =
     ∙ ap (λ (g : GoodPackets). joined (delivered v) g.wrong_after g.packets)
     (sym (good-no_payload s p more none)))
 
--- It holds with a repeated packet in front.
 agree_repeat : (v : JoiningValue) (s : PacketHistory) (p : List ℕ) (more : List Note)
     → has_payload p ≡ true
     → repeats v p ≡ true
@@ -357,7 +331,6 @@ agree_repeat v s p more some again same rest =
     ∙ ap (λ (g : GoodPackets). joined (delivered v) g.wrong_after g.packets)
     (sym (good-repeat s p more some same)))
 
--- The next good packet, before the end.
 joined-next : (v : JoiningValue) (wrong : Bool) (g : GoodPacket) (more : List GoodPacket)
     → has_ended v.part ≡ false
     → joined v wrong (g ∷ more)
@@ -365,7 +338,6 @@ joined-next : (v : JoiningValue) (wrong : Bool) (g : GoodPacket) (more : List Go
     ++ joined (delivered (after_good g.link v g.packet)) wrong more
 joined-next v wrong g more going = rw going refl
 
--- It holds with a good packet in front.
 agree_good : (v : JoiningValue) (s : PacketHistory) (p : List ℕ) (more : List Note)
     → has_payload p ≡ true
     → repeats v p ≡ false
@@ -387,7 +359,6 @@ agree_good v s p more some other same link rest =
     ∙ ap (λ (g : GoodPackets). joined (delivered v) g.wrong_after g.packets)
     (sym (good-good s p more some same)))
 
--- The last good packet does not change.
 keeps_last : (v w : JoiningValue) (o : Option (List ℕ))
     → w.header ≡ v.header
     → w.last ≡ v.last
@@ -396,7 +367,8 @@ keeps_last : (v w : JoiningValue) (o : Option (List ℕ))
     → KeepsLast w o
 keeps_last v w o h1 h2 h3 h4 = grind (arith, nat_tests)
 
--- The output of events is that of the good packets among them.
+-- The output of the events of a PID is the output of the good packets among them (by induction over
+-- the events).
 pub notes_joined : (v : JoiningValue) (s : PacketHistory) (all : List Note)
     → Knows v s
     → AreSound all
@@ -475,9 +447,6 @@ notes_joined v s (Valid p ∷ more) k sound =
       last = keeps_last v jumped s.good refl refl refl k.last;
     }) sound.1))
 
--- ---- the good packets
-
--- The first good packet starts a part.
 abbrev pub FirstIsCut : List GoodPacket → Type 0
 FirstIsCut [] = Unit {0}
 FirstIsCut (g ∷ more) = is_unlinked g.link ≡ true
@@ -502,7 +471,6 @@ first_is_cut s (Valid p ∷ more) none =
       (first_is_cut (record s { has_jump = s.has_jump || announces_jump p }) more none),
     )
 
--- Each of them has a nonempty payload.
 pub good_payloads : (s : PacketHistory) (all : List Note)
     → AreSound all
     → HavePayloads (good_after s all).packets

@@ -21,21 +21,19 @@ use Rattle.mpeg_ts.specs.declared.joining.Given.{Given}
 use Rattle.mpeg_ts.specs.declared.joining.Given.TheVariants as given
 use Rattle.mpeg_ts.specs.declared.joining.Found.TheVariants as found
 
--- Case distinction on a Bool.
 pub by_bool : {P : Type 0} (b : Bool) → (b ≡ true → P) → (b ≡ false → P) → P
 by_bool b h1 h2 = grind (arith, nat_tests)
 
--- ---- gap markers
-
--- The bytes of outcomes after what was returned before: a gap marker is returned as soon as a gap
--- is known.
+-- The bytes of outcomes, given the item returned last: a gap marker is returned as soon as a gap is
+-- known.
 abbrev pub output : Given → List PartOutcome → List ℕ
 output g [] = []
 output g (Gap ∷ more) = gap_marker_where (gave_packet g) ++ output (last_output_after true g) more
 output g (Pes bytes ∷ more) = bytes ++ output given.Packet more
 output g (Other bytes ∷ more) = bytes
 
--- After a PES packet, without and with a gap.
+-- After a PES packet, the bytes of outcomes with gap markers are those that are returned step by
+-- step.
 gap_markers : (all : List PartOutcome)
     → (with_gap_markers true false all ≡ output given.Packet all)
     × (with_gap_markers true true all ≡ gap_marker ++ output given.GapMarker all)
@@ -45,7 +43,6 @@ gap_markers (Gap ∷ more) = grind (arith, nat_tests, (gap_markers more))
 gap_markers (Pes b ∷ more) = grind (arith, nat_tests, (gap_markers more))
 gap_markers (Other b ∷ more) = grind (arith, nat_tests)
 
--- Before the first PES packet.
 pub with_gap_markers-nothing : (gap : Bool) (all : List PartOutcome)
     → with_gap_markers false gap all ≡ output given.Nothing all
 unfolding with_gap_markers
@@ -54,43 +51,36 @@ with_gap_markers-nothing gap (Gap ∷ more) = with_gap_markers-nothing true more
 with_gap_markers-nothing gap (Pes b ∷ more) = ap (λ l. b ++ l) (gap_markers more).0
 with_gap_markers-nothing gap (Other b ∷ more) = refl
 
--- After a gap, the last item was no PES packet.
 pub fault_free_after : (g : Given) → gave_packet (last_output_after true g) ≡ false
 fault_free_after g = grind (arith, nat_tests)
 
--- If it was none, a gap yields nothing.
 pub output-silent : (g : Given) (more : List PartOutcome)
     → gave_packet g ≡ false
     → output g (Gap ∷ more) ≡ output g more
 output-silent g more h1 = grind (arith, nat_tests)
 
--- A second gap yields nothing.
 pub output-again : (g : Given) (b : Bool) (more : List PartOutcome)
     → output (last_output_after true g) (gap_where b ++ more) ≡ output (last_output_after true g)
     more
 output-again g b more = grind (arith, nat_tests, output-silent, fault_free_after)
 
--- A gap, if there is one.
 pub output-gap_where : (g : Given) (b : Bool) (more : List PartOutcome)
     → output g (gap_where b ++ more)
     ≡ gap_marker_where (b && gave_packet g) ++ output (last_output_after b g) more
 output-gap_where g b more = grind (arith, nat_tests)
 
--- The end after an incomplete part.
 pub output-end : (g : Given) (wrong : Bool)
     → gap_marker_where (wrong && gave_packet g)
     ≡ output g (gap_where (not (not wrong)) ++ gap_where wrong)
 output-end g wrong = grind (arith, nat_tests, append-nil)
 
--- The end after a complete part.
 pub output-end_complete : (g : Given) (excess wrong : Bool)
     → (excess ≡ true → gave_packet g ≡ false)
     → gap_marker_where (wrong && gave_packet g) ≡ output g (gap_where excess ++ gap_where wrong)
 output-end_complete g excess wrong h1 = grind (arith, nat_tests, append-nil)
 
--- ---- parts
-
--- The outcomes of the current part and the good packets that follow, without a gap before it.
+-- The outcomes of the current part and of the good packets that follow, without a gap before the
+-- part.
 abbrev pub tail : Bool → Part → List GoodPacket → List PartOutcome
 tail wrong part [] = outcome (not wrong) part ++ gap_where wrong
 tail wrong part (g ∷ more) =
@@ -98,7 +88,8 @@ tail wrong part (g ∷ more) =
     outcome false part ++ (gap_where (is_break g.link) ++ tail wrong (part_of g) more)
     else tail wrong (with_packet part g) more
 
--- The outcomes after the PES packet of a complete part, with or without more bytes after it.
+-- The outcomes after the PES packet of a complete part. `excess`: more bytes follow the PES packet
+-- in the part.
 abbrev pub following : Bool → Bool → List GoodPacket → List PartOutcome
 following excess wrong [] = gap_where excess ++ gap_where wrong
 following excess wrong (g ∷ more) =
@@ -106,7 +97,6 @@ following excess wrong (g ∷ more) =
     gap_where excess ++ (gap_where (is_break g.link) ++ tail wrong (part_of g) more)
     else following true wrong more
 
--- The recording does not end within a part that is followed by others.
 not_cut_off : (wrong : Bool) (part : Part) (goods : List GoodPacket)
     → may_be_cut_off wrong (parts_from part goods) ≡ false
 unfolding parts_from
@@ -114,7 +104,6 @@ not_cut_off wrong part [] = grind (arith, nat_tests)
 not_cut_off wrong part (g ∷ more) =
     grind (arith, nat_tests, by_bool, (not_cut_off wrong (with_packet part g) more))
 
--- The outcomes of parts.
 pub outcomes-from : (wrong : Bool) (part : Part) (goods : List GoodPacket)
     → outcomes wrong (parts_from part goods)
     ≡ gap_where part.after_break ++ tail wrong part goods
@@ -130,19 +119,14 @@ outcomes-from wrong part (g ∷ more) =
     (outcomes-from wrong (part_of g) more)))
     (λ no. rw no (outcomes-from wrong (with_packet part g) more))
 
--- ---- the bytes of a part
-
--- Joining lists, with one more at the end.
 concat-following : (ps : List (List ℕ)) (x : List ℕ) → concat (ps ++ x ∷ []) ≡ concat ps ++ x
 concat-following [] x = grind (arith, nat_tests, append-nil)
 concat-following (f ∷ ps) x = grind (arith, nat_tests, append_assoc, (concat-following ps x))
 
--- The bytes of a part, with one more packet.
 pub bytes-with : (part : Part) (g : GoodPacket)
     → part_bytes (with_packet part g) ≡ part_bytes part ++ payload g.packet
 bytes-with part g = concat-following part.payloads (payload g.packet)
 
--- The payloads in which a number of bytes is reached, with one more at the end.
 up_to-reached : (c : ℕ) (ps : List (List ℕ)) (x : List ℕ)
     → 0 < c
     → c ≤ length (concat ps)
@@ -156,7 +140,6 @@ up_to-reached c (f ∷ ps) x some le =
     (up_to-reached (c - length f) ps x (omega arith)
     (omega (arith, length-append f (concat ps))))))
 
--- One more payload, if the number is not reached before it.
 pub up_to-last : (c : ℕ) (ps : List (List ℕ)) (x : List ℕ)
     → length (concat ps) < c
     → up_to c (ps ++ x ∷ []) ≡ concat ps ++ x
@@ -171,27 +154,23 @@ up_to-last c (f ∷ ps) x lt =
       (up_to-last (c - length f) ps x (omega (arith, length-append f (concat ps)))),
     )
 
--- ---- the contents of a part
-
--- A complete PES packet.
 found-whole : (n size : ℕ) (r : Result ℕ PesFault)
     → found_by_size n r ≡ found.Whole size
     → (r ≡ Ok size) × (size ≤ n)
 found-whole n size r h1 = grind (arith, nat_tests, by_bool)
 
--- A wrong start code or length.
 pub found-other : (n : ℕ) (r : Result ℕ PesFault) (f : PesFault)
     → found_by_size n r ≡ found.Other f
     → r ≡ Err f
 found-other n r f h1 = grind (arith, nat_tests, by_bool)
 
--- Bytes that begin with a complete PES packet.
+-- The bytes begin with a complete PES packet of this size.
 pub record IsCompletePacket (bytes : List ℕ) (size : ℕ) : Type 0 where
   pub six : 6 ≤ length bytes
   pub sized : size_at (take 6 bytes) ≡ Ok size
   pub within : size ≤ length bytes
 
--- Bytes with a wrong start code or length.
+-- The bytes have a wrong start code or length.
 pub record IsOther (bytes : List ℕ) : Type 0 where
   pub six : 6 ≤ length bytes
   pub fault : PesFault
@@ -207,20 +186,17 @@ pub other_found : (bytes : List ℕ) (f : PesFault) → found_in bytes ≡ found
 unfolding found_in
 other_found bytes f h1 = grind (arith, nat_tests, by_bool, found-other)
 
--- A part that does not begin with a PES packet's first byte.
 pub outcome-headless : (cut : Bool) (part : Part)
     → part.begins ≡ false
     → outcome cut part ≡ gap_where (not cut)
 unfolding outcome
 outcome-headless cut part headless = rw headless refl
 
--- By the size in the first six bytes.
 outcome-of_unfinished : (cut : Bool) (part : Part) (r : Result ℕ PesFault)
     → found_by_size (length (part_bytes part)) r ≡ found.Unfinished
     → outcome_of_size cut part r ≡ gap_where (not cut)
 outcome-of_unfinished cut part r h1 = grind (arith, nat_tests, by_bool)
 
--- A part with an incomplete PES packet.
 pub outcome-unfinished : (cut : Bool) (part : Part)
     → part.begins ≡ true
     → found_in (part_bytes part) ≡ found.Unfinished
@@ -228,7 +204,6 @@ pub outcome-unfinished : (cut : Bool) (part : Part)
 unfolding outcome found_in
 outcome-unfinished cut part h1 h2 = grind (arith, nat_tests, by_bool, outcome-of_unfinished)
 
--- A complete part.
 outcome-whole : (cut : Bool) (part : Part) (size : ℕ)
     → part.begins ≡ true
     → IsCompletePacket (part_bytes part) size
@@ -237,7 +212,6 @@ outcome-whole : (cut : Bool) (part : Part) (size : ℕ)
 unfolding outcome
 outcome-whole cut part size h1 h2 = grind (arith, nat_tests)
 
--- A part with a wrong start code or length.
 outcome-other : (cut : Bool) (part : Part)
     → part.begins ≡ true
     → IsOther (part_bytes part)
@@ -245,21 +219,17 @@ outcome-other : (cut : Bool) (part : Part)
 unfolding outcome
 outcome-other cut part h1 h2 = grind (arith, nat_tests)
 
--- ---- contents that are final
-
--- Each of these packets has a nonempty payload.
 abbrev pub HavePayloads : List GoodPacket → Type 0
 HavePayloads [] = Unit {0}
 HavePayloads (g ∷ more) = (0 < length (payload g.packet)) × HavePayloads more
 
--- The first six bytes do not change if more bytes follow.
 same_six : (bytes more all : List ℕ)
     → all ≡ bytes ++ more
     → 6 ≤ length bytes
     → size_at (take 6 all) ≡ size_at (take 6 bytes)
 same_six bytes more all h1 h2 = grind (arith, nat_tests)
 
--- The PES packet of a complete part is returned, whatever follows.
+-- The PES packet of a complete part is returned, whatever packets follow.
 pub tail-whole : (wrong : Bool) (part : Part) (size : ℕ) (goods : List GoodPacket)
     → HavePayloads goods
     → part.begins ≡ true
@@ -296,7 +266,7 @@ tail-whole wrong part size (g ∷ more) all begins w =
     is_lt : (m n : ℕ) → m < n → nat_lt m n ≡ true
     is_lt m n lt = grind (arith, nat_tests)
 
--- So are the bytes of a part with a wrong start code or length.
+-- The bytes of a part with a wrong start code or length are returned, whatever packets follow.
 pub output-other : (g : Given) (wrong : Bool) (part : Part) (goods : List GoodPacket)
     → part.begins ≡ true
     → IsOther (part_bytes part)
@@ -322,7 +292,6 @@ output-other h wrong part (g ∷ more) begins o =
     output-other h wrong (with_packet part g) more begins o2
     ∙ up_to-reached 6 part.payloads p (omega arith) o.six))
 
--- Bytes after the PES packet are a gap, whatever follows.
 pub output-excess : (g : Given) (wrong : Bool) (goods : List GoodPacket)
     → output g (following true wrong goods)
     ≡ gap_marker_where (gave_packet g) ++ output (last_output_after true g)
@@ -331,8 +300,8 @@ output-excess h wrong [] = grind (arith, nat_tests, output-silent, fault_free_af
 output-excess h wrong (g ∷ more) =
     grind (arith, nat_tests, by_bool, output-silent, fault_free_after, (output-excess h wrong more))
 
--- If a PES packet was incomplete and then has a wrong start code or length, its first six bytes
--- were completed by the last payload.
+-- If a part was an incomplete PES packet and one more payload shows a wrong start code or length,
+-- the part had fewer than six bytes before that payload.
 pub other_with_last : (bytes more : List ℕ)
     → found_in bytes ≡ found.Unfinished
     → IsOther (bytes ++ more)

@@ -1,4 +1,5 @@
--- The items that are ready; main lemmas: none_pending, packet_found, pes_packet_first, rest_first.
+-- The items that are ready to be returned; main lemmas: none_pending, packet_found,
+-- pes_packet_first, rest_first.
 use Rattle.std.proofs.lemmas.Bool.Decides.{nat_tests}
 use Rattle.std.proofs.Common.{◌≡◌, ℕ, ◌≤◌, ◌<◌, List, [], ◌++◌, length, take, Ok}
 use Rattle.std.proofs.Common.{refl, sym, ap, ◌∙◌, arith, length-append}
@@ -25,20 +26,18 @@ pub length-gap_marker : length gap_marker ≡ 184
 unfolding gap_marker
 length-gap_marker = refl
 
--- A PES packet has at least 184 bytes.
 pub pes_packet_long : (p : List ℕ) → IsPesPacket p → 184 ≤ length p
 pes_packet_long p h =
     let long = h.long in
     let some = h.size.0 in
     omega (arith, long, some)
 
--- A part of an empty list is empty.
 nothing_in : (xs ys zs : List ℕ) → xs ++ (ys ++ zs) ≡ [] → length ys ≡ 0
 nothing_in xs ys zs e =
     let all : length (xs ++ (ys ++ zs)) ≡ 0 = ap length e in
     omega (arith, all, length-append xs (ys ++ zs), length-append ys zs)
 
--- If no byte is ready, no item is.
+-- If no byte is ready, no item is ready.
 pub none_pending : (w : PendingItem) (part : PartState) (bytes : List ℕ)
     → IsPendingFor w part bytes
     → pending_item_bytes w bytes ≡ []
@@ -57,18 +56,16 @@ none_pending (pending_item.Rest before fault) part bytes waits none =
     let long = waits.0.0 in
     absurd (omega (arith, all, long, length-append (gap_marker_where before) bytes))
 
--- The converse.
 pub none_where_nothing : (w : PendingItem) (bytes : List ℕ)
     → w ≡ pending_item.Nothing
     → pending_item_bytes w bytes ≡ []
 none_where_nothing w bytes h1 = grind (arith, nat_tests)
 
--- The size includes the six bytes up to the length field.
 size_counts : (h : List ℕ) (size : ℕ) → size_at h ≡ Ok size → 6 ≤ size
 unfolding size_at
 size_counts h size e = grind (arith, nat_tests)
 
--- The bytes at the front are a PES packet, valid or not. For `find_packet`.
+-- The bytes of a part that is found complete begin with a PES packet, valid or not.
 pub packet_found : (bytes : List ℕ) (size : ℕ)
     → AreBytes bytes
     → found_in bytes ≡ found.Whole size
@@ -83,14 +80,10 @@ packet_found bytes size fit e =
       w.within,
     )
 
--- ---- taking items
-
--- A nonempty list is not empty.
 some_bytes : (l : List ℕ) → 0 < length l → l ≡ [] → ⊥
 some_bytes l some none =
     let zero_long : length l ≡ 0 = ap length none in omega (arith, some, zero_long)
 
--- A PES packet that was taken, or nothing. For `take_first`.
 pub pes_packet_first : (old new : JoiningValue) (n : Next)
     → ((fault : PesFault) → n ≡ next.Rest fault → ⊥)
     → TakesNext old n new
@@ -113,7 +106,6 @@ pes_packet_first old new (next.Packet size) other taken =
       λ none. absurd (some_bytes (take size old.bytes) some (back ∙ none)),
     )
 
--- Bytes that begin no packet are taken completely.
 pub rest_first : (old mid new : JoiningValue) (fault : PesFault)
     → TakesNext old (next.Rest fault) mid
     → new ≡ record mid { pending = [] }

@@ -1,4 +1,5 @@
--- The PES packets of a recording; main lemmas: end_received, rest_received, pes_packet_received.
+-- Reading the PES packets of a recording; main lemmas: end_received, rest_received,
+-- pes_packet_received.
 use Rattle.std.proofs.Common.{◌≡◌, ◌≢◌, ℕ, List, [], ◌++◌, length, take, Option, Some, None}
 use Rattle.std.proofs.Common.{true, refl, sym, ap, ◌∙◌, arith, inl, subst}
 use Rattle.std.proofs.lemmas.Bool.Decides.{nat_tests}
@@ -20,7 +21,6 @@ use Rattle.mpeg_ts.specs.declared.pending_item.Next.TheVariants as next
 use Rattle.mpeg_ts.proofs.ReadyLemmas.{length-gap_marker}
 use Rattle.mpeg_ts.proofs.StreamLemmas.{prefix_consumed, later_ended}
 
--- A gap marker is a PES packet.
 pub gap_marker_pes_packet : IsPesPacket gap_marker
 unfolding gap_marker
 gap_marker_pes_packet = record {
@@ -31,7 +31,6 @@ gap_marker_pes_packet = record {
   long = length-gap_marker;
 }
 
--- After reading on, the first item that is ready was taken.
 pub pes_packet_taken : (before known_bytes : Option (List ℕ)) (u v w : StreamValue)
     (pes_packet : List ℕ)
     → Keeps (remaining_output u before) (remaining_output v known_bytes)
@@ -53,7 +52,7 @@ pes_packet_taken before known_bytes u v w pes_packet keeps prefix same only =
         → Consumes (remaining_output u before) (remaining_output w known_bytes) pes_packet
     back p = rw whole p
 
--- Bytes that begin no packet are all remaining output.
+-- If the bytes that are ready begin no PES packet, they are all remaining output.
 rest_given : (v : StreamValue) (bytes : List ℕ)
     → v.joining.pending ≡ v.joining.bytes
     → has_ended v.joining.part ≡ true
@@ -64,7 +63,6 @@ rest_given v bytes all ended =
     ∙ append-nil v.joining.pending
     ∙ all
 
--- After reading on, the remaining bytes begin no packet.
 pub rest_left : (before known_bytes : Option (List ℕ)) (u v : StreamValue) (f : PesFault)
     → Keeps (remaining_output u before) (remaining_output v known_bytes)
     → v.joining.pending ≡ v.joining.bytes
@@ -88,14 +86,12 @@ rest_left before known_bytes u v f keeps all refused ended = record {
     read (Some xs) (Some ys) kept =
         sym kept ∙ rest_given v ys all ended ∙ sym (append-nil v.joining.bytes)
 
--- Nothing follows them.
 nothing_given : (v : StreamValue) (bytes : List ℕ)
     → has_ended v.joining.part ≡ true
     → output_of (record v { joining = emptied v.joining }) bytes ≡ []
 unfolding stream_output
 nothing_given v bytes ended = later_ended _ _ ended
 
--- They are consumed, and nothing is left. For `read_rest`.
 pub rest_taken : (known_bytes : Option (List ℕ)) (v w : StreamValue)
     → IsAtRest v
     → w ≡ record v { joining = emptied v.joining }
@@ -111,7 +107,6 @@ rest_taken (Some xs) v w rest is =
       none,
     )
 
--- This state is final.
 pub rest_emptied : (v w : StreamValue) → IsAtRest v
     → w ≡ record v { joining = emptied v.joining }
     → IsAtRest w
@@ -119,7 +114,6 @@ rest_emptied v w rest is = subst IsAtRest (sym is) (record { all = refl; ended =
 
 pub ruleset rests = (rest_taken, rest_emptied)
 
--- A read failed, and nothing was consumed.
 pub none_taken : (old new : Option (List ℕ)) → Keeps old new → FailsWithin old new
 none_taken old new keeps = record {
   bytes = [];
@@ -132,11 +126,9 @@ none_taken old new keeps = record {
     consumed (Some xs) None kept = absurd kept
     consumed (Some xs) (Some ys) kept = sym kept
 
--- If an item is ready, it has bytes.
 pub some_ready : (l : List ℕ) → nat_lt 0 (length l) ≡ true → l ≢ []
 some_ready l h1 = λ none. grind (arith, nat_tests)
 
--- After taking an item that is ready, nothing is left, or a PES packet was taken. For `next`.
 module _ (before known_bytes : Option (List ℕ)) (u v w : StreamValue)
     (keeps : Keeps (remaining_output u before) (remaining_output v known_bytes))
     (only : w ≡ record v { joining = w.joining })

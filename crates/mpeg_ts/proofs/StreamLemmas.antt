@@ -1,5 +1,5 @@
--- Reading a recording for one PID: no item changes the output still to come; main lemmas:
--- stream_packet, stream_skipped, stream_end.
+-- Reading a recording for one PID: taking an item does not change the output still to come; main
+-- lemmas: stream_packet, stream_skipped, stream_end.
 use Rattle.std.proofs.Common.{◌≡◌, ℕ, zero, suc, ◌+◌, ◌-◌, ◌≤◌, ◌<◌, List, [], ◌∷◌, ◌++◌}
 use Rattle.std.proofs.Common.{length}
 use Rattle.std.proofs.Common.{take, drop, Option, Some, Bool, true, false, refl, sym, ap, ◌∙◌}
@@ -26,16 +26,12 @@ use Rattle.mpeg_ts.specs.TakenBytes.{TakesPrefix, takes_bytes}
 use Rattle.mpeg_ts.specs.Window.{RequestsUpTo, WindowValue, buffered_and_left, left_to_take}
 use Rattle.mpeg_ts.proofs.TakenBytesLemmas.{takes_kept, takes_none, takes_on, takes_then}
 
--- ---- items
-
--- Fewer bytes than a packet are the end.
 pub items_end : (distance : ℕ) (in_step : Bool) (room : ℕ) (bytes : List ℕ)
     → length bytes < 188
     → items distance in_step room bytes ≡ []
 unfolding items
 items_end distance in_step room bytes h1 = grind (arith, nat_tests)
 
--- A packet, if one more item is allowed.
 pub items_packet : (distance : ℕ) (in_step : Bool) (room : ℕ) (bytes : List ℕ)
     → 188 ≤ length bytes
     → begins_packet distance in_step bytes ≡ true
@@ -44,7 +40,6 @@ pub items_packet : (distance : ℕ) (in_step : Bool) (room : ℕ) (bytes : List 
 unfolding items
 items_packet distance in_step room bytes h1 h2 = grind (arith, nat_tests)
 
--- A skipped byte.
 pub items_skipped : (distance : ℕ) (in_step : Bool) (room : ℕ) (bytes : List ℕ)
     → 188 ≤ length bytes
     → begins_packet distance in_step bytes ≡ false
@@ -53,11 +48,10 @@ pub items_skipped : (distance : ℕ) (in_step : Bool) (room : ℕ) (bytes : List
 unfolding items
 items_skipped distance in_step room bytes h1 h2 = grind (arith, nat_tests)
 
--- Case distinction on a Bool.
 pub by_bool : {P : Type 0} (b : Bool) → (b ≡ true → P) → (b ≡ false → P) → P
 by_bool b h1 h2 = grind (arith, nat_tests)
 
--- The number of bytes bounds the number of items.
+-- The number of items is at most the number of bytes, so any larger bound gives the same items.
 pub items_room : (distance : ℕ) (in_step : Bool) (room : ℕ) (more : ℕ) (bytes : List ℕ)
     → 188 ≤ distance
     → length bytes ≤ room
@@ -81,7 +75,6 @@ items_room distance in_step (suc room) (suc more) bytes far le le_more =
           (omega (arith, length-drop 1 bytes)) (omega (arith, length-drop 1 bytes)),
     )
 
--- The items of bytes that begin with a packet.
 all_packet : (distance : ℕ) (in_step : Bool) (bytes : List ℕ)
     → 188 ≤ distance
     → 188 ≤ length bytes
@@ -92,7 +85,6 @@ all_packet : (distance : ℕ) (in_step : Bool) (bytes : List ℕ)
 all_packet distance in_step bytes h1 h2 h3 =
     grind (arith, nat_tests, items_packet, items_room, length-drop)
 
--- The items of bytes whose first byte is skipped.
 all_skipped : (distance : ℕ) (in_step : Bool) (bytes : List ℕ)
     → 188 ≤ distance
     → 188 ≤ length bytes
@@ -102,9 +94,6 @@ all_skipped : (distance : ℕ) (in_step : Bool) (bytes : List ℕ)
 all_skipped distance in_step bytes h1 h2 h3 =
     grind (arith, nat_tests, items_skipped, items_room, length-drop)
 
--- ---- output
-
--- An event, and what follows.
 later_note : (j : JoiningValue) (n : Note) (more : List Note)
     → has_ended j.part ≡ false
     → j.pending ≡ []
@@ -116,12 +105,11 @@ later_note j n more going idle =
     rw going (ap (λ (v : JoiningValue).
     (after_note v n).pending ++ later_output (delivered (after_note v n)) more) same)
 
--- There is no output at the end.
 later_end : (j : JoiningValue) → later_output j [] ≡ []
 unfolding later_output
 later_end j = refl
 
--- There is no output after `Ended`.
+-- After a part that has ended the stream, no output follows.
 pub later_ended : (j : JoiningValue) (all : List Note)
     → has_ended j.part ≡ true
     → later_output j all ≡ []
@@ -129,7 +117,6 @@ unfolding later_output
 later_ended j [] ended = refl
 later_ended j (n ∷ more) ended = rw ended refl
 
--- The end of the bytes.
 stream_end : (distance number run : ℕ) (in_step : Bool) (j : JoiningValue) (bytes : List ℕ)
     → length bytes < 188
     → j.pending ≡ []
@@ -142,7 +129,6 @@ stream_end distance number run in_step j bytes few idle =
     (items_end distance in_step (length bytes) bytes few)
     ∙ later_end (delivered j)
 
--- There is no further output.
 stream_ended : (distance number run : ℕ) (in_step : Bool) (j : JoiningValue) (bytes : List ℕ)
     → has_ended j.part ≡ true
     → j.pending ≡ []
@@ -150,7 +136,6 @@ stream_ended : (distance number run : ℕ) (in_step : Bool) (j : JoiningValue) (
 unfolding stream_output
 stream_ended distance number run in_step j bytes h1 h2 = grind (arith, nat_tests, later_ended)
 
--- The output of the events of a packet, and what follows.
 packet_notes : (distance number : ℕ) (p : List ℕ) (j : JoiningValue) (more : List Note)
     → has_ended j.part ≡ false
     → j.pending ≡ []
@@ -160,7 +145,6 @@ packet_notes : (distance number : ℕ) (p : List ℕ) (j : JoiningValue) (more :
     ++ later_output (delivered (after_packet number p j)) more
 packet_notes distance number p j more h1 h2 = grind (arith, nat_tests, by_bool, later_note)
 
--- The next item is a packet.
 pub stream_packet : (distance number run : ℕ) (in_step : Bool) (j : JoiningValue) (bytes : List ℕ)
     → 188 ≤ distance
     → 188 ≤ length bytes
@@ -180,7 +164,6 @@ stream_packet distance number run in_step j bytes far many begins going idle =
     (all_packet distance in_step bytes far many begins)
     ∙ packet_notes distance number (take packet_size bytes) j more going idle)
 
--- The output of the events of a skipped byte, and what follows.
 skipped_notes : (distance run : ℕ) (j : JoiningValue) (more : List Note)
     → has_ended j.part ≡ false
     → j.pending ≡ []
@@ -190,7 +173,6 @@ skipped_notes : (distance run : ℕ) (j : JoiningValue) (more : List Note)
     ++ later_output (delivered (after_skipped distance run j)) more
 skipped_notes distance run j more h1 h2 = grind (arith, nat_tests, by_bool, later_note)
 
--- A skipped byte.
 pub stream_skipped : (distance number run : ℕ) (in_step : Bool) (j : JoiningValue) (bytes : List ℕ)
     → 188 ≤ distance
     → 188 ≤ length bytes
@@ -209,7 +191,6 @@ stream_skipped distance number run in_step j bytes far many skips going idle =
     (all_skipped distance in_step bytes far many skips)
     ∙ skipped_notes distance run j more going idle)
 
--- A byte that is neither a sync byte nor makes the skipped bytes a loss.
 junk_byte : (distance number run : ℕ) (j : JoiningValue) (x : ℕ) (rest : List ℕ)
     → 188 ≤ distance
     → (x ≡ 0x47 → ⊥)
@@ -229,7 +210,6 @@ junk_byte distance number run j x rest far other no_hole going idle =
     ap (λ (k : JoiningValue). stream_output distance number (run + 1) false k rest) (sym same)
     ∙ stream_skipped distance number run false j (x ∷ rest) far long begins going idle)
 
--- The bytes up to a place, and the one there.
 take-one : (at : ℕ) (bytes rest : List ℕ)
     → at < length bytes
     → take (suc at) bytes ++ rest ≡ take at bytes ++ (slice_index bytes at ∷ rest)
@@ -237,7 +217,6 @@ take-one at [] rest lt = absurd (omega arith)
 take-one zero (x ∷ xs) rest lt = refl
 take-one (suc at) (x ∷ xs) rest lt = ap (λ l. x ∷ l) (take-one at xs rest (omega arith))
 
--- One more such byte. For `junk_size`.
 pub junk_skipped : (distance number run at : ℕ) (j : JoiningValue) (bytes rest : List ℕ)
     → 188 ≤ distance
     → at < length bytes
@@ -270,20 +249,15 @@ junk_skipped distance number run at j bytes rest far within other room going idl
     by_lt m n h1 h2 = by_bool (nat_lt m n)
         (λ lt. h1 (grind (arith, nat_tests))) (λ ge. h2 (grind (arith, nat_tests)))
 
--- ---- the buffered bytes
-
--- The bytes after a prefix that is in the buffer.
 pub drop-across : (n : ℕ) (xs ys : List ℕ)
     → drop (n - length xs) (drop n xs ++ ys) ≡ drop n (xs ++ ys)
 drop-across n xs ys = grind (arith, nat_tests, by_bool, drop-append-le, drop_all, drop-append-add)
 
--- The bytes from the next item on, some of them buffered.
 ahead_buffered : (v : StreamValue) (bytes : List ℕ)
     → v.lead ≤ length v.window.buffered
     → bytes_ahead v bytes ≡ drop v.lead v.window.buffered ++ take v.window.left bytes
 ahead_buffered v bytes le = drop-append-le v.lead v.window.buffered (take v.window.left bytes) le
 
--- A buffered byte.
 pub index-append : (i : ℕ) (xs ys : List ℕ)
     → i < length xs
     → slice_index (xs ++ ys) i ≡ slice_index xs i
@@ -291,21 +265,16 @@ index-append i [] ys lt = absurd (omega arith)
 index-append zero (x ∷ xs) ys lt = refl
 index-append (suc i) (x ∷ xs) ys lt = index-append i xs ys (omega arith)
 
--- A byte after the end.
 pub index-following : (i : ℕ) (xs : List ℕ) → length xs ≤ i → slice_index xs i ≡ 0
 index-following i [] le = refl
 index-following zero (x ∷ xs) le = absurd (omega arith)
 index-following (suc i) (x ∷ xs) le = index-following i xs (omega arith)
 
--- A buffered byte from the next item on.
 index-ahead : (v : StreamValue) (bytes : List ℕ) (i : ℕ)
     → v.lead + i < length v.window.buffered
     → slice_index (bytes_ahead v bytes) i ≡ slice_index (drop v.lead v.window.buffered) i
 index-ahead v bytes i h1 = grind (arith, nat_tests, ahead_buffered, index-append, length-drop)
 
--- ---- `need`
-
--- Bytes that were read are still to be examined.
 pub given_takes : (x y : Option (List ℕ)) (v : StreamValue) (w : WindowValue)
     → TakesPrefix (buffered_and_left v.window) (buffered_and_left w) x y
     → TakesPrefix (output_of v) (output_of (record v { window = w })) x y
@@ -314,14 +283,14 @@ given_takes x y v w (takes_bytes _ _ _ _ bytes consumed same) =
     (λ more. ap (λ (l : List ℕ).
     stream_output v.distance v.number v.run v.in_step v.joining (drop v.lead l)) (same more))
 
--- A loss yields no output by itself.
 loss_gives : (j : JoiningValue) (more : List Note)
     → later_output (delivered (record j { has_break = true })) more ≡ []
     → later_output (delivered j) (Loss ∷ more) ≡ []
 unfolding later_output
 loss_gives j more h1 = grind (arith, nat_tests, by_bool)
 
--- Out of step, so few bytes contain no packet, since none is followed by a second sync byte.
+-- Out of step, at most `distance` bytes contain no transport packet, since no sync byte is followed
+-- by another at the distance.
 skipped_give : (distance number run room : ℕ) (j : JoiningValue) (bytes : List ℕ)
     → length bytes ≤ distance
     → later_output (delivered j) (notes distance number run (items distance false room bytes)) ≡ []
@@ -347,7 +316,7 @@ skipped_give distance number run (suc room) j bytes few =
     and_false true = refl
     and_false false = refl
 
--- Bytes that do not determine the next item yield nothing.
+-- Bytes that do not determine the next item yield no output.
 stream_short : (distance number run : ℕ) (in_step : Bool) (j : JoiningValue) (bytes : List ℕ)
     → length bytes < bytes_needed distance in_step
     → j.pending ≡ []
@@ -356,13 +325,11 @@ unfolding stream_output
 stream_short distance number run in_step j bytes h1 h2 =
     grind (arith, nat_tests, stream_end, skipped_give)
 
--- At least the bytes of a packet are needed. For `step`.
 pub needs_packet : (distance : ℕ) (in_step : Bool)
     → 188 ≤ distance
     → 188 ≤ bytes_needed distance in_step
 needs_packet distance in_step h1 = grind (arith, nat_tests)
 
--- Fewer bytes than needed yield nothing.
 pub cut_gives : (v : StreamValue)
     → 188 ≤ v.distance
     → v.joining.pending ≡ []
@@ -371,7 +338,6 @@ pub cut_gives : (v : StreamValue)
 cut_gives v h1 h2 h3 =
     grind (arith, nat_tests, stream_short, needs_packet, length-append, length-drop, length-take)
 
--- If they are missing, nothing is left.
 pub need_end : (known_bytes : Option (List ℕ)) (v : StreamValue)
     → 188 ≤ v.distance
     → v.joining.pending ≡ []
@@ -381,7 +347,7 @@ pub need_end : (known_bytes : Option (List ℕ)) (v : StreamValue)
 need_end known_bytes v h1 h2 h3 h4 =
     grind (arith, nat_tests, stream_short, needs_packet, length-append, length-drop)
 
--- No byte is read after those that determine the next item, since fewer yield nothing.
+-- No byte is read after those that determine the next item, since fewer bytes yield no output.
 pub need_requests : {D : Type 0} (IsPull : D → ℕ → Option ℕ → D → Type 0) (borrowed : D → List ℕ)
     (remaining : D → Option (List ℕ)) (v : StreamValue) (w : WindowValue) (before after : D)
     (ok : Bool) (count : ℕ)
@@ -400,9 +366,6 @@ need_requests IsPull borrowed remaining v w before after ok count requests is ne
 
 pub ruleset needing = (given_takes, cut_gives, need_end, need_requests)
 
--- ---- `begins_packet`
-
--- The needed bytes determine it, whatever follows.
 pub begins_known : (v : StreamValue) (bytes : List ℕ)
     → 188 ≤ v.distance
     → v.lead + bytes_needed v.distance v.in_step ≤ length v.window.buffered
@@ -411,9 +374,6 @@ pub begins_known : (v : StreamValue) (bytes : List ℕ)
     && (v.in_step || (slice_index (drop v.lead v.window.buffered) v.distance == 0x47)))
 begins_known v bytes h1 h2 = grind (arith, nat_tests, index-ahead, needs_packet, by_bool)
 
--- ---- `advance`
-
--- The bytes after skipping `count` of them.
 pub ahead_moved : (v w : StreamValue) (count : ℕ) (bytes : List ℕ)
     → w.window.buffered ≡ drop (v.lead + count) v.window.buffered
     → w.window.left ≡ v.window.left
@@ -423,9 +383,6 @@ ahead_moved v w count bytes h1 h2 h3 = grind (arith, nat_tests, drop-across, dro
 
 pub ruleset advancing = (ahead_moved, length-drop)
 
--- ---- `take_packet` and `skip`
-
--- The bytes ahead begin with the buffered ones.
 take-ahead : (v : StreamValue) (bytes : List ℕ)
     → v.lead + 188 ≤ length v.window.buffered
     → take 188 (bytes_ahead v bytes) ≡ take 188 (drop v.lead v.window.buffered)
@@ -434,13 +391,12 @@ take-ahead v bytes there =
     ∙ take-append-le 188 (drop v.lead v.window.buffered) (take v.window.left bytes)
     (omega (arith, length-drop v.lead v.window.buffered))
 
--- The bytes ahead contain at least a packet.
 long_ahead : (v : StreamValue) (bytes : List ℕ)
     → v.lead + 188 ≤ length v.window.buffered
     → 188 ≤ length (bytes_ahead v bytes)
 long_ahead v bytes h1 = grind (arith, nat_tests, length-drop, length-append)
 
--- The output still to come after a packet.
+-- Taking a transport packet does not change the output still to come.
 pub packet_taken : (v w : StreamValue) (bytes : List ℕ)
     → 188 ≤ v.distance
     → v.lead + 188 ≤ length v.window.buffered
@@ -470,7 +426,7 @@ packet_taken v w bytes far there going idle distance number run step joining ahe
     ∙ stream_packet v.distance v.number v.run v.in_step v.joining (bytes_ahead v bytes) far
     (long_ahead v bytes there) begins going idle
 
--- The output still to come after a skipped byte.
+-- Skipping a byte that belongs to no packet does not change the output still to come.
 pub byte_skipped : (v w : StreamValue) (bytes : List ℕ)
     → 188 ≤ v.distance
     → v.lead + 188 ≤ length v.window.buffered
@@ -487,13 +443,12 @@ pub byte_skipped : (v w : StreamValue) (bytes : List ℕ)
 byte_skipped v w bytes h1 h2 h3 h4 h5 h6 h7 h8 h9 h10 h11 =
     grind (arith, nat_tests, stream_skipped, long_ahead)
 
--- A packet of another PID does not change the state. For `join_packet`.
 pub other_pid : (v : StreamValue) (p : List ℕ)
     → (pid p ≡ v.number → ⊥)
     → v ≡ record v { joining = after_packet v.number p v.joining }
 other_pid v p h1 = grind (arith, nat_tests)
 
--- The output still to come after buffered bytes that contain no packet. For `skip_on`.
+-- Skipping buffered bytes that contain no packet does not change the output still to come.
 pub junk_given : (v w : StreamValue) (count : ℕ) (bytes : List ℕ)
     → count ≤ length v.window.buffered
     → v.in_step ≡ false
@@ -523,7 +478,6 @@ junk_given v w count bytes h1 h2 h3 h4 h5 h6 h7 h8 h9 h10 h11 h12 =
 
 pub ruleset packets = packet_taken
 
--- A skipped byte may make a loss, but has no other effect.
 pub skipped_idle : (distance run : ℕ) (j : JoiningValue)
     → (after_skipped distance run j).pending ≡ j.pending
 skipped_idle distance run j = by_bool (run + 1 == loss_size distance)
@@ -538,9 +492,6 @@ pub ruleset skips = (byte_skipped, skipped_idle, skipped_going)
 
 pub ruleset junk = (junk_skipped, junk_given)
 
--- ---- `step` and `read_on`
-
--- The output still to come after the next item.
 pub item_takes : (before known_bytes : Option (List ℕ)) (u v w : StreamValue) (begins : Bool)
     → TakesPrefix (output_of u) (output_of v) before known_bytes
     → ((bytes : List ℕ) → begins_packet v.distance v.in_step (bytes_ahead v bytes) ≡ begins)
@@ -552,7 +503,6 @@ item_takes before known_bytes u v w begins takes stands same =
     takes_on (output_of u) (output_of v) (output_of w) before known_bytes takes
     (λ more. same more (stands more))
 
--- Bytes read for the item are also needed for what follows.
 pub item_requests : {D : Type 0} (IsPull : D → ℕ → Option ℕ → D → Type 0) (borrowed : D → List ℕ)
     (remaining : D → Option (List ℕ)) (u v w : StreamValue) (before after : D) (begins : Bool)
     → Requests IsPull borrowed remaining (has_output u) before true (has_output v) after
@@ -564,7 +514,6 @@ pub item_requests : {D : Type 0} (IsPull : D → ℕ → Option ℕ → D → Ty
 item_requests IsPull borrowed remaining u v w before after begins h1 h2 h3 =
     grind (arith, nat_tests, requested_after)
 
--- Nothing is left after `Ended`.
 pub none_where_ended : (known_bytes : Option (List ℕ)) (v : StreamValue)
     → has_ended v.joining.part ≡ true
     → v.joining.pending ≡ []
@@ -582,9 +531,6 @@ pub ruleset reads = (
   takes_kept,
 )
 
--- ---- taking output
-
--- The first bytes that are ready were returned.
 pub given_prefix : (v : StreamValue) (rest got bytes : List ℕ)
     → v.joining.pending ≡ got ++ rest
     → output_of v bytes
@@ -592,7 +538,6 @@ pub given_prefix : (v : StreamValue) (rest got bytes : List ℕ)
 unfolding stream_output
 given_prefix v rest got bytes h1 = grind (arith, nat_tests, append_assoc)
 
--- They were consumed from the output still to come.
 pub prefix_consumed : (before known_bytes : Option (List ℕ)) (u v : StreamValue) (rest got : List ℕ)
     → Keeps (remaining_output u before) (remaining_output v known_bytes)
     → v.joining.pending ≡ got ++ rest
@@ -600,9 +545,6 @@ pub prefix_consumed : (before known_bytes : Option (List ℕ)) (u v : StreamValu
     (remaining_output (record v { joining = record v.joining { pending = rest } }) known_bytes) got
 prefix_consumed before known_bytes u v rest got h1 h2 = grind (arith, nat_tests, given_prefix)
 
--- ---- packets that are lent
-
--- The output for bytes of which the first were consumed, with an empty buffer.
 output_after_taken : (v w : StreamValue) (taken bytes : List ℕ)
     → v.window.buffered ≡ []
     → length taken ≤ v.window.left
@@ -628,14 +570,14 @@ output_after_taken v w taken bytes none few gives lead window =
     ∙ ap (λ (l : List ℕ). stream_output v.distance v.number v.run v.in_step v.joining
     (drop v.lead (l ++ take left (taken ++ bytes)))) (sym none)
 
--- The lent bytes are at the front of the remaining ones.
 pub borrowed_within : (borrowed all : List ℕ) (count : ℕ)
     → take (length borrowed) all ≡ borrowed
     → count ≤ length borrowed
     → count ≤ length all
 borrowed_within borrowed all count h1 h2 = grind (arith, nat_tests, length-take)
 
--- Skipping lent bytes does not change the output still to come, if the bytes after them yield it.
+-- Skipping lent bytes does not change the output still to come, if the bytes after them yield the
+-- same output.
 pub borrowed_skipped : {D : Type 0} (IsPull : D → ℕ → Option ℕ → D → Type 0) (borrowed : D → List ℕ)
     (remaining : D → Option (List ℕ)) (v w : StreamValue) (before after : D) (next : List ℕ)
     (count : ℕ)
@@ -662,7 +604,6 @@ borrowed_skipped IsPull borrowed remaining v w before after next count are prefi
           (λ bytes. ap (λ (l : List ℕ). nat_lt 0 (length l)) (gives bytes))),
     )
 
--- A packet of another PID.
 unit_skipped : (distance number : ℕ) (j : JoiningValue) (unit rest : List ℕ)
     → 188 ≤ distance
     → length unit ≡ distance
@@ -695,7 +636,6 @@ unit_skipped distance number j unit rest near long sync other going idle =
     not_equal : (m n : ℕ) → (m ≡ n → ⊥) → (m == n) ≡ false
     not_equal m n differ = grind (arith, nat_tests)
 
--- One more packet of another PID at the front. For `place_after_others`.
 pub other_skipped : (distance number from at : ℕ) (j : JoiningValue) (bytes rest : List ℕ)
     → 188 ≤ distance
     → at + distance ≤ length bytes
@@ -723,7 +663,7 @@ other_skipped distance number from at j bytes rest near within sync other going 
     (sym (append_assoc (take at bytes) unit rest)
     ∙ ap (λ (l : List ℕ). l ++ rest) (sym (take-add at distance bytes)))
 
--- The output still to come after packets of other PIDs were skipped.
+-- Skipping lent packets of other PIDs does not change the output still to come.
 pub others_given : (v w : StreamValue) (taken bytes : List ℕ) (count : ℕ)
     → length taken ≡ count
     → v.window.buffered ≡ []
@@ -737,13 +677,11 @@ pub others_given : (v w : StreamValue) (taken bytes : List ℕ) (count : ℕ)
 others_given v w taken bytes count h1 h2 h3 h4 h5 h6 h7 = grind
     (arith, nat_tests, output_after_taken)
 
--- A packet of the PID.
 pub same_pid : (number : ℕ) (p : List ℕ) (j : JoiningValue)
     → pid p ≡ number
     → after_packet number p j ≡ after_note j (note_of p)
 same_pid number p j h1 = grind (arith, nat_tests)
 
--- A packet of the PID, and the bytes up to the next packet.
 unit_taken : (distance number : ℕ) (j : JoiningValue) (unit rest p : List ℕ)
     → 188 ≤ distance
     → length unit ≡ distance
@@ -768,7 +706,8 @@ unit_taken distance number j unit rest p near size packet sync going idle =
     ∙ stream_packet distance number 0 true j (unit ++ rest) near
     (omega (arith, size, length-append unit rest)) begins going idle
 
--- The output still to come after lent packets of other PIDs and a packet of the PID.
+-- Skipping lent packets of other PIDs and taking a packet of the PID does not change the output
+-- still to come.
 pub packet_given : (v w : StreamValue) (borrowed p bytes : List ℕ) (place count : ℕ)
     → count ≡ place + v.distance
     → count ≤ length borrowed

@@ -1,4 +1,5 @@
--- Bytes that were consumed from a source, whatever follows; main lemmas: takes_then, takes_kept.
+-- Bytes consumed from a source and the output still to come, whatever bytes follow; main lemmas:
+-- takes_then, takes_kept.
 use Rattle.std.proofs.Common.{◌≡◌, ℕ, List, [], ◌++◌, Option, Some, None, refl, sym, ap, ◌∙◌}
 use Rattle.std.proofs.Common.{append_assoc}
 use Rattle.std.proofs.KnownBytes.{Consumes-kept, Consumes-nil, Consumes-trans}
@@ -6,13 +7,11 @@ use Rattle.std.specs.Prelude.{option_map}
 use Rattle.std.specs.Io.KnownBytes.{Keeps}
 use Rattle.mpeg_ts.specs.TakenBytes.{TakesPrefix, takes_bytes}
 
--- No bytes.
 pub takes_none : (old : List ℕ → List ℕ) (known_bytes : Option (List ℕ)) → TakesPrefix old old
     known_bytes known_bytes
 takes_none old known_bytes = takes_bytes old old known_bytes known_bytes []
     (Consumes-nil known_bytes) (λ more. refl)
 
--- A call that failed.
 pub takes_failed : (old : List ℕ → List ℕ) (before after : Option (List ℕ))
     → Keeps before after
     → TakesPrefix old old before after
@@ -20,7 +19,6 @@ takes_failed old before after keeps =
     takes_bytes old old before after []
     (Consumes-kept before before after [] (Consumes-nil before) keeps) (λ more. refl)
 
--- Some bytes, then others.
 pub takes_then : (old between new : List ℕ → List ℕ) (before mid after : Option (List ℕ))
     → TakesPrefix old between before mid
     → TakesPrefix between new mid after
@@ -34,7 +32,6 @@ takes_then old between new before mid after
     ∙ same (then ++ more)
     ∙ alike more)
 
--- Another step that does not change the output.
 pub takes_on : (old between new : List ℕ → List ℕ) (before after : Option (List ℕ))
     → TakesPrefix old between before after
     → ((more : List ℕ) → new more ≡ between more)
@@ -42,7 +39,6 @@ pub takes_on : (old between new : List ℕ → List ℕ) (before after : Option 
 takes_on old between new before after (takes_bytes _ _ _ _ bytes consumed same) alike =
     takes_bytes old new before after bytes consumed (λ more. same more ∙ sym (alike more))
 
--- If the source's bytes are known, the output still to come is the same.
 pub takes_kept : (old new : List ℕ → List ℕ) (before after : Option (List ℕ))
     → TakesPrefix old new before after
     → Keeps (option_map old before) (option_map new after)

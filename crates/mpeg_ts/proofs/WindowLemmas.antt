@@ -1,4 +1,4 @@
--- The bytes that are read from a source and examined; main lemmas: window-takes, left_at_end.
+-- Filling the buffer with the bytes that are examined next; main lemmas: window-takes, left_at_end.
 use Rattle.std.proofs.lemmas.Bool.Decides.{nat_tests}
 use Rattle.std.proofs.Common.{◌≡◌, ℕ, zero, suc, ◌+◌, ◌<◌, List, ◌++◌, length, take}
 use Rattle.std.proofs.Common.{Option, Some, None, refl, sym, ap, ◌∙◌, arith, append_assoc}
@@ -12,11 +12,9 @@ use Rattle.mpeg_ts.specs.TakenBytes.{TakesPrefix, takes_bytes}
 use Rattle.mpeg_ts.specs.Window.{RequestsUpTo, WindowValue, buffered_and_left, left_to_take}
 use Rattle.mpeg_ts.proofs.TakenBytesLemmas.{takes_failed, takes_none, takes_then}
 
--- The buffer with these bytes, and `left` more that may be read.
 abbrev pub window : List ℕ → ℕ → WindowValue
 window buffered left = record { buffered = buffered; left = left }
 
--- Fewer bytes than requested are too few together with the buffered ones.
 requested_few : (buffered : List ℕ) (left room : ℕ) (is_enough : List ℕ → Bool)
     → ((bytes : List ℕ) → length bytes < length buffered + room → is_enough bytes ≡ false)
     → (bytes : List ℕ)
@@ -25,7 +23,6 @@ requested_few : (buffered : List ℕ) (left room : ℕ) (is_enough : List ℕ �
 requested_few buffered left room is_enough h1 bytes h2 =
     grind (arith, nat_tests, length-append, length-take)
 
--- A part of the remaining bytes was read.
 pub window-takes : (x y : Option (List ℕ)) (buffered got : List ℕ) (left less n : ℕ)
     → n ≡ length got
     → less + n ≡ left
@@ -39,7 +36,6 @@ window-takes x y buffered got left less n long is consumed =
     ∙ ap (λ l. buffered ++ l) (sym (take-append-add got more less)
     ∙ ap (λ k. take k (got ++ more)) (sym all))))
 
--- No more may be read, or there are none.
 none_to_take : (n : ℕ) (known_bytes : Option (List ℕ))
     → (0 < n → IsAtEnd known_bytes)
     → IsAtEnd (option_map (take n) known_bytes)
@@ -48,18 +44,16 @@ none_to_take zero (Some b) end = refl
 none_to_take (suc n) None end = tt
 none_to_take (suc n) (Some b) end = ap (take (suc n)) (end (omega arith))
 
--- A pull that returned nothing. For `fill_to`.
 pub left_at_end : (w : WindowValue) (known_bytes : Option (List ℕ)) (room : ℕ)
     → (0 < w.left → 0 < room)
     → (0 < room → IsAtEnd known_bytes)
     → IsAtEnd (left_to_take w known_bytes)
 left_at_end w known_bytes room some end = none_to_take w.left known_bytes (λ left. end (some left))
 
--- The question about the bytes from the first buffered one on.
 abbrev ahead_of : WindowValue → (List ℕ → Bool) → List ℕ → Bool
 ahead_of w is_enough bytes = is_enough (buffered_and_left w bytes)
 
--- A pull requested no more bytes than allowed,
+-- A pull that fills the buffer requests no more bytes than allowed.
 pub window-requested : {D : Type 0} (IsPull : D → ℕ → Option ℕ → D → Type 0) (borrowed : D → List ℕ)
     (remaining : D → Option (List ℕ)) (before after : D) (buffered got : List ℕ)
     (left less n requested room : ℕ)
@@ -89,7 +83,7 @@ window-requested IsPull borrowed remaining before after buffered got left less n
         → length got + less ≡ left
     all less n left got long is = omega (arith, long, is)
 
--- even if it failed.
+-- A pull that fails requests no more bytes than allowed.
 pub window-failed : {D : Type 0} (IsPull : D → ℕ → Option ℕ → D → Type 0) (borrowed : D → List ℕ)
     (remaining : D → Option (List ℕ)) (before after : D) (w v : WindowValue) (requested room : ℕ)
     → IsPull before requested None after
@@ -101,7 +95,6 @@ window-failed IsPull borrowed remaining before after w v requested room pull who
       (inr (requested_few w.buffered w.left room is_enough few)) (rw whole at pull);
 }
 
--- Several pulls. For `fill_to`.
 pub window-on : {D : Type 0} (IsPull : D → ℕ → Option ℕ → D → Type 0) (borrowed : D → List ℕ)
     (remaining : D → Option (List ℕ)) (before mid after : D) (u v w : WindowValue)
     (count less : ℕ) (ok : Bool)
@@ -117,7 +110,6 @@ window-on IsPull borrowed remaining before mid after u v w count less ok first t
       (then.requests is_enough (λ bytes short. few bytes (omega (arith, short, le))));
 }
 
--- No pull.
 pub window-none : {D : Type 0} (IsPull : D → ℕ → Option ℕ → D → Type 0) (borrowed : D → List ℕ)
     (remaining : D → Option (List ℕ)) (source : D) (w : WindowValue) (count : ℕ)
     → RequestsUpTo IsPull borrowed remaining count w source true w source

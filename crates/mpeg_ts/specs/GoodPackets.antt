@@ -1,6 +1,7 @@
--- The good packets of a PID, each with its link to the one before. Good packets are usable, carry a
--- payload, and do not repeat the packet before (ISO/IEC 13818-1, continuity_counter: a packet may
--- be sent twice; discontinuity_indicator: a jump of the counter is announced).
+-- The good transport packets of a PID, each with its link to the good packet before it. A good
+-- packet is usable, carries a payload, and does not repeat the packet before (ISO/IEC 13818-1,
+-- continuity_counter: a packet may be sent twice; discontinuity_indicator: a jump of the counter is
+-- announced).
 use Rattle.std.specs.Prelude.{ℕ, ◌+◌, ◌*◌, ◌%◌, ◌==◌, ◌&&◌, ◌||◌, not, Bool, true, false}
 use Rattle.std.specs.Prelude.{if◌then◌else◌, List, [], ◌∷◌, Option, Some, None, bytes_eq}
 use Rattle.mpeg_ts.specs.PacketsInStep.{Item, Packet, Skipped}
@@ -9,24 +10,24 @@ use Rattle.mpeg_ts.specs.TransportPacket.{packet_header, payload}
 
 -- ---- events of a PID
 
--- A usable packet of the PID; an unusable one; or a loss: so many bytes were skipped in a row that
--- packets of the PID may be missing.
+-- An event of a PID: a usable transport packet; an unusable one; or a loss: so many bytes were
+-- skipped in a row that packets of the PID may be missing.
 pub data Note : Type 0 where
   Valid : List ℕ → Note
   Wrong : Note
   Loss : Note
 
--- The number of skipped bytes that counts as a loss: 15 packets, after which the counter may have
--- its expected value again.
+-- The number of skipped bytes that counts as a loss: the size of 15 transport packets, after which
+-- the counter may have its expected value again.
 abbrev pub loss_size : ℕ → ℕ
 loss_size distance = 15 * distance
 
--- Whether a packet of the PID is usable.
+-- The event of a transport packet of the PID: the packet is usable or not.
 abbrev pub note_of : List ℕ → Note
 note_of p = if is_wrong p then Wrong else Valid p
 
--- The events of the PID among items, in order, after `run` bytes that were skipped in a row. A loss
--- occurs at its last byte.
+-- The events of a PID among items, in order, if `run` bytes were skipped in a row before the items.
+-- A loss is an event of the last byte that makes it.
 unfoldable pub notes : ℕ → ℕ → ℕ → List Item → List Note
 notes distance number run [] = []
 notes distance number run (Packet p ∷ items) =
@@ -36,23 +37,24 @@ notes distance number run (Skipped ∷ items) =
     if run + 1 == loss_size distance then Loss ∷ notes distance number (run + 1) items
     else notes distance number (run + 1) items
 
--- ---- good packets
+-- ---- good transport packets
 
--- The link of a good packet to the one before: it is the first; it follows that one; a jump of the
--- counter was announced between them, and no data is known to be lost; or data was lost.
+-- The link of a good transport packet to the good packet before it: the packet is the first; it
+-- follows that packet; a jump of the counter was announced between them, and no data is known to be
+-- lost; or data was lost between them.
 pub data Link : Type 0 where
   First : Link
   Follows : Link
   Seam : Link
   Break : Link
 
--- A good packet and its link.
+-- A good transport packet and its link to the good packet before it.
 pub record GoodPacket : Type 0 where
   pub link : Link
   pub packet : List ℕ
 
--- The last good packet (`None` if there was none yet), and what came since then: its repeat, an
--- announced jump, an unusable packet, a loss.
+-- The last good transport packet (`None` if no good packet came yet), and which events came after
+-- it: its repeat, an announced jump, an unusable packet, a loss.
 pub record PacketHistory : Type 0 where
   pub good : Option (List ℕ)
   pub has_repeat : Bool
@@ -60,7 +62,7 @@ pub record PacketHistory : Type 0 where
   pub has_wrong : Bool
   pub has_loss : Bool
 
--- Nothing came since this good packet.
+-- The history directly after this good transport packet.
 abbrev pub empty_history : Option (List ℕ) → PacketHistory
 empty_history good = record {
   good = good;
@@ -70,27 +72,28 @@ empty_history good = record {
   has_loss = false;
 }
 
--- Two packets have the same bytes 0 to 3 and the same payload.
+-- Two transport packets have the same bytes 0 to 3 and the same payload.
 abbrev pub is_same : List ℕ → List ℕ → Bool
 is_same p q = bytes_eq (packet_header p) (packet_header q) && bytes_eq (payload p) (payload q)
 
--- A packet with a payload repeats a good packet: it is the same, and the first such packet since.
--- No jump was announced between them, and it announces none unless the good one did.
+-- A transport packet with a payload repeats a good packet: both are the same, and no repeat came
+-- before. No jump was announced between them, and the repeat announces a jump only if the good
+-- packet did.
 abbrev pub is_repeat_of : Option (List ℕ) → PacketHistory → List ℕ → Bool
 is_repeat_of None history p = false
 is_repeat_of (Some q) history p =
     is_same q p && not history.has_repeat && not history.has_jump
     && (not (announces_jump p) || announces_jump q)
 
--- It repeats the last good packet.
+-- The transport packet repeats the last good packet.
 abbrev pub is_repeat : PacketHistory → List ℕ → Bool
 is_repeat history p = is_repeat_of history.good history p
 
--- The counter of q is that of p plus one.
+-- The continuity counter of packet q is that of packet p plus one, modulo 16.
 abbrev pub counts_on : List ℕ → List ℕ → Bool
 counts_on p q = counter q == (counter p + 1) % 0x10
 
--- The link of a good packet to the one before, if there is one.
+-- The link of a good transport packet to the good packet before it, if any.
 abbrev pub link_from : Option (List ℕ) → PacketHistory → List ℕ → Link
 link_from None history p = First
 link_from (Some q) history p =
@@ -99,20 +102,21 @@ link_from (Some q) history p =
     else if counts_on q p then Follows
     else Break
 
--- A good packet with its link.
+-- The good transport packet p with its link.
 abbrev pub linked : PacketHistory → List ℕ → GoodPacket
 linked history p = record { link = link_from history.good history p; packet = p }
 
--- Good packets in order; and whether an unusable packet of the PID follows the last of them.
+-- Good transport packets in order, and whether an unusable packet of the PID follows the last of
+-- them.
 pub record GoodPackets : Type 0 where
   pub packets : List GoodPacket
   pub wrong_after : Bool
 
--- Puts a good packet in front.
+-- Adds a good transport packet in front of others.
 abbrev pub with_good : GoodPacket → GoodPackets → GoodPackets
 with_good g more = record { packets = g ∷ more.packets; wrong_after = more.wrong_after }
 
--- The good packets among events, after those since the last good one.
+-- The good transport packets among events that follow the history.
 unfoldable pub good_after : PacketHistory → List Note → GoodPackets
 good_after history [] = record { packets = []; wrong_after = history.has_wrong }
 good_after history (Wrong ∷ notes) = good_after (record history { has_wrong = true }) notes
@@ -123,7 +127,7 @@ good_after history (Valid p ∷ notes) =
     else if is_repeat history p then good_after (record history { has_repeat = true }) notes
     else with_good (linked history p) (good_after (empty_history (Some p)) notes)
 
--- The good packets of the PID in a recording with these items.
+-- The good transport packets of a PID in a recording with these items.
 abbrev pub good_packets : ℕ → ℕ → List Item → GoodPackets
 good_packets distance number items =
     good_after (empty_history None) (notes distance number 0 items)

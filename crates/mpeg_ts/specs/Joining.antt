@@ -1,5 +1,5 @@
--- How the PES packets of a PID are reassembled, one event at a time. `Carried` defines the result
--- in the standard's terms.
+-- The reassembly of the PES packets of a PID, one event at a time. `Carried` defines the result in
+-- the standard's terms.
 use Rattle.std.specs.Prelude.{◌≡◌, ℕ, ◌+◌, ◌≤◌, ◌%◌, ◌==◌, ◌&&◌, ◌||◌, not, nat_lt}
 use Rattle.std.specs.Prelude.{nat_le, Bool, true, false}
 use Rattle.std.specs.Prelude.{if◌then◌else◌, List, [], ◌∷◌, ◌++◌, length, take, bytes_eq}
@@ -24,10 +24,11 @@ use Rattle.mpeg_ts.specs.declared.pending_item.Next.TheVariants as next
 use Rattle.mpeg_ts.specs.declared.pending_item.PendingItem.{PendingItem}
 use Rattle.mpeg_ts.specs.declared.pending_item.PendingItem.TheVariants as pending_item
 
--- The state: of the last good packet bytes 0 to 3, whether it announced a jump, and its payload
--- (empty if there was none); whether since then its repeat came, a jump was announced, or data was
--- lost; the progress of its part; the bytes of the part, or only the last payload if no more of the
--- part will be returned; what was returned last; and the bytes that are ready.
+-- The state of reassembly: of the last good transport packet its bytes 0 to 3, whether it announced
+-- a jump, and its payload (empty if no good packet came yet); whether its repeat came since then, a
+-- jump was announced, or data was lost; the progress of its part; the bytes of the part, or only
+-- the last payload if no more of the part will be returned; what was returned last; and the bytes
+-- that are ready to be returned.
 pub record JoiningValue : Type 0 where
   pub header : List ℕ
   pub announced : Bool
@@ -40,7 +41,7 @@ pub record JoiningValue : Type 0 where
   pub given : Given
   pub pending : List ℕ
 
--- The state before the first event.
+-- The state of reassembly before the first event.
 abbrev pub nothing_joined : JoiningValue
 nothing_joined = record {
   header = 0 ∷ 0 ∷ 0 ∷ 0 ∷ [];
@@ -55,7 +56,7 @@ nothing_joined = record {
   pending = [];
 }
 
--- Nothing follows the bytes that are ready.
+-- The part has ended the stream, so no output follows the bytes that are ready.
 abbrev pub has_ended : PartState → Bool
 has_ended Ended = true
 has_ended _ = false
@@ -65,22 +66,23 @@ abbrev pub is_complete : PartState → Bool
 is_complete Complete = true
 is_complete _ = false
 
--- A PES packet was returned last.
+-- The item returned last was a PES packet.
 abbrev pub gave_packet : Given → Bool
 gave_packet given.Packet = true
 gave_packet _ = false
 
--- A packet repeats the last good one.
+-- The transport packet p repeats the last good packet.
 abbrev pub repeats : JoiningValue → List ℕ → Bool
 repeats v p =
     not v.has_repeat && (not v.has_jump && ((not (announces_jump p) || v.announced)
     && (bytes_eq v.header (packet_header p) && bytes_eq v.last (payload p))))
 
--- The counter of p is one more than the counter in these bytes 0 to 3.
+-- The continuity counter of packet p is one more than the counter in the bytes 0 to 3 of the packet
+-- before, modulo 16.
 abbrev pub counter_goes_on : List ℕ → List ℕ → Bool
 counter_goes_on head p = counter p == (slice_index head 3 % 0x10 + 1) % 0x10
 
--- The link of a good packet to the last one.
+-- The link of a good transport packet p to the last good packet.
 abbrev pub link_after : JoiningValue → List ℕ → List ℕ → Link
 link_after v [] p = First
 link_after v (x ∷ xs) p =
@@ -89,7 +91,7 @@ link_after v (x ∷ xs) p =
     else if counter_goes_on v.header p then Follows
     else Break
 
--- Stores p as the last good packet, without its payload.
+-- The state with p as the last good packet, except for the payload.
 abbrev pub remembering : JoiningValue → List ℕ → JoiningValue
 remembering v p = record v {
   header = packet_header p;
@@ -99,29 +101,31 @@ remembering v p = record v {
   has_break = false;
 }
 
--- What was returned last, after a possible gap. Only the first gap after a PES packet has a marker.
+-- The item returned last, after a possible gap. Only the first gap after a PES packet has a marker.
 abbrev pub last_output_after : Bool → Given → Given
 last_output_after gap g = if gap && gave_packet g then given.GapMarker else g
 
--- Only a gap marker is ready, if there is a gap directly after a PES packet.
+-- The state after a possible gap: a gap marker is ready if the gap is directly after a PES packet,
+-- and otherwise nothing is ready.
 abbrev pub with_gap : Bool → JoiningValue → JoiningValue
 with_gap gap v = record v {
   given = last_output_after gap v.given;
   pending = gap_marker_where (gap && gave_packet v.given);
 }
 
--- The contents of `count` bytes, given the size of their PES packet.
+-- What `count` bytes of a part contain, given the size of their PES packet.
 abbrev pub found_by_size : ℕ → Result ℕ PesFault → Found
 found_by_size count (Ok size) = if nat_le size count then found.Whole size else found.Unfinished
 found_by_size count (Err f) = found.Other f
 
--- The contents of a part's bytes: a PES packet, an incomplete one, or a wrong start code or length.
+-- What the bytes of a part contain: a PES packet, an incomplete PES packet, or a wrong start code
+-- or length.
 unfoldable pub found_in : List ℕ → Found
 found_in bytes =
     if nat_lt (length bytes) 6 then found.Unfinished
     else found_by_size (length bytes) (size_at (take 6 bytes))
 
--- Updates an open part from the contents of its bytes.
+-- Updates the state of an open part by what its bytes contain.
 abbrev pub settled_as : Found → JoiningValue → JoiningValue
 settled_as found.Unfinished v = v
 settled_as (found.Other f) v = record v { part = Ended; pending = v.pending ++ v.bytes }
@@ -137,48 +141,48 @@ grown gap v more =
     settled_as (found_in (v.bytes ++ more))
     (with_gap gap (record v { part = Open; bytes = v.bytes ++ more; last = more }))
 
--- Keeps bytes that yield nothing.
+-- Stores bytes that will not be part of a PES packet.
 abbrev pub with_buffered : Bool → JoiningValue → List ℕ → JoiningValue
 with_buffered gap v more = with_gap gap (record v { bytes = more; last = more })
 
--- Starts a part with this payload, after a gap if data was lost or the part before is incomplete.
+-- Starts a part with a payload, after a gap if data was lost or the part before is incomplete.
 abbrev pub begun : Bool → Bool → JoiningValue → List ℕ → JoiningValue
 begun breaks true v more =
     grown (breaks || not (is_complete v.part)) (record v { bytes = [] }) more
 begun breaks false v more =
     with_buffered (breaks || not (is_complete v.part)) (record v { part = Headless }) more
 
--- Continues the part with this payload. After a complete PES packet, this is a gap.
+-- Continues the part with a payload. After a complete PES packet, more payload is a gap.
 abbrev pub gone_on : PartState → JoiningValue → List ℕ → JoiningValue
 gone_on Open v more = grown false v more
 gone_on Complete v more = with_buffered true v more
 gone_on _ v more = with_buffered false v more
 
--- Takes a good packet with this link to the last one.
+-- The state after a good transport packet p with this link to the last good packet.
 abbrev pub after_good : Link → JoiningValue → List ℕ → JoiningValue
 after_good link v p =
     if begins p || is_unlinked link then
     begun (is_break link) (begins p) (remembering v p) (payload p)
     else gone_on v.part (remembering v p) (payload p)
 
--- Takes a usable packet of the PID.
+-- The state after a usable transport packet p of the PID.
 unfoldable pub after_valid : JoiningValue → List ℕ → JoiningValue
 after_valid v p =
     if not (has_payload p) then record v { has_jump = v.has_jump || announces_jump p }
     else if repeats v p then record v { has_repeat = true }
     else after_good (link_after v v.last p) v p
 
--- The state after an event, if nothing was ready before.
+-- The state after an event of the PID, if nothing was ready before.
 abbrev pub after_note : JoiningValue → Note → JoiningValue
 after_note v (Valid p) = after_valid v p
 after_note v Wrong = with_gap true (record v { has_break = true })
 after_note v Loss = record v { has_break = true }
 
--- Everything that was ready was returned.
+-- The state after everything that was ready was returned.
 abbrev pub delivered : JoiningValue → JoiningValue
 delivered v = record v { pending = [] }
 
--- The same, and all bytes are cleared.
+-- The state after everything that was ready was returned, without any stored bytes.
 abbrev pub emptied : JoiningValue → JoiningValue
 emptied v = record v { last = []; bytes = []; pending = [] }
 
@@ -189,14 +193,14 @@ later_output v (note ∷ more) =
     if has_ended v.part then []
     else (after_note v note).pending ++ later_output (delivered (after_note v note)) more
 
--- ---- representation in the program
+-- ---- the representation in the program
 
--- A gap marker, if there is one, is ready.
+-- The items that are ready: a gap marker, or none.
 abbrev pub gap_marker_alone : Bool → PendingItem
 gap_marker_alone true = pending_item.GapMarker
 gap_marker_alone false = pending_item.Nothing
 
--- The bytes that are ready.
+-- The bytes of the items that are ready.
 abbrev pub pending_item_bytes : PendingItem → List ℕ → List ℕ
 pending_item_bytes pending_item.Nothing bytes = []
 pending_item_bytes pending_item.GapMarker bytes = gap_marker
@@ -205,11 +209,12 @@ pending_item_bytes (pending_item.Packet gap_marker_before size gap_marker_after)
 pending_item_bytes (pending_item.Rest gap_marker_before fault) bytes = gap_marker_where
     gap_marker_before ++ bytes
 
--- The bytes begin no packet, for this fault.
+-- The bytes begin no PES packet, for this fault.
 abbrev pub IsRefused : List ℕ → PesFault → Type 0
 IsRefused bytes fault = (6 ≤ length bytes) × (size_at (take 6 bytes) ≡ Err fault)
 
--- A packet is ready, or bytes that begin no packet, after which nothing follows.
+-- The items that are ready fit the stored bytes: a PES packet is at their front, or they begin no
+-- PES packet and the part has ended the stream.
 abbrev pub IsPendingFor : PendingItem → PartState → List ℕ → Type 0
 IsPendingFor pending_item.Nothing part bytes = ⊤
 IsPendingFor pending_item.GapMarker part bytes = ⊤
@@ -218,7 +223,7 @@ IsPendingFor (pending_item.Packet gap_marker_before size gap_marker_after) part 
 IsPendingFor (pending_item.Rest gap_marker_before fault) part bytes =
     IsRefused bytes fault × (has_ended part ≡ true)
 
--- The invariant of the state.
+-- The invariant of the state of reassembly.
 pub record IsJoining (w : PendingItem) (payload_size : ℕ) (part : PartState) (bytes : List ℕ) : Type
     0
   where
@@ -226,21 +231,21 @@ pub record IsJoining (w : PendingItem) (payload_size : ℕ) (part : PartState) (
     pub room : part ≡ Open → length bytes ≤ 1655
     pub waits : IsPendingFor w part bytes
 
--- The bytes of the item that was taken.
+-- The bytes of an item that was taken.
 abbrev pub taken_bytes : Next → List ℕ → List ℕ
 taken_bytes next.Nothing bytes = []
 taken_bytes next.GapMarker bytes = gap_marker
 taken_bytes (next.Packet size) bytes = take size bytes
 taken_bytes (next.Rest fault) bytes = bytes
 
--- They are part of the stored bytes.
+-- The bytes of an item that was taken are part of the stored bytes.
 abbrev pub IsWithin : Next → List ℕ → Type 0
 IsWithin next.Nothing bytes = ⊤
 IsWithin next.GapMarker bytes = ⊤
 IsWithin (next.Packet size) bytes = size ≤ length bytes
 IsWithin (next.Rest fault) bytes = ⊤
 
--- The next item was taken from what is ready. Bytes that begin no packet stay.
+-- Takes the next item from those that are ready. Bytes that begin no PES packet stay ready.
 abbrev pub TakesNext : JoiningValue → Next → JoiningValue → Type 0
 TakesNext old next.Nothing new = (old.pending ≡ []) × (new ≡ old)
 TakesNext old next.GapMarker new =
@@ -256,7 +261,7 @@ TakesNext old (next.Rest fault) new =
     × (has_ended old.part ≡ true)
     × (new ≡ old)
 
--- The next item of any kind was taken, and its bytes are no longer ready.
+-- Takes the next item of any kind; its bytes are no longer ready.
 abbrev pub TakesFirst : JoiningValue → Next → JoiningValue → Type 0
 TakesFirst old next new =
     (old.pending ≡ taken_bytes next new.bytes ++ new.pending)

@@ -1,6 +1,7 @@
--- Splits the good packets of a PID into parts. A complete part yields a PES packet, an incomplete
--- one a gap (ISO/IEC 13818-1, payload_unit_start_indicator: a PES packet begins with the first byte
--- of the payload; its length is that of EN 300 472).
+-- Splits the good transport packets of a PID into parts, each with at most one PES packet. A
+-- complete part yields a PES packet, and an incomplete part a gap (ISO/IEC 13818-1,
+-- payload_unit_start_indicator: a PES packet begins with the first byte of the payload; its length
+-- is that of EN 300 472).
 use Rattle.std.specs.Prelude.{ℕ, ◌-◌, ◌&&◌, ◌||◌, not, nat_lt, nat_le, Bool, true, false}
 use Rattle.std.specs.Prelude.{if◌then◌else◌, List, [], ◌∷◌, ◌++◌, length, take, Result, Ok, Err}
 use Rattle.std.specs.List.{concat}
@@ -9,33 +10,36 @@ use Rattle.ttx_pes.specs.declared.fault.PesFault.{PesFault}
 use Rattle.mpeg_ts.specs.GoodPackets.{GoodPacket, GoodPackets, Link, Follows, Seam, Break}
 use Rattle.mpeg_ts.specs.TransportPacket.{begins, payload}
 
--- A part: whether data was lost before it, whether its first packet begins a PES packet, and the
--- payloads of its packets.
+-- A part of the transport packets of a PID: whether data was lost before the part, whether its
+-- first packet begins a PES packet, and the payloads of its packets.
 pub record Part : Type 0 where
   pub after_break : Bool
   pub begins : Bool
   pub payloads : List (List ℕ)
 
--- Data was lost between a good packet and the one before.
+-- The link says that data was lost between a good transport packet and the good packet before it.
 abbrev pub is_break : Link → Bool
 is_break Break = true
 is_break _ = false
 
--- A jump of the counter was announced between them, and no data is known to be lost.
+-- The link says that a jump of the counter was announced between a good transport packet and the
+-- good packet before it, and that no data is known to be lost.
 abbrev pub is_seam : Link → Bool
 is_seam Seam = true
 is_seam _ = false
 
--- A packet does not continue the PES packet of the one before.
+-- The link says that a good transport packet does not continue the PES packet of the good packet
+-- before it.
 abbrev pub is_unlinked : Link → Bool
 is_unlinked Follows = false
 is_unlinked _ = true
 
--- A good packet starts a part if it begins a PES packet, or does not follow the one before.
+-- A good transport packet starts a part if it begins a PES packet, or does not follow the good
+-- packet before it.
 abbrev pub begins_part : GoodPacket → Bool
 begins_part g = begins g.packet || is_unlinked g.link
 
--- The part of only this packet.
+-- The part that consists of this transport packet only.
 abbrev pub part_of : GoodPacket → Part
 part_of g = record {
   after_break = is_break g.link;
@@ -43,41 +47,42 @@ part_of g = record {
   payloads = payload g.packet ∷ [];
 }
 
--- Appends a packet to a part.
+-- Appends a transport packet to a part.
 abbrev pub with_packet : Part → GoodPacket → Part
 with_packet part g = record part { payloads = part.payloads ++ payload g.packet ∷ [] }
 
--- The current part, extended by the good packets that belong to it, and the parts after it.
+-- The current part, extended by the good transport packets that belong to it, and the parts after
+-- it.
 unfoldable pub parts_from : Part → List GoodPacket → List Part
 parts_from part [] = part ∷ []
 parts_from part (g ∷ more) =
     if begins_part g then part ∷ parts_from (part_of g) more
     else parts_from (with_packet part g) more
 
--- The parts of a list of good packets.
+-- The parts into which good transport packets split.
 abbrev pub parts : List GoodPacket → List Part
 parts [] = []
 parts (g ∷ more) = parts_from (part_of g) more
 
--- ---- outcomes
+-- ---- the outcomes of parts
 
 -- The outcome of a part: a PES packet; a gap, if data is missing; or bytes whose start code or
--- length is not that of a PES packet with Teletext, after which nothing follows.
+-- length is not that of a PES packet with Teletext, which end the stream.
 pub data PartOutcome : Type 0 where
   Pes : List ℕ → PartOutcome
   Gap : PartOutcome
   Other : List ℕ → PartOutcome
 
--- A gap, if there is one.
+-- The outcome of a possible gap.
 abbrev pub gap_where : Bool → List PartOutcome
 gap_where true = Gap ∷ []
 gap_where false = []
 
--- The bytes of a part: its payloads, joined.
+-- The bytes of a part: the payloads of its packets, joined.
 abbrev pub part_bytes : Part → List ℕ
 part_bytes part = concat part.payloads
 
--- The payloads up to the one in which `count` bytes are reached.
+-- The payloads up to and including the one with which `count` bytes are reached, joined.
 unfoldable pub up_to : ℕ → List (List ℕ) → List ℕ
 up_to count [] = []
 up_to count (first ∷ more) =
@@ -93,27 +98,27 @@ outcome_of_size cut_off part (Ok size) =
     else gap_where (not cut_off)
 outcome_of_size cut_off part (Err f) = Other (up_to 6 part.payloads) ∷ []
 
--- The outcome of a part. It is complete if its first packet begins a PES packet, and it is at least
--- as long as that packet. Bytes after the PES packet count as a gap, and so does an incomplete
--- part.
+-- The outcome of a part. A part is complete if its first packet begins a PES packet and it is at
+-- least as long as that PES packet. Bytes after the PES packet count as a gap, and so does an
+-- incomplete part.
 unfoldable pub outcome : Bool → Part → List PartOutcome
 outcome cut_off part =
     if part.begins && nat_le 6 (length (part_bytes part)) then
     outcome_of_size cut_off part (size_at (take 6 (part_bytes part)))
     else gap_where (not cut_off)
 
--- The recording may end within the part: it is the last one, and no unusable packet follows.
+-- The recording may end within the part: the part is the last one, and no unusable packet follows.
 abbrev pub may_be_cut_off : Bool → List Part → Bool
 may_be_cut_off wrong_after [] = not wrong_after
 may_be_cut_off wrong_after (_ ∷ _) = false
 
--- The outcomes of parts. Lost data is a gap, before a part and after the last one.
+-- The outcomes of parts. Lost data is a gap, before a part and after the last part.
 unfoldable pub outcomes : Bool → List Part → List PartOutcome
 outcomes wrong_after [] = gap_where wrong_after
 outcomes wrong_after (part ∷ more) =
     gap_where part.after_break
     ++ (outcome (may_be_cut_off wrong_after more) part ++ outcomes wrong_after more)
 
--- The outcomes of good packets.
+-- The outcomes of good transport packets.
 abbrev pub outcomes_of : GoodPackets → List PartOutcome
 outcomes_of good = outcomes good.wrong_after (parts good.packets)

@@ -1,7 +1,7 @@
--- The PID of a packet (ISO/IEC 13818-1): 13 bits.
+-- The PID of a transport packet (ISO/IEC 13818-1): 13 bits.
 use Rattle.std.specs.Prelude.{ℕ, nat_le, if◌then◌else◌, Option, Some, None}
 
--- The greatest PID that can be read: the next one, 1FFF, is the PID of null packets.
+-- The greatest PID that can be read: the next number, 1FFF, is the PID of null packets.
 abbrev pub greatest_pid : ℕ
 greatest_pid = 8190
 

@@ -1,4 +1,4 @@
--- The state of reading a recording for one PID, and the bytes still to be returned.
+-- The state of reading a recording for one PID, and the bytes that are still to be returned.
 use Rattle.std.specs.Prelude.{◌≡◌, ℕ, ◌+◌, ◌-◌, ◌^◌, ◌≤◌, ◌==◌, Bool, true, false, if◌then◌else◌}
 use Rattle.std.specs.Prelude.{List, [], ◌++◌, length, drop, nat_lt, slice_index, Option, option_map}
 use Rattle.mpeg_ts.specs.GoodPackets.{Loss, loss_size, note_of, notes}
@@ -9,9 +9,9 @@ use Rattle.mpeg_ts.specs.Pid.{greatest_pid}
 use Rattle.mpeg_ts.specs.TransportPacket.{pid, sync_byte}
 use Rattle.mpeg_ts.specs.Window.{WindowValue, buffered_and_left}
 
--- The PID and the distance of packets; the buffered bytes; how many bytes are skipped before the
--- next item; whether reading is in step; how many bytes were skipped in a row; and the state of
--- reassembly.
+-- The state of reading a recording: the PID and the distance of packets; the buffered bytes; how
+-- many bytes are skipped before the next item; whether reading is in step; how many bytes were
+-- skipped in a row; and the state of reassembly.
 pub record StreamValue : Type 0 where
   pub number : ℕ
   pub distance : ℕ
@@ -21,7 +21,7 @@ pub record StreamValue : Type 0 where
   pub run : ℕ
   pub joining : JoiningValue
 
--- The state at the start of a recording.
+-- The state of reading at the start of a recording.
 abbrev pub start_of_stream : ℕ → ℕ → StreamValue
 start_of_stream number distance = record {
   number = number;
@@ -33,31 +33,32 @@ start_of_stream number distance = record {
   joining = nothing_joined;
 }
 
--- The bytes that are ready, and those that the bytes from the next item on yield.
+-- The output of reading: the bytes that are ready, and then those that `bytes`, from the next item
+-- on, yield.
 unfoldable pub stream_output : ℕ → ℕ → ℕ → Bool → JoiningValue → List ℕ → List ℕ
 stream_output distance number run in_step joining bytes =
     joining.pending
     ++ later_output (delivered joining)
     (notes distance number run (items distance in_step (length bytes) bytes))
 
--- The bytes from the next item on, if the source has these bytes left.
+-- The bytes from the next item on, if the source has `bytes` left.
 abbrev pub bytes_ahead : StreamValue → List ℕ → List ℕ
 bytes_ahead v bytes = drop v.lead (buffered_and_left v.window bytes)
 
--- The bytes still to be returned, if the source has these bytes left.
+-- The bytes that are still to be returned, if the source has `bytes` left.
 abbrev pub output_of : StreamValue → List ℕ → List ℕ
 output_of v bytes =
     stream_output v.distance v.number v.run v.in_step v.joining (bytes_ahead v bytes)
 
--- The same, if the source's bytes are known.
+-- The bytes that are still to be returned, if the source's bytes are known.
 abbrev pub remaining_output : StreamValue → Option (List ℕ) → Option (List ℕ)
 remaining_output v known_bytes = option_map (output_of v) known_bytes
 
--- Bytes from the source yield some output.
+-- Some bytes are still to be returned, if the source has `bytes` left.
 abbrev pub has_output : StreamValue → List ℕ → Bool
 has_output v bytes = nat_lt 0 (length (output_of v bytes))
 
--- Some output is ready.
+-- Some bytes are ready to be returned.
 abbrev pub is_some_ready : StreamValue → Bool
 is_some_ready v = nat_lt 0 (length v.joining.pending)
 
@@ -65,7 +66,7 @@ is_some_ready v = nat_lt 0 (length v.joining.pending)
 abbrev pub bytes_at_most : StreamValue → ℕ
 bytes_at_most v = (length v.window.buffered + v.window.left) - v.lead
 
--- The state of reassembly after a packet.
+-- The state of reassembly after a transport packet p; packets of other PIDs do not change it.
 abbrev pub after_packet : ℕ → List ℕ → JoiningValue → JoiningValue
 after_packet number p j = if pid p == number then after_note j (note_of p) else j
 
@@ -73,11 +74,11 @@ after_packet number p j = if pid p == number then after_note j (note_of p) else 
 abbrev pub after_skipped : ℕ → ℕ → JoiningValue → JoiningValue
 after_skipped distance run j = if run + 1 == loss_size distance then after_note j Loss else j
 
--- The bytes are a packet of the PID.
+-- The bytes are a transport packet of the PID.
 abbrev pub BeginsPacket : ℕ → List ℕ → Type 0
 BeginsPacket number p = (slice_index p 0 ≡ sync_byte) × (pid p ≡ number)
 
--- The invariant of the numbers.
+-- The invariant of the numbers in the state of reading.
 pub record IsStream (number distance lead run taken : ℕ) (in_step : Bool) : Type 0 where
   pub is_pid : number ≤ greatest_pid
   pub near : 188 ≤ distance

@@ -11,40 +11,42 @@
 use Rattle.std.specs.Prelude.{ℕ, ◌+◌, ◌*◌, ◌/◌, ◌%◌, ◌==◌, ◌&&◌, ◌||◌, not, nat_lt}
 use Rattle.std.specs.Prelude.{Bool, if◌then◌else◌, List, take, drop, slice_index}
 
--- Size of a packet in bytes.
+-- The size of a transport packet in bytes.
 abbrev pub packet_size : ℕ
 packet_size = 188
 
--- The first byte of a packet.
+-- The first byte of a transport packet.
 abbrev pub sync_byte : ℕ
 sync_byte = 0x47
 
--- The PID.
+-- The PID of a transport packet.
 abbrev pub pid : List ℕ → ℕ
 pid p = slice_index p 1 % 0x20 * 0x100 + slice_index p 2
 
--- payload_unit_start_indicator: a PES packet begins with the first byte of the payload.
+-- The bit payload_unit_start_indicator of a transport packet: a PES packet begins with the first
+-- byte of the payload.
 abbrev pub begins : List ℕ → Bool
 begins p = slice_index p 1 / 0x40 % 2 == 1
 
--- continuity_counter.
+-- The continuity_counter of a transport packet, 0 to 15.
 abbrev pub counter : List ℕ → ℕ
 counter p = slice_index p 3 % 0x10
 
--- adaptation_field_control says that an adaptation field follows.
+-- The bits adaptation_field_control say that the transport packet has an adaptation field.
 abbrev pub has_adaptation : List ℕ → Bool
 has_adaptation p = slice_index p 3 / 0x20 % 2 == 1
 
--- adaptation_field_control says that a payload follows.
+-- The bits adaptation_field_control say that the transport packet has a payload.
 abbrev pub has_payload : List ℕ → Bool
 has_payload p = slice_index p 3 / 0x10 % 2 == 1
 
--- discontinuity_indicator, if the adaptation field has it: a jump of the counter is announced.
+-- The bit discontinuity_indicator of a transport packet, if its adaptation field has it: a jump of
+-- the counter is announced.
 abbrev pub announces_jump : List ℕ → Bool
 announces_jump p =
     has_adaptation p && not (slice_index p 4 == 0) && (slice_index p 5 / 0x80 % 2 == 1)
 
--- A packet is unusable if its transport_error_indicator is set, if it is scrambled, or if its
+-- The transport packet is unusable: its transport_error_indicator is set, it is scrambled, or its
 -- adaptation field leaves no room for its payload.
 abbrev pub is_wrong : List ℕ → Bool
 is_wrong p =
@@ -52,14 +54,15 @@ is_wrong p =
     || not (slice_index p 3 / 0x40 % 4 == 0)
     || (has_adaptation p && has_payload p && nat_lt 182 (slice_index p 4))
 
--- Bytes 0 to 3, which a packet shares with its repeat, as it does the payload.
+-- Bytes 0 to 3 of a transport packet. A packet and its repeat have the same bytes 0 to 3 and the
+-- same payload.
 abbrev pub packet_header : List ℕ → List ℕ
 packet_header p = take 4 p
 
--- The offset of the payload.
+-- The offset of the payload in a transport packet.
 abbrev pub payload_place : List ℕ → ℕ
 payload_place p = if has_adaptation p then 5 + slice_index p 4 else 4
 
--- The payload: the bytes from there to the end.
+-- The payload of a transport packet, up to the end of the packet.
 abbrev pub payload : List ℕ → List ℕ
 payload p = drop (payload_place p) p

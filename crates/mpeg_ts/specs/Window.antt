@@ -1,27 +1,27 @@
--- The buffered bytes of a recording that are examined next.
+-- The buffer for the bytes of a recording that are examined next.
 use Rattle.std.specs.Prelude.{◌≡◌, ℕ, ◌<◌, Bool, false, List, ◌++◌, length, take}
 use Rattle.std.specs.Prelude.{Option, option_map}
 use Rattle.sub_io.specs.Asking.{Requests}
 
--- Size of the buffer in bytes.
+-- The size of the buffer in bytes.
 abbrev pub window_size : ℕ
 window_size = 205
 
--- The buffered bytes, and how many more may be read.
+-- The buffered bytes of a recording, and how many more bytes may be read.
 pub record WindowValue : Type 0 where
   pub buffered : List ℕ
   pub left : ℕ
 
--- The buffered bytes, and those that may still be read, if the source has these bytes left.
+-- The buffered bytes followed by those that may still be read, if the source has `bytes` left.
 abbrev pub buffered_and_left : WindowValue → List ℕ → List ℕ
 buffered_and_left w bytes = w.buffered ++ take w.left bytes
 
--- The known bytes that may still be read.
+-- The bytes of the source that may still be read, if they are known.
 abbrev pub left_to_take : WindowValue → Option (List ℕ) → Option (List ℕ)
 left_to_take w known_bytes = option_map (take w.left) known_bytes
 
--- At most `count` bytes from the first buffered one on are read, for every question that fewer
--- bytes cannot answer.
+-- At most `count` bytes from the first buffered byte on are read, whatever predicate says which
+-- bytes are enough, as long as fewer bytes are never enough.
 pub record RequestsUpTo
     {D : Type 0} (IsPull : D → ℕ → Option ℕ → D → Type 0) (borrowed : D → List ℕ)
     (remaining : D → Option (List ℕ))

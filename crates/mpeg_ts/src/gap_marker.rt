@@ -1,11 +1,12 @@
-//! Gap markers, which replace missing data.
+//! Gap markers, which replace missing data of a recording.
 //!
-//! A gap marker is a PES packet, so no reader needs a second way to learn of gaps. It is FF from
-//! byte 6 on, unlike any PES packet of EN 300 472: a reader rejects it with fault 45, `Lost`.
+//! A gap marker has the form of a PES packet, so readers need no second way to learn of gaps. It is
+//! FF from byte 6 on, unlike any PES packet of EN 300 472: a reader rejects a gap marker with fault
+//! 45, `Lost`.
 ghost use Rattle.std.specs.Prelude.{◌≡◌};
 ghost use Rattle.mpeg_ts.specs.Carried.{gap_marker};
 
-/// Size of a gap marker in bytes.
+/// The size of a gap marker in bytes.
 pub(crate) const GAP_MARKER_SIZE: usize = 184;
 
 // The gap marker: the start and the length of a PES packet, and FF in all other bytes (own).
@@ -25,7 +26,7 @@ static GAP_MARKER: [u8; GAP_MARKER_SIZE] = [
     0xFF, 0xFF, 0xFF, 0xFF, 0xFF, 0xFF, 0xFF, 0xFF,
 ];
 
-// Returns the gap marker.
+// Returns the bytes of a gap marker.
 #[tactic(auto, unfolding(crate::specs::Carried::gap_marker))]
 pub(crate) fn gap_marker_bytes() -> &'static [u8; GAP_MARKER_SIZE]
     ensures { result.now ≡ gap_marker }

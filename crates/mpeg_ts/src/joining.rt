@@ -20,57 +20,57 @@ use crate::transport_packet::{
 use std::marker::Model;
 use ttx_pes::PesFault;
 
-/// The progress of the current part, to which the last good packet belongs.
+/// The progress of the current part, which contains the last good transport packet.
 #[derive(Drop)]
 pub(crate) enum PartState {
-    /// It does not begin with the first byte of a PES packet, or there is no part yet. It yields
-    /// nothing.
+    /// The part does not begin with the first byte of a PES packet, or no part has begun yet. It
+    /// yields no output.
     Headless,
-    /// Its PES packet has begun and is incomplete.
+    /// The PES packet of the part has begun and is incomplete.
     Open,
-    /// Its PES packet was returned.
+    /// The PES packet of the part was returned.
     Complete,
-    /// Its start code or length is not that of a PES packet with Teletext. It was returned as it
-    /// is, and nothing follows.
+    /// The start code or length of the part is not that of a PES packet with Teletext. The bytes of
+    /// the part were returned unchanged, and no output follows.
     Ended,
 }
 
-/// What was returned last.
+/// The item that was returned last.
 #[derive(Drop)]
 pub(crate) enum Given {
-    /// No PES packet yet.
+    /// No PES packet was returned yet.
     Nothing,
-    /// A PES packet.
+    /// A PES packet was returned last.
     Packet,
-    /// A gap marker after a PES packet.
+    /// A gap marker after a PES packet was returned last.
     GapMarker,
 }
 
-/// The contents of a part's bytes.
+/// What the bytes of a part contain.
 #[derive(Drop)]
 pub(crate) enum Found {
-    /// An incomplete PES packet.
+    /// The bytes are an incomplete PES packet.
     Unfinished,
-    /// A PES packet, with its size in bytes.
+    /// The bytes begin with a PES packet of this size in bytes.
     Whole(usize),
-    /// A wrong start code or length.
+    /// The bytes have a wrong start code or length.
     Other(PesFault),
 }
 
-/// Reassembles the PES packets of a PID. The caller passes the PID's packets one by one, and has to
-/// take what is ready before the next one.
+/// Reassembles the PES packets of a PID. The caller passes the transport packets of the PID one by
+/// one, and has to take all items that are ready before it passes the next packet.
 ///
 /// The model has the stored state, and the bytes that are ready.
 #[derive(Drop)]
 pub struct Joining {
-    // The payloads of the part, or only the last one if no more of the part will be returned.
+    // The payloads of the part, or only the last payload if no more of the part will be returned.
     bytes: PartBytes,
-    // Facts about the last good packet: bytes 0 to 3, the size of its payload at the end of `bytes`
-    // (0 if there was none yet), and whether it announced a jump.
+    // Facts about the last good transport packet: bytes 0 to 3, the size of its payload at the end
+    // of `bytes` (0 if no good packet came yet), and whether it announced a jump.
     header: [u8; 4],
     payload_size: usize,
     announced: bool,
-    // Events since the last good packet.
+    // Events since the last good transport packet.
     has_repeat: bool,
     has_jump: bool,
     has_break: bool,
@@ -102,7 +102,7 @@ impl Model for Joining {
 }
 
 impl Joining {
-    /// Creates the state before the first packet.
+    /// Creates the state before the first transport packet.
     pub fn new() -> Self
         ensures { result ≡ nothing_joined }
     {
@@ -120,7 +120,7 @@ impl Joining {
         }
     }
 
-    /// Returns whether nothing is ready.
+    /// Returns whether no item is ready.
     #[tactic(auto, using(crate::proofs::ReadyLemmas::idling))]
     #[inline(always)]
     pub fn is_idle(&self) -> bool
@@ -132,7 +132,7 @@ impl Joining {
         }
     }
 
-    /// Returns whether nothing will follow the bytes that are ready.
+    /// Returns whether no output will follow the bytes that are ready.
     #[inline(always)]
     pub fn has_ended(&self) -> bool
         ensures { result ≡ has_ended self.now.part }
@@ -143,7 +143,7 @@ impl Joining {
         }
     }
 
-    // Takes an unusable packet.
+    // Takes an unusable transport packet of the PID.
     #[tactic(auto, using(crate::proofs::ReadyLemmas::growing))]
     pub(crate) fn note_wrong(&mut self)
         requires { self.old.pending ≡ [] }
@@ -153,14 +153,14 @@ impl Joining {
         self.pending_item = gap_marker_alone(put_gap_marker(true, &mut self.given));
     }
 
-    /// Records that so many bytes were skipped in a row that packets may be missing.
+    /// Records that so many bytes were skipped in a row that packets of the PID may be missing.
     pub fn note_loss(&mut self)
         ensures { self.new ≡ after_note self.old Loss }
     {
         self.has_break = true;
     }
 
-    /// Takes a packet of the PID.
+    /// Takes a transport packet of the PID.
     pub fn take_packet(&mut self, packet: &[u8; PACKET])
         requires { self.old.pending ≡ [] }
         ensures { self.new ≡ after_note self.old (note_of packet.now) }
@@ -172,7 +172,7 @@ impl Joining {
         }
     }
 
-    // Takes a usable packet.
+    // Takes a usable transport packet of the PID.
     #[tactic(auto, unfolding(crate::specs::Joining::after_valid))]
     fn take(&mut self, packet: &[u8; PACKET])
         requires idle { self.old.pending ≡ [] }
@@ -197,7 +197,7 @@ impl Joining {
         }
     }
 
-    // Returns the payload of the last good packet.
+    // Returns the payload of the last good transport packet.
     fn last_payload(&self) -> &[u8]
         ensures { result.now ≡ self.now.last }
     {
@@ -206,7 +206,7 @@ impl Joining {
         last
     }
 
-    /// Returns whether a packet repeats the last good one.
+    /// Returns whether a transport packet repeats the last good packet.
     pub fn is_repeat(&self, packet: &[u8; PACKET]) -> bool
         requires payload { has_payload packet.now ≡ true }
         requires valid { is_wrong packet.now ≡ false }
@@ -220,8 +220,8 @@ impl Joining {
             && self.last_payload() == payload_of(packet)
     }
 
-    // Returns whether data was lost between the last good packet and this one. `false` for the
-    // first packet, and at an announced jump, where this is unknown.
+    // Returns whether data was lost between the last good packet and this packet. `false` for the
+    // first packet, and at an announced jump, where lost data cannot be detected.
     fn is_break(&self, packet: &[u8; PACKET]) -> bool
         ensures { result ≡ is_break (link_after self.now self.now.last packet.now) }
     {
@@ -237,8 +237,8 @@ impl Joining {
         counter_of(packet) != (self.header[3] % 0x10 + 1) % 0x10
     }
 
-    // Returns whether this packet does not continue the last good one: it is the first, data was
-    // lost before it, or a jump is announced.
+    // Returns whether this packet does not continue the last good packet: it is the first packet,
+    // data was lost before it, or a jump is announced.
     fn is_unlinked(&self, packet: &[u8; PACKET]) -> bool
         ensures { result ≡ is_unlinked (link_after self.now self.now.last packet.now) }
     {
@@ -252,7 +252,7 @@ impl Joining {
     }
 
     /// Returns whether a jump of the counter was announced between the last good packet and this
-    /// one (discontinuity_indicator), and no data is known to be lost.
+    /// packet (discontinuity_indicator), and no data is known to be lost.
     pub fn is_after_seam(&self, packet: &[u8; PACKET]) -> bool
         ensures { result ≡ is_seam (link_after self.now self.now.last packet.now) }
     {
@@ -262,7 +262,7 @@ impl Joining {
         self.has_jump || announces_jump(packet)
     }
 
-    // Stores the packet as the last good one, without its payload.
+    // Stores a transport packet as the last good packet, except for its payload.
     #[inline(always)]
     fn remember(&mut self, packet: &[u8; PACKET])
         ensures { self.new ≡ remembering self.old packet.now }
@@ -284,7 +284,7 @@ impl Joining {
         }
     }
 
-    // Starts a part with this payload.
+    // Starts a part with a payload.
     #[inline(always)]
     fn begin_part(&mut self, is_break: bool, begins: bool, payload: &[u8])
         requires idle { self.old.pending ≡ [] }
@@ -302,7 +302,7 @@ impl Joining {
         }
     }
 
-    // Continues the part with this payload.
+    // Continues the current part with a payload.
     #[inline(always)]
     fn go_on(&mut self, payload: &[u8])
         requires idle { self.old.pending ≡ [] }
@@ -328,7 +328,7 @@ impl Joining {
         self.payload_size = 0;
     }
 
-    // Keeps only this payload.
+    // Stores only this payload, which will not be part of a PES packet.
     #[tactic(auto, using(crate::proofs::ReadyLemmas::growing))]
     #[inline(never)]
     fn buffer_payload(&mut self, gap: bool, payload: &[u8])
@@ -342,7 +342,8 @@ impl Joining {
         self.pending_item = gap_marker_alone(put_gap_marker(gap, &mut self.given));
     }
 
-    // Appends this payload to an open part. If its PES packet is complete, it becomes ready.
+    // Appends a payload to an open part. If the PES packet of the part is now complete, the packet
+    // becomes ready.
     #[tactic(auto, using(crate::proofs::ReadyLemmas::growing))]
     #[inline(always)]
     fn grow(&mut self, gap: bool, payload: &[u8])
@@ -429,7 +430,7 @@ impl Joining {
         }
     }
 
-    /// Returns the bytes of the item that was taken.
+    /// Returns the bytes of an item that was taken.
     #[inline(always)]
     pub fn taken(&self, next: Next) -> &[u8]
         requires { IsWithin next self.now.bytes }
@@ -446,7 +447,7 @@ impl Joining {
         }
     }
 
-    // Returns the bytes of the part.
+    // Returns the bytes of the current part.
     pub(crate) fn bytes(&self) -> &[u8]
         ensures bytes { result.now ≡ self.now.bytes }
         ensures most { length result.now ≤ 1840 }
@@ -478,7 +479,7 @@ impl Joining {
     }
 }
 
-// Returns whether a gap needs a marker: only the first gap after a PES packet does.
+// Returns whether a gap needs a marker: only the first gap after a PES packet needs one.
 #[inline(always)]
 fn put_gap_marker(gap: bool, given: &mut Given) -> bool
     ensures given { given.new ≡ last_output_after gap given.old }

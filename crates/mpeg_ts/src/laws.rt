@@ -1,14 +1,14 @@
-//! Laws of the contents of a recording, each a function whose contract is the law.
+//! Laws of reading a recording. Each law is the contract of a function.
 ghost use Rattle.mpeg_ts.specs.TakenBytes.{LawOfCalls, LawOfFailedRead};
 
-/// Consecutive calls together return what each of them returned.
+/// Consecutive calls together return the output that each of them returned.
 #[tactic(auto, using(crate::proofs::GivenLemmas::gives_then))]
 pub fn law_of_calls()
     ensures { LawOfCalls }
 {}
 
-/// If a read fails, the PES packet in which it fails is the one after those in the bytes consumed
-/// so far.
+/// If a read fails within a PES packet of a recording, the bytes consumed so far carry as many
+/// complete PES packets as precede that packet.
 pub fn law_of_failed_read()
     ensures { LawOfFailedRead }
 {}

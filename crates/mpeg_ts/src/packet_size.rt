@@ -1,4 +1,4 @@
-//! The distance of transport packets.
+//! The distance of transport packets in a recording.
 ghost use Rattle.std.specs.Prelude.{◌≡◌};
 
 /// The number of bytes from the start of one transport packet to the start of the next. A packet
@@ -16,7 +16,7 @@ pub enum PacketSize {
 impl PacketSize {
     ghost use Rattle.mpeg_ts.specs.PacketSize.{bytes_of};
 
-    /// Returns the number of bytes: 188, 192 or 204.
+    /// Returns the distance of transport packets in bytes: 188, 192 or 204.
     pub fn bytes(self) -> usize
         ensures { result ≡ bytes_of self }
     {

@@ -1,4 +1,4 @@
-//! The bytes of a part.
+//! The bytes of a part, from which a PES packet is reassembled.
 ghost use Rattle.std.specs.Prelude.{◌≡◌, ℕ, ◌+◌, ◌≤◌, [], ◌++◌, length, take};
 ghost use Rattle.sub_io.specs.Reading.{AreBytes};
 ghost use Rattle.ttx_pes.specs.PesPackets.{IsPesPacket};
@@ -10,10 +10,10 @@ use crate::joining::Found;
 use std::marker::Model;
 use ttx_pes::size_of;
 
-// Buffer size: an incomplete PES packet and one more payload.
+// The size of the buffer in bytes: room for an incomplete PES packet and one more payload.
 const BUFFER_SIZE: usize = 1840;
 
-/// The bytes of a part, which can be cleared at no cost.
+/// The bytes of a part. They can be cleared at no cost.
 #[derive(Drop)]
 pub(crate) struct PartBytes {
     room: [u8; BUFFER_SIZE],
@@ -41,7 +41,7 @@ impl PartBytes {
         }
     }
 
-    // Returns the bytes.
+    // Returns the bytes of the part.
     #[inline(always)]
     pub(crate) fn as_slice(&self) -> &[u8]
         ensures bytes { result.now ≡ self.now }
@@ -51,7 +51,7 @@ impl PartBytes {
         bytes
     }
 
-    // Removes all bytes.
+    // Removes all bytes of the part.
     #[inline(always)]
     pub(crate) fn clear(&mut self)
         ensures { self.new ≡ [] }
@@ -59,7 +59,7 @@ impl PartBytes {
         self.len = 0;
     }
 
-    // Appends bytes.
+    // Appends bytes to the part.
     #[inline(always)]
     pub(crate) fn add(&mut self, more: &[u8])
         requires { length self.old + length more.now ≤ 1840 }
@@ -73,7 +73,7 @@ impl PartBytes {
     }
 }
 
-// Looks for a PES packet at the front of the bytes.
+// Looks for a PES packet at the front of the bytes of a part.
 #[inline(always)]
 pub(crate) fn find_packet(bytes: &[u8]) -> Found
     ensures found { found_in bytes.now ≡ result }
@@ -85,7 +85,7 @@ pub(crate) fn find_packet(bytes: &[u8]) -> Found
     found_at_start(bytes)
 }
 
-// The same, from its size.
+// Looks for a PES packet at the front of the bytes, by the size in their first six bytes.
 #[tactic(auto, unfolding(crate::specs::Joining::found_in))]
 #[inline(always)]
 fn found_at_start(bytes: &[u8]) -> Found

@@ -8,7 +8,7 @@ ghost use Rattle.mpeg_ts.specs.TransportPacket.{pid};
 
 use crate::transport_packet::{PACKET, SYNC_BYTE, pid_of};
 
-// Returns the packet at a place of the bytes.
+// Returns the transport packet at an offset of the bytes.
 #[inline(always)]
 pub(crate) fn packet_in(bytes: &[u8], place: usize) -> &[u8; PACKET]
     requires { place + 188 ≤ length bytes.now }
@@ -18,8 +18,8 @@ pub(crate) fn packet_in(bytes: &[u8], place: usize) -> &[u8; PACKET]
     ahead.first_chunk().unwrap()
 }
 
-// Returns the place after the packets of other PIDs from `from` on: that of a packet of the PID, of
-// a byte that is no sync byte, or of fewer bytes than the distance.
+// Returns the offset after the transport packets of other PIDs from `from` on. At that offset is a
+// packet of the PID, a byte that is no sync byte, or fewer bytes than the distance of packets.
 //
 // Not inlined: most of a multiplex is skipped here, and a separate loop keeps its variables in
 // registers.
@@ -51,8 +51,8 @@ pub(crate) fn place_after_others(bytes: &[u8], from: usize, distance: usize, num
     at
 }
 
-// Returns whether a packet of the PID is at this place, and all bytes up to the next packet are
-// there.
+// Returns whether a transport packet of the PID is at this offset, and all bytes up to the next
+// packet are available.
 #[inline(always)]
 pub(crate) fn begins_unit(bytes: &[u8], place: usize, distance: usize, number: u16) -> bool
     requires within { place ≤ length bytes.now }
@@ -67,8 +67,8 @@ pub(crate) fn begins_unit(bytes: &[u8], place: usize, distance: usize, number: u
     packet[0] == SYNC_BYTE && pid_of(packet) == number
 }
 
-// Returns how many bytes precede the first sync byte; out of step no packet begins in them. They
-// must not include the byte that makes the skipped bytes a loss.
+// Returns how many bytes precede the first sync byte; out of step no transport packet begins in
+// them. They must not include the byte that makes the skipped bytes a loss.
 #[tactic(auto, using(crate::proofs::StreamLemmas::junk))]
 pub(crate) fn junk_size(bytes: &[u8]) -> usize
     ensures within { result ≤ length bytes.now }
@@ -90,7 +90,7 @@ pub(crate) fn junk_size(bytes: &[u8]) -> usize
     at
 }
 
-// Returns the PID of the packet at the front of the bytes.
+// Returns the PID of the transport packet at the front of the bytes.
 #[inline(always)]
 fn unit_pid(unit: &[u8]) -> u16
     requires { 188 ≤ length unit.now }

@@ -1,43 +1,44 @@
-//! Reassembled items that are ready.
+//! Reassembled items that are ready to be returned.
 ghost use Rattle.std.specs.Prelude.{◌≡◌};
 ghost use Rattle.mpeg_ts.specs.Joining.{gap_marker_alone};
 
 use ttx_pes::PesFault;
 
-/// The items that are ready.
+/// The items that are ready to be returned.
 #[derive(Clone, Copy)]
 pub(crate) enum PendingItem {
-    /// Nothing.
+    /// No item is ready.
     Nothing,
-    /// A gap marker.
+    /// A gap marker is ready.
     GapMarker,
-    /// Possibly a gap marker, then the PES packet of the part, then possibly a gap marker.
+    /// The PES packet of the part is ready, with or without a gap marker before and after it.
     Packet {
         gap_marker_before: bool,
         size: usize,
         gap_marker_after: bool,
     },
-    /// Possibly a gap marker, then the bytes of a part with a wrong start code or length.
+    /// The bytes of a part with a wrong start code or length are ready, with or without a gap
+    /// marker before them.
     Rest {
         gap_marker_before: bool,
         fault: PesFault,
     },
 }
 
-/// The next item.
+/// The next item to be returned.
 #[derive(Clone, Copy)]
 pub enum Next {
-    /// Nothing is ready.
+    /// No item is ready.
     Nothing,
     /// A gap marker.
     GapMarker,
-    /// A PES packet, with its size: the first bytes of the part.
+    /// A PES packet, with its size in bytes: the first bytes of the part.
     Packet(usize),
     /// All bytes of the part, whose start code or length is not that of a PES packet with Teletext.
     Rest(PesFault),
 }
 
-// Returns a gap marker, if one is needed.
+// Returns a gap marker as the item that is ready, or no item.
 pub(crate) fn gap_marker_alone(is_due: bool) -> PendingItem
     ensures { result ≡ gap_marker_alone is_due }
 {

@@ -1,12 +1,12 @@
-//! The PID of the packets to read.
+//! The PID of the transport packets to read.
 ghost use Rattle.std.specs.Prelude.{◌≡◌, ◌≤◌, None, Some};
 
 use std::marker::Model;
 
-/// A PID whose packets may carry PES packets, 0 to 8190; 8191 is the PID of null packets (ISO/IEC
-/// 13818-1, PID).
+/// A PID whose transport packets may carry PES packets, 0 to 8190; 8191 is the PID of null packets
+/// (ISO/IEC 13818-1, PID).
 ///
-/// Its model is its number.
+/// The model of a PID is its number.
 #[derive(Clone, Copy, Debug, PartialEq, Eq)]
 pub struct Pid {
     number: u16,
@@ -28,7 +28,7 @@ impl Model for Pid {
 impl Pid {
     ghost use Rattle.mpeg_ts.specs.Pid.{greatest_pid, pid_of};
 
-    /// Creates a PID from its number. Returns `None` if it is greater than 8190.
+    /// Creates a PID from its number. Returns `None` if the number is greater than 8190.
     pub fn new(number: u16) -> Option<Pid>
         ensures { result ≡ pid_of number }
     {
@@ -38,7 +38,7 @@ impl Pid {
         Some(Pid { number })
     }
 
-    /// Returns its number, 0 to 8190.
+    /// Returns the number of the PID, 0 to 8190.
     pub fn number(self) -> u16
         ensures number { result ≡ self }
         ensures bound { result ≤ greatest_pid }

@@ -1,7 +1,7 @@
-//! The PES packets and gap markers of a PID.
+//! Reads the PES packets and gap markers of a PID from a recording.
 //!
-//! Transport packets are taken one by one. Taking all of a PES packet together saved 3 percent of
-//! the instructions for a multiplex, but took 1,400 lines.
+//! Transport packets are taken one by one. Taking all transport packets of a PES packet together
+//! saved 3 percent of the instructions for a multiplex, but took 1,400 lines.
 ghost use Rattle.std.specs.Prelude.{◌≡◌, ◌≤◌, [], Some, false, is_ok, length, option_map, take};
 ghost use Rattle.std.specs.Prelude.{true};
 ghost use Rattle.sub_io.specs.Asking.{Requests};
@@ -25,20 +25,20 @@ use ttx_pes::{
     FailedAt, NumberedPesPackets, PesPackets, REST_BUFFER_SIZE, Received, TakePesPacket,
 };
 
-/// Reads the PES packets that the packets of one PID of a transport stream carry (ISO/IEC 13818-1).
-/// If data is missing between two of them, it returns a gap marker: 184 bytes that begin like a PES
-/// packet and are FF from byte 6 on (own).
+/// Reads the PES packets that the transport packets of one PID carry (ISO/IEC 13818-1). If data is
+/// missing between two PES packets, the reader returns a gap marker: 184 bytes that begin like a
+/// PES packet and are FF from byte 6 on (own).
 ///
-/// It returns a PES packet before it reads any byte after the packet's last transport packet,
-/// except the first byte of the next one if that transport packet was found out of step. It returns
-/// a gap marker as soon as the gap is known. It allocates no memory.
+/// The reader returns a PES packet before it reads any byte after the packet's last transport
+/// packet, except the first byte of the next transport packet if reading was out of step. It
+/// returns a gap marker as soon as the gap is known. It allocates no memory.
 ///
 /// Its model has the inner source, the state of reading, and whether `Rest` was returned.
 #[derive(Drop)]
 pub struct RecordingPesPackets<S> {
     inner: S,
     stream: Stream,
-    // `Rest` was returned: the remaining bytes begin no packet.
+    // Whether `Rest` was returned, so that the remaining bytes begin no PES packet.
     is_over: bool,
 }
 
@@ -54,12 +54,13 @@ impl<S> Model for RecordingPesPackets<S> {
 }
 
 impl<S: Source> RecordingPesPackets<S> {
-    /// Creates a reader of the packets of `pid`, at the start of a recording. It reads at most 2^48
-    /// bytes.
+    /// Creates a reader of the transport packets of `pid`, at the start of a recording. The reader
+    /// reads at most 2^48 bytes.
     #[tactic(auto, using(crate::proofs::CarriedLemmas::carried_known))]
     pub fn new(source: S, pid: Pid, packet_size: PacketSize) -> Self
         ensures start { result ≡ at_start source pid (bytes_of packet_size) }
-        // It returns the PES packets that the packets of the PID carry in the recording.
+        // The reader returns the PES packets that the transport packets of the PID carry in the
+        // recording.
         ensures carried { remaining_output result.stream (S.remaining result.device)
             ≡ option_map (carried pid (bytes_of packet_size)) (S.remaining source) }
     {
@@ -70,7 +71,7 @@ impl<S: Source> RecordingPesPackets<S> {
         }
     }
 
-    /// Returns the inner source. What is ready is lost.
+    /// Returns the inner source. Drops items that are ready.
     pub fn into_inner(self) -> S
         ensures { result ≡ self.device }
     {
@@ -90,7 +91,7 @@ impl<S: Source> PesPackets for RecordingPesPackets<S> {
 
     ghost ready = { λ r. is_some_ready r.stream };
 
-    /// Lets `taker` process the next PES packet or gap marker, and reads on if none is ready.
+    /// Lets `taker` process the next PES packet or gap marker, and reads on if no item is ready.
     ///
     /// # Errors
     ///
@@ -106,12 +107,12 @@ impl<S: Source> PesPackets for RecordingPesPackets<S> {
             T.is_take taker.old taker.new result }
         ensures rest { reports_rest result ≡ true → self.new.is_over ≡ true }
         ensures ready { is_some_ready self.old.stream ≡ true → is_ok result ≡ true }
-        // The bytes consumed from the recording contain what was returned, whatever follows,
+        // The bytes consumed from the recording contain what was returned, whatever bytes follow.
         ensures gives { OutputsOn self.old.stream self.new.stream
             (S.remaining self.old.device) (S.remaining self.new.device) }
-        // and nothing more if a read failed.
+        // If a read failed, the bytes consumed contain nothing more than what was returned.
         ensures cut { is_ok result ≡ false → output_of self.new.stream [] ≡ [] }
-        // Reads no bytes after those that contain the next PES packet or gap marker.
+        // The reader reads no bytes after those that contain the next PES packet or gap marker.
         ensures requests { (read : StreamValue) × Requests S.is_pull S.borrowed S.remaining
             (has_output self.old.stream) self.old.device (is_ok result)
             (has_output read) self.new.device }
@@ -132,7 +133,7 @@ impl<S: Source> PesPackets for RecordingPesPackets<S> {
         }
     }
 
-    /// Returns the remaining bytes, which begin no packet: all bytes of the part.
+    /// Returns the remaining bytes, which begin no PES packet: all bytes of the part.
     #[tactic(auto, using(crate::proofs::RecordingLemmas::rests))]
     fn read_rest(&mut self, room: &mut [u8; REST_BUFFER_SIZE]) -> Result<usize, Failed> {
         let bytes = self.stream.bytes();
@@ -154,7 +155,7 @@ impl<S: Source> NumberedPesPackets for RecordingPesPackets<S> {
 
     ghost skipped = { λ r. 0 };
 
-    /// Returns 0: the first packet is that of the recording.
+    /// Returns 0, since the first PES packet is the first of the recording.
     fn find_first(&mut self) -> Result<u64, FailedAt> {
         Ok(0)
     }
@@ -169,7 +170,7 @@ fn put_in_front(room: &mut [u8; REST_BUFFER_SIZE], bytes: &[u8])
     prefix.copy_from_slice(bytes);
 }
 
-// Lets `taker` process a packet, and proves that it consists of bytes.
+// Lets `taker` process a PES packet, and proves that the packet consists of bytes.
 #[inline(always)]
 fn take_by<T: TakePesPacket>(taker: &mut T, pes_packet: &[u8]) -> T::Answer
     requires { IsPesPacket pes_packet.now }

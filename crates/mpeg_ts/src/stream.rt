@@ -1,4 +1,5 @@
-//! Reads a recording for one PID: its packets in step, and their contents.
+//! Reads a recording for one PID: finds the transport packets in step, and reassembles their
+//! contents.
 ghost use Rattle.std.specs.Prelude.{◌≡◌, ◌+◌, ◌-◌, ◌^◌, ◌<◌, ◌≤◌, ◌↔◌, List, ℕ, [], drop};
 ghost use Rattle.std.specs.Prelude.{◌≢◌, take, length};
 ghost use Rattle.std.specs.Prelude.{Ok, false, is_ok, true};
@@ -22,7 +23,7 @@ use crate::{PacketSize, Pid};
 use std::marker::Model;
 use sub_io::{Failed, Source};
 
-// The maximum number of bytes that are read of a recording.
+// The maximum number of bytes of a recording that are read.
 const MOST_BYTES: u64 = 1 << 48;
 
 /// The state of reading a recording for one PID.
@@ -59,7 +60,7 @@ impl Model for Stream {
         s.distance s.lead s.run (length s.window.buffered + s.window.left) s.in_step };
 }
 
-// Returns how many bytes precede the first packet.
+// Returns how many bytes precede the first transport packet of a recording.
 fn lead_of(packet_size: PacketSize) -> usize
     ensures { result ≡ lead_size (bytes_of packet_size) }
 {
@@ -69,7 +70,7 @@ fn lead_of(packet_size: PacketSize) -> usize
     }
 }
 
-// Returns the packet at a place of the buffered bytes.
+// Returns the transport packet at an offset of the buffered bytes.
 fn packet_at(window: &Window, place: usize) -> &[u8; PACKET]
     requires { place + 188 ≤ length window.now.buffered }
     ensures { result.now ≡ take 188 (drop place window.now.buffered) }
@@ -78,7 +79,7 @@ fn packet_at(window: &Window, place: usize) -> &[u8; PACKET]
 }
 
 impl Stream {
-    // Creates the state at the start of a recording.
+    // Creates the state of reading at the start of a recording.
     #[tactic(auto, unfolding(crate::specs::PacketsInStep::most_bytes))]
     pub(crate) fn new(pid: Pid, packet_size: PacketSize) -> Self
         ensures { result ≡ start_of_stream pid (bytes_of packet_size) }
@@ -94,8 +95,8 @@ impl Stream {
         }
     }
 
-    // Reads until the bytes determine the next item, and returns whether they do; `false` only at
-    // the end.
+    // Reads until the buffered bytes determine the next item, and returns whether they do; `false`
+    // only at the end of the recording.
     #[tactic(auto, using(crate::proofs::StreamLemmas::needing))]
     fn need<S: Source>(&mut self, source: &mut S) -> Result<bool, Failed>
         requires count { CanFail (S.failure_count source.old) }
@@ -140,7 +141,7 @@ impl Stream {
         ahead
     }
 
-    // Returns whether the next item is a packet.
+    // Returns whether the next item is a transport packet.
     #[tactic(auto, using(crate::proofs::StreamLemmas::begins_known))]
     fn begins_packet(&self) -> bool
         requires { self.now.lead + bytes_needed self.now.distance self.now.in_step
@@ -152,7 +153,7 @@ impl Stream {
         ahead[0] == SYNC_BYTE && (self.in_step || ahead[self.distance] == SYNC_BYTE)
     }
 
-    // Skips bytes from the next item on.
+    // Skips `count` bytes from the next item on.
     #[tactic(auto, using(crate::proofs::StreamLemmas::advancing))]
     fn advance(&mut self, count: usize)
         requires there { self.old.lead + 188 ≤ length self.old.window.buffered }
@@ -173,7 +174,7 @@ impl Stream {
         self.lead = self.window.advance(count);
     }
 
-    // Takes the packet that comes next.
+    // Takes the transport packet that is the next item.
     #[tactic(auto, using(crate::proofs::StreamLemmas::packets))]
     fn take_packet(&mut self)
         requires there { self.old.lead + 188 ≤ length self.old.window.buffered }
@@ -191,7 +192,7 @@ impl Stream {
         self.advance(distance);
     }
 
-    // Reassembles from the packet that comes next, if it is one of the PID.
+    // Passes the transport packet that is the next item to the reassembly, if it has the PID.
     fn join_packet(&mut self)
         requires there { self.old.lead + 188 ≤ length self.old.window.buffered }
         requires idle { self.old.joining.pending ≡ [] }
@@ -204,7 +205,7 @@ impl Stream {
         self.join(&packet);
     }
 
-    // Reassembles from a packet, if it is one of the PID.
+    // Passes a transport packet to the reassembly, if it has the PID.
     #[inline(always)]
     fn join(&mut self, packet: &[u8; PACKET])
         requires { self.old.joining.pending ≡ [] }
@@ -218,7 +219,7 @@ impl Stream {
         self.joining.take_packet(packet);
     }
 
-    // Skips a byte.
+    // Skips a byte that belongs to no transport packet.
     #[tactic(auto, using(crate::proofs::StreamLemmas::skips))]
     fn skip(&mut self)
         requires there { self.old.lead + 188 ≤ length self.old.window.buffered }
@@ -238,8 +239,8 @@ impl Stream {
         self.run += 1;
     }
 
-    // Returns whether `count` of the buffered bytes may reach the number that makes skipped bytes a
-    // loss.
+    // Returns whether the number of skipped bytes may reach that of a loss within the next `count`
+    // buffered bytes.
     fn may_end_loss(&self, count: usize) -> bool
         requires { count ≤ length self.now.window.buffered }
         ensures { result ≡ false → self.now.run < loss_size self.now.distance
@@ -268,7 +269,7 @@ impl Stream {
         self.run += count as u64;
     }
 
-    // Records a loss if the next skipped byte makes it one.
+    // Records a loss if the next skipped byte makes one.
     fn join_skipped(&mut self)
         ensures { self.new ≡ record self.old {
           joining = after_skipped self.old.distance self.old.run self.old.joining;
@@ -279,7 +280,7 @@ impl Stream {
         }
     }
 
-    // Takes the next item. Returns `false` at the end.
+    // Takes the next item. Returns `false` at the end of the recording.
     #[inline(never)]
     #[tactic(auto, using(crate::proofs::StreamLemmas::steps))]
     fn step<S: Source>(&mut self, source: &mut S) -> Result<bool, Failed>
@@ -309,9 +310,9 @@ impl Stream {
         Ok(true)
     }
 
-    // Skips packets of other PIDs that the source lends, and takes the packet of the PID after
-    // them, if the source lends all bytes up to the next packet. Reads the bytes in the source's
-    // buffer. Returns whether it did either.
+    // Skips transport packets of other PIDs that the source lends, and takes the packet of the PID
+    // after them, if the source lends all bytes up to the next packet. The packets are read in the
+    // source's buffer, without a copy. Returns whether any packet was skipped or taken.
     #[inline(always)]
     #[tactic(auto, using(crate::proofs::StreamLemmas::skims))]
     fn take_borrowed<S: Source>(&mut self, source: &mut S) -> bool
@@ -350,7 +351,7 @@ impl Stream {
         true
     }
 
-    // Returns whether nothing is ready, and more may follow.
+    // Returns whether no item is ready, and more output may follow.
     #[inline(always)]
     fn wants_more(&self) -> bool
         ensures wants { result ≡ true → (self.now.joining.pending ≡ [])
@@ -361,7 +362,7 @@ impl Stream {
         self.joining.is_idle() && !self.joining.has_ended()
     }
 
-    // Reads until something is ready, or to the end.
+    // Reads until an item is ready, or to the end of the recording.
     #[inline(always)]
     #[tactic(auto, using(crate::proofs::StreamLemmas::reads))]
     pub(crate) fn read_on<S: Source>(&mut self, source: &mut S) -> Result<(), Failed>
@@ -385,7 +386,7 @@ impl Stream {
         self.read_more(source)
     }
 
-    // Reads on if nothing is ready.
+    // Reads on if no item is ready.
     #[inline(always)]
     #[tactic(auto, using(crate::proofs::StreamLemmas::reads))]
     fn read_more<S: Source>(&mut self, source: &mut S) -> Result<(), Failed>
@@ -408,7 +409,7 @@ impl Stream {
         Ok(())
     }
 
-    // Returns whether nothing is ready.
+    // Returns whether no item is ready.
     #[inline(always)]
     pub(crate) fn is_idle(&self) -> bool
         ensures { (result ≡ true) ↔ (self.now.joining.pending ≡ []) }
@@ -426,7 +427,7 @@ impl Stream {
         self.joining.take_next()
     }
 
-    // Returns the bytes of the part.
+    // Returns the bytes of the current part.
     pub(crate) fn bytes(&self) -> &[u8]
         ensures bytes { result.now ≡ self.now.joining.bytes }
         ensures most { length result.now ≤ 1840 }
@@ -434,14 +435,14 @@ impl Stream {
         self.joining.bytes()
     }
 
-    // Clears all bytes, since everything that was ready was returned.
+    // Clears all bytes of the part, since everything that was ready was returned.
     pub(crate) fn deliver(&mut self)
         ensures { self.new ≡ record self.old { joining = emptied self.old.joining } }
     {
         self.joining.deliver();
     }
 
-    // Returns the bytes of the item that was taken.
+    // Returns the bytes of an item that was taken.
     #[inline(always)]
     pub(crate) fn taken(&self, next: Next) -> &[u8]
         requires { IsWithin next self.now.joining.bytes }

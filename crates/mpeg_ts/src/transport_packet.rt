@@ -3,13 +3,13 @@ ghost use Rattle.std.specs.Prelude.{◌≡◌, ◌≤◌, ◌==◌, length, fals
 ghost use Rattle.mpeg_ts.specs.TransportPacket.{announces_jump, begins, counter, has_adaptation};
 ghost use Rattle.mpeg_ts.specs.TransportPacket.{has_payload, is_wrong, payload, pid};
 
-/// Size of a packet in bytes.
+/// The size of a transport packet in bytes.
 pub const PACKET: usize = 188;
 
-/// sync_byte, the first byte of a packet.
+/// The sync_byte, which is the first byte of a transport packet.
 pub const SYNC_BYTE: u8 = 0x47;
 
-/// Returns the PID.
+/// Returns the PID of a transport packet.
 #[inline(always)]
 pub fn pid_of(packet: &[u8; PACKET]) -> u16
     ensures { result ≡ pid packet.now }
@@ -17,7 +17,7 @@ pub fn pid_of(packet: &[u8; PACKET]) -> u16
     (packet[1] % 0x20) as u16 * 0x100 + packet[2] as u16
 }
 
-/// Returns payload_unit_start_indicator.
+/// Returns payload_unit_start_indicator of a transport packet.
 #[inline(always)]
 pub fn begins(packet: &[u8; PACKET]) -> bool
     ensures { result ≡ begins packet.now }
@@ -25,7 +25,7 @@ pub fn begins(packet: &[u8; PACKET]) -> bool
     packet[1] / 0x40 % 2 == 1
 }
 
-/// Returns continuity_counter.
+/// Returns continuity_counter of a transport packet, 0 to 15.
 #[inline(always)]
 pub fn counter_of(packet: &[u8; PACKET]) -> u8
     ensures { result ≡ counter packet.now }
@@ -33,7 +33,7 @@ pub fn counter_of(packet: &[u8; PACKET]) -> u8
     packet[3] % 0x10
 }
 
-/// Returns whether there is an adaptation field.
+/// Returns whether a transport packet has an adaptation field.
 #[inline(always)]
 pub fn has_adaptation(packet: &[u8; PACKET]) -> bool
     ensures { result ≡ has_adaptation packet.now }
@@ -41,7 +41,7 @@ pub fn has_adaptation(packet: &[u8; PACKET]) -> bool
     packet[3] / 0x20 % 2 == 1
 }
 
-/// Returns whether there is a payload.
+/// Returns whether a transport packet has a payload.
 #[inline(always)]
 pub fn has_payload(packet: &[u8; PACKET]) -> bool
     ensures { result ≡ has_payload packet.now }
@@ -49,7 +49,7 @@ pub fn has_payload(packet: &[u8; PACKET]) -> bool
     packet[3] / 0x10 % 2 == 1
 }
 
-/// Returns whether discontinuity_indicator announces a jump of the counter.
+/// Returns whether discontinuity_indicator of a transport packet announces a jump of the counter.
 #[inline(always)]
 pub fn announces_jump(packet: &[u8; PACKET]) -> bool
     ensures { result ≡ announces_jump packet.now }
@@ -57,8 +57,8 @@ pub fn announces_jump(packet: &[u8; PACKET]) -> bool
     has_adaptation(packet) && packet[4] != 0 && packet[5] / 0x80 % 2 == 1
 }
 
-/// Returns whether the packet is unusable: transport_error_indicator is set, it is scrambled, or
-/// its adaptation field leaves no room for its payload.
+/// Returns whether a transport packet is unusable: its transport_error_indicator is set, the packet
+/// is scrambled, or its adaptation field leaves no room for its payload.
 #[inline(always)]
 pub fn is_wrong(packet: &[u8; PACKET]) -> bool
     ensures { result ≡ is_wrong packet.now }
@@ -68,7 +68,7 @@ pub fn is_wrong(packet: &[u8; PACKET]) -> bool
         || (has_adaptation(packet) && has_payload(packet) && packet[4] > 182)
 }
 
-/// Returns the payload, 1 to 184 bytes.
+/// Returns the payload of a transport packet, 1 to 184 bytes.
 #[inline(always)]
 pub fn payload_of(packet: &[u8; PACKET]) -> &[u8]
     requires payload { has_payload packet.now ≡ true }

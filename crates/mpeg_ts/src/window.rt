@@ -1,4 +1,4 @@
-//! The buffered bytes of a recording that are examined next.
+//! The buffer for the bytes of a recording that are examined next.
 ghost use Rattle.std.specs.Prelude.{◌≡◌, ◌+◌, ◌-◌, ◌<◌, ◌≤◌, [], drop, length, Ok, IfOk, IsErr};
 ghost use Rattle.std.specs.Prelude.{false, is_ok, true};
 ghost use Rattle.std.specs.Io.KnownBytes.{IsAtEnd};
@@ -10,11 +10,11 @@ use arrayvec::ArrayVec;
 use std::marker::Model;
 use sub_io::{Failed, Source};
 
-/// Buffer size: the bytes before a packet and the packet; or a packet and the first byte after it
-/// at the greatest distance.
+/// The size of the buffer in bytes: room for the bytes before a packet and the packet; or for a
+/// packet and the first byte after it at the greatest distance.
 pub(crate) const WINDOW: usize = 205;
 
-/// The buffered bytes, and how many more may be read.
+/// The buffered bytes of a recording, and how many more bytes may be read.
 #[derive(Drop)]
 pub(crate) struct Window {
     bytes: ArrayVec<u8, WINDOW>,
@@ -30,7 +30,7 @@ impl Model for Window {
 }
 
 impl Window {
-    // Creates an empty buffer. `left` bytes may be read.
+    // Creates an empty buffer, for a recording of which `left` bytes may be read.
     pub(crate) fn new(left: u64) -> Self
         ensures { result ≡ record { buffered = []; left = left } }
     {
@@ -57,7 +57,7 @@ impl Window {
         self.bytes.len()
     }
 
-    // Returns how many bytes may still be read.
+    // Returns how many bytes of the recording may still be read.
     #[inline(always)]
     pub(crate) fn left(&self) -> u64
         ensures { result ≡ self.now.left }
@@ -65,7 +65,7 @@ impl Window {
         self.left
     }
 
-    // Counts bytes that were read and skipped elsewhere.
+    // Counts bytes that were read and skipped without the buffer.
     #[inline(always)]
     pub(crate) fn skip_bytes(&mut self, count: u64)
         requires { count ≤ self.old.left }
@@ -74,7 +74,7 @@ impl Window {
         self.left -= count;
     }
 
-    // Returns how many bytes may be pulled to have `count` bytes.
+    // Returns how many bytes may be pulled for the buffer to have `count` bytes.
     fn free_space(&self, count: usize) -> usize
         requires few { length self.now.buffered < count }
         requires room { count ≤ window_size }
@@ -90,7 +90,7 @@ impl Window {
         }
     }
 
-    // Pulls once, for at most `room` bytes.
+    // Pulls once from the source, for at most `room` bytes.
     #[tactic(auto, using(crate::proofs::WindowLemmas::pulling))]
     fn pull<S: Source>(&mut self, source: &mut S, room: usize) -> Result<usize, Failed>
         requires count { CanFail (S.failure_count source.old) }
@@ -118,7 +118,8 @@ impl Window {
         Ok(n)
     }
 
-    // Reads until there are `count` bytes, and returns whether there are; `false` only at the end.
+    // Reads until the buffer has `count` bytes, and returns whether it has; `false` only at the end
+    // of the recording.
     #[tactic(auto, using(crate::proofs::WindowLemmas::filling))]
     pub(crate) fn fill_to<S: Source>(
         &mut self,
@@ -154,7 +155,7 @@ impl Window {
         Ok(true)
     }
 
-    // Skips bytes, and returns how many of them are not read yet.
+    // Removes `count` bytes from the front, and returns how many of them are not read yet.
     pub(crate) fn advance(&mut self, count: usize) -> usize
         ensures buffered { self.new.buffered ≡ drop count self.old.buffered }
         ensures left { self.new.left ≡ self.old.left }

@@ -1,4 +1,4 @@
--- The bytes at the front are a PES packet, valid or not: packet_found.
+-- The bytes of a part that is found complete begin with a PES packet, valid or not: packet_found.
 use Rattle.std.proofs.Common.{◌∙◌}
 use Rattle.mpeg_ts.proofs.ReadyLemmas.{packet_found, refused_found}
 use Rattle.mpeg_ts.proofs.part_bytes.find_packet.Goals as goal

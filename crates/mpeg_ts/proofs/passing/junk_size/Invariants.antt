@@ -1,4 +1,4 @@
--- The bytes so far contain no sync byte.
+-- In each iteration of `junk_size`, the bytes so far contain no sync byte.
 use Rattle.std.proofs.Common.{◌≡◌, ◌≤◌, ◌-◌, ◌+◌, ◌<◌, List, [], ◌++◌, ℕ, length, take, false}
 use Rattle.mpeg_ts.specs.GoodPackets.{loss_size}
 use Rattle.mpeg_ts.specs.Joining.{JoiningValue, has_ended}

@@ -1,4 +1,4 @@
--- Nothing is ready: none_pending.
+-- No item is ready before a part begins: none_pending.
 use Rattle.std.proofs.Common.{◌∙◌, ap}
 use Rattle.mpeg_ts.specs.Joining.{JoiningValue}
 use Rattle.mpeg_ts.proofs.ReadyLemmas.{none_pending}

@@ -1,5 +1,5 @@
--- The next item; that the bytes consumed contain it; and that no byte was read after those that
--- contain an item: rest_received, pes_packet_received, next_gives.
+-- `next` returns the next item, the bytes consumed contain that item, and no byte was read after
+-- those that contain it: rest_received, pes_packet_received, next_gives.
 use Rattle.std.proofs.Common.{[], refl}
 use Rattle.std.proofs.lemmas.Result.{err_from_is_err_and}
 use Rattle.mpeg_ts.specs.Stream.{remaining_output}

@@ -1,4 +1,4 @@
--- The output still to come after bytes that contain no packet: junk_given.
+-- Skipping bytes that contain no packet does not change the output still to come: junk_given.
 use Rattle.std.proofs.Common.{◌≡◌, ◌≤◌, ◌+◌, ◌<◌, ◌++◌, ℕ, List, [], length, take, refl, ap, sym}
 use Rattle.std.proofs.Common.{◌∙◌, arith, false, rules, subst}
 use Rattle.mpeg_ts.specs.GoodPackets.{loss_size}

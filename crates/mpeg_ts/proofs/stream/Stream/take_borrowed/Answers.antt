@@ -1,4 +1,5 @@
--- The output still to come after lent packets: others_given, packet_given, borrowed_skipped.
+-- Taking lent packets does not change the output still to come: others_given, packet_given,
+-- borrowed_skipped.
 use Rattle.std.proofs.Common.{◌≡◌, ◌+◌, ◌-◌, ◌≤◌, [], length, true, false}
 use Rattle.std.proofs.Common.{ap, sym, ◌∙◌, arith, length-take-le, refl, rules}
 use Rattle.std.proofs.lemmas.List.{nil_from_length}

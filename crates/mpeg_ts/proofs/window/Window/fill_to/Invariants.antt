@@ -1,4 +1,5 @@
--- The bytes read and those that may be read are the same in total, and no pull has failed.
+-- In each iteration of `fill_to`, the bytes read and those that may still be read are the same in
+-- total, and no pull has failed.
 use Rattle.std.proofs.Common.{length, true, ◌+◌, ◌-◌, ◌≡◌, ◌≤◌}
 use Rattle.mpeg_ts.specs.TakenBytes.{TakesPrefix}
 use Rattle.mpeg_ts.specs.Window.{RequestsUpTo, buffered_and_left}
