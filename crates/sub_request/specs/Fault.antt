@@ -1,10 +1,10 @@
--- The number and name in reports of each fault of the arguments (own).
+-- The number and the name, in reports, of each fault of the program's arguments (own).
 use Rattle.std.specs.Prelude.{codes}
 use Rattle.sub_io.specs.FaultCode.{FaultCodeValue, fault_code}
 use Rattle.sub_request.specs.declared.request.UsageFault.{UsageFault}
 use Rattle.sub_request.specs.declared.request.UsageFault.TheVariants as fault
 
--- The number and name of a fault of the arguments, or of the program itself.
+-- The number and the name of a fault of the arguments, or of a failure of the program itself.
 abbrev pub usage_code : UsageFault → FaultCodeValue
 usage_code fault.Words = fault_code 0 (codes "Words")
 usage_code fault.BadHex = fault_code 2 (codes "BadHex")

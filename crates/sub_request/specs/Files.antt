@@ -1,11 +1,11 @@
--- The files that a request names, in the order of its arguments: what is read, and what is written.
+-- The files that a request reads and writes, in the order of its arguments.
 use Rattle.std.specs.Prelude.{Bool, true, false}
 use Rattle.sub_request.specs.declared.files.FileNames.{FileNames}
 use Rattle.sub_request.specs.declared.files.FileNames.TheVariants as files
 use Rattle.sub_request.specs.declared.request.Request.{Request}
 use Rattle.sub_request.specs.declared.request.Request.TheVariants as ask
 
--- The files that a request reads, in the order of its arguments, and the one that it writes.
+-- The files that a request reads, in the order of its arguments, and the file that it writes.
 abbrev pub files_of : Request → FileNames
 files_of ask.Help = files.None
 files_of ask.Version = files.None
@@ -20,17 +20,17 @@ files_of (ask.Listen pes listening) = files.ReadPes pes.name.now
 files_of (ask.Extract recording pes stream) = files.Extract recording.now pes.now
 files_of (ask.Survey recording options) = files.ReadPes recording.now
 
--- Whether a first input is read.
+-- The request reads at least one file.
 abbrev pub reads_one : FileNames → Bool
 reads_one files.None = false
 reads_one _ = true
 
--- Whether a second input is read.
+-- The request reads two files.
 abbrev pub reads_two : FileNames → Bool
 reads_two (files.ReadBoth first second) = true
 reads_two _ = false
 
--- Whether a file is written.
+-- The request writes a file.
 abbrev pub writes_one : FileNames → Bool
 writes_one (files.Write input output) = true
 writes_one (files.Extract input output) = true

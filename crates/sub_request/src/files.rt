@@ -7,7 +7,7 @@ ghost use Rattle.std.specs.Prelude.{◌≡◌, ℕ, List};
 use crate::request::Request;
 use std::marker::Model;
 
-/// The name of a subtitle file that is read. In contracts its value is the name.
+/// The name of a subtitle file to read. The model is the name.
 #[derive(Drop)]
 pub struct StlInput<'a>(&'a str);
 
@@ -18,7 +18,7 @@ impl<'a> Model for StlInput<'a> {
 }
 
 impl<'a> StlInput<'a> {
-    /// Returns the name.
+    /// Returns the name of the subtitle file.
     pub fn name(&self) -> &'a str
         ensures { result.now ≡ self.now }
     {
@@ -26,8 +26,7 @@ impl<'a> StlInput<'a> {
     }
 }
 
-/// The name of a file of PES packets, or of a transport stream, that is read. In contracts its
-/// value is the name.
+/// The name of a file to read that has PES packets or a transport stream. The model is the name.
 #[derive(Drop)]
 pub struct PesInput<'a>(&'a str);
 
@@ -38,7 +37,7 @@ impl<'a> Model for PesInput<'a> {
 }
 
 impl<'a> PesInput<'a> {
-    /// Returns the name.
+    /// Returns the name of the file with PES packets.
     pub fn name(&self) -> &'a str
         ensures { result.now ≡ self.now }
     {
@@ -46,7 +45,7 @@ impl<'a> PesInput<'a> {
     }
 }
 
-/// The name of a file that is written. In contracts its value is the name.
+/// The name of a file to write. The model is the name.
 #[derive(Drop)]
 pub struct Output<'a>(&'a str);
 
@@ -57,7 +56,7 @@ impl<'a> Model for Output<'a> {
 }
 
 impl<'a> Output<'a> {
-    /// Returns the name.
+    /// Returns the name of the file to write.
     pub fn name(&self) -> &'a str
         ensures { result.now ≡ self.now }
     {
@@ -68,24 +67,24 @@ impl<'a> Output<'a> {
 /// The names of the files of a request, in the order of its arguments.
 #[derive(Drop)]
 pub enum FileNames<'a> {
-    /// No files.
+    /// The request uses no files.
     None,
-    /// A subtitle file is read.
+    /// The request reads a subtitle file.
     ReadStl(StlInput<'a>),
-    /// A file of PES packets is read.
+    /// The request reads a file with PES packets.
     ReadPes(PesInput<'a>),
-    /// Both are read.
+    /// The request reads a subtitle file and a file with PES packets.
     ReadBoth(StlInput<'a>, PesInput<'a>),
-    /// A subtitle file is read and another file is written.
+    /// The request reads a subtitle file and writes another file.
     Write(StlInput<'a>, Output<'a>),
-    /// A recording is read, as a file of PES packets is, and another file is written.
+    /// The request reads a recording, a transport stream, and writes another file.
     Extract(PesInput<'a>, Output<'a>),
 }
 
 impl<'a> Request<'a> {
     ghost use Rattle.sub_request.specs.Files.{files_of};
 
-    /// Returns the files that the request names.
+    /// Returns the names of the files that the request reads and writes.
     pub fn files(&self) -> FileNames<'a>
         ensures { result ≡ files_of self.now }
     {

@@ -1,7 +1,7 @@
-//! The request of `listen`.
+//! The values of the command `listen`.
 use sub_plan::Options;
 
-/// A bit of a packet that is received wrong.
+/// A bit of a Teletext packet that the receiver gets wrong.
 #[derive(Clone, Copy, Debug, PartialEq, Eq)]
 pub struct Flip {
     /// The number of the packet, counted from 0 among all Teletext packets of the file.
@@ -12,35 +12,37 @@ pub struct Flip {
     pub bit: u8,
 }
 
-/// What a receiver does if a byte of a row has even parity, and at a header of its page that does
-/// not erase it.
+/// How a receiver handles a byte of even parity in a row, and a header of its page with C4, erase
+/// page, clear.
 #[derive(Clone, Copy, Debug, PartialEq, Eq)]
 pub enum ReceiverKind {
-    /// It keeps the cell of the byte.
+    /// The receiver keeps the old code of the cell; a header with C4 clear keeps the page.
     Keep,
-    /// It stores a space in the cell of the byte.
+    /// The receiver stores a space in the cell; a header with C4 clear keeps the page.
     Blank,
-    /// It drops the packet of the whole row.
+    /// The receiver drops the packet of the whole row; a header with C4 clear keeps the page.
     DropRow,
-    /// It stores a space in the cell of the byte, and blanks the page at each of its headers, where
-    /// the others keep it if C4 is clear.
+    /// The receiver stores a space in the cell, and blanks the page at each header of the page,
+    /// even if C4 is clear.
     Anew,
 }
 
-/// One run of a receiver over the PES packets of a file.
+/// The parameters of the command `listen`: one run of a receiver over the PES packets of a file.
 #[derive(Drop)]
 pub struct Listening {
-    /// The page to which the receiver is tuned, the PTS of frame 0, whether complete pages are
-    /// required, and `within`, on which the reading of PTS depends. The repeat bound is not used.
+    /// The options of the run: the page to which the receiver is tuned, the PTS of frame 0, whether
+    /// complete pages are required, and `within`, which decides the frame of a PTS. The repeat
+    /// bound is not used.
     pub options: Options,
-    /// The last frame that is received, as a frame of the day: TIME.
+    /// The last frame that is received, as a frame of the day (the argument TIME).
     pub at: u32,
-    /// How many Teletext packets are skipped, from the start of the file.
+    /// The number of Teletext packets to skip at the start of the file.
     pub skip: u64,
-    /// The bits that are received wrong, at most one in a byte.
+    /// The bits that are received wrong, at most one bit per byte.
     pub flips: Vec<Flip>,
-    /// The numbers of the lost packets, counted as in `flips`.
+    /// The numbers of the packets that the receiver loses, counted from 0 among all Teletext
+    /// packets of the file.
     pub lost: Vec<u64>,
-    /// The receiver.
+    /// How the receiver handles even parity and headers with C4 clear.
     pub receiver: ReceiverKind,
 }

@@ -1,23 +1,23 @@
-//! The PES packets that are read: the file, and the selected packets of it.
+//! The PES packets to read: the file, and a range of its packets.
 use mpeg_ts::{PacketSize, Pid};
 use ttx_pes::PesPacketRange;
 
-/// The transport packets that carry PES packets (ISO/IEC 13818-1).
+/// The transport packets of a recording that carry PES packets (ISO/IEC 13818-1).
 #[derive(Clone, Copy, Debug, PartialEq, Eq)]
 pub struct TransportStream {
     pub pid: Pid,
-    /// The distance from one transport packet to the next.
+    /// The distance from one transport packet to the next: 188, 192 or 204 bytes.
     pub packet_size: PacketSize,
 }
 
-/// The PES packets that are read.
+/// The PES packets to read.
 #[derive(Clone, Copy)]
 pub struct PesSelection<'a> {
-    /// The name of the file.
+    /// The name of the file with PES packets.
     pub name: &'a str,
-    /// The transport packets that carry them, if the file is a transport stream; `None` for a file
-    /// of PES packets.
+    /// The PID and the packet size, if the file is a transport stream; `None` for a file of PES
+    /// packets.
     pub stream: Option<TransportStream>,
-    /// The selected packets, by their numbers from 0; `None` for all.
+    /// The range of PES packets to read, by number from 0; `None` for all.
     pub range: Option<PesPacketRange>,
 }

@@ -1,4 +1,4 @@
-//! Requests to the program, and why arguments do not make one.
+//! Requests to the program, and the reasons why arguments are no request.
 ghost use Rattle.std.specs.Prelude.{◌≡◌};
 
 use crate::listening::Listening;
@@ -10,69 +10,70 @@ use sub_io::FaultCode;
 use sub_plan::Options;
 use thiserror::Error;
 
-/// Why the program can't do what its arguments request, in the order in which faults are reported.
+/// The reason why the program can't do what its arguments request. The order of the variants is the
+/// order of reports.
 ///
-/// The descriptions are for readers; the program prints the lines of `say`.
+/// The descriptions below are for readers; the program prints the lines of `say`.
 #[derive(Debug, Drop, Error)]
 pub enum UsageFault {
-    /// 0: the arguments are not those of a command.
+    /// Code 0: the arguments are not those of a command.
     #[error("the words are not those of a command")]
     Words,
-    /// 2: HEX is not 84 hexadecimal digits.
+    /// Code 2: HEX is not 84 hexadecimal digits.
     #[error("the packet is not 84 hexadecimal digits")]
     BadHex,
-    /// 7: the file to be written has the name of the input.
+    /// Code 7: the file to be written has the name of the input.
     #[error("the input and the output have the same name")]
     SameFile,
-    /// 1: the page is not a digit 1 to 8 and two hexadecimal digits, or is a page FF.
+    /// Code 1: the page is not a digit 1 to 8 and two hexadecimal digits, or is a page FF.
     #[error("the page is not 100 to 8FE")]
     BadPage,
-    /// 80: the repeat bound is not 1 to 2,160,000 frames.
+    /// Code 80: the repeat bound is not 1 to 2,160,000 frames.
     #[error("the repeat bound is not 1 to 2160000 frames")]
     Every,
-    /// 81: the PTS of frame 0 is not below 2^33.
+    /// Code 81: the PTS of frame 0 is not below 2^33.
     #[error("the PTS of frame 0 does not have 33 bits")]
     Origin,
-    /// 83: the national option is none that `National::parse` knows.
+    /// Code 83: the national option is no name that `National::parse` accepts.
     #[error("there is no such national option")]
     BadOption,
-    /// 85: `--within` is not 0 to 50 frames.
+    /// Code 85: `--within` is not 0 to 50 frames.
     #[error("the page is not allowed 0 to 50 frames")]
     Within,
-    /// 86: the PID is not 0 to 8190.
+    /// Code 86: the PID is not 0 to 8190.
     #[error("the PID is not 0 to 8190")]
     Pid,
-    /// 87: the distance of transport packets is not 188, 192 or 204 bytes.
+    /// Code 87: the distance of transport packets is not 188, 192 or 204 bytes.
     #[error("the packet size is not 188, 192 or 204")]
     PacketSize,
-    /// 88: the PES packets are not `I-J` or `I-`, or the last comes before the first.
+    /// Code 88: the PES packets are not `I-J` or `I-`, or the last comes before the first.
     #[error("the PES packets are not I-J or I-")]
     Range,
-    /// 89: the layout is none that `Layout::parse` knows.
+    /// Code 89: the layout is no text that `Layout::parse` accepts.
     #[error("there is no such layout")]
     BadLayout,
-    /// 92: the maximum distance of PES packets is not 1 to 2,160,000 frames.
+    /// Code 92: the maximum distance of PES packets is not 1 to 2,160,000 frames.
     #[error("the pace is not 1 to 2160000 frames")]
     Pace,
-    /// 6: the time is not `HH:MM:SS:FF` of a day.
+    /// Code 6: the time is not `HH:MM:SS:FF` of a day.
     #[error("the time is not HH:MM:SS:FF of a day")]
     BadTime,
-    /// 8: the number of packets to be skipped is not one to ten digits.
+    /// Code 8: the number of packets to skip is not one to ten digits.
     #[error("the packets to be skipped are no number")]
     BadSkip,
-    /// 5: the flips are not 1 to 64 places `P:B:K`, or two are in one byte.
+    /// Code 5: the flips are not 1 to 64 places `P:B:K`, or two flips are in the same byte.
     #[error("the flips are not 1 to 64 places")]
     BadFlip,
-    /// 84: the lost packets are not 1 to 64 numbers, or two are equal.
+    /// Code 84: the lost packets are not 1 to 64 numbers, or two numbers are equal.
     #[error("the lost packets are not 1 to 64 numbers")]
     BadLose,
-    /// 9: the receiver is none of blank, keep, drop and anew.
+    /// Code 9: the receiver is none of blank, keep, drop and anew.
     #[error("the receiver is none of blank, keep, drop and anew")]
     BadReceiver,
-    /// 91: memory ran out.
+    /// Code 91: memory could not be allocated.
     #[error("memory ran out")]
     Memory,
-    /// 90: a file can't be opened or created. `Request::parse` never returns this.
+    /// Code 90: a file can't be opened or created. `Request::parse` never returns this fault.
     #[error("a file can't be opened")]
     Open,
 }
@@ -80,7 +81,7 @@ pub enum UsageFault {
 impl UsageFault {
     ghost use Rattle.sub_request.specs.Fault.{usage_code};
 
-    /// Returns the number and name of the fault in reports (own).
+    /// Returns the number and the name of the fault for reports (own).
     pub fn code(&self) -> FaultCode
         ensures { result ≡ usage_code self.now }
     {
@@ -109,21 +110,21 @@ impl UsageFault {
     }
 }
 
-/// A request: a variant for each command, with the values of its arguments.
+/// A request to the program: a variant for each command, with the values of its arguments.
 #[derive(Drop)]
 pub enum Request<'a> {
     /// `--help`: explains how to use the program.
     Help,
     /// `--version`: prints the name and the version of the program.
     Version,
-    /// `packet HEX`: shows one packet.
+    /// `packet HEX`: shows one Teletext packet.
     Packet {
-        /// The 42 bytes of the packet, in the order of EN 300 706: bit 1 is the lowest.
+        /// The 42 bytes of the Teletext packet, in the order of EN 300 706: bit 1 is the lowest.
         bytes: [u8; 42],
     },
     /// `packets PES`: lists PES packets and their Teletext units.
     Packets {
-        /// The PES packets.
+        /// The PES packets to list.
         pes: PesSelection<'a>,
     },
     /// `show STL`: lists subtitles.
@@ -135,65 +136,67 @@ pub enum Request<'a> {
     Normal {
         /// The name of the subtitle file.
         input: &'a str,
-        /// The name of the file to be written, another one.
+        /// The name of the file to write, different from that of the subtitle file.
         output: &'a str,
     },
     /// `schedule STL PES`: writes a schedule of a subtitle file.
     Schedule {
         /// The name of the subtitle file.
         stl: &'a str,
-        /// The name of the file of PES packets to be written, another one.
+        /// The name of the file of PES packets to write, different from that of the subtitle file.
         pes: &'a str,
-        /// The page, the repeat bound and the PTS of frame 0.
+        /// The options of the schedule: the page, the repeat bound and the PTS of frame 0.
         options: Options,
         /// Whether the headers are those of serial mode (C11 is set).
         serial: bool,
-        /// The national option of the text.
+        /// The national option of the subtitles' text.
         national: National,
-        /// How the text is drawn.
+        /// The layout, which decides how the subtitles' text is drawn.
         layout: Layout,
-        /// The part of the subtitle file that is used.
+        /// The scope: the subtitles of the file to use.
         scope: Scope,
     },
     /// `check STL PES`: checks that a file of PES packets shows a subtitle file.
     Check {
         /// The name of the subtitle file.
         stl: &'a str,
-        /// The PES packets.
+        /// The PES packets to check.
         pes: PesSelection<'a>,
-        /// The page, the repeat bound, the PTS of frame 0, whether complete pages are required, and
-        /// within how many frames the page has to be right.
+        /// The options of the check: the page, the repeat bound, the PTS of frame 0, whether
+        /// complete pages are required, and the number of frames within which the page must be
+        /// right.
         options: Options,
-        /// The national option of the text.
+        /// The national option of the subtitles' text.
         national: National,
-        /// How the text is drawn.
+        /// The layout, which decides how the subtitles' text is drawn.
         layout: Layout,
-        /// The part of the subtitle file that is used.
+        /// The scope: the subtitles of the file to use.
         scope: Scope,
-        /// Whether every fault is reported, and not only the first.
+        /// Whether to report every fault, instead of only the first.
         all: bool,
     },
-    /// `listen PES`: runs one receiver.
+    /// `listen PES`: runs a receiver over a file of PES packets.
     Listen {
-        /// The PES packets.
+        /// The PES packets to receive.
         pes: PesSelection<'a>,
-        /// What the receiver gets.
+        /// The parameters of the receiver's run.
         listening: Listening,
     },
-    /// `extract TS PES`: writes the PES packets that a transport stream carries.
+    /// `extract TS PES`: writes the PES packets of a transport stream to a file.
     Extract {
         /// The name of the transport stream.
         recording: &'a str,
-        /// The name of the file of PES packets to be written, another one.
+        /// The name of the file of PES packets to write, different from that of the transport
+        /// stream.
         pes: &'a str,
-        /// The transport packets that carry them.
+        /// The PID and the packet size of the transport packets to read.
         stream: TransportStream,
     },
-    /// `survey RECORDING`: lists what is in a recording.
+    /// `survey RECORDING`: lists the contents of a recording.
     Survey {
-        /// The name of the recording.
+        /// The name of the recording, a transport stream.
         recording: &'a str,
-        /// The page, the PID and the packet size.
+        /// The page, the PID and the packet size to survey.
         options: SurveyOptions,
     },
 }

@@ -1,5 +1,5 @@
 -- If no event of a frame's end or of a packet passes a test, the other events of the frame decide
--- whether any does: `any_frame`. So each event names its own PES packet, and none of them reports
+-- whether any event does: `any_frame`. So each event names its own PES packet, and no event reports
 -- trusted frames: `own_frame`.
 use Rattle.std.proofs.lemmas.Bool.Decides.{nat_tests}
 use Rattle.std.proofs.Common.{◌≡◌, ℕ, zero, suc, ◌+◌, ◌==◌, Bool, true, false, not, List, [], ◌∷◌}
@@ -23,14 +23,11 @@ use Rattle.sub_rules.specs.declared.active_faults.ActiveFaults.{ActiveFaults}
 use Rattle.sub_rules.proofs.EndRuleLemmas.{end_any}
 use Rattle.sub_rules.proofs.FrameEvents.{frame_events, gap_events}
 
--- ---- a test of each event
-
 module _ (test : Event → Bool)
     (at_end : (old : ActiveFaults) (before : ℕ) (new : ActiveFaults) (f : ℕ)
     → list_any test (end_events old before new f) ≡ false)
     (of_rule : (r : PacketRule) (frame k : ℕ) → test (Reported (packet_fault r frame k)) ≡ false)
   where
-    -- If no event of the second list passes, the first list decides.
     only_first : (xs ys : List Event) → list_any test ys ≡ false
         → list_any test (xs ++ ys) ≡ list_any test xs
     only_first xs ys none = let both = list_any-append test xs ys in grind (arith, nat_tests)
@@ -53,7 +50,6 @@ module _ (test : Event → Bool)
       no_gap i zero = refl
       no_gap i (suc n) = only_first _ _ (at_end _ _ _ _) ∙ no_gap i n
 
-      -- If no first-header event passes, the events for the frame's number decide.
       pub any_frame : (i : ℕ) → list_any test (first_header_events g frames i) ≡ false
           → list_any test (frame_events g frames i) ≡ list_any test (order_events g frames i)
       unfolding frame_events
@@ -61,9 +57,7 @@ module _ (test : Event → Bool)
           only_first _ _ (at_end _ _ _ _) ∙ only_first _ _ header
           ∙ only_first _ _ (no_packet _ _ _ _ _ _) ∙ only_first _ _ (no_gap i _)
 
--- ---- events that name their PES packet, and report no trusted frames
-
--- If each frame is one PES packet: an event that names another packet than `pes`, or is `Trusted`.
+-- The event names another PES packet than `pes`, or is `Trusted`.
 abbrev pub is_foreign : ℕ → Event → Bool
 is_foreign pes (Reported (fault.Order index)) = not (index == pes)
 is_foreign pes (Reported (fault.Pes index f)) = not (index == pes)
@@ -71,7 +65,6 @@ is_foreign pes (Reported (fault.OffFrame index)) = not (index == pes)
 is_foreign pes (Trusted from to) = true
 is_foreign pes event = false
 
--- Any other event is the same if it is reported at that packet.
 own_at : (pes : ℕ) (e : Event) → is_foreign pes e ≡ false → at_pes pes e ≡ e
 unfolding at_pes
 own_at pes e own = grind (arith, nat_tests)
@@ -93,14 +86,12 @@ own_rule : (pes : ℕ) (r : PacketRule) (frame k : ℕ)
 own_rule pes r frame k = grind (arith, nat_tests)
 
 module _ (g : Criteria) (frames : Transmission) where
-  -- The events of a frame.
   pub own_frame : (i : ℕ) → list_any (is_foreign i) (frame_events g frames i) ≡ false
   unfolding order_events first_header_events
   own_frame i =
       any_frame (is_foreign i) (own_end i) (own_rule i) g frames i (grind (arith, nat_tests))
       ∙ grind (arith, nat_tests)
 
-  -- The events after the last frame.
   pub own_closing : (n : ℕ) → length frames ≡ n
       → list_any (is_foreign n) (closing_events g frames n) ≡ false
   unfolding closing_events

@@ -1,4 +1,4 @@
--- Two packets of code words and odd text with the same contents are equal: `same_packet`.
+-- Two packets of code words and odd text bytes with the same contents are equal: `same_packet`.
 use Rattle.std.proofs.lemmas.Bool.Decides.{nat_tests}
 use Rattle.std.proofs.Common.{◌≡◌, ℕ, zero, suc, ◌+◌, ◌*◌, ◌/◌, ◌%◌, ◌<◌, true, not, List}
 use Rattle.std.proofs.Common.{[], ◌∷◌, get_or, slice_index, drop, map, Some, sym, ◌∙◌}
@@ -15,17 +15,14 @@ use Rattle.ttx_packet.specs.RowPacket.{HasOddText}
 use Rattle.ttx_packet.proofs.Hamming84Lemmas.{decoded-code_word}
 use Rattle.sub_rules.specs.PacketRules.{codes_of}
 
--- The highest bit changes the parity. For `odd_same`.
 upper_odd : (code : ℕ) → code < 128 → is_odd (code + 128) ≡ not (is_odd code)
 unfolding is_odd count_ones ones_in
 upper_odd code l =
     agree_below_at (λ k. is_odd (k + 128)) (λ k. not (is_odd k)) 128 code refl l
 
--- A byte below 128 and the one 128 above it are not both odd. For `odd_same`.
 one_odd : (b c : ℕ) → b < 128 → c ≡ b + 128 → is_odd b ≡ true → is_odd c ≡ true → ⊥
 one_odd b c l s ob oc = grind (arith, nat_tests, true≢false, upper_odd)
 
--- Odd bytes with one code are equal. For `same_packet`.
 odd_same :
     (b c : ℕ)
     → b < 256
@@ -36,7 +33,6 @@ odd_same :
     → b ≡ c
 odd_same b c lb lc ob oc e = grind (arith, one_odd)
 
--- The address of code words. For `same_address`.
 address_is :
     (p : List ℕ) (m n : ℕ)
     → m < 16
@@ -48,7 +44,6 @@ address_is :
 unfolding address
 address_is p m n lm ln e f = grind (arith, decoded-code_word)
 
--- Packets of code words with one address have the same two bytes. For `same_packet`.
 same_address :
     (p q : List ℕ)
     → HasExactAddress p
@@ -65,20 +60,18 @@ same_address p q x y e =
     (sym (address_is p a.0 b.0 a.1 b.1 a.2 b.2) ∙ e ∙ address_is q c.0 d.0 c.1 d.1 c.2 d.2) in
     grind (arith, nat_tests)
 
--- The code of a byte, in a list of any length.
 pub code_at : (bytes : List ℕ) (k : ℕ)
     → get_or (map code_of bytes) k 0 ≡ code_of (get_or bytes k 0)
 code_at [] k = refl
 code_at (b ∷ bytes) zero = refl
 code_at (b ∷ bytes) (suc k) = code_at bytes k
 
--- The code of a column, among the codes of a packet.
 pub code_of_column :
     (p : List ℕ) (k : ℕ) → get_or (codes_of p) k 0 ≡ code_of (get_or p (k + 2) 0)
 code_of_column p k = grind (arith, nat_tests, code_at, get_or-drop)
 
--- Two packets with the same address, in code words, and the same text, in odd bytes, are equal. So
--- a checker only needs to keep the codes of a row to know its packet.
+-- If two packets have the same address in code words, and the same text in bytes of odd parity, the
+-- packets are equal. So a checker only needs to keep the codes of a row to know its packet.
 pub same_packet :
     (p q : List ℕ)
     → IsPacket p

@@ -1,5 +1,5 @@
--- The end before a frame of the list: the active faults there, and how many frames of the day come
--- after it.
+-- The active faults at the previous frame end, and the number of frames of the day between two
+-- entries of a transmission.
 use Rattle.std.proofs.lemmas.Bool.Decides.{nat_tests}
 use Rattle.std.proofs.Common.{◌≡◌, ℕ, ◌+◌, ◌-◌, ◌<◌, arith}
 use Rattle.sub_rules.specs.Events.{end_before, gap_length, latest, active_faults_at}
@@ -7,7 +7,6 @@ use Rattle.sub_rules.specs.Events.{active_faults_before}
 use Rattle.sub_rules.specs.FrameRules.{Criteria, frame_at}
 use Rattle.sub_rules.specs.Transmission.{Transmission}
 
--- How many frames of the day lie before a frame of the list.
 pub gap_length-is :
     (frames : Transmission) (n : ℕ)
     → 0 < n
@@ -15,7 +14,6 @@ pub gap_length-is :
 unfolding gap_length
 gap_length-is frames n h1 = grind (arith, nat_tests)
 
--- The active faults at the end before.
 pub active_faults_before_is :
     (g : Criteria) (frames : Transmission) (n f : ℕ)
     → 0 < n

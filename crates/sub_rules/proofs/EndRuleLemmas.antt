@@ -1,6 +1,6 @@
--- The table of the rules of a frame's end. A property of each rule in it holds of any rule,
--- `each_end_rule`; no fault is active if and only if none of a rule is, `rules_none`,
--- `no_active_faults_is`; no event at an end passes a test that no event of a rule passes,
+-- The table of the rules of a frame's end. A property of each rule in the table holds of any rule,
+-- `each_end_rule`; no fault is active if and only if no rule is broken, `rules_none`,
+-- `no_active_faults_is`; if no event of a rule passes a test, no event at a frame's end does,
 -- `end_any`.
 use Rattle.std.proofs.lemmas.Bool.Decides.{nat_tests}
 use Rattle.std.proofs.Common.{◌≡◌, ℕ, Bool, true, false, List, [], ◌∷◌, Option, Some, None}
@@ -15,18 +15,13 @@ use Rattle.sub_rules.specs.declared.event.Event.{Event}
 use Rattle.sub_rules.specs.declared.event.Event.TheVariants.{Ended, Reported}
 use Rattle.sub_rules.specs.declared.active_faults.ActiveFaults.{ActiveFaults}
 
--- ---- all of them
-
 pub each_end_rule : (P : EndRule → Type 0) → AllByRecursion P end_rules → (rule : EndRule) → P rule
 unfolding end_rules
 each_end_rule P h rule = grind arith
 
--- ---- no active faults
-
 pub nothing_at : (rule : EndRule) → broken_at rule no_active_faults ≡ None
 nothing_at rule = grind arith
 
--- If no rule has an active fault.
 pub rules_none : (s : ActiveFaults) → ((rule : EndRule) → broken_at rule s ≡ None)
     → has_no_active_faults s ≡ true
 rules_none s none = ap not (go end_rules)
@@ -43,9 +38,6 @@ pub none_at : (s : ActiveFaults) → has_no_active_faults s ≡ true → (rule :
     s ≡ None
 none_at s e rule = ap (broken_at rule) (no_active_faults_is s e) ∙ nothing_at rule
 
--- ---- the events at an end
-
--- If no fault was active at the end before, the number of that frame doesn't matter.
 from_none : (rule : EndRule) (a b : ℕ) (o : Option (ℕ × ℕ)) (f : ℕ)
     → rule_events rule None a o f ≡ rule_events rule None b o f
 from_none rule a b None f = refl

@@ -1,5 +1,5 @@
 -- The events of a transmission, frame by frame, if each frame is one PES packet: an intermediate
--- definition for the events of PES packets, which are defined by steps.
+-- step to the events of PES packets, which are defined by steps.
 use Rattle.std.specs.Prelude.{ℕ, zero, suc, ◌+◌, List, [], ◌++◌, length}
 use Rattle.sub_rules.specs.Events.{closing_events, events_at_end, first_header_events, gap_length}
 use Rattle.sub_rules.specs.Events.{latest, order_events, packet_events}
@@ -7,14 +7,14 @@ use Rattle.sub_rules.specs.FrameRules.{Criteria, frame_at, packets_before, packe
 use Rattle.sub_rules.specs.Transmission.{Transmission}
 use Rattle.sub_rules.specs.declared.event.Event.{Event}
 
--- The events at the ends of the first n of these frames.
+-- The events at the ends of n frames of the day without a PES packet.
 unfoldable pub gap_events : Criteria → Transmission → ℕ → ℕ → List Event
 gap_events g frames i zero = []
 gap_events g frames i (suc n) =
     gap_events g frames i n ++ events_at_end g frames i i (latest frames i + suc n)
 
--- The events of frame i of the list: for its number, for the frames of the day before it, for its
--- packets, and at its end.
+-- The events of entry i of the transmission: for its frame number, for the frames of the day before
+-- it, for its packets, and at its end.
 unfoldable pub frame_events : Criteria → Transmission → ℕ → List Event
 frame_events g frames i =
     order_events g frames i
@@ -24,12 +24,12 @@ frame_events g frames i =
     ++ first_header_events g frames i
     ++ events_at_end g frames i (suc i) (frame_at frames i)
 
--- The events of the first n frames of the list.
+-- The events of the first n entries of the transmission.
 unfoldable pub events_of_first : Criteria → Transmission → ℕ → List Event
 events_of_first g frames zero = []
 events_of_first g frames (suc n) = events_of_first g frames n ++ frame_events g frames n
 
--- All events of a transmission.
+-- All events of a transmission, if each frame is one PES packet.
 unfoldable pub events : Criteria → Transmission → List Event
 events g frames =
     events_of_first g frames (length frames) ++ closing_events g frames (length frames)

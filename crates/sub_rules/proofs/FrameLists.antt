@@ -1,4 +1,4 @@
--- The packets of the first frames of a list.
+-- The packets of the first frames of a transmission.
 use Rattle.std.proofs.Common.{◌≡◌, ℕ, ◌+◌, ◌<◌, [], ◌∷◌, ◌++◌, length, get_or, take, sym, ap, ◌∙◌}
 use Rattle.std.proofs.Common.{arith}
 use Rattle.std.specs.List.{flat_map}
@@ -6,7 +6,6 @@ use Rattle.std.proofs.lemmas.List.{flat_map_more, take_more, get_or-map}
 use Rattle.sub_rules.specs.FrameRules.{packets_of_frame, packets_before}
 use Rattle.sub_rules.specs.Transmission.{SentFrame, Transmission}
 
--- The packets of one more frame.
 pub joined_more : (frames : Transmission) (n : ℕ) → n < length frames
     → packets_before frames (n + 1) ≡ packets_before frames n ++ packets_of_frame frames n
 joined_more [] n l = absurd (omega arith)

@@ -1,8 +1,7 @@
--- PES packets that are sent as one frame: within 0 frames each is one, `joined-none`; one more PES
--- packet, `sent_after-other`, `sent_after-same`; more packets of the last frame,
--- `with_packets-push`, `with_packets-frames`; some PES packets, and then others,
--- `joined_after-append`, `steps_of_each-append`; some packets of a frame, and then others,
--- `packets_reported-append`.
+-- Merging the PES packets of one frame. If `within` is 0, nothing is merged, `joined-none`; one
+-- more PES packet, `sent_after-other`, `sent_after-same`; more packets of the last frame,
+-- `with_packets-push`, `with_packets-frames`; PES packets in two parts, `joined_after-append`,
+-- `steps_of_each-append`; the packets of a frame in two parts, `packets_reported-append`.
 use Rattle.std.proofs.lemmas.Bool.Decides.{nat_tests}
 use Rattle.std.proofs.Common.{◌≡◌, ℕ, zero, suc, ◌+◌, ◌<◌, ◌≤◌, true, false, List, [], ◌∷◌}
 use Rattle.std.proofs.Common.{◌++◌, length, map, take, refl, sym, ap, ◌∙◌, arith}
@@ -22,32 +21,23 @@ use Rattle.sub_rules.specs.Transmission.{SentFrame, Transmission}
 use Rattle.sub_rules.specs.declared.packet_rule.Watched.{Watched}
 use Rattle.sub_rules.proofs.PacketLists.{Each-append}
 
--- ---- one more PES packet
-
--- Within 0 frames no frame is continued.
 pub goes_on-none : (sent : Transmission) (s : SentFrame) → goes_on_with 0 sent s ≡ false
 goes_on-none [] s = refl
 goes_on-none (first ∷ sent) s = refl
 
--- Another frame comes after those before it.
 pub sent_after-other : (within : ℕ) (sent : Transmission) (s : SentFrame)
     → goes_on_with within sent s ≡ false
     → sent_after within sent s ≡ sent ++ s ∷ []
 sent_after-other within sent s other = rw other refl
 
--- A PES packet that continues the last frame adds its packets to it.
 pub sent_after-same : (within : ℕ) (sent : Transmission) (s : SentFrame)
     → goes_on_with within sent s ≡ true
     → sent_after within sent s ≡ with_packets s.packets sent
 sent_after-same within sent s same = rw same refl
 
--- Within 0 frames each PES packet is another frame.
 pub sent_after-none : (sent : Transmission) (s : SentFrame) → sent_after 0 sent s ≡ sent ++ s ∷ []
 sent_after-none sent s = sent_after-other 0 sent s (goes_on-none sent s)
 
--- ---- all of them
-
--- Some PES packets, and then others.
 pub joined_after-append : (within : ℕ) (sent xs ys : Transmission)
     → joined_after within sent (xs ++ ys)
     ≡ joined_after within (joined_after within sent xs) ys
@@ -56,14 +46,12 @@ joined_after-append within sent [] ys = refl
 joined_after-append within sent (x ∷ xs) ys =
     joined_after-append within (sent_after within sent x) xs ys
 
--- Some frames, and then one more.
 pub joined_after-push : (within : ℕ) (sent xs : Transmission) (s : SentFrame)
     → joined_after within sent (xs ++ s ∷ [])
     ≡ sent_after within (joined_after within sent xs) s
 unfolding joined_after
 joined_after-push within sent xs s = joined_after-append within sent xs (s ∷ [])
 
--- Within 0 frames each PES packet is a frame.
 pub joined_after-none : (sent frames : Transmission) → joined_after 0 sent frames ≡ sent ++ frames
 unfolding joined_after
 joined_after-none sent [] = sym (append-nil sent)
@@ -80,9 +68,6 @@ pub joined-within : (within : ℕ) (frames : Transmission) → within ≡ 0
 joined-within within frames none =
     ap (λ (w : ℕ). joined w frames) none ∙ joined-none frames
 
--- ---- more packets of the last frame
-
--- The last frame with more packets.
 abbrev pub with_more : List (List ℕ) → SentFrame → SentFrame
 with_more packets s = record { frame = s.frame; packets = s.packets ++ packets }
 
@@ -94,7 +79,6 @@ with_packets-push packets (x ∷ []) s = refl
 with_packets-push packets (x ∷ y ∷ init) s =
     ap (λ (l : Transmission). x ∷ l) (with_packets-push packets (y ∷ init) s)
 
--- The numbers of the frames stay the same.
 pub with_packets-frames : (packets : List (List ℕ)) (sent : Transmission)
     → map (λ (s : SentFrame). s.frame) (with_packets packets sent)
     ≡ map (λ (s : SentFrame). s.frame) sent
@@ -116,7 +100,6 @@ pub with_packets-frame_at : (packets : List (List ℕ)) (sent : Transmission) (i
     → frame_at (with_packets packets sent) i ≡ frame_at sent i
 with_packets-frame_at packets sent i = rw (with_packets-frames packets sent) refl
 
--- The frames before the last one stay the same.
 pub with_packets-take : (packets : List (List ℕ)) (sent : Transmission) (n : ℕ)
     → n < length sent
     → take n (with_packets packets sent) ≡ take n sent
@@ -132,7 +115,6 @@ pub with_packets-before : (packets : List (List ℕ)) (sent : Transmission) (n :
     → packets_before (with_packets packets sent) n ≡ packets_before sent n
 with_packets-before packets sent n l = rw (with_packets-take packets sent n l) refl
 
--- The last frame gets these packets, and so does the list of all packets.
 pub with_packets-last : (packets : List (List ℕ)) (sent : Transmission) (i : ℕ)
     → suc i ≡ length sent
     → packets_of_frame (with_packets packets sent) i ≡ packets_of_frame sent i ++ packets
@@ -156,10 +138,8 @@ with_packets-all packets (s ∷ next ∷ frames) l =
     (with_packets-all packets (next ∷ frames) (omega arith))
     ∙ sym (append_assoc s.packets (packets_before (next ∷ frames) (length (next ∷ frames))) packets)
 
--- ---- properties of each packet
-
 module _ (P : List ℕ → Type 0) where
-  -- The property holds of each packet of each frame.
+  -- The property P holds of each packet of each frame of the transmission.
   abbrev pub EachRead : Transmission → Type 0
   EachRead frames = AllByRecursion (λ (s : SentFrame). AllByRecursion P s.packets) frames
 
@@ -191,8 +171,6 @@ module _ (P : List ℕ → Type 0) where
       joined_after-read within (sent_after within sent s) frames
       (sent_after-read within sent s each more.0) more.1
 
--- ---- PES packets
-
 pub frames_of-append : (xs ys : List PesPacket) → frames_of (xs ++ ys) ≡ frames_of xs ++ frames_of
     ys
 unfolding frames_of
@@ -200,7 +178,6 @@ frames_of-append [] ys = refl
 frames_of-append (Sent s ∷ xs) ys = ap (λ (fs : Transmission). s ∷ fs) (frames_of-append xs ys)
 frames_of-append (Skipped u ∷ xs) ys = frames_of-append xs ys
 
--- The steps of the first PES packets, and then of the others.
 pub steps_of_each-append : (g : Criteria) (sent : Transmission) (pes n : ℕ) (xs ys : List PesPacket)
     → n ≡ pes + length xs
     → steps_of_each g sent pes (xs ++ ys)
@@ -216,9 +193,6 @@ steps_of_each-append g sent pes n (Skipped u ∷ xs) ys d =
     let rest = steps_of_each-append g sent (suc pes) n xs ys (omega arith) in
     grind (arith, nat_tests, append_assoc)
 
--- ---- packets of a frame
-
--- The events of the first packets depend only on these.
 pub packets_reported-first :
     (w : Watched) (frame from : ℕ) (before xs ys : List (List ℕ)) (n : ℕ)
     → n ≤ length xs
@@ -232,7 +206,6 @@ packets_reported-first w frame from before xs ys (suc n) l =
       get_or_append_left xs ys [] n (omega arith),
     ) refl
 
--- The events of some packets, and then of the first n of others.
 packets_reported-then :
     (w : Watched) (frame from : ℕ) (before xs ys : List (List ℕ)) (n : ℕ)
     → packets_reported w frame from before (xs ++ ys) (length xs + n)
@@ -256,7 +229,6 @@ packets_reported-then w frame from before xs ys (suc n) =
       sym (append_assoc before xs (take n ys)),
     ) (append_assoc (packets_reported w frame from before xs (length xs)) _ _)
 
--- The events of the packets of a frame that come in two parts.
 pub packets_reported-append :
     (w : Watched) (frame from : ℕ) (before xs ys : List (List ℕ))
     → packets_reported w frame from before (xs ++ ys) (length (xs ++ ys))

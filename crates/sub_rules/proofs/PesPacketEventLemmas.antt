@@ -1,5 +1,5 @@
--- The first fault of a PES file that is read on after skipped packets is the first fault if reading
--- stops at the first skipped packet. Main lemma: first_reported_is.
+-- If `within` is 0, the first fault of a PES file is the same whether reading continues after
+-- skipped packets or stops at the first one. Main lemma: first_reported_is.
 use Rattle.std.proofs.Common.{◌≡◌, ℕ, suc, ◌+◌, List, [], ◌∷◌, ◌++◌, length, map, Option, Some}
 use Rattle.std.proofs.Common.{None, refl, sym, ap, ◌∙◌, arith, append_assoc, length-append}
 use Rattle.std.proofs.Common.{flat_map}
@@ -37,8 +37,6 @@ use Rattle.sub_rules.specs.Trusted.{CheckStep, at_pes, current_pes, reported_aft
 use Rattle.sub_rules.proofs.FrameEvents.{events, events_of_first, frame_events}
 use Rattle.sub_rules.specs.declared.active_faults.ActiveFaults.{ActiveFaults}
 
--- ---- the first fault
-
 -- Grouping runs of skipped packets doesn't change the first fault, if no packet was skipped before.
 pub announced_first : (es : List Event) → first_reported (all_announced no_run es) ≡ first_reported
     es
@@ -50,17 +48,14 @@ announced_first (e ∷ es) = announced_first es
 ended_first : (run : SkippedRun) → first_reported (ended_run run) ≡ None
 ended_first run = grind (arith, nat_tests)
 
--- This holds for all events, with the end of the last run after them.
 pub all_first : (reported : List Event)
     → first_reported (all_announced no_run reported ++ ended_run (skipped_after_all no_run
     reported))
     ≡ first_reported reported
 all_first reported = grind (arith, nat_tests, first_of_two, ended_first, or-none, announced_first)
 
--- ---- the whole file
-
--- Bytes that can't be read on are the first fault after the last frame: the other events there only
--- end active faults.
+-- The events that end active faults report no fault, so after the last frame the first fault is
+-- that of the unread bytes.
 endings_first : (last : ActiveFaults) (f : ℕ) → first_reported (endings last f) ≡ None
 unfolding end_events
 endings_first last f = go end_rules
@@ -87,7 +82,6 @@ closing_first : (g : Criteria) (frames : Transmission) (n : ℕ) (u : Unread)
 unfolding closing_events
 closing_first g frames n u h1 h2 = grind (arith, nat_tests, first_of_two, endings_first)
 
--- The events of frames, of which the first is frame i of the list.
 reported_plain : Criteria → Transmission → ℕ → Transmission → List Event
 reported_plain g frames i [] = []
 reported_plain g frames i (s ∷ others) = frame_events g frames i ++ reported_plain g frames (suc i)
@@ -103,12 +97,10 @@ plain_all g frames i n (s ∷ others) e =
     ∙ append_assoc (events_of_first g frames i) (frame_events g frames i)
     (reported_plain g frames (suc i) others)
 
--- The fault of the unread bytes names its own PES packet.
 own_unread : (n : ℕ) (u : Unread)
     → fault_at_pes n (unread_fault n (Some u)) ≡ unread_fault n (Some u)
 own_unread n u = grind (arith, nat_tests)
 
--- From some frames on, all of which are read both ways.
 walk : (g : Criteria) (at_once : g.within ≡ 0) (done all first : Transmission) (n pes : ℕ)
     (pes_packets : List PesPacket) (u : Option Unread) (after : List CheckStep)
     → length done ≡ n
@@ -164,7 +156,6 @@ walk g at_once done all first n pes (Sent s ∷ pes_packets) u after size all_is
     ∙ ap (λ (es : List Event). first_reported (es ++ (others ++ closed))) same
     ∙ ap first_reported (sym (append_assoc (frame_events h first n) others closed))
 
--- After PES packets that are all sent.
 closing_same : (g : Criteria) (frames : Transmission) (n : ℕ) → length frames ≡ n
     → map (at_pes n) (closing_of_pes_packets g frames n n) ≡ closing_events g frames n
 unfolding closing_of_pes_packets
@@ -172,7 +163,6 @@ closing_same g frames n h1 =
     let same = own_names n (closing_events g frames n) (own_closing g frames n h1) in
     grind (arith, nat_tests)
 
--- The first fault, by the frames up to the first skipped packet.
 reported_of_frames : (g : Criteria) (pes_packets : List PesPacket) → g.within ≡ 0
     → first_reported (all_of_pes_packets g pes_packets)
     ≡ first_reported (events (until_skipped g pes_packets) (read_until_skipped pes_packets
@@ -216,27 +206,21 @@ reported_of_frames g pes_packets at_once =
         (sym all)
         ∙ closing_same g frames (length frames) refl
 
--- Frames that are sent, one PES packet each, are read to the end.
 read_sent : (frames : Transmission) (unread : Option Unread)
     → read_until_skipped (map Sent frames) unread ≡ record { frames = frames; unread = unread }
 unfolding read_until_skipped
 read_sent [] unread = grind (arith, nat_tests)
 read_sent (s ∷ frames) unread = grind (arith, nat_tests, (read_sent frames unread))
 
--- The first fault is that of these frames, one PES packet each: the law.
 pub first_reported_is : LawOfFirstReported
 first_reported_is = grind (arith, nat_tests, reported_of_frames, events, read_sent)
 
--- ---- one list after another, for an audience that forwards the events
-
--- The run after the first list is the run before the second.
 pub skipped_run_after-append : (run : SkippedRun) (xs ys : List Event)
     → skipped_after_all run (xs ++ ys) ≡ skipped_after_all (skipped_after_all run xs) ys
 unfolding skipped_after_all
 skipped_run_after-append run [] ys = refl
 skipped_run_after-append run (x ∷ xs) ys = skipped_run_after-append (skipped_run_after run x) xs ys
 
--- The reported events of the first list, and then of the second.
 pub all_announced-append : (run : SkippedRun) (xs ys : List Event)
     → all_announced run (xs ++ ys)
     ≡ all_announced run xs ++ all_announced (skipped_after_all run xs) ys

@@ -36,9 +36,7 @@ use Rattle.sub_rules.specs.PesPackets.{pes_packets_at, read_until_skipped}
 use Rattle.sub_rules.specs.PesPackets.{until_first_skipped}
 use Rattle.sub_rules.specs.PesPackets.PesPacket.{Skipped, Sent}
 
--- ---- PTS to frame
-
--- A clock yields only frames of the day.
+-- A clock converts each PTS to a frame of the day, or to none.
 clock-below :
     (within origin pts frame : ℕ) → clock within origin pts ≡ Some frame → frame < day
 unfolding clock near_frame
@@ -49,14 +47,10 @@ pub clock_in_day :
     (o : OptionsValue) (pts frame : ℕ) → clock_of o pts ≡ Some frame → frame < day
 clock_in_day o pts frame is = clock-below o.within o.origin pts frame is
 
--- ---- the value of a file, one PES packet at a time
-
--- Puts a PES packet before a file.
 abbrev pub before : PesPacket → PesPacketFileValue → PesPacketFileValue
 before pes_packet rest = record
     { pes_packets = pes_packet ∷ rest.pes_packets; unread = rest.unread }
 
--- Puts a reader's result before a file.
 abbrev pub pes_packets_by : Clock → Result (Option PesValue) PesFault → PesPacketFileValue →
     PesPacketFileValue
 pes_packets_by clock (Ok (Some v)) rest = before (pes_packet_of clock (Ok v)) rest
@@ -70,7 +64,7 @@ file_of-then : (clock : Clock) (answer : Result (Option PesValue) PesFault) (mor
     ≡ pes_packets_by clock answer (file_of_pes_packets clock more)
 file_of-then clock answer more = grind (arith, nat_tests)
 
--- A file is its first PES packet followed by the file of the others.
+-- The contents of a PES file are its first PES packet, followed by the contents of the rest.
 pub pes_packets_at-next : (clock : Clock) (given : ℕ) (bytes : List ℕ)
     (answer : Result (Option PesValue) PesFault)
     → given ≤ most_packets
@@ -82,9 +76,7 @@ pes_packets_at-next clock given bytes answer few is =
     ap (file_of_pes_packets clock) (pes_packets_after-next given bytes answer few is)
     ∙ file_of-then clock answer (pes_packets_after (given + 1) (rest_after_pes_packet bytes))
 
--- ---- results of reading one PES packet
-
--- The reader's result determines the first PES packet that is left.
+-- The reader's result determines the first PES packet in the bytes left.
 reads_pes_packet : (clock : Clock) (n : ℕ) (bytes : List ℕ) (pes_packets : List PesPacket)
     (unread : Option Unread) (pes_packet : PesPacket) (answer : Result (Option PesValue) PesFault)
     → n ≤ most_packets
@@ -95,7 +87,7 @@ reads_pes_packet : (clock : Clock) (n : ℕ) (bytes : List ℕ) (pes_packets : L
 reads_pes_packet clock n bytes pes_packets unread pes_packet answer few reads is by =
     grind (arith, nat_tests, pes_packets_at-next clock n bytes answer few is)
 
--- A valid PES packet with a frame is sent.
+-- A valid PES packet whose PTS is that of a frame is sent.
 pub reads_sent : (clock : Clock) (n : ℕ) (bytes : List ℕ) (pes_packets : List PesPacket)
     (unread : Option Unread) (v : PesValue) (frame : ℕ)
     → n ≤ most_packets
@@ -108,7 +100,7 @@ unfolding pes_packet_of
 reads_sent clock n bytes pes_packets unread v frame few reads is of =
     grind (arith, nat_tests, reads_pes_packet)
 
--- A valid PES packet without a frame is skipped.
+-- A valid PES packet whose PTS is that of no frame is skipped.
 pub reads_off : (clock : Clock) (n : ℕ) (bytes : List ℕ) (pes_packets : List PesPacket)
     (unread : Option Unread) (v : PesValue)
     → n ≤ most_packets
@@ -132,7 +124,6 @@ unfolding pes_packet_of
 reads_bad clock n bytes pes_packets unread f few reads is kind = grind
     (arith, nat_tests, reads_pes_packet)
 
--- If no PES packet is left, the list is empty.
 pub pes_packets_end : (clock : Clock) (n : ℕ) (bytes : List ℕ) (pes_packets : List PesPacket)
     (unread : Option Unread)
     → n ≤ most_packets
@@ -142,7 +133,7 @@ pub pes_packets_end : (clock : Clock) (n : ℕ) (bytes : List ℕ) (pes_packets 
 pes_packets_end clock n bytes pes_packets unread few reads is =
     grind (arith, nat_tests, pes_packets_at-next clock n bytes (Ok None) few is)
 
--- If the bytes left begin no PES packet, the list is empty and `unread` has the fault.
+-- If the bytes left begin no PES packet, no PES packet is left, and `unread` has the fault.
 pub pes_packets_stop : (clock : Clock) (n : ℕ) (bytes : List ℕ) (pes_packets : List PesPacket)
     (unread : Option Unread) (f : PesFault)
     → n ≤ most_packets
@@ -157,9 +148,6 @@ pes_packets_stop clock n bytes pes_packets unread f few reads is kind =
 pub no_failure : (f : PesFault) → is_of_pes_packet f ≡ true → is_read f ≡ false
 no_failure f kind = grind (arith, nat_tests)
 
--- ---- up to the first skipped packet
-
--- Puts a frame with these packets before a file. Without a frame number the file ends here.
 abbrev pub file_with : Option ℕ → List (List ℕ) → PesFileValue → PesFileValue
 file_with None packets rest = record { frames = []; unread = Some NoFrame }
 file_with (Some frame) packets rest = record {
@@ -167,14 +155,13 @@ file_with (Some frame) packets rest = record {
   unread = rest.unread;
 }
 
--- Puts a reader's result before a file that ends at its first skipped packet.
 abbrev pub file_by : Clock → Result (Option PesValue) PesFault → PesFileValue → PesFileValue
 file_by clock (Err f) rest = record { frames = []; unread = Some (BadPacket f) }
 file_by clock (Ok None) rest = record { frames = []; unread = None }
 file_by clock (Ok (Some v)) rest =
     file_with (clock v.pts) (packets_of_units v.units) rest
 
--- Cutting at the first skipped packet commutes with putting a result in front.
+-- Cutting a file at its first skipped packet commutes with putting a reader's result in front.
 until_by : (clock : Clock) (answer : Result (Option PesValue) PesFault) (rest : PesPacketFileValue)
     → until_first_skipped (pes_packets_by clock answer rest)
     ≡ file_by clock answer (until_first_skipped rest)
@@ -189,7 +176,7 @@ until_then clock answer more =
     ap until_first_skipped (file_of-then clock answer more)
     ∙ until_by clock answer (file_of_pes_packets clock more)
 
--- Both definitions of the bytes after a packet agree for valid packets.
+-- For a valid PES packet, both definitions of the bytes after the packet agree.
 same_rest : (clock : Clock) (given : ℕ) (bytes : List ℕ)
     (answer : Result (Option PesValue) PesFault)
     → answer_at given bytes ≡ answer
@@ -197,7 +184,8 @@ same_rest : (clock : Clock) (given : ℕ) (bytes : List ℕ)
     ≡ file_by clock answer (file_at clock (given + 1) (rest_after bytes))
 same_rest clock given bytes answer is = grind (arith, nat_tests, rest_after_packet)
 
--- A file that ends at its first skipped packet is its first packet followed by the rest.
+-- A file that ends at its first skipped packet is its first packet followed by the rest of the
+-- file.
 pub file_at-next :
     (clock : Clock) (given : ℕ) (bytes : List ℕ)
     → given ≤ most_packets
@@ -211,21 +199,17 @@ file_at-next clock given bytes few =
     (pes_packets_after (given + 1) (rest_after_pes_packet bytes))
     ∙ same_rest clock given bytes (answer_at given bytes) refl
 
--- ---- consumed bytes
-
--- A valid PES packet is a PES packet.
 pub packet_is_pes_packet : (v : PesValue) (b : List ℕ) → IsValidPesPacket v b → IsPesPacket b
 packet_is_pes_packet v b h =
     grind (arith, nat_tests, packet_of_body v b h, body_complete v b h, length-append)
 
--- Consuming a valid PES packet consumes one PES packet.
+-- A call that consumes a valid PES packet consumes exactly one PES packet.
 pub packet_taken : (old new : Option (List ℕ)) (v : PesValue) (field : List ℕ)
     → TakesDataField old new v field
     → TakesOnePesPacket old new
 packet_taken old new v field t =
     grind (arith, nat_tests, packet_is_pes_packet v t.packet.bytes t.packet.is_packet)
 
--- Appending a PES packet keeps a list of PES packets one (induction step).
 each_pes_packet_more : (pes_packets : List (List ℕ)) (b : List ℕ)
     → AllByRecursion IsPesPacket pes_packets
     → IsPesPacket b
@@ -233,11 +217,9 @@ each_pes_packet_more : (pes_packets : List (List ℕ)) (b : List ℕ)
 each_pes_packet_more [] b h p = (p, tt)
 each_pes_packet_more (x ∷ pes_packets) b h p = (h.0, each_pes_packet_more pes_packets b h.1 p)
 
--- Nothing is consumed at the start of the loop.
 pub takes_no_pes_packets : (old : Option (List ℕ)) → TakesPesPackets 0 old old
 takes_no_pes_packets old = grind (arith, nat_tests, Consumes-nil)
 
--- One iteration consumes one more PES packet.
 pub takes_more_pes_packets : (n : ℕ) (old mid new : Option (List ℕ))
     → TakesPesPackets n old mid
     → TakesOnePesPacket mid new

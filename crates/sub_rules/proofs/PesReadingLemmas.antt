@@ -1,5 +1,5 @@
--- Reading one PES packet, by the file up to its first skipped packet: `reads_next`, `reads_unread`,
--- `reads_end`; and put together, `reads_more`, `reads_ended`.
+-- Reading one PES packet of a file that ends at its first skipped packet: `reads_next`,
+-- `reads_unread`, `reads_end`; and put together, `reads_more`, `reads_ended`.
 use Rattle.std.proofs.lemmas.Bool.Decides.{nat_tests}
 use Rattle.std.proofs.Common.{◌≡◌, ℕ, suc, ◌+◌, ◌<◌, ◌≤◌, List, [], ◌∷◌, length, drop, get_or}
 use Rattle.std.proofs.Common.{Option, Some, None, Result, Ok, Err, refl, ap, arith}
@@ -23,7 +23,6 @@ use Rattle.sub_rules.specs.declared.pes_packet.NextPesPacket.TheVariants as next
 use Rattle.sub_rules.specs.declared.sending.Sending.{Sending}
 use Rattle.sub_rules.proofs.PesPacketFileLemmas.{file_at-next}
 
--- A frame of the list is the first of the frames from it on.
 is_sent :
     (frames : Transmission) (n : ℕ) (s : SentFrame) (others : Transmission)
     → drop n frames ≡ s ∷ others
@@ -34,9 +33,6 @@ is_sent frames n s others e =
     let at : get_or frames n s ≡ s = grind (arith, nat_tests, get_or-drop n frames 0 s) in
     grind (arith, nat_tests, get_or-map)
 
--- ---- the value of a file, one PES packet at a time
-
--- At the end of the bytes no frame is read.
 pub reads_ended :
     (clock : Clock) (given : ℕ) (bytes : List ℕ)
     → given ≤ most_packets
@@ -44,7 +40,6 @@ pub reads_ended :
     → ReadsAs clock given bytes [] None
 reads_ended clock given bytes few ends = grind (arith, nat_tests, file_at-next)
 
--- A PES packet that is sent as a frame comes before the others.
 pub reads_more :
     (clock : Clock) (given : ℕ) (bytes : List ℕ) (v : PesValue) (s : SentFrame)
     (frames : Transmission) (unread : Option Unread)
@@ -56,10 +51,6 @@ pub reads_more :
 reads_more clock given bytes v s frames unread few is sent reads =
     grind (arith, nat_tests, file_at-next)
 
--- ---- results of reading one PES packet
-
--- The result of reading the bytes after n PES packets; v is the value of the PES packet that is
--- sent.
 abbrev pub ReportsNext :
     Clock → ℕ → List ℕ → PesValue → Result (Option NextPesPacket) CheckFault → Type 0
 ReportsNext clock n bytes v answer =
@@ -67,13 +58,12 @@ ReportsNext clock n bytes v answer =
     → ReadsPesPackets clock n bytes pes_packets unread
     → ReportsPesPacket clock n bytes pes_packets unread v answer
 
--- The fault because of which no frame is read.
 abbrev pub reported_fault : Result (Option NextPesPacket) CheckFault → Option CheckFault
 reported_fault (Ok (Some (next.Skipped f))) = Some f
 reported_fault (Err f) = Some f
 reported_fault _ = None
 
--- A PES packet that is sent is the next frame of the list.
+-- A PES packet that is sent is the next frame of the transmission.
 pub record ReadsNext
     (clock : Clock) (n : ℕ) (bytes : List ℕ) (frames : Transmission) (unread : Option Unread)
     (v : PesValue) (frame : ℕ)
@@ -97,7 +87,6 @@ reads_next clock n bytes frames unread v sending reads reports =
     let left = is.left in
     grind (arith, nat_tests, drop-drop 1 n frames, is_sent frames n s rest.frames)
 
--- If no PES packet is left, the list is at its end.
 pub reads_end :
     (clock : Clock) (n : ℕ) (bytes : List ℕ) (frames : Transmission) (unread : Option Unread)
     (v : PesValue)
@@ -110,7 +99,6 @@ reads_end clock n bytes frames unread v reads reports =
     let is = reports file.pes_packets file.unread refl in
     grind (arith, nat_tests, length-drop n frames)
 
--- So it is if the result is a fault, after which the bytes can't be read on.
 pub reads_unread :
     (clock : Clock) (n : ℕ) (bytes : List ℕ) (frames : Transmission) (unread : Option Unread)
     (v : PesValue) (answer : Result (Option NextPesPacket) CheckFault) (f : CheckFault)

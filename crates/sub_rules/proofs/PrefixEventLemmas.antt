@@ -1,6 +1,7 @@
--- The events of a frame depend only on the frames up to it: `frame_events-prefix`; so do the first
--- frame of the unfinished run, `unfinished_since-prefix`, whether that is late, `is_late-prefix`,
--- the active faults, `active_faults_at-prefix`, and the steps of a frame.
+-- The events of a frame depend only on the frames up to it: `frame_events-prefix`. So do the first
+-- frame of the run with an unfinished page, `unfinished_since-prefix`, whether an unfinished page
+-- is a fault, `is_late-prefix`, the active faults, `active_faults_at-prefix`, and the steps of a
+-- frame.
 use Rattle.std.proofs.lemmas.Bool.Decides.{nat_tests}
 use Rattle.std.proofs.Common.{◌≡◌, ℕ, zero, suc, ◌-◌, ◌<◌, ◌≤◌, ◌++◌}
 use Rattle.std.proofs.Common.{length, get_or, Option, refl, arith}
@@ -18,7 +19,6 @@ use Rattle.sub_rules.specs.PesPacketEvents.{steps_of_gap}
 use Rattle.sub_rules.specs.Transmission.{Transmission}
 use Rattle.sub_rules.proofs.FrameEvents.{frame_events, gap_events}
 
--- Frames, more frames after them, and criteria with another end of reading.
 module _ (g : Criteria) (u : Option Unread) (done more : Transmission) where
   abbrev h : Criteria
   h = record g { unread = u }
@@ -151,7 +151,6 @@ module _ (g : Criteria) (u : Option Unread) (done more : Transmission) where
   first_header_events-prefix i h1 =
       grind (arith, nat_tests, packets_of_frame-prefix, frame_at-prefix)
 
-  -- The events of a frame.
   pub frame_events-prefix : (i : ℕ) → i < length done
       → frame_events g all i ≡ frame_events h done i
   unfolding frame_events

@@ -1,6 +1,6 @@
--- The events among some steps, each with its PES packet: `emitted_by`. They have the same first
--- fault,
--- `steps_first`; if each PES packet is a frame, they are the events of the frame, `emitted_sent`.
+-- The events among the steps of a check, each with its PES packet number: `emitted_by`. They have
+-- the same first fault, `steps_first`. If each PES packet is a frame, they are the events of the
+-- frame, `emitted_sent`.
 use Rattle.std.proofs.lemmas.Bool.Decides.{nat_tests}
 use Rattle.std.proofs.Common.{◌≡◌, ℕ, zero, suc, ◌+◌, ◌==◌, Bool, true, false, List, [], ◌∷◌}
 use Rattle.std.proofs.Common.{◌++◌, length, map, Option, None, Some, refl, sym, ap, ◌∙◌, subst}
@@ -32,25 +32,19 @@ use Rattle.sub_rules.specs.Trusted.{reported_after, reported_at, trusted, truste
 use Rattle.sub_rules.specs.Trusted.{first_correct_of}
 use Rattle.sub_rules.proofs.FrameEvents.{frame_events, gap_events}
 
--- ---- the first fault of two lists
-
--- The first fault of the first list, or else of the second.
 pub first_of_two : (xs ys : List Event)
     → first_reported (xs ++ ys) ≡ option_or (first_reported xs) (first_reported ys)
 first_of_two [] ys = refl
 first_of_two (Reported f ∷ xs) ys = refl
 first_of_two (e ∷ xs) ys = first_of_two xs ys
 
--- ---- the first fault with steps
-
--- The events among these steps; those before the first `AtPes` belong to PES packet `pes`.
+-- The events among the steps. Events before the first `AtPes` step belong to PES packet `pes`.
 abbrev pub emitted_by : ℕ → List CheckStep → List Event
 emitted_by pes [] = []
 emitted_by pes (AtPes next ∷ ms) = emitted_by next ms
 emitted_by pes (Emits e ∷ ms) = at_pes pes e ∷ emitted_by pes ms
 emitted_by pes (m ∷ ms) = emitted_by pes ms
 
--- `Trusted` events before another event, or at the end of the file, don't change the first fault.
 closed_first : (b : Bool) (run whole : Option ℕ) (f : ℕ)
     → first_reported (if b then trusted run whole f else []) ≡ None
 closed_first b run whole f = grind (arith, nat_tests)
@@ -87,15 +81,12 @@ steps_first t (Closes are_left more ∷ ms) =
     )
 steps_first t (m ∷ ms) = grind (arith, nat_tests, (steps_first (m ∷ t) ms))
 
--- ---- steps of one PES packet
-
 pub emitted_emits : (pes : ℕ) (es : List Event) → emitted_by pes (map Emits es) ≡ map (at_pes pes)
     es
 emitted_emits pes [] = refl
 emitted_emits pes (e ∷ es) = ap (λ (l : List Event). at_pes pes e ∷ l) (emitted_emits pes es)
 
 module _ (pes : ℕ) where
-  -- These steps hold these events, whatever follows.
   abbrev Emitting : List CheckStep → List Event → Type 0
   Emitting ms es =
       (more : List CheckStep) → emitted_by pes (ms ++ more) ≡ map (at_pes pes) es ++ emitted_by pes
@@ -177,7 +168,6 @@ module _ (pes : ℕ) where
         (emitting_two (map Emits header) steps header end (emitting_emits header)
         (emitting_end i (suc i) (frame_at frames i)))
 
-    -- A frame, to its end.
     emitting_frame : (i : ℕ)
         → Emitting (steps_of_arrival g frames i ++ steps_of_packets g frames i
         ++ steps_of_ending g frames i) (frame_events g frames i)
@@ -200,8 +190,6 @@ module _ (pes : ℕ) where
         packets (emitting_arrival i) (emitting_emits packets))
         (emitting_ending i))
 
--- ---- each PES packet a frame
-
 module _ (g : Criteria) (at_once : g.within ≡ 0) where
   is_zero : (g.within == 0) ≡ true
   is_zero = grind (arith, nat_tests)
@@ -211,7 +199,6 @@ module _ (g : Criteria) (at_once : g.within ≡ 0) where
   none_pending [] = refl
   none_pending (s ∷ sent) = rw is_zero refl
 
-  -- The events of a frame are among the steps of the PES packet that sends it.
   pub emitted_sent : (sent : Transmission) (s : SentFrame) (n pes : ℕ) (more : List CheckStep)
       → length sent ≡ n
       → emitted_by pes (steps_of_sent g sent n s ++ more)

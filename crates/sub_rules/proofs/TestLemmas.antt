@@ -1,5 +1,5 @@
--- Tests that compute, and the properties they decide: truth values, numbers, lists, packets and
--- frames. Each test is followed by the property it decides.
+-- Tests that compute, each followed by the property it decides, for truth values, numbers, lists,
+-- packets and frames.
 use Rattle.std.proofs.Common.{◌≡◌, ℕ, zero, suc, ◌<◌, ◌≤◌, Bool, true, false, not, ◌&&◌}
 use Rattle.std.proofs.Common.{◌||◌, nat_le, List, Some, None, All, refl}
 use Rattle.std.proofs.Common.{arith}
@@ -13,8 +13,6 @@ use Rattle.ttx_packet.specs.OneBit.{first_below}
 use Rattle.stl_rows.specs.declared.national.NationalBits.{NationalBits}
 use Rattle.sub_rules.specs.PacketTests.{is_same_bit, is_same_option}
 use Rattle.sub_rules.specs.Transmission.{SentFrame, Transmission, EachPacket}
-
--- ---- tests and the properties they decide
 
 pub implied :
     {P Q : Type 0} (a b : Bool) → Decides a P → Decides b Q → Decides (not a || b) (P → Q)
@@ -35,7 +33,6 @@ fails a = grind arith
 pub at_most : (a b : ℕ) → Decides (nat_le a b) (a ≤ b)
 at_most a b = (leb-true a b, le-leb a b)
 
--- A test of each number below a bound.
 abbrev pub all_below : (ℕ → Bool) → ℕ → Bool
 all_below test zero = true
 all_below test (suc n) = test n && all_below test n
@@ -51,20 +48,17 @@ pub each_below : (test : ℕ → Bool) (n : ℕ) → all_below test n ≡ true �
     → test k ≡ true
 each_below test n = (below test (λ k. test k ≡ true) (λ k. holds (test k)) n).0
 
--- If no number below a bound is found, none passes.
 pub below_none : (n : ℕ) (test : ℕ → Bool) → first_below n test ≡ None
     → (k : ℕ) → k < n → test k ≡ false
 below_none zero test e k l = absurd (omega arith)
 below_none (suc n) test e k l = let before = below_none n test in grind (arith, nat_tests)
 
--- No number before the one that is found passes.
 pub below_before : (n : ℕ) (test : ℕ → Bool) (x : ℕ) → first_below n test ≡ Some x
     → (k : ℕ) → k < x → test k ≡ false
 below_before zero test x e k l = grind arith
 below_before (suc n) test x e k l =
     grind (arith, nat_tests, below_before n test x, below_none n test, first_below_is n test x)
 
--- A test of each element.
 pub each_of :
     {A : Type 0} (test : A → Bool) (P : A → Type 0)
     → ((x : A) → Decides (test x) (P x))
@@ -72,9 +66,6 @@ pub each_of :
     → Decides (list_all test xs) (All P xs)
 each_of test P each xs = Decides-by_and test P (list_all test) each refl (λ _ _. refl) xs
 
--- ---- of a transmission
-
--- A test of each packet.
 abbrev pub each_packet : (List ℕ → Bool) → Transmission → Bool
 each_packet test frames = list_all (λ (s : SentFrame). list_all test s.packets) frames
 

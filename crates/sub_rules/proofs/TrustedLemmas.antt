@@ -1,20 +1,15 @@
--- The events of one list of steps after another, `reported_after-append`, and the steps before
--- them,
--- `past_after-append`.
+-- The events of two lists of steps, one after the other, `reported_after-append`, and the steps
+-- before each event, `past_after-append`.
 use Rattle.std.proofs.lemmas.Bool.Decides.{nat_tests}
 use Rattle.std.proofs.Common.{◌≡◌, ◌&&◌, List, [], ◌∷◌, ◌++◌, refl, sym, ap, ◌∙◌, append_assoc}
 use Rattle.std.proofs.Common.{arith}
 use Rattle.sub_rules.specs.declared.event.Event.{Event}
 use Rattle.sub_rules.specs.Trusted.{CheckStep, reports_none, reported_after, reported_at}
 
--- Two lists have no events if and only if neither has.
 pub reports_none-two : (xs ys : List Event) → reports_none (xs ++ ys) ≡
     (reports_none xs && reports_none ys)
 reports_none-two xs ys = grind (arith, nat_tests)
 
--- ---- steps, one after another
-
--- All steps that came, the latest first, after those of the second list.
 unfoldable pub past_after : List CheckStep → List CheckStep → List CheckStep
 past_after past [] = past
 past_after past (m ∷ ms) = past_after (m ∷ past) ms

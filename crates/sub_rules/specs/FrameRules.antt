@@ -1,5 +1,5 @@
--- The requirements at the end of each frame, in terms of the first frames of a transmission and of
--- the criteria against which the transmission is checked.
+-- The requirements at the end of each frame, for the first n frames of a transmission and the
+-- criteria of the check.
 use Rattle.std.specs.Prelude.{◌≡◌, ℕ, ◌+◌, ◌-◌, ◌<◌, ◌⊎◌, ◌&&◌, Bool, false, true, List, []}
 use Rattle.std.specs.Prelude.{Option, Some, map, take, length, IsTrue, IsFalse}
 use Rattle.std.specs.Prelude.{slice_index, slice_index_or, flat_map}
@@ -16,17 +16,25 @@ use Rattle.sub_rules.specs.Kept.{IsRight}
 use Rattle.sub_rules.specs.Transmission.{SentFrame, Transmission}
 use Rattle.sub_rules.specs.declared.packet_rule.Watched.{Watched}
 
--- Why the rest of a PES file cannot be read as frames: after the frames there is no valid PES
--- packet, for this fault, or one whose PTS is that of no frame of the day.
+-- Why the rest of a PES file cannot be read as frames: the next bytes are no valid PES packet, for
+-- this fault, or a PES packet whose PTS is that of no frame of the day.
 pub data Unread : Type 0 where
   BadPacket : PesFault → Unread
   NoFrame : Unread
 
--- The criteria of a check: the page and its national option; the repeat bound; within how many
--- frames the due page must be right; the maximum distance of PES packets in frames, if it is
--- limited; the due page at each frame; the TCI of the subtitle with a given TCO; the first TCI and
--- the last TCO; whether subtitles of the file were rejected, and the frames at which the due page
--- is therefore unknown; and why the rest of the PES file cannot be read, if it cannot.
+-- The criteria of a check:
+--
+--   watched      the page and its national option, and what its repeats may do
+--   every        repeat bound in frames
+--   within       the due page must be right within so many frames
+--   pace         maximum distance of PES packets in frames, if it is limited
+--   due          the due page at each frame
+--   ending       the TCI of the subtitle with a given TCO
+--   first_in     the first TCI
+--   last_out     the last TCO
+--   any_refused  subtitles of the file were rejected
+--   undecided    the frames at which the due page is unknown because of rejected subtitles
+--   unread       why the rest of the PES file cannot be read, if it cannot
 pub record Criteria : Type 0 where
   pub watched : Watched
   pub every : ℕ
@@ -40,8 +48,8 @@ pub record Criteria : Type 0 where
   pub undecided : ℕ → Bool
   pub unread : Option Unread
 
--- The page to check with the national option of a programme, whether complete pages are required,
--- and whether repeats may keep the page.
+-- The page to check: its identifier from the options, the national option of the programme, whether
+-- complete pages are required, and whether repeats may keep the page.
 abbrev pub watched_of : ProgrammeValue → OptionsValue → Watched
 watched_of programme options = record {
   page = options.page;
@@ -50,8 +58,8 @@ watched_of programme options = record {
   keeps = options.keeps;
 }
 
--- The criteria for a programme without rejected subtitles, with this page, repeat bound, number of
--- frames and pace.
+-- The criteria for a programme without rejected subtitles, for this page, repeat bound, number of
+-- frames until the page must be right, and pace.
 abbrev pub criteria_with : ProgrammeValue → Watched → ℕ → ℕ → Option ℕ → Option Unread → Criteria
 criteria_with programme watched every within pace unread = record {
   watched = watched;
@@ -67,18 +75,18 @@ criteria_with programme watched every within pace unread = record {
   unread = unread;
 }
 
--- The criteria for a programme and options.
+-- The criteria for a programme without rejected subtitles, and options.
 abbrev pub criteria_of : ProgrammeValue → OptionsValue → Option Unread → Criteria
 criteria_of programme options unread =
     criteria_with programme (watched_of programme options) options.every options.within options.pace
     unread
 
--- The due page is unknown at this frame.
+-- The due page is unknown at this frame, because subtitles of the file were rejected.
 abbrev pub is_due_undecided : JudgedValue → ℕ → Bool
 is_due_undecided j frame = has_refused j && is_undecided_in j frame
 
--- The criteria for the reliable subtitles of a file. If none was rejected, they are those of the
--- programme.
+-- The criteria for the reliable subtitles of a file. If no subtitle was rejected, the criteria are
+-- those of the programme.
 abbrev pub criteria_of_judged : JudgedValue → OptionsValue → Option Unread → Criteria
 criteria_of_judged j options unread =
     record (criteria_of j.programme options unread) {
@@ -86,45 +94,45 @@ criteria_of_judged j options unread =
       undecided = is_due_undecided j;
     }
 
--- The number of frame i of the list, counted from 0.
+-- The frame number of entry i of the transmission, counted from 0.
 abbrev pub frame_at : Transmission → ℕ → ℕ
 frame_at frames i = slice_index (map (λ (s : SentFrame). s.frame) frames) i
 
--- The packets of frame i of the list.
+-- The packets of entry i of the transmission, counted from 0.
 abbrev pub packets_of_frame : Transmission → ℕ → List (List ℕ)
 packets_of_frame frames i = slice_index_or (map (λ (s : SentFrame). s.packets) frames) i []
 
--- The packets of the first n frames of the list, joined.
+-- The packets of the first n entries of the transmission, joined.
 abbrev pub packets_before : Transmission → ℕ → List (List ℕ)
 packets_before frames n = flat_map (λ (s : SentFrame). s.packets) (take n frames)
 
--- The number of the last frame.
+-- The frame number of the last entry of the transmission.
 abbrev pub end_frame : Transmission → ℕ
 end_frame frames = frame_at frames (length frames - 1)
 
--- Frame i of the list has a header of the page.
+-- Entry i of the transmission has a header of the page.
 abbrev pub HasHeader : Criteria → Transmission → ℕ → Type 0
 HasHeader g frames i = holds_header (kind g.watched.page) (packets_of_frame frames i) ≡ true
 
--- The cell is right at the end of frame f of the day, after n frames of the list.
+-- At the end of frame f of the day, after n entries of the transmission, the cell is right.
 abbrev pub ShowsDue : Criteria → Transmission → ℕ → ℕ → ℕ → ℕ → Type 0
 ShowsDue g frames n f row column =
     IsRight g.watched.keeps g.watched.page (packets_before frames n) (g.due f) row column
 
--- Of as many frames of the day as the repeat bound, up to f, one is before the first frame of the
--- list, or has a header of the page.
+-- Among the last `every` frames of the day up to f, one is before the first frame of the
+-- transmission, or has a header of the page.
 abbrev pub IsCovered : Criteria → Transmission → ℕ → ℕ → Type 0
 IsCovered g frames n f =
     (f + 1 < frame_at frames 0 + g.every)
     ⊎ ((j : ℕ) × (j < n) × (f < frame_at frames j + g.every) × HasHeader g frames j)
 
--- If a pace is required, one of the first n frames of the list is less than that many frames before
--- frame f, or after it.
+-- If a pace is required, one of the first n entries of the transmission is less than that many
+-- frames before frame f, or after f.
 abbrev pub IsPaced : Criteria → Transmission → ℕ → ℕ → Type 0
 IsPaced g frames n f =
     (pace : ℕ) → g.pace ≡ Some pace → (j : ℕ) × (j < n) × (f < frame_at frames j + pace)
 
--- If complete pages are required, the page is not open after n frames of the list.
+-- If complete pages are required, the page is not open after n entries of the transmission.
 abbrev pub IsEnded : Criteria → Transmission → ℕ → Type 0
 IsEnded g frames n =
     IsTrue g.watched.complete

@@ -1,7 +1,7 @@
--- The seven rules of a good transmission. They apply to the packets as they are transmitted.
+-- The seven rules of a good transmission. The rules apply to the packets as they are transmitted.
 --
--- That pages are complete is not among them: the headline holds without it, and real transmissions
--- do not always have complete pages. The option `--complete` requires it.
+-- Complete pages are not required by these rules: the headline holds without them, and real
+-- transmissions do not always have complete pages. The option `--complete` requires them.
 use Rattle.std.specs.Prelude.{◌≡◌, ℕ, ◌+◌, ◌<◌, ◌≤◌, List, Some, length, take}
 use Rattle.std.specs.Prelude.{All, IfSome, IsTrue, IsFalse, Option}
 use Rattle.ttx_packet.specs.declared.header.Header.{Header}
@@ -25,8 +25,8 @@ use Rattle.sub_rules.specs.FrameRules.{frame_at}
 use Rattle.sub_rules.specs.Transmission.{Transmission, IsRising, EachPacket, first_frame}
 use Rattle.sub_rules.specs.Transmission.{last_frame, packets_of, on_air_until}
 
--- Two packets agree on the transmission mode, parallel or serial: if both are page headers, they
--- have the same C11, magazine serial (EN 300 706).
+-- Two packets agree on the transmission mode, parallel or serial: if both are page headers, of
+-- whatever page and magazine, they have the same C11, magazine serial (EN 300 706).
 abbrev pub IsInOneMode : List ℕ → List ℕ → Type 0
 IsInOneMode one other =
     (h k : Header) → header one ≡ Some h → header other ≡ Some k → c11 h ≡ c11 k
@@ -43,27 +43,28 @@ pub record IsSubtitleHeader (national : National) (h : Header) : Type 0 where
   pub displayed : IsFalse (c10 h)
   pub option : national_bits h ≡ (sub_set national).bits
 
--- If the packet is a header of the page, it has the control bits of a subtitle.
+-- If the packet is a header of the page, it has the control bits of a subtitle page.
 abbrev pub IsControlled : National → PageIdValue → List ℕ → Type 0
 IsControlled national page packet =
     (h : Header) → kind page packet ≡ ThisPage h → IsSubtitleHeader national h
 
--- A packet X/25 to X/28 of the page's magazine, which could change more of the page than its rows.
+-- The packet is a packet X/25 to X/28 of the page's magazine, which could change more of the page
+-- than its rows. Packets X/29, which belong to the magazine, are allowed.
 abbrev pub IsEnhancement : PageIdValue → List ℕ → Type 0
 IsEnhancement page packet =
     (a : PacketAddress) × (address packet ≡ Some a) × (a.magazine ≡ page.magazine)
     × (25 ≤ a.packet_number) × (a.packet_number ≤ 28)
 
--- The rows of a span have 40 bytes of odd parity, two packets of one row are equal, and there is no
--- packet X/25 to X/28. A span is what follows a header of the page, up to the next page header that
--- ends the page.
+-- The packets of a span are clean: each row has 40 bytes of odd parity, two packets of the same row
+-- are equal, and no packet is X/25 to X/28 of the page's magazine. A span is the list of packets
+-- after a header of the page, up to the next page header that ends the page.
 pub record IsCleanSpan (page : PageIdValue) (packets : List (List ℕ)) : Type 0 where
   pub odd : All (IsOddRow page) packets
   pub same : All (λ first. All (IsSameRow page first) packets) packets
   pub plain : All (λ packet. IsEnhancement page packet → ⊥) packets
 
--- At any packet and at the end of any frame, the packets since the last header of the page are such
--- a span.
+-- At any packet and at the end of any frame, the packets after the last header of the page, up to
+-- the next page header that ends the page, are clean.
 abbrev pub HasCleanSpans : PageIdValue → Transmission → Type 0
 HasCleanSpans page transmission =
     (f n : ℕ) → f ≤ last_frame transmission
@@ -82,8 +83,9 @@ Repeats page every transmission =
     → start + every ≤ last_frame transmission + 1
     → (f : ℕ) × (start ≤ f) × (f < start + every) × HoldsHeader page transmission f
 
--- If a maximum distance of PES packets is required, each frame from the first to the last is less
--- than so many frames after a frame of the transmission, or is one itself.
+-- If a maximum distance of PES packets is required (at least 1 frame), each frame of the day from
+-- the first to the last is at or after a frame of the transmission, by less than that distance. No
+-- transmission keeps a distance of 0; options exclude it.
 abbrev pub KeepsPace : Option ℕ → Transmission → Type 0
 KeepsPace pace transmission =
     (frames f : ℕ)
@@ -94,8 +96,8 @@ KeepsPace pace transmission =
     × (frame_at transmission j ≤ f)
     × (f < frame_at transmission j + frames)
 
--- At the end of each frame from the first to the last, whether it has packets of its own or not,
--- each cell shows the code of the page that is due.
+-- At the end of each frame from the first to the last, even without packets of its own, each cell
+-- shows the code of the due page.
 abbrev pub ShowsDuePages : ProgrammeValue → PageIdValue → Transmission → Type 0
 ShowsDuePages programme page transmission =
     (f row column : ℕ)
@@ -103,42 +105,41 @@ ShowsDuePages programme page transmission =
     → IsCell row column
     → shown page (on_air_until transmission f) row column ≡ cell (due_in programme f) row column
 
--- Rules 1 to 6, which are about everything but the text that is shown, for a transmission of a
--- programme on a page with a repeat bound. The origin of the options plays no role here: it is the
--- PTS of frame 0 in a PES file.
+-- Rules 1 to 6, which are about everything but the shown text, for a transmission of a programme on
+-- a page with a repeat bound. The options' PTS of frame 0 is not used here.
 pub record KeepsRules
     (programme : ProgrammeValue) (transmission : Transmission) (options : OptionsValue)
     : Type 0 where
-  -- 1. There is at least one frame, the frames are in rising order, and packets have 42 bytes. The
-  -- first frame is not after the first TCI, and the last frame is not before the last TCO.
+  -- Rule 1: there is at least one frame, the frames are in rising order, and packets have 42 bytes.
+  -- The first frame is not after the first TCI, and the last frame is not before the last TCO.
   pub not_empty : 0 < length transmission
   pub rising : IsRising transmission
   pub whole : EachPacket (λ packet. length packet ≡ 42) transmission
   pub starts : IfSome (first_in programme.records) (λ tci. first_frame transmission ≤ tci)
   pub lasts : IfSome (last_out programme.records) (λ tco. tco ≤ last_frame transmission)
-  -- 2. The address bytes of each packet, and all eight coded bytes of each packet X/0, are Hamming
-  -- 8/4 code words without a wrong bit.
+  -- Rule 2: the address bytes of each packet, and all eight coded bytes of each packet X/0, are
+  -- Hamming 8/4 code words without a wrong bit.
   pub exact : EachPacket HasExactWords transmission
-  -- 3. All page headers, of any page, have the same C11.
+  -- Rule 3: all page headers, of any page and magazine, have the same C11, magazine serial.
   pub serial : EachPacket (λ one. EachPacket (IsInOneMode one) transmission) transmission
-  -- 4. Each header of the page has the control bits of a subtitle, with the national option of the
-  -- programme.
+  -- Rule 4: each header of the page has the control bits of a subtitle, with the national option of
+  -- the programme.
   pub control : EachPacket (IsControlled programme.drawing.national options.page) transmission
-  -- 5. While the page is open, each row has odd parity and is repeated unchanged, and there is no
-  -- packet X/25 to X/28 of its magazine.
+  -- Rule 5: while the page is open, each row has odd parity, all packets of the same row are equal,
+  -- and no packet X/25 to X/28 of the page's magazine is sent.
   pub spans : HasCleanSpans options.page transmission
-  -- 6. The first frame contains a header of the page, and so does at least one of any `every`
+  -- Rule 6: the first frame contains a header of the page, and so does at least one of any `every`
   -- consecutive frames.
   pub opens : HoldsHeader options.page transmission (first_frame transmission)
   pub repeats : Repeats options.page options.every transmission
-  -- PES packets are no further apart than required, if there is such a requirement.
+  -- PES packets are no further apart than the options require, if they require a distance.
   pub paced : KeepsPace options.pace transmission
 
--- A good transmission of a programme: one that keeps all seven rules.
+-- A good transmission of a programme keeps all seven rules.
 pub record Good
     (programme : ProgrammeValue) (transmission : Transmission) (options : OptionsValue)
     : Type 0 where
-  -- Rules 1 to 6.
+  -- Rules 1 to 6 of a good transmission.
   pub rules : KeepsRules programme transmission options
-  -- 7. At the end of each frame, the page that is due is shown.
+  -- Rule 7: at the end of each frame, the due page is shown.
   pub content : ShowsDuePages programme options.page transmission

@@ -1,5 +1,5 @@
 -- The requirements on a cell and a header if repeats may keep the page: inserters set C4, erase
--- page, when the text changes, and many clear it when they repeat the same page. A repeat must then
+-- page, when the text changes, and many clear C4 when they repeat the same page. A repeat must then
 -- contain the whole page, unchanged.
 use Rattle.std.specs.Prelude.{◌≡◌, ◌≢◌, ◌↔◌, ℕ, ◌⊎◌, Bool, false, List, [], ◌∷◌}
 use Rattle.std.specs.Prelude.{Option, Some, None, IsTrue, IsFalse}
@@ -22,21 +22,22 @@ use Rattle.sub_rules.specs.declared.packet_rule.Watched.{Watched}
 
 -- ---- when a cell is right
 
--- The span has a packet of the row.
+-- Since the last header of the page, a packet of the row was sent, and no other page header has
+-- ended the page before it.
 abbrev pub has_row : PageIdValue → List (List ℕ) → ℕ → Bool
 has_row page packets row =
     list_any (λ packet. is_row row (kind page packet)) (span (kind page) packets)
 
--- A cell is right after these packets for a due page: it has the due code, and unless that is a
--- space, the row was sent after the last header of the page. Otherwise the cell is wrong.
+-- The cell is right after these packets: it has the code of the due page, and unless that code is a
+-- space, its row was sent after the last header of the page.
 pub record IsRight
     (keeps : Bool) (page : PageIdValue) (packets : List (List ℕ)) (due : Rows) (row column : ℕ)
     : Type 0 where
   pub kept_is : kept keeps page packets row column ≡ cell due row column
   pub again : cell due row column ≢ space → IsTrue (has_row page packets row)
 
--- If repeats must not keep the page, a cell is right exactly if it shows the due code. So `Good` is
--- the requirement if each header erases the page.
+-- If repeats must not keep the page, a cell is right if and only if it shows the due code. So
+-- `Good` is the requirement for pages that each header erases.
 abbrev pub LawOfRightCells : Type 0
 LawOfRightCells =
     (page : PageIdValue) (packets : List (List ℕ)) (due : Rows) (row column : ℕ)
@@ -45,31 +46,32 @@ LawOfRightCells =
 
 -- ---- when a header may keep the page
 
--- The header of the page, if the packet is one.
+-- The page header in the packet, if the packet is a header of the checked page.
 abbrev pub header_of_page : PacketKind → Option Header
 header_of_page (ThisPage h) = Some h
 header_of_page _ = None
 
--- The last header of the page among packets.
+-- The last header of the page among the packets; `None` if there is none.
 abbrev pub last_header : PageIdValue → List (List ℕ) → Option Header
 last_header page [] = None
 last_header page (p ∷ ps) = option_or (last_header page ps) (header_of_page (kind page p))
 
--- A header of the page after these packets repeats the page: it has the sub-code of the page's
--- previous header, if there was one; and if complete pages are required, the page is not open.
+-- The header h of the page, sent after these packets, repeats the page: it has the sub-code of the
+-- page's previous header, if there was one; and if complete pages are required, the page is not
+-- open.
 pub record IsRepeat (complete : Bool) (page : PageIdValue) (before : List (List ℕ)) (h : Header)
     : Type 0 where
   pub subcode : (last : Header) → last_header page before ≡ Some last → h.subcode ≡ last.subcode
   pub closed : IsTrue complete → IsFalse (is_open_after (kind page) before)
 
--- If the packet is a header of the page, it erases the page or repeats it.
+-- If the packet is a header of the page, it erases the page (C4) or repeats the page.
 abbrev pub ErasesOrRepeats : Bool → PageIdValue → List (List ℕ) → List ℕ → Type 0
 ErasesOrRepeats complete page before packet =
     (h : Header)
     → kind page packet ≡ ThisPage h
     → IsTrue (c4 h) ⊎ IsRepeat complete page before h
 
--- The control bits of a subtitle's header except C4, as in `IsSubtitleHeader`.
+-- The header has the control bits of a subtitle page, as in `IsSubtitleHeader`, with any C4.
 pub record HasSubtitleBits (national : National) (h : Header) : Type 0 where
   pub no_newsflash : IsFalse (c5 h)
   pub subtitle : IsTrue (c6 h)
@@ -77,13 +79,13 @@ pub record HasSubtitleBits (national : National) (h : Header) : Type 0 where
   pub displayed : IsFalse (c10 h)
   pub option : national_bits h ≡ (sub_set national).bits
 
--- If the packet is a header of the page, it has these bits.
+-- If the packet is a header of the page, it has the control bits of a subtitle page, with any C4.
 abbrev pub IsOfSubtitle : National → PageIdValue → List ℕ → Type 0
 IsOfSubtitle national page packet =
     (h : Header) → kind page packet ≡ ThisPage h → HasSubtitleBits national h
 
--- The rule for a header, for a packet after others: a header of the page has the control bits of a
--- subtitle; and it erases the page or, if repeats may keep the page, repeats it.
+-- The rule for a header of the page, sent after the packets `before`: the header has the control
+-- bits of a subtitle, and it erases the page or, if repeats may keep the page, repeats it.
 pub record IsControlledBy (w : Watched) (before : List (List ℕ)) (packet : List ℕ) : Type 0 where
   pub control : IsOfSubtitle w.national w.page packet
   pub erases : IsFalse w.keeps → ErasesPage w.page packet

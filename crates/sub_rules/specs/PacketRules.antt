@@ -1,5 +1,5 @@
--- The rules for a packet that is sent after others. Each rule takes the whole list of packets
--- before it into account, from the first packet of the transmission on.
+-- The rules for a packet that is sent after other packets. Each rule takes all packets before this
+-- packet into account, from the first packet of the transmission on.
 use Rattle.std.specs.Prelude.{◌≡◌, ℕ, ◌<◌, List, [], ◌∷◌, take, length, slice_index_or}
 use Rattle.std.specs.Prelude.{Option, Some, None, IsTrue, filter, map, drop}
 use Rattle.std.specs.List.{AllByRecursion}
@@ -21,55 +21,55 @@ use Rattle.sub_rules.specs.declared.packet_rule.PacketRule.TheVariants as rule
 use Rattle.sub_rules.specs.declared.packet_rule.Watched.{Watched}
 pub use Rattle.ttx_pes.specs.SentUnits.{packets_of_units}
 
--- The first page header of a list of packets, of any page.
+-- The first page header of a list of packets, of any page; `None` if there is none.
 abbrev pub first_header : List (List ℕ) → Option Header
 first_header [] = None
 first_header (p ∷ ps) = option_or (header p) (first_header ps)
 
--- The 40 codes of a packet's text.
+-- The 40 codes of a packet's text, without parity bits.
 abbrev pub codes_of : List ℕ → List ℕ
 codes_of packet = map code_of (drop 2 packet)
 
--- How many of these packets are headers of the page.
+-- The number of headers of the page among these packets.
 abbrev pub header_count : PageIdValue → List (List ℕ) → ℕ
 header_count page packets = length (filter (λ p. is_this_page (kind page p)) packets)
 
--- Packet p, sent after these packets, keeps the rule.
+-- The packet p, sent after the packets `before`, keeps the rule.
 abbrev pub KeepsRule : PacketRule → Watched → List (List ℕ) → List ℕ → Type 0
--- Both address bytes are code words, without a wrong bit.
+-- Address: both address bytes are code words without a wrong bit.
 KeepsRule rule.Address w before p = HasExactAddress p
--- In a packet X/0 the eight coded bytes are code words, without a wrong bit.
+-- HeaderCode: in a packet X/0, the eight coded bytes are code words without a wrong bit.
 KeepsRule rule.HeaderCode w before p =
     (a : PacketAddress) → address p ≡ Some a → a.packet_number ≡ 0 → HasExactHeader p
--- A page header, of any page, has the same C11 as the first one.
+-- Mode: a page header, of any page and magazine, has the same C11 as the first page header.
 KeepsRule rule.Mode w before p =
     (h first : Header)
     → header p ≡ Some h
     → first_header before ≡ Some first
     → c11 h ≡ c11 first
--- A header of the page has the control bits of a subtitle; it erases the page or, if repeats may
--- keep the page, repeats it.
+-- Control: a header of the page has the control bits of a subtitle, and it erases the page or, if
+-- repeats may keep the page, repeats it.
 KeepsRule rule.Control w before p = IsControlledBy w before p
--- While the page is open, its rows have 40 bytes of odd parity.
+-- Parity: while the page is open, its rows have 40 bytes of odd parity.
 KeepsRule rule.Parity w before p =
     IsTrue (is_open_after (kind w.page) before) → IsOddRow w.page p
--- While the page is open, a row equals each packet of that row since the last header of the page;
--- if repeats may keep the page, since the last header that erases it.
+-- RowChanged: while the page is open, a row equals each packet of the same row since the last
+-- header of the page; if repeats may keep the page, since the last header that erases it.
 KeepsRule rule.RowChanged w before p =
     IsTrue (is_open_after (kind w.page) before)
     → (row : ℕ)
     → kind w.page p ≡ Row row
     → AllByRecursion (λ q. kind w.page q ≡ Row row → q ≡ p)
     (text_span w.keeps (kind w.page) before)
--- While the page is open, there is no packet X/25 to X/28 of its magazine.
+-- Enhancement: while the page is open, no packet X/25 to X/28 of the page's magazine is sent.
 KeepsRule rule.Enhancement w before p =
     IsTrue (is_open_after (kind w.page) before) → IsEnhancement w.page p → ⊥
 
--- The packet keeps all seven rules.
+-- The packet p, sent after the packets `before`, keeps all seven rules.
 abbrev pub KeepsAllRules : Watched → List (List ℕ) → List ℕ → Type 0
 KeepsAllRules w before p = (f : PacketRule) → KeepsRule f w before p
 
--- These packets are well-formed, and each keeps all seven rules after those before it.
+-- The packets are well-formed, and each keeps all seven rules after the packets before it.
 abbrev pub AreClean : Watched → List (List ℕ) → Type 0
 AreClean w packets =
     (k : ℕ)

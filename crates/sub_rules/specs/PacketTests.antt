@@ -1,6 +1,5 @@
--- The rules for a packet as tests, whatever was sent before. A packet may break several rules, and
--- is tested even if earlier packets broke some. Page header and address are read with a single
--- wrong bit per byte corrected.
+-- The rules for a packet as tests. A packet may break several rules, and is tested even if earlier
+-- packets broke some. Page header and address are read with a single wrong bit per byte corrected.
 use Rattle.std.specs.Prelude.{ℕ, zero, suc, ◌+◌, ◌&&◌, ◌||◌, ◌==◌, Bool, true, false, not, List, []}
 use Rattle.std.specs.Prelude.{◌∷◌, Option, Some, None, option_map, is_some, nat_le, slice_index}
 use Rattle.std.specs.List.{filter, find}
@@ -25,78 +24,81 @@ use Rattle.sub_rules.specs.declared.packet_rule.PacketRule.{PacketRule}
 use Rattle.sub_rules.specs.declared.packet_rule.PacketRule.TheVariants as rule
 use Rattle.sub_rules.specs.declared.packet_rule.Watched.{Watched}
 
--- A byte is one of the first n code words.
+-- The byte b is one of the first n Hamming 8/4 code words.
 unfoldable pub is_word_below : ℕ → ℕ → Bool
 is_word_below b zero = false
 is_word_below b (suc n) = b == code_word n || is_word_below b n
 
--- n bytes of a packet from a place on are code words, without a wrong bit (EN 300 706, 8.2).
+-- The n bytes of a packet from the place `from` on are code words without a wrong bit (EN 300 706,
+-- 8.2).
 unfoldable pub are_code_words : ℕ → ℕ → List ℕ → Bool
 are_code_words from zero packet = true
 are_code_words from (suc n) packet =
     is_word_below (slice_index packet (from + n)) 16 && are_code_words from n packet
 
--- The address is that of a packet X/0.
+-- The address is that of a page header, packet X/0.
 abbrev pub is_of_header : Option PacketAddress → Bool
 is_of_header None = false
 is_of_header (Some a) = a.packet_number == 0
 
--- C11 of a header, if there is one, differs from that of the first header.
+-- Both headers exist, and their bits C11 differ.
 abbrev pub is_other_mode : Option Bool → Option Bool → Bool
 is_other_mode (Some true) (Some false) = true
 is_other_mode (Some false) (Some true) = true
 is_other_mode _ _ = false
 
--- Two bits are the same.
+-- The two bits are equal.
 abbrev pub is_same_bit : Bool → Bool → Bool
 is_same_bit true b = b
 is_same_bit false b = not b
 
--- C12, C13 and C14 are the same.
+-- The bits C12, C13 and C14 of both options are equal.
 abbrev pub is_same_option : NationalBits → NationalBits → Bool
 is_same_option one other =
     is_same_bit one.c12 other.c12 && is_same_bit one.c13 other.c13 && is_same_bit one.c14 other.c14
 
--- The control bits are those of a subtitle with this national option, except C4.
+-- The control bits of the header are those of a subtitle with this national option, with any C4.
 abbrev pub has_subtitle_bits : National → Header → Bool
 has_subtitle_bits national h =
     not (c5 h) && c6 h && c7 h && not (c10 h)
     && is_same_option (national_bits h) (sub_set national).bits
 
--- The sub-code of a header is that of another one, if there is one.
+-- The header h has the sub-code of the header `last`, if there is one.
 abbrev pub is_same_subcode : Option Header → Header → Bool
 is_same_subcode None h = true
 is_same_subcode (Some last) h = h.subcode == last.subcode
 
--- A header of the page after these packets repeats the page.
+-- The header h of the page, sent after these packets, repeats the page: `IsRepeat` as a test.
 abbrev pub repeats_page : Bool → PageIdValue → List (List ℕ) → Header → Bool
 repeats_page complete page before h =
     is_same_subcode (last_header page before) h
     && not (complete && is_open_after (kind page) before)
 
--- A header of the page after these packets erases it or, if repeats may keep the page, repeats it.
+-- The header h of the page, sent after these packets, erases the page or, if repeats may keep the
+-- page, repeats it.
 abbrev pub may_follow_as_header : Watched → List (List ℕ) → Header → Bool
 may_follow_as_header w before h = c4 h || (w.keeps && repeats_page w.complete w.page before h)
 
--- The header is allowed here, and has the control bits of a subtitle.
+-- The header h may be sent after these packets, and has the control bits of a subtitle.
 abbrev pub is_subtitle_header : Watched → List (List ℕ) → Header → Bool
 is_subtitle_header w before h = may_follow_as_header w before h && has_subtitle_bits w.national h
 
--- The packet is a header of the page that breaks this rule.
+-- The packet is a header of the page that must not be sent here, or has wrong control bits.
 abbrev pub is_wrong_header : Watched → List (List ℕ) → PacketKind → Bool
 is_wrong_header w before (ThisPage h) = not (is_subtitle_header w before h)
 is_wrong_header w before _ = false
 
--- The codes of a packet, if there is one, differ from these.
+-- The packet q, if there is one, has other codes than these.
 abbrev pub is_other_text : Option (List ℕ) → List ℕ → Bool
 is_other_text None codes = false
 is_other_text (Some q) codes = not (row_differing (codes_of q) codes == 0)
 
--- The first packet of a row among these.
+-- The first packet of the row among these packets; `None` if the row was not sent.
 abbrev pub first_of_row : PageIdValue → List (List ℕ) → ℕ → Option (List ℕ)
 first_of_row page packets row = find (λ q. is_row row (kind page q)) packets
 
--- The codes of a row differ from those of the first packet of the row among these.
+-- The packet p is a row whose codes differ from those of the first packet of the same row among
+-- these packets.
 abbrev pub is_other_row : PageIdValue → List (List ℕ) → List ℕ → PacketKind → Bool
 is_other_row page packets p (Row row) = is_other_text (first_of_row page packets row) (codes_of p)
 is_other_row page packets p _ = false
@@ -107,7 +109,7 @@ is_of_enhancement page None = false
 is_of_enhancement page (Some a) =
     a.magazine == page.magazine && nat_le 25 a.packet_number && nat_le a.packet_number 28
 
--- Packet p, sent after these packets, breaks the rule.
+-- The packet p, sent after the packets `before`, breaks the rule.
 unfoldable pub breaks : PacketRule → Watched → List (List ℕ) → List ℕ → Bool
 breaks rule.Address w before p = not (are_code_words 0 2 p)
 breaks rule.HeaderCode w before p = is_of_header (address p) && not (are_code_words 2 8 p)
@@ -124,12 +126,12 @@ breaks rule.RowChanged w before p =
 breaks rule.Enhancement w before p =
     is_open_after (kind w.page) before && is_of_enhancement w.page (address p)
 
--- The rules in the order in which they are reported for a packet.
+-- The rules for a packet, in the order of reports.
 unfoldable pub packet_rules : List PacketRule
 packet_rules =
     rule.Address ∷ rule.HeaderCode ∷ rule.Mode ∷ rule.Control ∷ rule.Parity ∷ rule.RowChanged
     ∷ rule.Enhancement ∷ []
 
--- The rules that the packet breaks, sent after these packets.
+-- The rules that the packet p breaks, sent after the packets `before`.
 unfoldable pub broken_rules : Watched → List (List ℕ) → List ℕ → List PacketRule
 broken_rules w before p = filter (λ r. breaks r w before p) packet_rules

@@ -1,5 +1,5 @@
--- How PES packets form a transmission: given the PTS of frame 0, each PTS is that of a frame of the
--- day (EN 300 472, PTS: 33 bits at 90 kHz).
+-- How PES packets form a transmission: each PTS is that of a frame of the day, given the PTS of
+-- frame 0 (EN 300 472, PTS: 33 bits at 90 kHz).
 use Rattle.std.specs.Prelude.{◌≡◌, ℕ, ◌<◌, ◌≤◌, List, length, map, Some}
 use Rattle.std.specs.List.{AllZip, concat}
 use Rattle.ttx_pes.specs.DataUnit.{UnitValue}
@@ -10,15 +10,16 @@ use Rattle.sub_plan.specs.FrameTime.{Clock, pts_of}
 use Rattle.sub_rules.specs.PesPackets.{joined}
 use Rattle.sub_rules.specs.Transmission.{SentFrame, Transmission, IsRising}
 
--- A PES packet carries a frame: it has the PTS of the frame, which is a frame of the day, and its
--- Teletext units carry the frame's packets in order. Stuffing and other data units carry none.
+-- The PES packet carries the frame s: it has the PTS of the frame, which is a frame of the day, and
+-- its Teletext units carry the frame's packets in order. Stuffing units and other data units carry
+-- no packet.
 pub record IsSentAs (origin : ℕ) (pes : PesValue) (s : SentFrame) : Type 0 where
   pub in_day : s.frame < day
   pub pts : pes.pts ≡ pts_of origin s.frame
   pub packets : s.packets ≡ map (λ (u : UnitValue). u.packet) pes.units
 
--- The bytes are a PES file with this transmission: valid PES packets, joined, at most as many as a
--- day has frames. With this origin, each carries one of the frames, and the frames rise.
+-- The bytes are a PES file with this transmission: valid PES packets, joined, at most one per frame
+-- of a day. Given the PTS of frame 0, each PES packet carries one frame, and the frames rise.
 pub record Carries (origin : ℕ) (bytes : List ℕ) (frames : Transmission) : Type 0 where
   pub values : List PesValue
   pub packets : List (List ℕ)
@@ -28,8 +29,8 @@ pub record Carries (origin : ℕ) (bytes : List ℕ) (frames : Transmission) : T
   pub sent : AllZip (IsSentAs origin) values frames
   pub rising : IsRising frames
 
--- A clock converts the PTS of a PES packet to this frame, and its Teletext units carry the frame's
--- packets.
+-- The clock converts the PTS of the PES packet to the frame of s, and the Teletext units of the PES
+-- packet carry the packets of s.
 pub record IsReadAs (clock : Clock) (pes : PesValue) (s : SentFrame) : Type 0 where
   pub frame : clock pes.pts ≡ Some s.frame
   pub packets : s.packets ≡ map (λ (u : UnitValue). u.packet) pes.units

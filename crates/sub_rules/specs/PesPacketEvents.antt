@@ -1,10 +1,10 @@
--- The events of a PES file that is read on after skipped PES packets (own): those of the
+-- The events of a PES file if reading continues after skipped PES packets (own): the events of the
 -- transmission, with the fault of each skipped packet in its place. For consecutive skipped packets
 -- with the same fault, the first is reported, and the last directly before the next event.
 --
 -- A checker cannot look ahead: its steps for a PES packet depend only on the frames so far. If
--- `within` is not 0, consecutive PES packets of one frame are merged, so the frame ends only when
--- one of another frame comes, or none.
+-- `within` is not 0, consecutive PES packets of the same frame are merged, so the frame ends only
+-- when a PES packet of another frame comes, or the file ends.
 use Rattle.std.specs.Prelude.{ℕ, zero, suc, ◌+◌, ◌-◌, ◌&&◌, ◌||◌, ◌==◌, ◌≡◌, Bool, false, not}
 use Rattle.std.specs.Prelude.{List, []}
 use Rattle.std.specs.Prelude.{◌∷◌, ◌++◌, length, map, Option, Some, None, is_some, if◌then◌else◌}
@@ -31,19 +31,20 @@ use Rattle.sub_rules.specs.declared.fault.CheckFault.{CheckFault}
 use Rattle.sub_rules.specs.declared.fault_place.FaultPlace.{FaultPlace}
 use Rattle.sub_rules.specs.declared.fault_place.FaultPlace.TheVariants as place
 
--- ---- ends
+-- ---- the ends of frames
 
--- A `GoesBack` step is needed: subtitles were rejected, and the page may take some frames to become
--- right.
+-- The checker needs `GoesBack` steps: subtitles were rejected, and the page may take some frames to
+-- become right.
 abbrev pub goes_back : Criteria → Bool
 goes_back g = g.any_refused && not (g.within == 0)
 
--- That step, if it is needed: since which frame the page is wrong.
+-- A `GoesBack` step with the frame since which the page is unfinished, if the checker needs such
+-- steps.
 abbrev pub steps_before : Criteria → Option ℕ → List CheckStep
 steps_before g first_unfinished = if goes_back g then GoesBack first_unfinished ∷ [] else []
 
--- The steps at the end of a frame. If `within` is not 0: since which frame the page is wrong, and
--- whether that is late; then the events.
+-- The steps at the end of a frame. If `within` is not 0, the first steps say since which frame the
+-- page is unfinished, and whether that is a fault; then come the events.
 --
 --   i   how many frames of the list were sent by the end of the frame before
 --   n   how many were sent by this end
@@ -56,14 +57,14 @@ steps_at_end g frames i n f =
     else AtEnd f (unfinished_since g frames n f) (is_late g frames n f) ∷ [])
     ++ map Emits (events_at_end g frames i n f)
 
--- The steps at the ends of the first n frames of the day after all of the first i frames of the
--- list and before frame i.
+-- The steps at the ends of n frames of the day without a PES packet, which follow the first i
+-- frames of the list.
 unfoldable pub steps_of_gap : Criteria → Transmission → ℕ → ℕ → List CheckStep
 steps_of_gap g frames i zero = []
 steps_of_gap g frames i (suc n) =
     steps_of_gap g frames i n ++ steps_at_end g frames i i (latest frames i + suc n)
 
--- ---- one PES packet at a time
+-- ---- the events of one PES packet
 
 -- The steps before the packets of frame i of the list: the events for its number, and the ends of
 -- the frames of the day before it.
@@ -74,14 +75,14 @@ steps_of_arrival g frames i =
     ++ Begins (frame_at frames i)
     ∷ steps_before g (first_unfinished_before g frames i (frame_at frames i))
 
--- The steps for the packets of frame i.
+-- The steps for the packets of frame i of the list.
 abbrev pub steps_of_packets : Criteria → Transmission → ℕ → List CheckStep
 steps_of_packets g frames i =
     map Emits
     (packet_events g.watched (frame_at frames i) (packets_before frames i)
     (packets_of_frame frames i) (length (packets_of_frame frames i)))
 
--- The steps at the end of frame i.
+-- The steps at the end of frame i of the list.
 abbrev pub steps_of_ending : Criteria → Transmission → ℕ → List CheckStep
 steps_of_ending g frames i =
     map Emits (first_header_events g frames i)
@@ -90,8 +91,8 @@ steps_of_ending g frames i =
     (holds_beginning g.watched.keeps (kind g.watched.page) (packets_of_frame frames i))
     (has_no_active_faults (active_faults_at g frames (suc i) (frame_at frames i))) ∷ []
 
--- The steps at the end of the last frame, if `within` is not 0: then the frame ends only when a PES
--- packet of another frame comes, or none.
+-- The steps at the end of the last frame, if `within` is not 0. Such a frame ends only when a PES
+-- packet of another frame comes, or the file ends.
 unfoldable pub steps_of_pending_end : Criteria → Transmission → List CheckStep
 steps_of_pending_end g [] = []
 steps_of_pending_end g (s ∷ sent) =
@@ -105,7 +106,7 @@ steps_of_more g sent packets =
     (length (packets_of_frame sent (length sent - 1)))
     (packets_before sent (length sent)) packets (length packets))
 
--- The steps for another frame after these.
+-- The steps for a new frame s after the frames `sent`.
 abbrev pub steps_of_next : Criteria → Transmission → SentFrame → List CheckStep
 steps_of_next g sent s =
     let frames = sent ++ s ∷ [] in
@@ -114,15 +115,15 @@ steps_of_next g sent s =
     ++ steps_of_packets g frames i
     ++ (if g.within == 0 then steps_of_ending g frames i else [])
 
--- The steps for a PES packet that is sent after these frames.
+-- The steps for a PES packet of frame s, sent after the frames `sent`.
 unfoldable pub steps_of_sent : Criteria → Transmission → ℕ → SentFrame → List CheckStep
 steps_of_sent g sent pes s =
     if goes_on_with g.within sent s
     then AtPes pes ∷ steps_of_more g sent s.packets
     else steps_of_pending_end g sent ++ AtPes pes ∷ steps_of_next g sent s
 
--- The steps for PES packets, the first of them number `pes`, after these frames. It is unknown what
--- a skipped packet puts on air, so its fault affects the frame before.
+-- The steps for PES packets, of which the first has the number `pes`, after the frames `sent`. A
+-- skipped packet may put anything on air, so its fault affects the frame before it.
 unfoldable pub steps_of_each : Criteria → Transmission → ℕ → List PesPacket → List CheckStep
 steps_of_each g sent pes [] = []
 steps_of_each g sent pes (Sent s ∷ pes_packets) =
@@ -132,17 +133,18 @@ steps_of_each g sent pes (Skipped u ∷ pes_packets) =
     AtPes pes ∷ Emits (Reported (unread_fault pes (Some u)))
     ∷ steps_of_each g sent (suc pes) pes_packets
 
--- The events if there are PES packets but no frames: only why the rest cannot be read.
+-- The events of a file with PES packets but no frames: only why the rest of the file cannot be
+-- read.
 abbrev pub reported_of_unread : ℕ → Option Unread → List Event
 reported_of_unread pes None = []
 reported_of_unread pes (Some u) = Reported (unread_fault pes (Some u)) ∷ []
 
--- The events after the last of `pes` PES packets with n frames.
+-- The events after the last PES packet of a file with `pes` PES packets and n frames.
 unfoldable pub closing_of_pes_packets : Criteria → Transmission → ℕ → ℕ → List Event
 closing_of_pes_packets g frames (suc pes) zero = reported_of_unread (suc pes) g.unread
 closing_of_pes_packets g frames pes n = closing_events g frames n
 
--- The steps after the last PES packet.
+-- The steps after the last PES packet of a file with `pes` PES packets and n frames.
 abbrev pub steps_of_closing : Criteria → Transmission → ℕ → ℕ → List CheckStep
 steps_of_closing g frames pes n =
     AtPes pes
@@ -150,8 +152,8 @@ steps_of_closing g frames pes n =
     (g.any_refused || not (reports_none (closing_of_pes_packets g frames pes n)))
     ∷ map Emits (closing_of_pes_packets g frames pes n)
 
--- The frames of these PES packets. If `within` is not 0, consecutive PES packets of one frame are
--- merged.
+-- The frames of these PES packets. If `within` is not 0, consecutive PES packets of the same frame
+-- are merged.
 abbrev pub sent_by_pes_packets : Criteria → List PesPacket → Transmission
 sent_by_pes_packets g pes_packets = joined g.within (frames_of pes_packets)
 
@@ -165,99 +167,101 @@ steps_of_pes_packets g pes_packets =
 
 -- ---- consecutive skipped PES packets
 
--- The second place is the PES packet directly after the first.
+-- The second place is the PES packet directly after the first place.
 abbrev pub is_after : FaultPlace → FaultPlace → Bool
 is_after (place.Pes last) (place.Pes pes) = pes == suc last
 is_after _ _ = false
 
--- The fault belongs to a skipped packet directly after another one, and has the same number.
+-- The fault `refusal` belongs to a skipped packet directly after the packet of the fault `last`,
+-- and has the same number.
 unfoldable pub goes_on : CheckFault → CheckFault → Bool
 goes_on last refusal =
     (fault_row refusal).is_skipped
     && is_after (place_of last) (place_of refusal)
     && ((check_code refusal).number == (check_code last).number)
 
--- The current run of consecutive skipped packets with the same number of fault: the fault of the
--- last of them, if the last packet was skipped, and whether the run has several.
+-- A run of consecutive skipped packets whose faults have the same number: the fault of the last
+-- packet (`None` if the last packet was not skipped), and whether the run has several packets.
 pub record SkippedRun : Type 0 where
   pub last : Option CheckFault
   pub many : Bool
 
--- No packet was skipped.
+-- The state without a run: the last packet was not skipped.
 abbrev pub no_run : SkippedRun
 no_run = record { last = None; many = false }
 
--- A fault belongs to a skipped packet directly after the last one.
+-- The fault continues a run whose last fault is `last`; false if there is no run.
 abbrev pub goes_on_after : Option CheckFault → CheckFault → Bool
 goes_on_after None refusal = false
 goes_on_after (Some last) refusal = goes_on last refusal
 
--- The event continues the run.
+-- The event continues the run of skipped packets.
 unfoldable pub joins : SkippedRun → Event → Bool
 joins run (Reported refusal) = goes_on_after run.last refusal
 joins run event = false
 
--- The run that a fault begins or continues; none if its packet is not skipped.
+-- The run that ends with this fault; no run if the packet of the fault is not skipped.
 abbrev pub run_with : CheckFault → Bool → SkippedRun
 run_with refusal many = record {
   last = if (fault_row refusal).is_skipped then Some refusal else None;
   many = many;
 }
 
--- The run after an event.
+-- The run of skipped packets after an event.
 unfoldable pub skipped_run_after : SkippedRun → Event → SkippedRun
 skipped_run_after run (Reported refusal) = run_with refusal (goes_on_after run.last refusal)
 skipped_run_after run event = no_run
 
--- The event for the last packet of a run.
+-- The event `SkippedUntil` for the last fault of a run; none if there is no run.
 abbrev pub until : Option CheckFault → List Event
 until None = []
 until (Some refusal) = SkippedUntil refusal ∷ []
 
--- The same, if the run has several packets.
+-- The event at the end of a run of skipped packets, if the run has several packets.
 abbrev pub ended_run : SkippedRun → List Event
 ended_run run = if run.many then until run.last else []
 
--- The events that are reported for an event after the run.
+-- The events to report for an event after the run: nothing if the event continues the run,
+-- otherwise the end of the run and the event.
 unfoldable pub announced : SkippedRun → Event → List Event
 announced run event = if joins run event then [] else ended_run run ++ event ∷ []
 
--- The events that are reported for a list of events, the first of them after the run.
+-- The events to report for a list of events, the first of which comes after the run.
 unfoldable pub all_announced : SkippedRun → List Event → List Event
 all_announced run [] = []
 all_announced run (e ∷ es) = announced run e ++ all_announced (skipped_run_after run e) es
 
--- The run after them.
+-- The run of skipped packets after a list of events.
 unfoldable pub skipped_after_all : SkippedRun → List Event → SkippedRun
 skipped_after_all run [] = run
 skipped_after_all run (e ∷ es) = skipped_after_all (skipped_run_after run e) es
 
--- ---- all events
+-- ---- all events of a PES file
 
--- The events of these PES packets, without those after the last.
+-- The events of the PES packets of a file, without the events after the last packet.
 unfoldable pub events_of_pes_packets : Criteria → List PesPacket → List Event
 events_of_pes_packets g pes_packets = all_announced no_run
     (reported_after [] (steps_of_each g [] 0 pes_packets))
 
--- The events of each PES packet, and those after the last.
+-- The events of a PES file before runs of skipped packets are grouped.
 unfoldable pub reported_of_pes_packets : Criteria → List PesPacket → List Event
 reported_of_pes_packets g pes_packets = reported_after [] (steps_of_pes_packets g pes_packets)
 
--- All events of a PES file that is read on after skipped PES packets.
+-- All events of a PES file if reading continues after skipped PES packets.
 unfoldable pub all_of_pes_packets : Criteria → List PesPacket → List Event
 all_of_pes_packets g pes_packets =
     let reported = reported_of_pes_packets g pes_packets in
     all_announced no_run reported ++ ended_run (skipped_after_all no_run reported)
 
--- ---- the first event
+-- ---- the first event of a PES file
 
--- The criteria for the file up to the first skipped packet.
+-- The criteria for a file that ends at its first skipped packet.
 abbrev pub until_skipped : Criteria → List PesPacket → Criteria
 until_skipped g pes_packets = record g { unread = (read_until_skipped pes_packets g.unread).unread }
 
--- The first fault of a PES file that is read on is the first fault of the same file if reading
--- stops at the first skipped packet, if `within` is 0. So a user who reads all events finds the
--- result of stopping at the first fault at their front.
+-- If `within` is 0, the first fault is the same whether reading continues after skipped PES packets
+-- or stops at the first one. So in a list of all events, the first fault is the one with which a
+-- check would stop.
 abbrev pub LawOfFirstReported : Type 0
 LawOfFirstReported =
     (g : Criteria) (pes_packets : List PesPacket)

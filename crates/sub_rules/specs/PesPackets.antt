@@ -1,5 +1,5 @@
--- Defines a PES file as a list of PES packets. Each is sent (it carries a frame of the day) or
--- skipped (it does not match the grammar, or its PTS is that of no frame of the day) (own).
+-- Defines a PES file as a list of PES packets. Each PES packet is sent (it carries a frame of the
+-- day) or skipped (it does not match the grammar, or its PTS is that of no frame of the day) (own).
 use Rattle.std.specs.Prelude.{◌≡◌, ℕ, ◌+◌, ◌==◌, ◌&&◌, Bool, false, not, if◌then◌else◌, List, []}
 use Rattle.std.specs.Prelude.{◌∷◌, ◌++◌, length, map, Option, Some, None, Result, Ok, Err, IfOk}
 use Rattle.std.specs.Prelude.{IsSome}
@@ -21,52 +21,56 @@ use Rattle.sub_rules.specs.declared.pes_packet.NextPesPacket.{NextPesPacket}
 use Rattle.sub_rules.specs.declared.pes_packet.NextPesPacket.TheVariants as next
 use Rattle.sub_rules.specs.declared.sending.Sending.{Sending}
 
--- A PES packet carries a frame, or it is skipped for a reason.
+-- A PES packet of a file: it carries a frame, or is skipped for a reason.
 pub data PesPacket : Type 0 where
   Sent : SentFrame → PesPacket
   Skipped : Unread → PesPacket
 
--- The contents of a PES file, and why the rest of it cannot be read, if it cannot.
+-- The contents of a PES file: the PES packets, and why the rest of the file cannot be read, if it
+-- cannot.
 pub record PesPacketFileValue : Type 0 where
   pub pes_packets : List PesPacket
   pub unread : Option Unread
 
--- The PES packet with this frame and these Teletext packets. It is skipped if it has no frame.
+-- The PES packet with this frame and these Teletext packets. If its PTS is that of no frame, the
+-- packet is skipped.
 abbrev pub pes_packet_with : Option ℕ → List (List ℕ) → PesPacket
 pes_packet_with None packets = Skipped NoFrame
 pes_packet_with (Some frame) packets = Sent (record { frame = frame; packets = packets })
 
--- Classifies the result of reading a PES packet. `clock` converts its PTS to a frame.
+-- The PES packet of a result of reading. `clock` converts the PTS to a frame.
 unfoldable pub pes_packet_of : Clock → Result PesValue PesFault → PesPacket
 pes_packet_of clock (Ok v) = pes_packet_with (clock v.pts) (packets_of_units v.units)
 pes_packet_of clock (Err f) = Skipped (BadPacket f)
 
--- Why the rest of the bytes cannot be read.
+-- Why the rest of the file cannot be read, given the fault of the next bytes; `None` if the file
+-- was read to its end.
 abbrev pub unread_by : Option PesFault → Option Unread
 unread_by None = None
 unread_by (Some f) = Some (BadPacket f)
 
--- The PES file with these PES packets.
+-- The contents of a PES file with these PES packets.
 abbrev pub file_of_pes_packets : Clock → PesPacketsValue → PesPacketFileValue
 file_of_pes_packets clock value = record {
   pes_packets = map (pes_packet_of clock) value.pes_packets;
   unread = unread_by value.left;
 }
 
--- The PES packets in the bytes that follow the first `given` packets of a file.
+-- The contents of a PES file after its first `given` packets.
 unfoldable pub pes_packets_at : Clock → ℕ → List ℕ → PesPacketFileValue
 pes_packets_at clock given bytes = file_of_pes_packets clock (pes_packets_after given bytes)
 
--- The PES packets of a whole file. Reading continues after a skipped packet.
+-- The contents of a whole PES file. Reading continues after a skipped packet.
 abbrev pub pes_packet_file_of : Clock → List ℕ → PesPacketFileValue
 pes_packet_file_of clock bytes = pes_packets_at clock 0 bytes
 
--- The bytes after `given` PES packets contain exactly these packets, up to the unread rest.
+-- The bytes after `given` PES packets contain exactly `pes_packets`, followed by the unread rest.
 abbrev pub ReadsPesPackets : Clock → ℕ → List ℕ → List PesPacket → Option Unread → Type 0
 ReadsPesPackets clock given bytes pes_packets unread =
     pes_packets_at clock given bytes ≡ record { pes_packets = pes_packets; unread = unread }
 
--- `pes_packet` is the first of `pes_packets`, and the others are in the bytes that follow it.
+-- `pes_packet` is the first of `pes_packets`, and the others are in the bytes that follow the
+-- packet.
 pub record ReadsPesPacket
     (clock : Clock) (n : ℕ) (bytes : List ℕ) (pes_packets : List PesPacket) (unread : Option Unread)
     (pes_packet : PesPacket)
@@ -79,12 +83,13 @@ pub record ReadsPesPacket
 abbrev pub OnPesPacket : Result (Option NextPesPacket) CheckFault → Type 0 → Type 0
 OnPesPacket answer IsSo = IfOk answer (λ pes_packet. IsSome pes_packet → IsSo)
 
--- `IsSo` holds for the frame of a PES packet that is sent.
+-- `IsSo` holds for the frame of a PES packet, if the result is a packet that is sent.
 abbrev pub IfSent : Result (Option NextPesPacket) CheckFault → (Sending → Type 0) → Type 0
 IfSent answer IsSo = (sending : Sending) → answer ≡ Ok (Some (next.Sent sending)) → IsSo sending
 
--- A result of `next_pes_packet` agrees with the bytes after n PES packets: it is the first of
--- `pes_packets`, with the value v if it is sent; or there is none, and `unread` says why.
+-- A result of `next_pes_packet` agrees with the bytes after n PES packets. It is the first of
+-- `pes_packets`, with the value v if the packet is sent; or no packet is left, and `unread` says
+-- why.
 abbrev pub ReportsPesPacket : Clock → ℕ → List ℕ → List PesPacket → Option Unread → PesValue
     → Result (Option NextPesPacket) CheckFault → Type 0
 ReportsPesPacket clock n bytes pes_packets unread v (Ok None) = (pes_packets ≡ []) × (unread ≡ None)
@@ -118,13 +123,13 @@ pub record FailsAtPesPacket (n : ℕ) (old new : Option (List ℕ)) : Type 0 whe
   pub before : TakesPesPackets n old following
   pub within : FailsWithin following new
 
--- The frames that are sent; skipped packets have none.
+-- The frames of the PES packets that are sent; skipped packets have none.
 unfoldable pub frames_of : List PesPacket → Transmission
 frames_of [] = []
 frames_of (Sent s ∷ pes_packets) = s ∷ frames_of pes_packets
 frames_of (Skipped u ∷ pes_packets) = frames_of pes_packets
 
--- Appends Teletext packets to the last frame of the list.
+-- Appends Teletext packets to the last frame of a transmission.
 unfoldable pub with_packets : List (List ℕ) → Transmission → Transmission
 with_packets packets [] = []
 with_packets packets (s ∷ []) =
@@ -137,27 +142,27 @@ goes_on_with within [] s = false
 goes_on_with within (first ∷ sent) s =
     not (within == 0) && (end_frame (first ∷ sent) == s.frame)
 
--- The frames after one more PES packet.
+-- The transmission after one more PES packet.
 abbrev pub sent_after : ℕ → Transmission → SentFrame → Transmission
 sent_after within sent s =
     if goes_on_with within sent s then with_packets s.packets sent else sent ++ s ∷ []
 
--- Appends the frames of more PES packets to those that were sent before.
+-- The transmission after more PES packets.
 unfoldable pub joined_after : ℕ → Transmission → Transmission → Transmission
 joined_after within sent [] = sent
 joined_after within sent (s ∷ frames) = joined_after within (sent_after within sent s) frames
 
--- Merges consecutive PES packets that have the same frame number into one frame. If `within` is 0,
--- each PES packet is a frame of its own.
+-- The transmission of PES packets: consecutive PES packets with the same frame number are merged
+-- into one frame. If `within` is 0, each PES packet is a frame of its own.
 abbrev pub joined : ℕ → Transmission → Transmission
 joined within frames = joined_after within [] frames
 
--- The frames of a PES file, one per PES packet, and why the rest cannot be read, if it cannot.
+-- The frames of a PES file, and why the rest of the file cannot be read, if it cannot.
 pub record PesFileValue : Type 0 where
   pub frames : Transmission
   pub unread : Option Unread
 
--- The frames up to the first skipped packet.
+-- The frames of the PES packets before the first skipped one, and why reading ends there.
 unfoldable pub read_until_skipped : List PesPacket → Option Unread → PesFileValue
 read_until_skipped [] unread = record { frames = []; unread = unread }
 read_until_skipped (Sent s ∷ pes_packets) unread =
@@ -165,6 +170,6 @@ read_until_skipped (Sent s ∷ pes_packets) unread =
     record { frames = s ∷ rest.frames; unread = rest.unread }
 read_until_skipped (Skipped u ∷ pes_packets) unread = record { frames = []; unread = Some u }
 
--- The frames of a file up to its first skipped packet.
+-- The frames of a PES file before its first skipped packet, and why reading ends there.
 abbrev pub until_first_skipped : PesPacketFileValue → PesFileValue
 until_first_skipped file = read_until_skipped file.pes_packets file.unread

@@ -1,5 +1,5 @@
 -- A PES file as one value: the frames in its bytes, given the PTS of frame 0 (EN 300 472, PTS), and
--- why the rest cannot be read, if it cannot.
+-- why the rest of the file cannot be read, if it cannot.
 use Rattle.std.specs.Prelude.{◌≡◌, ◌↔◌, ℕ, List, Option}
 use Rattle.sub_rules.specs.FrameRules.{Unread}
 use Rattle.sub_plan.specs.FrameTime.{Clock, clock_of}
@@ -12,17 +12,17 @@ use Rattle.sub_rules.specs.Transmission.{Transmission}
 unfoldable pub file_at : Clock → ℕ → List ℕ → PesFileValue
 file_at clock given bytes = until_first_skipped (pes_packets_at clock given bytes)
 
--- The frames of a PES file.
+-- The frames of a PES file, up to the first packet that would be skipped.
 abbrev pub pes_file_of : Clock → List ℕ → PesFileValue
 pes_file_of clock bytes = file_at clock 0 bytes
 
--- The bytes after `given` PES packets contain exactly these frames, up to the unread rest.
+-- The bytes after `given` PES packets contain exactly these frames, followed by the unread rest.
 abbrev pub ReadsAs : Clock → ℕ → List ℕ → Transmission → Option Unread → Type 0
 ReadsAs clock given bytes frames unread =
     file_at clock given bytes ≡ record { frames = frames; unread = unread }
 
--- If `within` is 0, the transmissions in the bytes by the clock of the options are those by the
--- exact PTS of each frame of the day. So results for any `within` hold for these too.
+-- If `within` is 0, the clock of the options and the exact PTS of each frame give the same
+-- transmissions of a file. So results for any `within` also hold for the exact PTS.
 abbrev pub LawOfExactFrames : Type 0
 LawOfExactFrames =
     (options : OptionsValue) (bytes : List ℕ) (frames : Transmission)

@@ -1,10 +1,11 @@
 -- A good transmission if the page may take some frames to become right, as many as the options
--- allow, and if repeats may or may not keep the page. Packets may be that late, and a page may be
+-- allow, and if repeats may or may not keep the page. Packets may come that late, and a page may be
 -- sent in parts over some frames. Inserters set C4, erase page, when the text changes, and many
--- clear it when they repeat the same page; a repeat must then contain the whole page, unchanged.
+-- clear C4 when they repeat the same page; a repeat must then contain the whole page, unchanged.
 --
--- `keeps`: repeats may keep the page. Otherwise rules 1 to 6 are those of `Good`; and if `within`
--- is 0 so is rule 7, with complete pages if they are required.
+-- `keeps` means that repeats may keep the page. If `keeps` is false, rules 1 to 6 are those of
+-- `Good`. If `within` is also 0, rule 7 is that of `Good` too, with complete pages if the options
+-- require them.
 use Rattle.std.specs.Prelude.{◌≡◌, ◌↔◌, ℕ, ◌+◌, ◌-◌, ◌<◌, ◌≤◌, ◌⊎◌, Bool, true, false, []}
 use Rattle.std.specs.Prelude.{length, take, slice_index_or, All, IfSome, IsTrue, IsFalse}
 use Rattle.ttx_packet.specs.PageHeader.{HasExactWords}
@@ -23,23 +24,24 @@ use Rattle.sub_rules.specs.Kept.{ErasesOrRepeats, IsOfSubtitle, IsRight}
 use Rattle.sub_rules.specs.Transmission.{EachPacket, IsRising, Transmission, first_frame}
 use Rattle.sub_rules.specs.Transmission.{last_frame, on_air_until}
 
--- ---- the page at ends
+-- ---- the page at the ends of frames
 
--- At the end of frame f each cell is right. If repeats must not keep the page, it shows the due
--- code (`LawOfRightCells`).
+-- At the end of frame f, each cell is right. If repeats must not keep the page, a right cell is one
+-- that shows the due code (`LawOfRightCells`).
 abbrev pub IsCorrectPage : Bool → ProgrammeValue → PageIdValue → Transmission → ℕ → Type 0
 IsCorrectPage keeps programme page transmission f =
     (row column : ℕ)
     → IsCell row column
     → IsRight keeps page (on_air_until transmission f) (due_in programme f) row column
 
--- At the end of frame f the page is not open.
+-- At the end of frame f, the page is not open.
 abbrev pub HasEndedPage : PageIdValue → Transmission → ℕ → Type 0
 HasEndedPage page transmission f =
     IsFalse (is_open_after (kind page) (on_air_until transmission f))
 
--- The allowed codes of a cell at the end of frame f: a space, or the code that is due there at that
--- frame or at one of the `within` frames before it, not before the first frame of the transmission.
+-- The code is allowed in the cell at the end of frame f: it is a space, or the code that is due in
+-- the cell at frame f or at one of the `within` frames before f, but not before the first frame of
+-- the transmission.
 abbrev pub IsDueWithin : ProgrammeValue → Transmission → OptionsValue → ℕ → ℕ → ℕ → ℕ → Type 0
 IsDueWithin programme transmission options f row column code =
     (code ≡ space)
@@ -49,8 +51,8 @@ IsDueWithin programme transmission options f row column code =
     × (f ≤ e + options.within)
     × (code ≡ cell (due_in programme e) row column))
 
--- At the end of each frame from a to b, each cell has a space or a code that was due there within
--- the frames that the options allow.
+-- At the end of each frame f from a to b, each cell has a space or a code that was due in the cell
+-- at frame f or at one of the `within` frames before f.
 abbrev pub KeepsDueCodes :
     Bool → ProgrammeValue → Transmission → OptionsValue → ℕ → ℕ → Type 0
 KeepsDueCodes keeps programme transmission options a b =
@@ -61,14 +63,14 @@ KeepsDueCodes keeps programme transmission options a b =
     → IsDueWithin programme transmission options f row column
     (kept keeps options.page (on_air_until transmission f) row column)
 
--- ---- the transmission
+-- ---- the transmission of repeats
 
--- Rules 1 to 6 of `Good`, for repeats that may or may not keep the page.
+-- Rules 1 to 6 of a good transmission, for repeats that may or may not keep the page.
 pub record KeepsRulesBy
     (keeps : Bool) (programme : ProgrammeValue) (transmission : Transmission)
     (options : OptionsValue)
     : Type 0 where
-  -- 1, 2 and 3 as in `Good`.
+  -- Rules 1, 2 and 3, as in `Good`.
   pub not_empty : 0 < length transmission
   pub rising : IsRising transmission
   pub whole : EachPacket (λ packet. length packet ≡ 42) transmission
@@ -76,7 +78,7 @@ pub record KeepsRulesBy
   pub lasts : IfSome (last_out programme.records) (λ tco. tco ≤ last_frame transmission)
   pub exact : EachPacket HasExactWords transmission
   pub serial : EachPacket (λ one. EachPacket (IsInOneMode one) transmission) transmission
-  -- 4. Each header of the page has the control bits of a subtitle. It erases the page or, if
+  -- Rule 4: each header of the page has the control bits of a subtitle. It erases the page or, if
   -- repeats may keep the page, repeats it.
   pub control : EachPacket (IsOfSubtitle programme.drawing.national options.page) transmission
   pub erases : IsFalse keeps → EachPacket (ErasesPage options.page) transmission
@@ -86,14 +88,15 @@ pub record KeepsRulesBy
       → n < length (on_air_until transmission f)
       → ErasesOrRepeats options.asks_complete options.page
       (take n (on_air_until transmission f)) (slice_index_or (on_air_until transmission f) n [])
-  -- 5. Since the last header that erases the page, while the page is open, each row has odd parity
-  -- and is repeated unchanged, and there is no packet X/25 to X/28 of its magazine.
+  -- Rule 5: since the last header that erases the page, while the page is open, each row has odd
+  -- parity, all packets of the same row are equal, and no packet X/25 to X/28 of the page's
+  -- magazine is sent.
   pub spans :
       (f n : ℕ)
       → f ≤ last_frame transmission
       → IsCleanSpan options.page
       (text_span keeps (kind options.page) (take n (on_air_until transmission f)))
-  -- 6 as in `Good`, and the pace.
+  -- Rule 6, as in `Good`, and the maximum distance of PES packets.
   pub opens : HoldsHeader options.page transmission (first_frame transmission)
   pub repeats : Repeats options.page options.every transmission
   pub paced : KeepsPace options.pace transmission
@@ -121,17 +124,17 @@ FinishesAgainBy keeps programme transmission options a b =
     → start + options.within ≤ b
     → SomeFinishedBy keeps programme transmission options start (start + options.within)
 
--- A good transmission of a programme, within as many frames as the options allow, with repeats that
--- may or may not keep the page.
+-- A good transmission of a programme if the page may take as many frames to become right as the
+-- options allow, with repeats that may or may not keep the page.
 pub record GoodBy
     (keeps : Bool) (programme : ProgrammeValue) (transmission : Transmission)
     (options : OptionsValue)
     : Type 0 where
-  -- Rules 1 to 6.
+  -- Rules 1 to 6 of the transmission.
   pub rules : KeepsRulesBy keeps programme transmission options
-  -- 7. At each frame's end, each cell has a space or a code that was due there within these frames.
-  -- Of any `within` + 1 consecutive frames at least one is finished; so is at least one of the
-  -- frames of each subtitle, and the last frame.
+  -- Rule 7: at the end of each frame, each cell has a space or a code that was due in the cell at
+  -- that frame or at one of the `within` frames before. Of any `within` + 1 consecutive frames at
+  -- least one is finished; so is at least one of the frames of each subtitle, and the last frame.
   pub codes :
       KeepsDueCodes keeps programme transmission options (first_frame transmission)
       (last_frame transmission)
@@ -150,15 +153,16 @@ LawOfNoRepeats =
     → KeepsRulesBy false programme transmission options
     ↔ KeepsRules programme transmission options
 
--- A transmission that is good if repeats must not keep the page is good if they may.
+-- A transmission that is good if repeats must not keep the page is also good if repeats may keep
+-- the page.
 abbrev pub LawOfMayKeep : Type 0
 LawOfMayKeep =
     (programme : ProgrammeValue) (transmission : Transmission) (options : OptionsValue)
     → GoodBy false programme transmission options
     → GoodBy true programme transmission options
 
--- A transmission that is good if repeats may keep the page, and in which every header of the page
--- erases it, is good if they must not.
+-- If a transmission is good when repeats may keep the page, and each header of the page erases the
+-- page, the transmission is also good when repeats must not keep the page.
 abbrev pub LawOfNoneKeeps : Type 0
 LawOfNoneKeeps =
     (programme : ProgrammeValue) (transmission : Transmission) (options : OptionsValue)

@@ -1,9 +1,9 @@
--- A frame of a transmission.
+-- One frame of a transmission, by its index.
 use Rattle.std.specs.Prelude.{◌≡◌, ℕ, ◌<◌, List, length}
 use Rattle.sub_rules.specs.FrameRules.{frame_at, packets_of_frame}
 use Rattle.sub_rules.specs.Transmission.{Transmission}
 
--- Frame i of the list has this number and these packets.
+-- Entry i of the transmission has this frame number and these packets.
 pub record IsSentFrame (frames : Transmission) (i frame : ℕ) (packets : List (List ℕ)) : Type 0
   where
     pub there : i < length frames

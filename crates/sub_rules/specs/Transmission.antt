@@ -1,29 +1,29 @@
 -- A transmission: the frames that carry Teletext, each with its packets; and the packets on air
--- from a given packet on.
+-- between two frames.
 use Rattle.std.specs.Prelude.{ℕ, ◌+◌, ◌<◌, ◌&&◌, List, [], ◌∷◌, nat_lt, nat_le, if◌then◌else◌}
 use Rattle.std.specs.Prelude.{drop, flat_map, All, AllPairs}
 
--- A frame that carries Teletext: its number, and its packets of 42 bytes in the order of
+-- A frame that carries Teletext: its frame number, and its packets of 42 bytes in the order of
 -- transmission. A frame is a 25th of a second of the day, counted from 0 at midnight (own).
 pub record SentFrame : Type 0 where
   pub frame : ℕ
   pub packets : List (List ℕ)
 
--- A transmission: its frames in the order of transmission. A frame that is not listed carries no
--- packet.
+-- A transmission: the frames that carry Teletext, in the order of transmission. A frame of the day
+-- that is not listed carries no packet.
 abbrev pub Transmission : Type 0
 Transmission = List SentFrame
 
--- The numbers of the frames rise strictly.
+-- The frame numbers of the transmission rise strictly.
 abbrev pub IsRising : Transmission → Type 0
 IsRising frames = AllPairs (λ earlier later. earlier.frame < later.frame) frames
 
--- The number of the first frame; 0 if there is none.
+-- The number of the first frame of a transmission; 0 if it has no frame.
 abbrev pub first_frame : Transmission → ℕ
 first_frame [] = 0
 first_frame (s ∷ frames) = s.frame
 
--- The number of the last frame; 0 if there is none.
+-- The number of the last frame of a transmission; 0 if it has no frame.
 abbrev pub last_frame : Transmission → ℕ
 last_frame [] = 0
 last_frame (s ∷ []) = s.frame
@@ -36,7 +36,7 @@ packets_between frames from end =
     (λ (s : SentFrame). if nat_le from s.frame && nat_lt s.frame end then s.packets else [])
     frames
 
--- The packets of one frame; none if the frame is not listed.
+-- The packets of one frame; none if the transmission does not list the frame.
 abbrev pub packets_of : Transmission → ℕ → List (List ℕ)
 packets_of frames frame = packets_between frames frame (frame + 1)
 
@@ -48,6 +48,6 @@ on_air frames g j f = drop j (packets_between frames g (f + 1))
 abbrev pub on_air_until : Transmission → ℕ → List (List ℕ)
 on_air_until frames f = on_air frames (first_frame frames) 0 f
 
--- Each packet of the transmission has a property.
+-- Each packet of the transmission has the property P.
 abbrev pub EachPacket : (List ℕ → Type 0) → Transmission → Type 0
 EachPacket P frames = All (λ (s : SentFrame). All P s.packets) frames

@@ -1,19 +1,20 @@
--- The frames that can stay on air unchanged, which are reported in addition to the faults (own).
+-- Trusted frames: the frames that can stay on air unchanged, which are reported in addition to the
+-- faults (own).
 --
 -- Checking a file produces a list of steps: events, and the positions of PES packets, of frames and
 -- of their ends. All definitions are about the steps so far, `past`, the latest first.
 --
 -- A frame is fault-free if its packets have no fault that affects receivers, and no fault is active
--- at its end. If frames do not rise, none is fault-free from there on. What follows, or is in bytes
--- that cannot be read, may belong to the last frame before it, so that frame is not trusted either.
--- In each run of fault-free frames, those from the first one with a header of the page on are
--- trusted; if repeats may keep the page, from the first one with a header that erases it. They are
--- reported at the end of the run, before the event that ends it.
+-- at its end. If frames do not rise, no later frame is fault-free. A later PES packet, or bytes
+-- that cannot be read, may belong to the last frame before them, so that frame is not trusted
+-- either. In each run of fault-free frames, the trusted frames begin with the first frame that has
+-- a header of the page; if repeats may keep the page, with the first frame that has a header that
+-- erases it. Trusted frames are reported at the end of the run, before the event that ends the run.
 --
--- If the page need not be right at each end, the run is trusted only if the page was right at one
--- of them; and if the run ends at a late end, it excludes the frames since which the page is wrong.
--- If subtitles were rejected this applies to every end of a run, since the next due page is
--- unknown.
+-- If the page need not be right at each frame end, the run is trusted only if the page was right at
+-- one of the ends; and if the run ends with a page that is wrong for too long, the frames since
+-- which the page is wrong are not trusted. If subtitles were rejected, this applies to every end of
+-- a run, since the next due page is unknown.
 use Rattle.std.specs.Prelude.{ℕ, suc, ◌-◌, ◌&&◌, ◌||◌, Bool, true, false, not, List, [], ◌∷◌}
 use Rattle.std.specs.Prelude.{◌++◌, Option, Some, None, is_none, is_some, nat_lt, unwrap_or}
 use Rattle.std.specs.Prelude.{if◌then◌else◌}
@@ -28,53 +29,55 @@ use Rattle.sub_rules.specs.declared.active_faults.ActiveFaults.{ActiveFaults}
 
 -- A step of checking a file.
 pub data CheckStep : Type 0 where
-  -- The following steps belong to this PES packet.
+  -- The following steps belong to the PES packet with this number.
   AtPes : ℕ → CheckStep
-  -- An event.
+  -- An event of the check.
   Emits : Event → CheckStep
   -- The packets of a frame with this number follow.
   Begins : ℕ → CheckStep
   -- The following steps belong to the end of this frame. The second argument is the first frame of
-  -- the unfinished ends up to it, if it is unfinished; the third says whether it is late.
+  -- the current run of ends with an unfinished page, if the page is unfinished; the third says
+  -- whether that is a fault.
   AtEnd : ℕ → Option ℕ → Bool → CheckStep
-  -- A frame with PES packets ends: its number, whether it has a header as described above, and
-  -- whether no fault is active.
+  -- A frame with PES packets ends: its number; whether it has a header of the page (if repeats may
+  -- keep the page, a header that erases it); and whether no fault is active.
   Ends : ℕ → Bool → Bool → CheckStep
   -- The file ends: whether there are unread bytes, which may belong to the last frame, and whether
-  -- trusted frames are reported whatever came before.
+  -- trusted frames are reported even without an event.
   Closes : Bool → Bool → CheckStep
-  -- The first frame of the unfinished ends up to the end before the frame that comes or ends, if
-  -- that end is unfinished.
+  -- The first frame of the run of ends with an unfinished page, up to the end before the frame that
+  -- now comes or ends; `None` if the page was finished there.
   GoesBack : Option ℕ → CheckStep
 
--- ---- the current position
+-- ---- the position in a transmission: PES packet, Teletext packet and frame
 
--- The PES packet of the current events.
+-- The number of the PES packet to which the current events belong.
 unfoldable pub current_pes : List CheckStep → ℕ
 current_pes [] = 0
 current_pes (AtPes pes ∷ past) = pes
 current_pes (m ∷ past) = current_pes past
 
--- The frame of the last PES packet; 0 before the first one.
+-- The frame of the last PES packet; 0 before the first PES packet.
 unfoldable pub last_begun : List CheckStep → ℕ
 last_begun [] = 0
 last_begun (Begins f ∷ past) = f
 last_begun (m ∷ past) = last_begun past
 
--- The first frame of the unfinished ends up to the last end.
+-- The first frame of the run of ends with an unfinished page, up to the last end; `None` if the
+-- page was finished there.
 unfoldable pub first_unfinished_of : List CheckStep → Option ℕ
 first_unfinished_of [] = None
 first_unfinished_of (AtEnd f first_unfinished late ∷ past) = first_unfinished
 first_unfinished_of (m ∷ past) = first_unfinished_of past
 
--- The same, if the last end is late.
+-- The first frame of the run of ends with an unfinished page, if at the last end that is a fault.
 unfoldable pub late_of : List CheckStep → Option ℕ
 late_of [] = None
 late_of (AtEnd f first_unfinished late ∷ past) = if late then first_unfinished else None
 late_of (m ∷ past) = late_of past
 
--- The first frame of the unfinished ends up to the frame before the last one that began or ended,
--- if that is needed.
+-- The frame of the last `GoesBack` step: the first frame of the run of ends with an unfinished
+-- page, up to the end before the current frame.
 unfoldable pub back_of : List CheckStep → Option ℕ
 back_of [] = None
 back_of (GoesBack first_unfinished ∷ past) = first_unfinished
@@ -87,35 +90,35 @@ is_emitted m = false
 
 -- ---- fault-free frames
 
--- The first frame that is no longer trusted because of this event; only a fault can have one. A
--- fault at a late end affects the frames since which the page is wrong.
+-- The first frame that is no longer trusted because of this event; `None` for an event that is no
+-- fault. If the page is wrong for too long, this is the frame since which it is wrong.
 unfoldable pub invalidated_by : List CheckStep → Event → Option ℕ
 invalidated_by past (Reported f) =
     invalidated_frame (last_begun past) (late_of past) (fault_row f).invalidates (fault_row f).place
 invalidated_by past event = None
 
--- The step reports that a frame is not after the frame before.
+-- The step reports that a frame is not after the previous one.
 unfoldable pub reports_order_fault : CheckStep → Bool
 reports_order_fault (Emits (Reported (fault.Order pes))) = true
 reports_order_fault m = false
 
--- The last frame is fault-free so far: frames rose up to it, and no fault since its beginning
--- affects a frame.
+-- The current frame is fault-free so far: frames have risen up to it, and no fault since its
+-- beginning affects receivers.
 unfoldable pub stays_fault_free : List CheckStep → Bool
 stays_fault_free [] = true
 stays_fault_free (Begins f ∷ past) = not (list_any reports_order_fault past)
 stays_fault_free (Emits e ∷ past) = stays_fault_free past && is_none (invalidated_by past e)
 stays_fault_free (m ∷ past) = stays_fault_free past
 
--- No fault is active at an end.
+-- No fault is active at the end of a frame.
 abbrev pub has_no_active_faults : ActiveFaults → Bool
 has_no_active_faults s = not (list_any (λ rule. is_some (broken_at rule s)) end_rules)
 
 -- ---- runs of fault-free frames
 
--- The current run of fault-free frames: its first frame with a header as described above, if it has
--- one. A frame without a PES packet belongs to the run around it; an event at its end may end the
--- run.
+-- The first frame of the current run of fault-free frames that has a header of the page (if repeats
+-- may keep the page, a header that erases it); `None` if there is no such frame. A frame without a
+-- PES packet belongs to the run around it; an event at its end may end the run.
 unfoldable pub run_of : List CheckStep → Option ℕ
 run_of [] = None
 run_of (Emits e ∷ past) = if is_none (invalidated_by past e) then run_of past else None
@@ -126,11 +129,11 @@ run_of (Ends f has_beginning none ∷ past) =
 run_of (Closes are_left more ∷ past) = None
 run_of (m ∷ past) = run_of past
 
--- The frame, if the page was right at its end.
+-- The frame f, if the page was right at its end.
 abbrev pub correct_at : ℕ → Option ℕ → Option ℕ
 correct_at f first_unfinished = if is_none first_unfinished then Some f else None
 
--- The first frame of the run, from its first header on, at whose end the page was right.
+-- The first frame of the current run, from its first header on, at whose end the page was right.
 -- Meaningless without a current run.
 unfoldable pub first_correct_of : List CheckStep → Option ℕ
 first_correct_of [] = None
@@ -143,39 +146,40 @@ first_correct_of (m ∷ past) = first_correct_of past
 
 -- ---- trusted frames, and when they are reported
 
--- The frames from a run's first header to before frame f are trusted, if the page was right at the
--- end of one of them, first at `whole`.
+-- The event for the frames from a run's first header to before frame f, if the page was right at
+-- the end of one of these frames; `whole` is the first such frame.
 abbrev pub trusted : Option ℕ → Option ℕ → ℕ → List Event
 trusted (Some from) (Some whole) f = if nat_lt whole f then Trusted from (f - 1) ∷ [] else []
 trusted run whole f = []
 
--- The trusted frames to report if a frame is no longer trusted: those before it, if necessary
--- without the last ones with unfinished ends.
+-- The event for the trusted frames that end because frame f is no longer trusted: the frames before
+-- f, without the last ones with an unfinished page if subtitles were rejected.
 abbrev pub trusted_up_to : List CheckStep → Option ℕ → List Event
 trusted_up_to past None = []
 trusted_up_to past (Some f) = trusted (run_of past) (first_correct_of past)
     (unwrap_or (back_of past) f)
 
--- The first frame that is not trusted at the end of the file: the one since which the ends are
--- unfinished; otherwise the last frame, if there are unread bytes that may belong to it.
+-- The first frame that is not trusted at the end of the file: the frame since which the page is
+-- unfinished; otherwise the last frame, if unread bytes may belong to it; otherwise the frame after
+-- the last.
 abbrev pub closing_at : List CheckStep → Bool → ℕ
 closing_at past left =
     unwrap_or (first_unfinished_of past)
     (if left then unwrap_or (back_of past) (last_begun past) else suc (last_begun past))
 
--- Sets the PES packet of an event of a frame to `pes`, which counts skipped packets too.
+-- The event with `pes` as the PES packet number of its fault. `pes` counts skipped packets too.
 unfoldable pub at_pes : ℕ → Event → Event
 at_pes pes (Reported refusal) = Reported (fault_at_pes pes refusal)
 at_pes pes event = event
 
--- There is no event.
+-- The list has no events.
 abbrev pub reports_none : List Event → Bool
 reports_none [] = true
 reports_none (e ∷ es) = false
 
--- The events to report for a step: its event, preceded by the trusted frames up to the first one
--- that it affects. At the end of the file, the trusted frames of the last run are reported only if
--- anything else was, about either file.
+-- The events to report for a step: the event of the step, preceded by the frames that were trusted
+-- until then. At the end of the file, the trusted frames of the last run are reported only if any
+-- fault was reported, about either file.
 unfoldable pub reported_at : List CheckStep → CheckStep → List Event
 reported_at past (Emits e) = trusted_up_to past (invalidated_by past e) ++ at_pes (current_pes past)
     e ∷ []
@@ -185,7 +189,7 @@ reported_at past (Closes left more) =
     else []
 reported_at past m = []
 
--- The events to report for steps in order, after those in `past`.
+-- The events to report for a list of steps, after the steps in `past`.
 unfoldable pub reported_after : List CheckStep → List CheckStep → List Event
 reported_after past [] = []
 reported_after past (m ∷ ms) = reported_at past m ++ reported_after (m ∷ past) ms

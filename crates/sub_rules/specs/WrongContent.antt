@@ -1,4 +1,4 @@
--- What every receiver shows if the contents of a transmission are rejected.
+-- What every receiver shows if a check rejects the contents of a transmission.
 use Rattle.std.specs.Prelude.{◌≡◌, ◌≢◌, ℕ, ◌<◌, ◌≤◌, ◌⊎◌, length, take, IsFalse}
 use Rattle.ttx_page.specs.Page.{cell}
 use Rattle.ttx_page.specs.Receiver.{State, Hears}
@@ -8,9 +8,9 @@ use Rattle.sub_rules.specs.FrameRules.{frame_at}
 use Rattle.sub_plan.specs.Schedule.{due_in}
 use Rattle.sub_rules.specs.Transmission.{Transmission, IsRising, last_frame, on_air_until}
 
--- The frames that are read up to a result at the end of frame f of the day: the first n of the
--- list. They rise up to f. The next one is after f; or the last of them is f itself, and the next
--- one was not read.
+-- `read` has the frames of the transmission up to the end of frame f of the day: the first n
+-- entries, which rise up to f. The next entry is after f; or the last entry read is f itself, and
+-- the next one was not read.
 pub record AreReadUpTo (frames : Transmission) (f : ℕ) (read : Transmission) : Type 0 where
   pub n : ℕ
   pub some : 0 < n
@@ -20,8 +20,8 @@ pub record AreReadUpTo (frames : Transmission) (f : ℕ) (read : Transmission) :
   pub up_to : last_frame read ≤ f
   pub next : n < length frames → (last_frame read ≡ f) ⊎ (f < frame_at frames n)
 
--- Every receiver that starts at the first packet, without wrong bits and with any old page, shows a
--- different code than the due page in the cell at the end of frame f.
+-- Every receiver that starts at the first packet, gets no wrong bits and has any old page, shows in
+-- this cell at the end of frame f another code than the due page.
 pub record IsWrongEverywhere
     (programme : ProgrammeValue) (options : OptionsValue) (frames : Transmission)
     (f row column : ℕ)

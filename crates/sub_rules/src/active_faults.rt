@@ -1,22 +1,22 @@
-//! The rules that are broken at a frame's end.
+//! The rules that are broken at the end of a frame.
 ghost use Rattle.std.specs.Prelude.{◌≡◌, ◌↔◌, IsTrue};
 ghost use Rattle.sub_rules.specs.Events.{broken_at, no_active_faults, entire_frame};
 ghost use Rattle.sub_rules.specs.Trusted.{has_no_active_faults};
 
 use crate::end_rule::EndRule;
 
-/// The active faults: the rules that are broken at a frame's end.
+/// The active faults: the rules that are broken at the end of a frame.
 #[derive(Drop)]
 pub struct ActiveFaults {
-    /// The row and column of the first wrong cell.
+    /// The row, 1 to 24, and the column, 0 to 39, of the first wrong cell, if there is one.
     pub content: Option<(u8, u8)>,
-    /// The last header of the page is too long ago.
+    /// Whether the last header of the page is too long ago.
     pub gap: bool,
-    /// Complete pages are required, and the page is open.
+    /// Whether complete pages are required, and the page is open.
     pub incomplete: bool,
-    /// The due page is unknown, since a subtitle was rejected.
+    /// Whether the due page is unknown, since a subtitle was rejected.
     pub undecided: bool,
-    /// The last PES packet is too long ago.
+    /// Whether the last PES packet is too long ago.
     pub silent: bool,
 }
 
@@ -34,19 +34,19 @@ impl ActiveFaults {
         }
     }
 
-    /// Returns whether there is no active fault.
+    /// Returns whether no fault is active.
     #[inline(always)]
     #[tactic(auto, unfolding(crate::specs::Events::end_rules))]
     pub fn has_none(&self) -> bool
         ensures is_none { IsTrue result ↔ (self.now ≡ no_active_faults) }
         ensures none { result ≡ has_no_active_faults self.now }
     {
-        // A single test without branches, since it runs at each end.
+        // A single test without branches, since `has_none` runs at the end of each frame.
         self.content.is_none() & !self.gap & !self.incomplete & !self.undecided & !self.silent
     }
 
-    /// Returns the place at which a rule is broken, if it is: the first wrong cell, or row 0 and
-    /// column 0 for a rule about the whole frame.
+    /// Returns the place at which a rule is broken: the first wrong cell, or row 0 and column 0 for
+    /// a rule about the whole frame. Returns `None` if the rule is not broken.
     pub fn at(&self, rule: EndRule) -> Option<(u8, u8)>
         ensures { result ≡ broken_at rule self.now }
     {
@@ -60,7 +60,8 @@ impl ActiveFaults {
     }
 }
 
-// Returns the place of a rule about the whole frame, if it is broken.
+// Returns row 0 and column 0 for a broken rule about the whole frame, or `None` if the rule is not
+// broken.
 fn entire_frame(is_broken: bool) -> Option<(u8, u8)>
     ensures { result ≡ entire_frame is_broken }
 {

@@ -1,9 +1,9 @@
-//! The rules that are checked at the end of a frame and may stay broken from one frame to the next.
+//! The rules that are checked at the end of a frame.
 ghost use Rattle.std.specs.Prelude.{◌≡◌};
 
 use sub_io::FaultCode;
 
-/// A rule that is checked at the end of each frame. Once broken, it may stay broken for some
+/// A rule that is checked at the end of each frame. Once broken, the rule may stay broken for some
 /// frames.
 #[derive(Clone, Copy, Debug, PartialEq, Eq)]
 pub enum EndRule {
@@ -15,7 +15,7 @@ pub enum EndRule {
     Incomplete,
     /// The due page is known: no rejected subtitle may be due.
     Undecided,
-    /// If a pace is required, the last PES packet is not too long ago.
+    /// If a maximum distance of PES packets is required, the last PES packet is not too long ago.
     Silent,
 }
 

@@ -6,25 +6,25 @@ use crate::fault::CheckFault;
 /// air unchanged.
 #[derive(Clone, Copy, Debug, PartialEq, Eq)]
 pub enum Event {
-    /// A rule is broken here. A rule of a frame's end is reported only if it was not broken at the
-    /// end before, or, for the contents of the page, not at this cell.
+    /// A fault: a rule is broken at this place. A rule of a frame's end is reported only if it was
+    /// not broken at the previous end, or, for the contents of the page, not at this cell.
     Reported(CheckFault),
-    /// A rule of a frame's end that was reported stays broken up to here.
+    /// A fault of a frame's end is over.
     Ended {
-        /// The rule.
+        /// The rule that was broken.
         rule: EndRule,
-        /// The last frame at whose end it was broken.
+        /// The last frame at whose end the rule was broken.
         frame: u32,
     },
-    /// Several consecutive PES packets were skipped for the fault that was reported for the first
-    /// of them. This is the fault of the last.
+    /// Several consecutive PES packets were skipped for the same fault. The fault of the first
+    /// packet was reported; this event has the fault of the last packet.
     SkippedUntil(CheckFault),
-    /// These frames can stay on air unchanged, whatever is broken elsewhere: they have no fault
-    /// that affects receivers, and the first one has a header of the page.
+    /// A run of trusted frames, which can stay on air unchanged, whatever is broken elsewhere: the
+    /// frames have no fault that affects receivers, and the first frame has a header of the page.
     Trusted {
-        /// The first frame.
+        /// The first trusted frame.
         from: u32,
-        /// The last frame.
+        /// The last trusted frame.
         to: u32,
     },
 }

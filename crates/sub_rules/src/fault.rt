@@ -1,4 +1,4 @@
-//! Faults of a pair of files, with their places.
+//! Faults of a subtitle file and a PES file, with their places.
 ghost use Rattle.std.specs.Prelude.{◌≡◌, ◌≤◌, false, length, true};
 ghost use Rattle.sub_rules.specs.Fault.{coded_row, fault_row, rule_code, rule_row};
 ghost use Rattle.sub_rules.specs.declared.fault_place.FaultPlace.TheVariants.{Frame, Packet};
@@ -10,7 +10,8 @@ use stl_rows::{LoadFault, LoadFaultKind};
 use sub_io::FaultCode;
 use ttx_pes::PesFault;
 
-/// A fault of a pair of files, with its place, in the order of the manual's table of faults.
+/// A fault of a subtitle file and a PES file, with its place, in the order of the manual's table of
+/// faults.
 ///
 /// `pes` counts PES packets from 0. `frame` is a frame of the day. `packet` counts from 0 among the
 /// Teletext units of its PES packet. `row` is 1 to 24, `column` 0 to 39.
@@ -20,122 +21,122 @@ pub enum CheckFault {
     Subtitles(LoadFault),
     /// A PES packet is not a valid PES packet with Teletext, or the source failed.
     Pes {
-        /// The PES packet.
+        /// The number of the PES packet, counted from 0.
         pes: u32,
-        /// The fault of the packet.
+        /// The fault of the PES packet.
         fault: PesFault,
     },
-    /// There is no PES packet.
+    /// The PES file has no PES packet.
     Empty,
-    /// A PTS does not belong to any frame of the day.
+    /// The PTS of a PES packet does not belong to any frame of the day.
     OffFrame {
-        /// The PES packet.
+        /// The number of the PES packet, counted from 0.
         pes: u32,
     },
-    /// A frame does not come after the one before.
+    /// The frame of a PES packet does not come after the previous frame.
     Order {
-        /// The PES packet.
+        /// The number of the PES packet, counted from 0.
         pes: u32,
     },
-    /// A subtitle is due before the first frame.
+    /// A subtitle is due before the first frame of the transmission.
     Early {
-        /// The first frame.
+        /// The first frame of the transmission.
         frame: u32,
     },
-    /// An address byte is not a code word.
+    /// An address byte of a Teletext packet is not a code word.
     Address {
-        /// The frame.
+        /// The frame of the Teletext packet.
         frame: u32,
-        /// The packet.
+        /// The number of the Teletext packet in its frame, counted from 0.
         packet: u32,
     },
     /// One of the eight coded bytes of a packet X/0 is not a code word.
     HeaderCode {
-        /// The frame.
+        /// The frame of the Teletext packet.
         frame: u32,
-        /// The packet.
+        /// The number of the Teletext packet in its frame, counted from 0.
         packet: u32,
     },
-    /// C11, magazine serial, differs from that of the first header.
+    /// C11, magazine serial, of a page header differs from C11 of the first page header.
     Mode {
-        /// The frame.
+        /// The frame of the Teletext packet.
         frame: u32,
-        /// The packet.
+        /// The number of the Teletext packet in its frame, counted from 0.
         packet: u32,
     },
     /// A header of the page does not have the control bits of a subtitle: C4, C6 or C7 is clear, C5
     /// or C10 is set, or C12 to C14 are not those of the national option.
     Control {
-        /// The frame.
+        /// The frame of the Teletext packet.
         frame: u32,
-        /// The packet.
+        /// The number of the Teletext packet in its frame, counted from 0.
         packet: u32,
     },
     /// A row of the open page has a byte of even parity.
     Parity {
-        /// The frame.
+        /// The frame of the Teletext packet.
         frame: u32,
-        /// The packet.
+        /// The number of the Teletext packet in its frame, counted from 0.
         packet: u32,
     },
-    /// A row of the open page differs from an earlier packet of the row since the page's last
+    /// A row of the open page differs from an earlier packet of the same row since the page's last
     /// header.
     RowChanged {
-        /// The frame.
+        /// The frame of the Teletext packet.
         frame: u32,
-        /// The packet.
+        /// The number of the Teletext packet in its frame, counted from 0.
         packet: u32,
     },
-    /// A packet X/25 to X/28 of the page's magazine while the page is open.
+    /// A packet X/25 to X/28 of the page's magazine is sent while the page is open.
     Enhancement {
-        /// The frame.
+        /// The frame of the Teletext packet.
         frame: u32,
-        /// The packet.
+        /// The number of the Teletext packet in its frame, counted from 0.
         packet: u32,
     },
-    /// The first frame has no header of the page.
+    /// The first frame of the transmission has no header of the page.
     NoFirstHeader {
-        /// The first frame.
+        /// The first frame of the transmission.
         frame: u32,
     },
-    /// A cell of the page differs from the due page. If the page may take some frames to become
-    /// right, this is checked only at an end at which it must be right; at any other end, a cell
-    /// must have a space or a code that was due within these frames.
+    /// At the end of a frame, a cell of the page differs from the due page. If the page may take
+    /// some frames to become right, this is checked only at an end at which the page must be right;
+    /// at any other end, a cell must have a space or a code that was due within these frames.
     Content {
-        /// The frame.
+        /// The frame at whose end the cell is wrong.
         frame: u32,
-        /// The row.
+        /// The row of the cell, 1 to 24.
         row: u8,
-        /// The column.
+        /// The column of the cell, 0 to 39.
         column: u8,
     },
-    /// As many frames as the repeat bound, without a header of the page, end here.
+    /// At the end of a frame, the page has had no header for as many frames as the repeat bound.
     Gap {
-        /// The last of these frames.
+        /// The last of the frames without a header of the page.
         frame: u32,
     },
-    /// Complete pages are required, and the page is open at the end of a frame: no later header has
-    /// ended it. If the page may take some frames to become right, this is checked only at an end
-    /// at which it must be right.
+    /// At the end of a frame, complete pages are required and the page is open: no later header has
+    /// ended the page. If the page may take some frames to become right, this is checked only at an
+    /// end at which the page must be right.
     Incomplete {
-        /// The frame.
+        /// The frame at whose end the page is open.
         frame: u32,
     },
-    /// The due page is unknown, since a subtitle was rejected. If the page may take some frames to
-    /// become right, also if the due page was unknown within these frames.
+    /// At the end of a frame, the due page is unknown, since a subtitle was rejected. If the page
+    /// may take some frames to become right, also if the due page was unknown within these frames.
     Undecided {
-        /// The frame.
+        /// The frame at whose end the due page is unknown.
         frame: u32,
     },
-    /// As many frames as the pace, without a PES packet, end here.
+    /// At the end of a frame, no PES packet has come for as many frames as the pace.
     Silent {
-        /// The last of these frames.
+        /// The last of the frames without a PES packet.
         frame: u32,
     },
     /// The last TCO is after the last frame. If the page may take some frames to become right, also
-    /// if it is not right at the end of the last frame but still had time.
+    /// if the page is not right at the end of the last frame but still had time.
     Late {
-        /// The last frame.
+        /// The last frame of the transmission.
         frame: u32,
     },
 }
@@ -143,7 +144,7 @@ pub enum CheckFault {
 impl CheckFault {
     ghost use Rattle.sub_rules.specs.Fault.{check_code, fault_at_pes, place_of};
 
-    /// Returns its row in the table.
+    /// Returns the row of the fault in the table of faults.
     pub fn row(self) -> FaultRow
         ensures { result ≡ fault_row self }
     {
@@ -186,22 +187,22 @@ impl CheckFault {
         }
     }
 
-    /// Returns the number and the name of the fault in reports (own).
+    /// Returns the number and the name of the fault for reports (own).
     pub fn code(self) -> FaultCode
         ensures { result ≡ check_code self }
     {
         self.row().code
     }
 
-    /// Returns its place: the PES packet or the TTI block, for a text fault also the position in
-    /// the text; or a frame, a packet or a cell of the transmission.
+    /// Returns the place of the fault: the PES packet or the TTI block, for a text fault also the
+    /// position in the text; or a frame, a packet or a cell of the transmission.
     pub fn place(self) -> FaultPlace
         ensures { result ≡ place_of self }
     {
         self.row().place
     }
 
-    /// Returns the fault with this PES packet as its place, if it has one.
+    /// Returns the fault with another PES packet number in its place, if its place is a PES packet.
     pub fn at_pes(self, pes: u32) -> CheckFault
         ensures { result ≡ fault_at_pes pes self }
     {
@@ -214,7 +215,7 @@ impl CheckFault {
     }
 }
 
-// Returns the row of a fault of the subtitle file.
+// Returns the row of a fault of the subtitle file in the table of faults.
 fn load_row(fault: LoadFault) -> FaultRow
     ensures { result ≡ fault_row (CheckFault.Subtitles fault) }
 {
@@ -226,7 +227,7 @@ fn load_row(fault: LoadFault) -> FaultRow
     coded_row(fault.kind.code(), place, false)
 }
 
-// Returns the row of a fault of a PES packet.
+// Returns the row of a fault of a PES packet in the table of faults.
 fn pes_row(pes: u32, fault: PesFault) -> FaultRow
     ensures { result ≡ fault_row (CheckFault.Pes pes fault) }
 {
@@ -255,7 +256,7 @@ fn rule_row(number: u8, name: &'static str, place: FaultPlace, invalidates: bool
     coded_row(FaultCode::new(number, name), place, invalidates)
 }
 
-// Returns the row of a fault of a packet.
+// Returns the row of a fault of a Teletext packet in the table of faults.
 fn packet_row(
     number: u8,
     name: &'static str,

@@ -1,46 +1,46 @@
 //! Places of faults.
 
-/// The place of a fault.
+/// The place of a fault in the subtitle file or the transmission.
 #[derive(Clone, Copy, Debug, PartialEq, Eq)]
 pub enum FaultPlace {
-    /// No place.
+    /// The fault has no place.
     Nowhere,
     /// A PES packet, counted from 0.
     Pes {
-        /// The PES packet.
+        /// The number of the PES packet, counted from 0.
         pes: u32,
     },
-    /// A TTI block, counted from 1; 0 is the GSI block.
+    /// A TTI block of the subtitle file, counted from 1; 0 is the GSI block.
     Block {
-        /// The block.
+        /// The number of the TTI block.
         block: u32,
     },
     /// A position in the text of a subtitle: a byte or a line, both counted from 0.
     Text {
-        /// The subtitle's last TTI block.
+        /// The number of the subtitle's last TTI block.
         block: u32,
-        /// The byte or the line.
+        /// The index of the byte or the line.
         at: u16,
     },
     /// A frame of the day.
     Frame {
-        /// The frame.
+        /// The frame, counted from 0 at midnight.
         frame: u32,
     },
-    /// A packet, counted from 0 among the Teletext units of its PES packet.
+    /// A Teletext packet, counted from 0 among the Teletext units of its PES packet.
     Packet {
         /// The frame of the PES packet.
         frame: u32,
-        /// The packet.
+        /// The number of the Teletext packet, counted from 0.
         packet: u32,
     },
     /// A cell of the page at the end of a frame.
     Cell {
-        /// The frame.
+        /// The frame at whose end the cell is checked.
         frame: u32,
-        /// The row, 1 to 24.
+        /// The row of the cell, 1 to 24.
         row: u8,
-        /// The column, 0 to 39.
+        /// The column of the cell, 0 to 39.
         column: u8,
     },
 }

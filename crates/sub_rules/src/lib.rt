@@ -1,14 +1,15 @@
-//! The requirements on a transmission, and the reports for one that breaks them.
+//! The requirements on a transmission, and the faults of a transmission that breaks them.
 //!
-//! Builds on `ttx_page` for what packets show, on `stl_rows` for the due page, on `ttx_pes` for PES
-//! packets, and on `sub_plan` for the options. `specs/` defines what a transmission is and how it
-//! is read from the bytes of a PES file, a good transmission, `Good`, and all events for any
-//! transmission in order, `Events`. The checker, the receiver of a file and the laws build on this
-//! crate.
+//! Builds on `ttx_page` for the codes that packets show, on `stl_rows` for the due page, on
+//! `ttx_pes` for PES packets, and on `sub_plan` for the options. `specs/` defines a transmission
+//! and how it is read from the bytes of a PES file, a good transmission, `Good`, and all events for
+//! any transmission in order, `Events`. The checker, the receiver of a file and the laws build on
+//! this crate.
 //!
 //! ```text
-//! next_pes_packet(&mut reader, &mut source, &options, 0)?; // Some(Sent(Sending { frame: 250, ..
-//! })) CheckFault::Gap { frame: 250 }.code(); // 73 Gap
+//! next_pes_packet(&mut reader, &mut source, &options, 0)?;
+//! // Some(Sent(Sending { frame: 250, .. }))
+//! CheckFault::Gap { frame: 250 }.code(); // 73 Gap
 //! ```
 #![tactic(auto)]
 

@@ -1,4 +1,4 @@
-//! Reads a PES file one PES packet at a time, and skips those that are invalid.
+//! Reads a PES file one PES packet at a time, and skips invalid PES packets.
 ghost use Rattle.std.specs.Prelude.{◌≡◌, ◌≢◌, ℕ, ◌+◌, ◌<◌, ◌≤◌, List, IfErr, IfOk, IsSome, Option};
 ghost use Rattle.std.specs.Prelude.{Ok, Some, false, true};
 ghost use Rattle.sub_io.specs.Device.{CanFail, CountsIf, failed};
@@ -34,7 +34,7 @@ pub enum NextPesPacket {
 /// Reads PES packet number `pes`, counted from 0. Returns `None` at the end of the file.
 ///
 /// The contents of the packet stay in `reader`, which lends them. After a skipped packet, ignore
-/// `again`: it may refer to the skipped one.
+/// `again`: it may refer to the skipped packet.
 ///
 /// # Errors
 ///
@@ -55,36 +55,36 @@ pub fn next_pes_packet<P: PesPackets>(
         → ReadsPesPackets (clock_of options.now) pes bytes pes_packets unread
         → ReportsPesPacket (clock_of options.now) pes bytes pes_packets unread reader.new.frame
         result) }
-    // Consumes exactly the bytes of the packet.
+    // The call consumes exactly the bytes of the PES packet.
     ensures taken { OnPesPacket result (TakesOnePesPacket (P.remaining source.old)
         (P.remaining source.new)) }
-    // The bytes of a valid packet match the grammar.
+    // The bytes of a valid PES packet match the grammar.
     ensures sent { IfSent result (λ _. TakesValidPesPacket (P.remaining source.old)
         (P.remaining source.new) reader.new.frame) }
     ensures left { IfKnown (P.remaining source.old) (λ bytes.
         OnPesPacket result (P.remaining source.new ≡ Some (rest_after_pes_packet bytes))) }
     ensures progress { OnPesPacket result (reader.new.progress ≡ Reading (pes + 1)) }
-    // Rejects more packets than a day has frames.
+    // A file with more PES packets than a day has frames is rejected.
     ensures below { OnPesPacket result (pes < most_packets) }
-    // If `again` is set, the data units are those of the packet before.
+    // If `again` is set, the data units are those of the previous PES packet.
     ensures again { IfSent result (λ sending. sending.again ≡ true
         → reader.new.frame.units ≡ reader.old.frame.units) }
-    // Otherwise the data field differs from that of the packet before.
+    // If `again` is clear, the data field differs from that of the previous PES packet.
     ensures other { IfSent result (λ sending. sending.again ≡ false
         → reader.new.data_field ≢ reader.old.data_field) }
     ensures day { IfSent result (λ sending. sending.frame < day) }
     ensures own { failed is_subtitle_fault result ≡ false }
-    // A failing source never counts as an invalid packet.
+    // A failing source never counts as an invalid PES packet.
     ensures skipped { (fault : CheckFault) → result ≡ Ok (Some (NextPesPacket.Skipped fault))
         → (is_pes_read fault ≡ false) × (is_subtitle_fault fault ≡ false) }
-    // A failure of the source is reported for the packet in which it happened.
+    // A failure of the source is reported for the PES packet in which it happened.
     ensures place { IfErr result (λ f. is_pes_read f ≡ true
         → f ≡ CheckFault.Pes pes PesFault.Read) }
     ensures within { IfErr result (λ f. is_pes_read f ≡ true
         → FailsWithin (P.remaining source.old) (P.left source.new)) }
-    // Reads nothing beyond the packet.
+    // The call reads nothing beyond the PES packet.
     ensures settled { OnPesPacket result (P.left source.new ≡ P.remaining source.new) }
-    // Cannot fail if no device has to be called for the packet.
+    // The call cannot fail if the source needs no device for the PES packet.
     ensures ready { P.ready source.old ≡ true → failed is_pes_read result ≡ false }
     ensures device { P.device source.new ≡ P.device source.old }
     ensures count { CountsIf P.failure_count source.old (failed is_pes_read result) source.new }
@@ -103,7 +103,7 @@ pub fn next_pes_packet<P: PesPackets>(
     }
 }
 
-// Converts a PTS to a frame; the packet is skipped if there is none.
+// Converts a PTS to a frame of the day. If the PTS belongs to no frame, the PES packet is skipped.
 fn pes_packet_of(pts: u64, options: &Options, pes: u32, again: bool) -> NextPesPacket
     ensures exact { (v : PesValue) (bytes : List ℕ) (pes_packets : List PesPacket)
         (unread : Option Unread)

@@ -4,16 +4,16 @@ ghost use Rattle.ttx_pes.specs.PesGrammar.{IsPesValue, most_units};
 
 use ttx_pes::{ComparingReader, SentUnits};
 
-/// A PES packet with its frame.
+/// A PES packet that is sent, with its frame.
 #[derive(Clone, Copy, Debug, PartialEq, Eq)]
 pub struct Sending {
-    /// The frame of the day.
+    /// The frame of the day to which the PTS belongs.
     pub frame: u32,
-    /// Its Teletext packets repeat those of the PES packet before, byte for byte.
+    /// Whether the Teletext packets repeat those of the previous PES packet, byte for byte.
     pub again: bool,
 }
 
-/// Returns the Teletext units of the PES packet that was read last, borrowed from its bytes.
+/// Returns the Teletext units of the PES packet that `reader` read last, borrowed from its bytes.
 pub fn units_of(reader: &ComparingReader) -> SentUnits<'_>
     ensures value { result ≡ reader.now.frame.units }
     ensures few { length result ≤ most_units }
