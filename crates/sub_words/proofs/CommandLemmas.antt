@@ -1,5 +1,5 @@
--- What clap's contract says about the program's own commands. Main lemmas: command_in-parsed,
--- refusals-parsed and IsFaultOfCommand-refused; asked_for-met. The last is about the answer.
+-- The contract of clap, applied to the program's own commands. Main lemmas: command_in-parsed,
+-- refusals-parsed and IsFaultOfCommand-refused; asked_for-met. The last is about the request.
 use Rattle.std.proofs.Common.{◌≡◌, ◌≢◌, ◌∙◌, true, false, List, [], Option, Some, None, Ok, Err}
 use Rattle.std.proofs.Common.{Bool, ◌||◌}
 use Rattle.std.proofs.Common.{refl, ap, subst, sym, inl, inr, arith, drop, get_or, ◌+◌, ◌≤◌}
@@ -34,21 +34,20 @@ use Rattle.sub_request.specs.declared.request.Request.{Request}
 use Rattle.sub_request.specs.declared.request.UsageFault.{UsageFault}
 use Rattle.sub_request.specs.declared.request.UsageFault.TheVariants as fault
 
--- Exact matches are promised for a simple command, as the program's is.
+-- The contract of clap promises exact matches only for a simple command, which the program is.
 is_simple-subttx : is_simple subttx_app ≡ true
 unfolding subttx_app clap_on_literals
 is_simple-subttx = refl
 
--- Exact refusals are promised if no argument has a rule about another, as here.
+-- The contract of clap promises exact refusals only if no argument has a rule about another
+-- argument, which is so here.
 is_free-subttx : is_simple_and_free subttx_app ≡ true
 unfolding subttx_app clap_on_literals
 is_free-subttx = refl
 
--- The entry of a command in the program's table.
 abbrev pub table_of : Bor Text × Bor (List Argument) → Text × List Rule
 table_of command = (command.0.now, map clap_rule command.1.now)
 
--- One more step of a fold over the rest of a list.
 pub fold_more : {A B X : Type 0} (f : B → A → B) (of : X → A) (xs : List X) (i : ℕ) (d : X)
     → (b new all : B)
     → i < length xs
@@ -59,7 +58,6 @@ fold_more f of xs i d b new all within whole e =
     ap (λ b'. fold f b' (map of (drop (i + 1) xs))) e
     ∙ sym (at_drop_more (λ rest. fold f b (map of rest)) xs i d within) ∙ whole
 
--- If an item does not pass, those after it decide whether any does.
 pub any_more : {X : Type 0} (test : X → Bool) (xs : List X) (i : ℕ) (d : X) (all : Bool)
     → i < length xs
     → test (get_or xs i d) ≡ false
@@ -69,7 +67,6 @@ any_more test xs i d all within none whole =
     ap (λ b. b || list_any test (drop (i + 1) xs)) (sym none)
     ∙ sym (at_drop_more (list_any test) xs i d within) ∙ whole
 
--- At the end of the list it is the result so far.
 pub fold_all : {A B X : Type 0} (f : B → A → B) (of : X → A) (xs : List X) (i : ℕ) (b all : B)
     → length xs ≤ i
     → fold f b (map of (drop i xs)) ≡ all
@@ -77,12 +74,10 @@ pub fold_all : {A B X : Type 0} (f : B → A → B) (of : X → A) (xs : List X)
 fold_all f of xs i b all over whole =
     sym (at_drop_all (λ rest. fold f b (map of rest)) xs i over) ∙ whole
 
--- Without arguments there is no command.
 none-refused : (clap_refusals [] ≢ []) × (are_sound [] ≢ true)
 unfolding clap_refusals are_sound subttx_app clap_on_literals
 none-refused = (λ e. cc, λ e. cc)
 
--- No arguments.
 pub no-arguments : (arguments : List (Bor (List ℕ)))
     → (length arguments == 0) ≡ true
     → IsFaultOfCommand (texts_of arguments) fault.Words
@@ -90,7 +85,6 @@ no-arguments [] none = none-refused
 no-arguments (w ∷ ws) none =
     let more : 0 < length (w ∷ ws) = omega arith in absurd (grind (arith, nat_tests))
 
--- There are as many texts as arguments.
 pub some-texts : (arguments : List (Bor (List ℕ)))
     → (length arguments == 0) ≡ false
     → texts_of arguments ≢ []
@@ -101,21 +95,18 @@ pub some-arguments : (arguments : List (Bor (List ℕ))) → arguments ≢ [] �
 some-arguments [] some e = some refl
 some-arguments (w ∷ ws) some e = cc
 
--- A fault of the arguments that needs no memory.
 own-fault : (requested : Result Requested UsageFault) (f : UsageFault)
     → (requested ≡ Err f) × (is_own f ≡ true)
     → IsFaultIn requested f
 own-fault requested fault.Memory is = tt
 own-fault requested f is = is
 
--- What needs no memory is also read correctly if memory may run out.
 pub read_exactly : (requested : Result Requested UsageFault) (result : Result Request UsageFault)
     → IsReadExactly requested result
     → IsReadGivenMemory requested result
 read_exactly requested (Ok r) is = is
 read_exactly requested (Err f) is = own-fault requested f is
 
--- A fault of a command's arguments is one of the whole command line.
 fault-read : (arguments : List Text) (requested : Result Requested UsageFault) (f : UsageFault)
     → arguments ≢ []
     → clap_refusals arguments ≡ []
@@ -128,7 +119,6 @@ fault-read arguments requested fault.Open some taken is read = cc
 fault-read arguments requested f some taken is read =
     record { taken = taken; broken = is ∙ ap Some read.0 }
 
--- The request that the command's arguments make.
 pub fault-of_read :
     (arguments : List Text) (requested : Result Requested UsageFault) (result : Result Request
     UsageFault)
@@ -141,9 +131,6 @@ fault-of_read arguments requested (Ok r) some taken is read = tt
 fault-of_read arguments requested (Err f) some taken is read =
     fault-read arguments requested f some taken is read
 
--- ---- the result of parsing the program's command line
-
--- The matches are exact, since the command is simple.
 pub command_in-parsed : (app : App) (arguments : List Text) (m : ArgMatches)
     → app ≡ subttx_app
     → HasMatchesOf app arguments m
@@ -153,7 +140,6 @@ command_in-parsed app arguments m is_program has =
     let P : App → Type 0 = λ a. HasMatchesOf a arguments m in
     (subst P is_program has is_simple-subttx).1
 
--- There is a command, since the program requires one.
 pub has_subcommand-parsed : (c : Command) (m : ArgMatches)
     → app_of c ≡ subttx_app
     → IsParsedFrom c m
@@ -167,7 +153,6 @@ has_subcommand-parsed c m is_program from =
     (from.parsed (from.from.globals ∙ local)).checked.subcommand
     (from.from.needs_subcommand ∙ required)
 
--- `Ok` is returned only if nothing is refused, since no argument has a rule about another.
 pub refusals-parsed : (app : App) (arguments : List Text) (m : ArgMatches)
     → app ≡ subttx_app
     → (is_simple_and_free app ≡ true → FailsBy {T = ArgMatches} (fault_of app arguments) (Ok m))
@@ -177,7 +162,6 @@ refusals-parsed app arguments m is_program fails =
     let P : App → Type 0 = λ a. is_simple_and_free a ≡ true → fault_of a arguments ≡ [] in
     subst P is_program fails is_free-subttx
 
--- An error other than want of memory has a kind that refuses.
 kind_among : (kinds : Kinds) (e : Error)
     → HasKind kinds e
     → kind_of e ≢ OutOfMemory
@@ -187,7 +171,8 @@ kind_among kinds e has other none = elim has [
   | inr among ↦ subst (IsAmong (kind_of e)) none among
 ]
 
--- Arguments that are refused for another reason than memory.
+-- If clap refuses the arguments for another reason than memory, the fault of the command line is
+-- `Words`.
 pub IsFaultOfCommand-refused : (app : App) (arguments : List Text) (e : Error)
     → app ≡ subttx_app
     → (is_simple_and_free app ≡ true → FailsBy {T = ArgMatches} (fault_of app arguments) (Err e))
@@ -202,7 +187,6 @@ IsFaultOfCommand-refused app arguments e is_program fails passes other =
       λ sound. other (subst Q is_program passes sound),
     )
 
--- The request of the matched command, from its name and its rows.
 pub asked_for-met : {Z : Type 0} (arguments : List Text) (met : Option (Box SubCommand Z))
     → (name : Text) (rows : List Row)
     → subcommand_rows met ≡ command_in arguments
@@ -212,5 +196,4 @@ pub asked_for-met : {Z : Type 0} (arguments : List Text) (met : Option (Box SubC
 asked_for-met arguments None name rows is e f = cc
 asked_for-met arguments (Some sub) name rows is e f = rw (← is) cc
 
--- The value that `clap` returns for an id is the first of its row: for the arguments.
 pub ruleset values = (first_value-rows)

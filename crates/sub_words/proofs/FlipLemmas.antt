@@ -1,4 +1,5 @@
--- The flips of a text change no byte twice, and so at most one bit of each: `law_of_flips`.
+-- The flips of a text change no byte of a packet twice, so at most one bit of each byte:
+-- `law_of_flips`.
 use Rattle.std.proofs.Common.{◌≡◌, ◌∙◌, ap, refl, sym, subst, arith, ℕ, zero, suc, ◌<◌}
 use Rattle.std.proofs.Common.{◌^◌, ◌==◌, inl, inr, Bool, true, false, List, []}
 use Rattle.std.proofs.Common.{◌∷◌, ◌++◌, slice_index, Option, Some, None}
@@ -15,13 +16,10 @@ use Rattle.sub_request.specs.declared.listening.Flip.{Flip}
 use Rattle.sub_words.specs.Laws.{LawOfFlips}
 use Rattle.sub_words.specs.Texts.{comma, flip_of_text, flips_of_text, is_same_byte, items_after}
 
--- ---- bytes with at most one wrong bit
-
 near_itself : (sent : List ℕ) → AreNear sent sent
 near_itself [] = tt
 near_itself (x ∷ xs) = (inl refl, near_itself xs)
 
--- One bit may change in a byte that is as it was sent.
 near-set : (sent got : List ℕ) (k bit : ℕ)
     → AreNear sent got
     → slice_index got k ≡ slice_index sent k
@@ -35,23 +33,19 @@ near-set (c ∷ cs) (g ∷ gs) zero bit near same below =
 near-set (c ∷ cs) (g ∷ gs) (suc k) bit near same below =
     (near.0, near-set cs gs k bit near.1 same below)
 
--- ---- a packet after each flip
-
--- A flip in a byte that is as it was sent leaves at most one wrong bit in each byte.
+-- A flip in a byte without a wrong bit leaves at most one wrong bit in each byte.
 with_flip-near : (f : Flip) (number : ℕ) (sent got : List ℕ)
     → AreNear sent got
     → (f.packet ≡ number → slice_index got f.byte ≡ slice_index sent f.byte)
     → AreNear sent (with_flip f number got)
 with_flip-near f number sent got near as_sent = grind (arith, nat_tests, near-set)
 
--- A flip changes no other byte.
 with_flip-other : (f g : Flip) (number : ℕ) (got : List ℕ)
     → g.packet ≡ number
     → is_same_byte g f ≡ false
     → slice_index (with_flip f number got) g.byte ≡ slice_index got g.byte
 with_flip-other f g number got is other = grind (arith, nat_tests, get_or-set_other)
 
--- One more flip comes last.
 with_flips-more : (flips : List Flip) (f : Flip) (number : ℕ) (packet : List ℕ)
     → with_flips (flips ++ f ∷ []) number packet
     ≡ with_flip f number (with_flips flips number packet)
@@ -59,7 +53,8 @@ with_flips-more [] f number packet = refl
 with_flips-more (first ∷ flips) f number packet =
     with_flips-more flips f number (with_flip first number packet)
 
--- Flips leave at most one wrong bit in each byte, and bytes without a flip as they were sent.
+-- After these flips, each byte of the packet has at most one wrong bit, and bytes without a flip
+-- have none.
 record IsNoise (sent : List ℕ) (number : ℕ) (flips : List Flip) : Type 0 where
   near : AreNear sent (with_flips flips number sent)
   as_sent : (f : Flip)
@@ -67,7 +62,6 @@ record IsNoise (sent : List ℕ) (number : ℕ) (flips : List Flip) : Type 0 whe
       → list_any (is_same_byte f) flips ≡ false
       → slice_index (with_flips flips number sent) f.byte ≡ slice_index sent f.byte
 
--- So do these flips and one in another byte.
 IsNoise-more : (sent : List ℕ) (number : ℕ) (flips : List Flip) (f : Flip)
     → IsNoise sent number flips
     → list_any (is_same_byte f) flips ≡ false
@@ -84,17 +78,12 @@ IsNoise-more sent number flips f noise other =
           ∙ noise.as_sent g is parts.0);
     }
 
--- ---- the flips of a text
-
--- The result if a test fails.
 given_if_not : {A : Type 0} (b : Bool) (o : Option A) (x : A)
     → (if b then None else o) ≡ Some x
     → (b ≡ false) × (o ≡ Some x)
 given_if_not true o x e = cc
 given_if_not false o x e = (refl, e)
 
--- A property that one more item keeps, unless one before it is the same, holds for all items of a
--- list.
 items_after-keeps : {A : Type 0} (parsed : List ℕ → Option A) (same : A → A → Bool)
     → (P : List A → Type 0)
     → ((items : List A) (x : A) → P items → list_any (same x) items ≡ false → P (items ++ x ∷ []))

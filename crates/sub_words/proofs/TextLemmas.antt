@@ -1,5 +1,5 @@
--- What the standard library parses from digits, for the parsers of numbers. Main lemmas:
--- parse-digits, read-hex_digits.
+-- Parsing numbers with the standard library: the value and its bound. Main lemmas: parse-digits,
+-- read-hex_digits.
 use Rattle.std.proofs.Common.{◌≡◌, ℕ, ◌^◌, ◌<◌, ◌≤◌, ◌∙◌, sym, ap, refl, List, [], ◌∷◌, ◌&&◌}
 use Rattle.std.proofs.Common.{length, Ok, true, false, arith, ◌==◌, lit<, subst}
 use Rattle.std.specs.Prelude.{Result}
@@ -17,12 +17,10 @@ use Rattle.std.proofs.lemmas.Result.{Ok-from_Ok_iff}
 use Rattle.std.proofs.lemmas.Str.Parse.{digits_value_short, numerals_by_value, parse_gives}
 use Rattle.std.proofs.lemmas.Str.Parse.{tells_all_ascii_digits}
 
--- Two definitions of decimal digits agree.
 all_digits : (text : List ℕ) → list_all is_ascii_digit text ≡ all_ascii_digits text
 all_digits [] = refl
 all_digits (c ∷ cs) = ap (λ others. is_ascii_digit c && others) (all_digits cs)
 
--- What `parse` returns for one to ten digits, and its bound.
 pub parse-digits : {E : Type 0} (text : List ℕ) (result : Result ℕ E)
     → 1 ≤ length text
     → length text ≤ 10
@@ -35,22 +33,17 @@ parse-digits text result some few digits parses =
     let small = digits_value_short own text 10 reported few in
     (parse_gives own 64 text result parses reported some (omega arith), small)
 
--- ---- hexadecimal digits
-
--- A hexadecimal digit is a digit of base 16, and no plus sign.
 hex_digit : (c : ℕ)
     → is_ascii_hexdigit c ≡ true
     → (digit_value c < 16) × ((c == 43) ≡ false)
 hex_digit c is = grind (arith, nat_tests)
 
--- Hexadecimal digits alone are a numeral.
 AllDigits-hex : (text : List ℕ) → list_all is_ascii_hexdigit text ≡ true → AllDigits 16 text
 AllDigits-hex [] are = tt
 AllDigits-hex (c ∷ cs) are =
     let parts = and_parts (is_ascii_hexdigit c) (list_all is_ascii_hexdigit cs) are in
     ((hex_digit c parts.0).0, AllDigits-hex cs parts.1)
 
--- No plus sign comes before them.
 without_leading_plus-hex : (text : List ℕ)
     → list_all is_ascii_hexdigit text ≡ true
     → without_leading_plus text ≡ text
@@ -59,7 +52,6 @@ without_leading_plus-hex (c ∷ cs) are =
     let parts = and_parts (is_ascii_hexdigit c) (list_all is_ascii_hexdigit cs) are in
     rw ((hex_digit c parts.0).1) refl
 
--- What `from_str_radix` returns for one to eight hexadecimal digits, and its bound.
 pub read-hex_digits : {E : Type 0} (text : List ℕ) (result : Result ℕ E)
     → 1 ≤ length text
     → length text ≤ 8

@@ -1,4 +1,4 @@
--- The values of a command's arguments (own).
+-- The values of a command's arguments, read from the matches of `clap` (own).
 use Rattle.std.specs.Prelude.{ℕ, ◌^◌, ◌-◌, Bool, true, false, ◌&&◌, List, [], Option, Some, None}
 use Rattle.std.specs.Prelude.{Result, Ok, codes, nat_le, ok_or, option_map, unwrap_or}
 use Rattle.std.specs.Prelude.{if◌then◌else◌}
@@ -24,22 +24,22 @@ use Rattle.sub_request.specs.declared.pes_selection.TransportStream.{TransportSt
 use Rattle.sub_request.specs.declared.request.UsageFault.{UsageFault}
 use Rattle.sub_request.specs.declared.request.UsageFault.TheVariants as fault
 
--- The text of an argument, defaults included.
+-- The text of an argument; its default if the user gave none.
 abbrev pub argument : Text → List Row → Text
 argument id rows = unwrap_or (first_of id rows) []
 
--- Whether a flag is set. `clap` stores the text `true` or `false` for it.
+-- The flag is set. `clap` stores the text `true` or `false` for a flag.
 abbrev pub is_given : Text → List Row → Bool
 is_given id rows = bytes_eq (argument id rows) (codes "true")
 
--- A number within these bounds.
+-- The number, if it is from `least` to `most`; otherwise `None`.
 abbrev pub between : ℕ → ℕ → Option ℕ → Option ℕ
 between least most None = None
 between least most (Some n) = if nat_le least n && nat_le n most then Some n else None
 
--- `[--page P] [--origin T] [--complete]`: the options with a repeat bound of 1 to 2,160,000 frames
--- (a day) and a PTS of 33 bits, or the first fault if a number is missing or out of range.
--- `complete` is not set for a command without this flag.
+-- The arguments `[--page P] [--origin T] [--complete]` as options with a repeat bound of 1 to
+-- 2,160,000 frames (a day) and a PTS of 33 bits, or the first fault if a number is missing or out
+-- of range. `complete` is not set for a command without this flag.
 abbrev pub options_of : Option ℕ → List Row → Result OptionsValue UsageFault
 options_of every rows = do
   page ← ok_or (page_of_text (argument (codes "page") rows)) fault.BadPage
@@ -57,14 +57,14 @@ options_of every rows = do
         keeps = false;
       })
 
--- `[--within N]`: the page has to be right within so many frames, 0 to 50.
+-- The argument `[--within N]` as an option: the page must be right within 0 to 50 frames.
 abbrev pub allowing_of : OptionsValue → List Row → Result OptionsValue UsageFault
 allowing_of options rows = do
   frames ← ok_or (between 0 50 (number_of_text (argument (codes "within") rows))) fault.Within
   Ok (record options { within = frames })
 
--- `[--pace K]`: PES packets are at most so many frames apart, 1 to 2,160,000; no limit if it is
--- left out.
+-- The argument `[--pace K]` as an option: PES packets are at most 1 to 2,160,000 frames apart;
+-- without the argument there is no limit.
 abbrev pub pacing_of : OptionsValue → List Row → Result OptionsValue UsageFault
 pacing_of options rows =
     option_map_or
@@ -73,28 +73,29 @@ pacing_of options rows =
       Ok (record options { pace = Some frames }))
     (first_of (codes "pace") rows) (Ok options)
 
--- `[--keeping]`: repeats may keep the page if the flag is set.
+-- The argument `[--keeping]` as an option: if the flag is set, repeats may keep the page.
 abbrev pub keeping_of : OptionsValue → List Row → OptionsValue
 keeping_of options rows =
     if is_given (codes "keeping") rows then record options { keeps = true } else options
 
--- `[--option O]`
+-- The national option of the argument `[--option O]`.
 abbrev pub national_of : List Row → Result National UsageFault
 national_of rows = ok_or (option_named (argument (codes "option") rows)) fault.BadOption
 
--- `[--layout TEXT]`: the default layout if it is left out.
+-- The layout of the argument `[--layout TEXT]`; the default layout without the argument.
 abbrev pub layout_of : List Row → Result Layout UsageFault
 layout_of rows =
     ok_or (option_map_or layout_of_text (first_of (codes "layout") rows) (Some default_layout))
     fault.BadLayout
 
--- The value of an optional option, `Some None` if it is left out; `None` if its text has no value.
+-- The value of an optional argument: `Some None` if the user left the argument out, `None` if its
+-- text is invalid.
 abbrev pub given_as : {A : Type 0} → (Text → Option A) → Text → List Row → Option (Option A)
 given_as parsed id rows =
     option_map_or (λ text. option_map Some (parsed text)) (first_of id rows) (Some None)
 
--- `[--from TIME] [--to TIME] [--open]`: the frames at which subtitles may start, the whole day if
--- left out.
+-- The arguments `[--from TIME] [--to TIME] [--open]` as a scope: the frames at which subtitles may
+-- start, by default the whole day, and whether open subtitles are accepted.
 abbrev pub scope_of : List Row → Result Scope UsageFault
 scope_of rows = do
   from ← ok_or (given_as frame_of_text (codes "from") rows) fault.BadTime
@@ -102,25 +103,25 @@ scope_of rows = do
   let takes_open = is_given (codes "open") rows in
       Ok (record { takes_open = takes_open; from = unwrap_or from 0; to = unwrap_or to day })
 
--- `--pid P`
+-- The PID of the required argument `--pid P`.
 abbrev pub required_pid_of : List Row → Result ℕ UsageFault
 required_pid_of rows = ok_or (pid_of_text (argument (codes "pid") rows)) fault.Pid
 
--- `[--packet-size S]`
+-- The packet size of the argument `[--packet-size S]`.
 abbrev pub packet_size_of : List Row → Result PacketSize UsageFault
 packet_size_of rows =
     ok_or (packet_size_of_text (argument (codes "packet-size") rows)) fault.PacketSize
 
--- `[--pid P] [--packet-size S]`: the transport packets that carry PES packets. Without a PID there
--- are none; the packet size is still read, and has no effect.
+-- The arguments `[--pid P] [--packet-size S]` as a transport stream. Without a PID the file is no
+-- transport stream; the packet size is still checked, but has no effect.
 abbrev pub stream_of : List Row → Result (Option TransportStream) UsageFault
 stream_of rows = do
   pid ← ok_or (given_as pid_of_text (codes "pid") rows) fault.Pid
   packet_size ← packet_size_of rows
   Ok (option_map (λ pid. record { pid = pid; packet_size = packet_size }) pid)
 
--- `[--page P] [--pid P] [--packet-size S]`: the options of a survey, which detects the packet size
--- if it is not given.
+-- The arguments `[--page P] [--pid P] [--packet-size S]` as the options of a survey, which detects
+-- the packet size if the user gives none.
 abbrev pub survey_options_of : List Row → Result SurveyOptions UsageFault
 survey_options_of rows = do
   page ← ok_or (page_of_text (argument (codes "page") rows)) fault.BadPage
@@ -128,26 +129,26 @@ survey_options_of rows = do
   packet_size ← ok_or (given_as packet_size_of_text (codes "packet-size") rows) fault.PacketSize
   Ok (record { page = page; pid = pid; packet_size = packet_size })
 
--- `[--pes I-J]`
+-- The range of PES packets of the argument `[--pes I-J]`, if the user gives one.
 abbrev pub range_given_of : List Row → Result (Option PesPacketRangeValue) UsageFault
 range_given_of rows = ok_or (given_as range_of_text (codes "pes") rows) fault.Range
 
--- The selected PES packets: the name of a file, the transport packets that carry them if it is a
--- transport stream, and the numbers of the first and the last.
+-- The PES packets to read: the name of a file; the PID and packet size, if the file is a transport
+-- stream; and the range of packets, if it is limited.
 pub record PesRequested : Type 0 where
   pub name : Text
   pub stream : Option TransportStream
   pub range : Option PesPacketRangeValue
 
--- `RECORDING [--pid P] [--packet-size S] [--pes I-J]`
+-- The arguments `RECORDING [--pid P] [--packet-size S] [--pes I-J]` as the PES packets to read.
 unfoldable pub pes_selection_of : List Row → Result PesRequested UsageFault
 pes_selection_of rows = do
   stream ← stream_of rows
   range ← range_given_of rows
   Ok (record { name = argument (codes "recording") rows; stream = stream; range = range })
 
--- The items of an option with a list. An option that is left out has an empty list; one with an
--- empty text is a fault.
+-- The items of an argument with a list. Without the argument, the list is empty; an empty text is a
+-- fault.
 abbrev pub listed_of :
     {A : Type 0} → (Text → Option A) → (A → A → Bool) → Text → List Row → Option (List A)
 listed_of parsed same id rows = option_map_or (list_of_text parsed same) (first_of id rows)

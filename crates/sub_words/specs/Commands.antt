@@ -1,4 +1,4 @@
--- The commands of the program, as `clap` sees them.
+-- The commands of the program, as rules for `clap`.
 use Rattle.std.specs.Prelude.{ℕ, Bool, true, List, [], ◌∷◌, Option, Some, codes, map}
 use Rattle.std.specs.Borrow.{Bor}
 use Rattle.std.specs.List.{fold, list_any}
@@ -10,27 +10,27 @@ use Rattle.clap.specs.declared.builder.action.ArgAction.TheVariants.{SetTrue}
 use Rattle.sub_words.specs.declared.command.Argument.{Argument}
 use Rattle.sub_words.specs.declared.command.Argument.TheVariants as argument
 
--- A required argument.
+-- The rule of a required argument.
 abbrev pub required_rule : Text → Rule
 required_rule id = record (new_rule id) { required = true }
 
--- An option `--name TEXT` with a default.
+-- The rule of an option `--name TEXT` with a default.
 abbrev pub option_rule : Text → Text → Rule
 option_rule id value = record (new_rule id) { long = Some id; defaults = value ∷ [] }
 
--- An optional option without a default.
+-- The rule of an optional option without a default.
 abbrev pub bare_option_rule : Text → Rule
 bare_option_rule id = record (new_rule id) { long = Some id }
 
--- A required option.
+-- The rule of a required option.
 abbrev pub required_option_rule : Text → Rule
 required_option_rule id = record (new_rule id) { long = Some id; required = true }
 
--- A flag `--name`.
+-- The rule of a flag `--name`.
 abbrev pub flag_rule : Text → Rule
 flag_rule id = record (new_rule id) { long = Some id; action = Some SetTrue }
 
--- The rule of an argument in the program's table.
+-- The rule of an argument in the program's table of commands.
 abbrev pub clap_rule : Argument → Rule
 clap_rule (argument.Required id) = required_rule id.now
 clap_rule (argument.RequiredOption id) = required_option_rule id.now
@@ -38,8 +38,8 @@ clap_rule (argument.Option id value) = option_rule id.now value.now
 clap_rule (argument.BareOption id) = bare_option_rule id.now
 clap_rule (argument.Flag id) = flag_rule id.now
 
--- The arguments of `schedule` and `check`, given the name of the second file, followed by those of
--- one of the two.
+-- The rules of the arguments that `schedule` and `check` share, given the name of the second file,
+-- followed by the command's other rules.
 abbrev pub pair_rules : Text → List Rule → List Rule
 pair_rules second others =
     required_rule (codes "stl") ∷ required_rule second
@@ -48,25 +48,25 @@ pair_rules second others =
     ∷ bare_option_rule (codes "layout") ∷ bare_option_rule (codes "from")
     ∷ bare_option_rule (codes "to") ∷ flag_rule (codes "open") ∷ others
 
--- `[--packet-size S]`
+-- The rule of `[--packet-size S]`, 188 by default.
 abbrev pub packet_size_rule : Rule
 packet_size_rule = option_rule (codes "packet-size") (codes "188")
 
--- `[--pid P] [--packet-size S] [--pes I-J]`, followed by other arguments. Since `pes` is an option
--- here, the file that is read is the argument `recording`.
+-- The rules of `[--pid P] [--packet-size S] [--pes I-J]`, followed by other rules. Since `pes` is
+-- an option here, the file to read has the name `recording`.
 abbrev pub recording_rules : List Rule → List Rule
 recording_rules others =
     bare_option_rule (codes "pid") ∷ packet_size_rule ∷ bare_option_rule (codes "pes") ∷ others
 
--- `[--within N]`
+-- The rule of `[--within N]`, 0 by default.
 abbrev pub within_rule : Rule
 within_rule = option_rule (codes "within") (codes "0")
 
--- `[--pace K]`
+-- The rule of `[--pace K]`, without a default.
 abbrev pub pace_rule : Rule
 pace_rule = bare_option_rule (codes "pace")
 
--- The commands, each with the rules of its arguments.
+-- The table of commands, each with the rules of its arguments.
 abbrev pub commands : List (Text × List Rule)
 commands =
     -- packet HEX
@@ -118,12 +118,13 @@ commands =
 unfoldable pub is_command : Text → Bool
 is_command word = list_any (λ command. bytes_eq word command.0) commands
 
--- A program with one more command.
+-- The program after adding one command.
 abbrev pub with_command : App → Text × List Rule → App
 with_command app command =
     with_subcommand app (fold with_rule (new_app command.0) command.1).top
 
--- The program and its commands. It defines neither help nor version, and requires a command.
+-- The program with all its commands. `clap` must require a command, and must handle neither help
+-- nor version itself.
 unfoldable pub subttx_app : App
 subttx_app = let plain = new_app (codes "subttx") in fold with_command (record plain {
   top = record plain.top {
@@ -134,19 +135,18 @@ subttx_app = let plain = new_app (codes "subttx") in fold with_command (record p
   };
 }) commands
 
--- `clap`'s contract as functions of the arguments. The kinds of its refusal; none if it accepts
--- them.
+-- The kinds of errors with which `clap` refuses the arguments; none if `clap` accepts them.
 unfoldable pub clap_refusals : List Text → Kinds
 clap_refusals arguments = fault_of subttx_app arguments
 
--- The command that the arguments name, with its arguments as rows.
+-- The command that the arguments name, with the values of its arguments as rows.
 unfoldable pub command_in : List Text → Option (Text × List Row)
 command_in arguments = subcommand_of subttx_app arguments
 
--- Whether the arguments can be refused only for want of memory.
+-- `clap` can refuse the arguments only if memory runs out.
 unfoldable pub are_sound : List Text → Bool
 are_sound arguments = takes subttx_app arguments
 
--- The arguments of the command line as texts.
+-- The texts of the arguments of the command line.
 abbrev pub texts_of : List (Bor (List ℕ)) → List Text
 texts_of = map (λ word. word.now)

@@ -4,21 +4,21 @@ use Rattle.std.specs.Str.{bytes_eq}
 use Rattle.clap.specs.Words.{Text}
 use Rattle.sub_words.specs.Commands.{is_command}
 
--- `--help` or `-h`.
+-- The word is `--help` or `-h`.
 abbrev pub is_help_flag : Text → Bool
 is_help_flag word = bytes_eq word (codes "--help") || bytes_eq word (codes "-h")
 
--- `help`, `--help` or `-h`.
+-- The word is `help`, `--help` or `-h`.
 abbrev pub is_help_word : Text → Bool
 is_help_word word = bytes_eq word (codes "help") || is_help_flag word
 
--- One of two words requests help, and the other is the name of a command. `help` must come first:
--- after a command it is the name of a file.
+-- One of the two words requests help, and the other is the name of a command. `help` must come
+-- first: after a command it is the name of a file.
 abbrev pub is_help_of : Text → Text → Bool
 is_help_of first second =
     if is_command first then is_help_flag second else is_help_word first && is_command second
 
--- The arguments request help: after the program's name there is a word for help, alone or together
+-- The arguments request help: after the program's name comes a word for help, alone or together
 -- with the name of a command.
 unfoldable pub requests_help : List Text → Bool
 requests_help (program ∷ word ∷ []) = is_help_word word

@@ -1,12 +1,12 @@
--- The effect of the options of `listen` on packets.
+-- The effect of the option `--flip` of `listen` on Teletext packets.
 use Rattle.std.specs.Prelude.{◌≡◌, ℕ, List, Some}
 use Rattle.ttx_packet.specs.OneBit.{AreNear}
 use Rattle.sub_request.specs.Flips.{with_flips}
 use Rattle.sub_request.specs.declared.listening.Flip.{Flip}
 use Rattle.sub_words.specs.Texts.{flips_of_text}
 
--- The flips of an option leave at most one wrong bit in each byte of each packet. So what `--flip`
--- makes of a transmission is noise in the sense of the headline.
+-- The flips that a text of `--flip` describes leave at most one wrong bit in each byte of each
+-- packet. So a transmission with these flips has only noise in the sense of the headline.
 abbrev pub LawOfFlips : Type 0
 LawOfFlips =
     (text : List ℕ) (flips : List Flip) (number : ℕ) (packet : List ℕ)

@@ -1,5 +1,5 @@
--- How options select PES packets: the PID and the size of transport packets, and the numbers of the
--- PES packets (own).
+-- The options that select PES packets: the PID and the size of transport packets, and the numbers
+-- of the PES packets (own).
 use Rattle.std.specs.Prelude.{ℕ, ◌&&◌, ◌==◌, List, length, drop, Option, Some, None, Bool}
 use Rattle.std.specs.Prelude.{codes, nat_le, nat_lt, if◌then◌else◌}
 use Rattle.std.specs.Char.{is_ascii_hexdigit}
@@ -15,29 +15,29 @@ use Rattle.mpeg_ts.specs.declared.packet_size.PacketSize.TheVariants.{Plain, Tim
 use Rattle.mpeg_ts.specs.declared.packet_size.PacketSize.TheVariants.{ErrorCorrected}
 use Rattle.sub_words.specs.Texts.{number_of_text}
 
--- ---- the PID
+-- ---- the argument of `--pid`
 
--- The text after a leading `0x`; `None` if there is none.
+-- The text after a leading `0x`; `None` if the text does not begin with `0x`.
 abbrev pub digits_after_0x : List ℕ → Option (List ℕ)
 digits_after_0x text =
     if starts_with (λ a b. a == b) text (codes "0x") then Some (drop 2 text) else None
 
--- The value of one to eight hexadecimal digits, in either case, and nothing else.
+-- The value of one to eight hexadecimal digits, upper or lower case; `None` for any other text.
 unfoldable pub number_of_hex_digits : List ℕ → Option ℕ
 number_of_hex_digits text =
     if nat_le 1 (length text) && nat_le (length text) 8 && list_all is_ascii_hexdigit text
     then Some (digits_value 16 text)
     else None
 
--- A PID: `0x` and hexadecimal digits, or decimal digits; at most 8190.
+-- The PID that a text describes: `0x` and hexadecimal digits, or decimal digits; at most 8190.
 unfoldable pub pid_of_text : List ℕ → Option ℕ
 pid_of_text text = do
   number ← option_map_or number_of_hex_digits (digits_after_0x text) (number_of_text text)
   pid_of number
 
--- ---- the packet size
+-- ---- the argument for the packet size
 
--- The packet size, written as a number.
+-- The packet size that a text describes: 188, 192 or 204 bytes.
 unfoldable pub packet_size_of_text : List ℕ → Option PacketSize
 packet_size_of_text text =
     if bytes_eq text (codes "188") then Some Plain
@@ -45,24 +45,25 @@ packet_size_of_text text =
     else if bytes_eq text (codes "204") then Some ErrorCorrected
     else None
 
--- ---- the numbers of the PES packets
+-- ---- the numbers of the PES packets to copy
 
--- The character between the numbers of a range.
+-- The character between the two numbers of a range: a dash.
 abbrev pub dash : ℕ
 dash = 0x2D
 
+-- The character is the dash between the numbers of a range.
 abbrev pub is_dash : ℕ → Bool
 is_dash c = c == dash
 
--- The texts before and after the first dash; `None` if there is no dash.
+-- The texts before and after the first dash; `None` if the text has no dash.
 abbrev pub around_dash : List ℕ → Option (List ℕ × List ℕ)
 around_dash text =
     if nat_lt (position_or_len is_dash text) (length text)
     then Some (before_first is_dash text, after_first is_dash text)
     else None
 
--- The PES packets from the first to the last number, or to the end of the file if no last one is
--- written.
+-- The range of PES packets from the first number to the last, or to the end of the file if the text
+-- of the last number is empty.
 abbrev pub range_of_numbers : List ℕ → List ℕ → Option PesPacketRangeValue
 range_of_numbers first last = do
   first ← number_of_text first
@@ -70,6 +71,6 @@ range_of_numbers first last = do
       then range_of first None
       else (number_of_text last >>= (λ last. range_of first (Some last)))
 
--- The PES packets that a text selects: `I-J`, or `I-`.
+-- The range of PES packets that a text describes: `I-J`, or `I-` to the end of the file.
 unfoldable pub range_of_text : List ℕ → Option PesPacketRangeValue
 range_of_text text = around_dash text >>= (λ numbers. range_of_numbers numbers.0 numbers.1)

@@ -1,4 +1,4 @@
--- How the arguments of the command line make a request.
+-- The request that the arguments of the command line make, or their fault.
 use Rattle.std.specs.Prelude.{◌≡◌, ◌≢◌, ◌⊎◌, ◌==◌, ⊤, ℕ, Bool, true, false, List, [], Option, Some}
 use Rattle.std.specs.Prelude.{Ok, Err, MatchResult, Result, codes, ok_or, option_map}
 use Rattle.std.specs.Prelude.{if◌then◌else◌}
@@ -31,7 +31,7 @@ use Rattle.sub_request.specs.declared.request.Request.TheVariants as ask
 use Rattle.sub_request.specs.declared.request.UsageFault.{UsageFault}
 use Rattle.sub_request.specs.declared.request.UsageFault.TheVariants as fault
 
--- A request, independent of where its texts and lists are in memory.
+-- A request to the program, independent of where its texts and lists are in memory.
 pub data Requested : Type 0 where
   Help : Requested
   Version : Requested
@@ -49,11 +49,11 @@ pub data Requested : Type 0 where
   Extract : (recording pes : Text) → TransportStream → Requested
   Survey : (recording : Text) → SurveyOptions → Requested
 
--- The PES packets that a request selects.
+-- The PES packets to read, as a value without borrowed texts.
 abbrev pub pes_requested : PesSelection → PesRequested
 pes_requested pes = record { name = pes.name.now; stream = pes.stream; range = pes.range }
 
--- The value of a request.
+-- The value of a request, without borrowed texts.
 abbrev pub requested_by : Request → Requested
 requested_by ask.Help = Help
 requested_by ask.Version = Version
@@ -72,30 +72,31 @@ requested_by (ask.Survey recording options) = Survey recording.now options
 
 -- ---- the arguments of each command: its request, or the first fault, in this order (own)
 
--- `packet HEX`: 84 digits, in either case.
+-- The request of `packet HEX`: 84 hexadecimal digits, upper or lower case.
 abbrev pub packet_requested : List Row → Result Requested UsageFault
 packet_requested rows = do
   bytes ← ok_or (result_ok (decode_sized (argument (codes "hex") rows) 42)) fault.BadHex
   Ok (Packet bytes)
 
--- `packets PES [--pid P] [--packet-size S] [--pes I-J]`
+-- The request of `packets PES [--pid P] [--packet-size S] [--pes I-J]`, or the first fault of its
+-- arguments.
 abbrev pub packets_requested : List Row → Result Requested UsageFault
 packets_requested rows = do
   pes ← pes_selection_of rows
   Ok (Packets pes)
 
--- The names of an input and an output, which must differ.
+-- The names of an input and an output; the fault `SameFile` if they are equal.
 abbrev pub unlike : Text → Text → Result (Text × Text) UsageFault
 unlike input output = if bytes_eq input output then Err fault.SameFile else Ok (input, output)
 
--- `normal IN OUT`
+-- The request of `normal IN OUT`, or the first fault of its arguments.
 abbrev pub normal_requested : List Row → Result Requested UsageFault
 normal_requested rows = do
   names ← unlike (argument (codes "in") rows) (argument (codes "out") rows)
   Ok (Normal names.0 names.1)
 
--- `schedule STL PES [--page P] [--every N] [--origin T] [--option O] [--serial] [--layout TEXT]
--- [--from TIME] [--to TIME] [--open]`
+-- The request of `schedule STL PES [--page P] [--every N] [--origin T] [--option O] [--serial]
+-- [--layout TEXT] [--from TIME] [--to TIME] [--open]`, or the first fault of its arguments.
 abbrev pub schedule_requested : List Row → Result Requested UsageFault
 schedule_requested rows = do
   names ← unlike (argument (codes "stl") rows) (argument (codes "pes") rows)
@@ -105,9 +106,9 @@ schedule_requested rows = do
   scope ← scope_of rows
   Ok (Schedule names.0 names.1 options (is_given (codes "serial") rows) national layout scope)
 
--- `check STL PES [--page P] [--every N] [--origin T] [--option O] [--within N] [--pid P]
--- [--packet-size S] [--pes I-J] [--layout TEXT] [--pace K] [--from TIME] [--to TIME] [--open]
--- [--keeping] [--complete] [--all]`
+-- The request of `check STL PES [--page P] [--every N] [--origin T] [--option O] [--within N]
+-- [--pid P] [--packet-size S] [--pes I-J] [--layout TEXT] [--pace K] [--from TIME] [--to TIME]
+-- [--open] [--keeping] [--complete] [--all]`, or the first fault of its arguments.
 abbrev pub check_requested : List Row → Result Requested UsageFault
 check_requested rows = do
   plain ← options_of (number_of_text (argument (codes "every") rows)) rows
@@ -121,9 +122,9 @@ check_requested rows = do
       let all = is_given (codes "all") rows in
       Ok (Check (argument (codes "stl") rows) pes options national layout scope all)
 
--- `listen PES [--page P] [--origin T] [--within N] [--complete] [--pid P] [--packet-size S] [--pes
--- I-J] --at TIME [--skip N] [--flip F] [--lose L] [--receiver R]`: the repeat bound of the options
--- is not used.
+-- The request of `listen PES [--page P] [--origin T] [--within N] [--complete] [--pid P]
+-- [--packet-size S] [--pes I-J] --at TIME [--skip N] [--flip F] [--lose L] [--receiver R]`, or the
+-- first fault of its arguments. The repeat bound of the options is not used.
 abbrev pub listen_requested : List Row → Result Requested UsageFault
 listen_requested rows = do
   plain ← options_of (Some 1) rows
@@ -136,7 +137,7 @@ listen_requested rows = do
   receiver ← ok_or (receiver_of_text (argument (codes "receiver") rows)) fault.BadReceiver
   Ok (Listen pes options at skip flips lost receiver)
 
--- `extract TS PES --pid P [--packet-size S]`
+-- The request of `extract TS PES --pid P [--packet-size S]`, or the first fault of its arguments.
 abbrev pub extract_requested : List Row → Result Requested UsageFault
 extract_requested rows = do
   names ← unlike (argument (codes "recording") rows) (argument (codes "pes") rows)
@@ -144,13 +145,15 @@ extract_requested rows = do
   packet_size ← packet_size_of rows
   Ok (Extract names.0 names.1 (record { pid = pid; packet_size = packet_size }))
 
--- `survey RECORDING [--page P] [--pid P] [--packet-size S]`
+-- The request of `survey RECORDING [--page P] [--pid P] [--packet-size S]`, or the first fault of
+-- its arguments.
 abbrev pub survey_requested : List Row → Result Requested UsageFault
 survey_requested rows = do
   options ← survey_options_of rows
   Ok (Survey (argument (codes "recording") rows) options)
 
--- The request of a command's arguments, by its name. `clap` gives no names but these and `survey`.
+-- The request of a command, given its name and the values of its arguments. The last case is
+-- `survey`, since `clap` accepts no other name.
 abbrev pub requested_in : Text → List Row → Result Requested UsageFault
 requested_in name rows =
     if bytes_eq name (codes "packet") then packet_requested rows
@@ -163,50 +166,52 @@ requested_in name rows =
     else (if bytes_eq name (codes "extract") then extract_requested rows
     else survey_requested rows)))))))
 
--- ---- the result
+-- ---- the result of parsing the arguments
 
--- A fault of the program's own rules: not one of `clap` or of the machine.
+-- The fault comes from the program's own rules, not from `clap` or the machine.
 abbrev pub is_own : UsageFault → Bool
 is_own fault.Words = false
 is_own fault.Memory = false
 is_own fault.Open = false
 is_own _ = true
 
--- The result is the request of the arguments, or their fault: memory never runs out.
+-- The result is the request of the arguments, or their fault. `Memory` is impossible.
 abbrev pub IsReadExactly : Result Requested UsageFault → Result Request UsageFault → Type 0
 IsReadExactly requested result =
     MatchResult result (λ r. requested ≡ Ok (requested_by r))
     (λ fault. (requested ≡ Err fault) × (is_own fault ≡ true))
 
--- The fault is that of the arguments, or memory ran out before it was known.
+-- The fault is the fault of the arguments; or memory ran out before the fault was known.
 abbrev pub IsFaultIn : Result Requested UsageFault → UsageFault → Type 0
 IsFaultIn requested fault.Memory = ⊤
 IsFaultIn requested fault = (requested ≡ Err fault) × (is_own fault ≡ true)
 
--- The result is the request of the arguments or their fault, or memory ran out before it was known.
+-- The result is the request of the arguments, or their fault; or memory ran out before either was
+-- known.
 abbrev pub IsReadGivenMemory : Result Requested UsageFault → Result Request UsageFault → Type 0
 IsReadGivenMemory requested result =
     MatchResult result (λ r. requested ≡ Ok (requested_by r)) (IsFaultIn requested)
 
--- ---- arguments
+-- ---- the arguments of a command
 
--- The request of the command that the arguments name.
+-- The request of the command that the arguments name, or the fault of the command's arguments.
 abbrev pub asked_for : List Text → Option (Result Requested UsageFault)
 asked_for arguments = option_map (λ command. requested_in command.0 command.1)
     (command_in arguments)
 
--- The request is that of the command that the arguments name, and `clap` accepts them.
+-- `clap` accepts the arguments, and the request is that of the command that they name.
 pub record IsRequestOfCommand (arguments : List Text) (request : Request) : Type 0 where
   pub taken : clap_refusals arguments ≡ []
   pub requested : asked_for arguments ≡ Some (Ok (requested_by request))
 
--- `clap` accepts the arguments, and this is the first fault of their command.
+-- `clap` accepts the arguments, and this is the first fault of the command that they name.
 pub record Breaks (arguments : List Text) (fault : UsageFault) : Type 0 where
   pub taken : clap_refusals arguments ≡ []
   pub broken : asked_for arguments ≡ Some (Err fault)
 
--- The fault is one of the arguments: `clap` refuses them, or they break a rule of the program. If
--- memory runs out, all that is known is that there are arguments; reading them opens no file.
+-- The meaning of a fault of the command line. `Words`: `clap` refuses the arguments. `Memory`:
+-- memory ran out, so only that there are arguments is known. `Open` is impossible, since parsing
+-- opens no file. Any other fault: the arguments break a rule of the program.
 abbrev pub IsFaultOfCommand : List Text → UsageFault → Type 0
 IsFaultOfCommand arguments fault.Words = (clap_refusals arguments ≢ []) ×
     (are_sound arguments ≢ true)
@@ -214,7 +219,7 @@ IsFaultOfCommand arguments fault.Memory = arguments ≢ []
 IsFaultOfCommand arguments fault.Open = ⊥
 IsFaultOfCommand arguments own = Breaks arguments own
 
--- The request is that of the arguments: the version, help, or that of a command.
+-- The request of the command line: the version, help, or the request of a command.
 abbrev pub IsRequestOf : List Text → Request → Type 0
 IsRequestOf arguments request =
     ((requests_version arguments ≡ true) × (request ≡ ask.Version))
@@ -223,7 +228,7 @@ IsRequestOf arguments request =
     ⊎ ((requests_version arguments ≡ false) × (requests_help arguments ≡ false) × IsRequestOfCommand
     arguments request)
 
--- The fault is one of the arguments, which request neither the version nor help.
+-- The fault of the command line, whose arguments request neither the version nor help.
 pub record IsFaultOf (arguments : List Text) (fault : UsageFault) : Type 0 where
   pub no_version : requests_version arguments ≡ false
   pub no_help : requests_help arguments ≡ false

@@ -1,4 +1,4 @@
--- The texts of the options of `listen`: numbers, lists of numbers, flips, TIME and the receiver
+-- The texts of the options of `listen`: numbers, lists of numbers, flips, times and the receiver
 -- (own).
 use Rattle.std.specs.Prelude.{ℕ, ◌+◌, ◌-◌, ◌*◌, Bool, ◌&&◌, List, [], ◌∷◌, ◌++◌, length}
 use Rattle.std.specs.Prelude.{Option, Some, None, codes, slice_index, if◌then◌else◌, ◌==◌, nat_le}
@@ -13,27 +13,27 @@ use Rattle.sub_request.specs.declared.listening.ReceiverKind.{ReceiverKind}
 use Rattle.sub_request.specs.declared.listening.ReceiverKind.TheVariants.{Anew, Blank}
 use Rattle.sub_request.specs.declared.listening.ReceiverKind.TheVariants.{DropRow, Keep}
 
--- ---- numbers
+-- ---- decimal numbers
 
--- A number: one to ten decimal digits, and nothing else; leading zeros are allowed.
+-- The value of one to ten decimal digits, with leading zeros allowed; `None` for any other text.
 unfoldable pub number_of_text : List ℕ → Option ℕ
 number_of_text text =
     if nat_le 1 (length text) && nat_le (length text) 10 && list_all is_ascii_digit text
     then Some (digits_value 10 text)
     else None
 
--- ---- lists
+-- ---- lists of arguments
 
--- The character between the items of a list.
+-- The comma, which separates the items of a list.
 abbrev pub comma : ℕ
 comma = 0x2C
 
--- The character between the fields of a time, and of a flip.
+-- The colon, which separates the fields of a time and of a flip.
 abbrev pub colon : ℕ
 colon = 0x3A
 
--- The items of a list: those so far, and those of more texts; `None` if a text is no item, or the
--- same item, by a test, as one before it.
+-- The items so far, followed by the items of more texts. `None` if a text is no item, or if an item
+-- is the same, by the test `same`, as an earlier one.
 abbrev pub items_after :
     {A : Type 0} → (List ℕ → Option A) → (A → A → Bool) → List A → List (List ℕ)
     → Option (List A)
@@ -42,16 +42,17 @@ items_after parsed same items (text ∷ texts) = do
   x ← parsed text
   if list_any (same x) items then None else items_after parsed same (items ++ x ∷ []) texts
 
--- A list of 1 to 64 different items, separated by commas.
+-- The list that a text describes: 1 to 64 different items, separated by commas.
 abbrev pub list_of_text :
     {A : Type 0} → (List ℕ → Option A) → (A → A → Bool) → List ℕ → Option (List A)
 list_of_text parsed same text =
     let texts = slice_split (λ c. c == comma) text in
     if nat_le (length texts) 64 then items_after parsed same [] texts else None
 
--- ---- flips
+-- ---- the bits to flip
 
--- A flip of a bit, 1 to 8, of a byte, 0 to 41, of a packet, from three texts.
+-- The flip that three texts describe: the number of a packet, a byte from 0 to 41, and a bit from 1
+-- to 8.
 abbrev pub flip_of_fields : List (List ℕ) → Option Flip
 flip_of_fields (packet ∷ byte ∷ bit ∷ []) = do
   packet ← number_of_text packet
@@ -62,21 +63,21 @@ flip_of_fields (packet ∷ byte ∷ bit ∷ []) = do
       else None
 flip_of_fields _ = None
 
--- Three numbers separated by colons: packet, byte and bit.
+-- The flip that a text describes: packet, byte and bit, separated by colons.
 unfoldable pub flip_of_text : List ℕ → Option Flip
 flip_of_text text = flip_of_fields (slice_split (λ c. c == colon) text)
 
--- Two flips are in the same byte of a packet.
+-- The two flips are in the same byte of the same packet.
 abbrev pub is_same_byte : Flip → Flip → Bool
 is_same_byte a b = (a.packet == b.packet) && (a.byte == b.byte)
 
--- Flips separated by commas, at most one in each byte of a packet.
+-- The flips that a text describes, separated by commas, at most one in each byte of a packet.
 unfoldable pub flips_of_text : List ℕ → Option (List Flip)
 flips_of_text text = list_of_text flip_of_text is_same_byte text
 
--- ---- TIME
+-- ---- times of day (TIME)
 
--- The value of two decimal digits at a place of a text.
+-- The value of the two decimal digits at a place of a text; `None` if either is no digit.
 unfoldable pub two_digits_at : List ℕ → ℕ → Option ℕ
 two_digits_at text place =
     let tens = slice_index text place in
@@ -85,7 +86,7 @@ two_digits_at text place =
     then Some (10 * (tens - 0x30) + (units - 0x30))
     else None
 
--- Eleven characters, with colons between the pairs.
+-- The text has eleven characters, with colons at the places 2, 5 and 8.
 abbrev pub has_colons : List ℕ → Bool
 has_colons text =
     (length text == 11)
@@ -93,7 +94,8 @@ has_colons text =
     && (slice_index text 5 == colon)
     && (slice_index text 8 == colon)
 
--- The frame of a time code (EBU Tech 3264, TCI and TCO) with four pairs of digits.
+-- The frame of the day for the text of a time code with four pairs of digits; `None` if the time
+-- code is invalid (EBU Tech 3264, TCI and TCO).
 abbrev pub frame_of_digits : List ℕ → Option ℕ
 frame_of_digits text = do
   hours ← two_digits_at text 0
@@ -104,13 +106,13 @@ frame_of_digits text = do
       then Some (frame_of hours minutes seconds frames)
       else None
 
--- The frame of the day of `HH:MM:SS:FF`, two digits each.
+-- The frame of the day that a text `HH:MM:SS:FF` describes, two digits each.
 unfoldable pub frame_of_text : List ℕ → Option ℕ
 frame_of_text text = if has_colons text then frame_of_digits text else None
 
--- ---- the receiver
+-- ---- the state of the receiver
 
--- The receiver with a name.
+-- The receiver that a text names: `blank`, `keep`, `drop` or `anew`.
 unfoldable pub receiver_of_text : List ℕ → Option ReceiverKind
 receiver_of_text text =
     if bytes_eq text (codes "blank") then Some Blank

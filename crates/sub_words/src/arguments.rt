@@ -1,4 +1,4 @@
-//! Reads the arguments of a command one by one.
+//! Reads the arguments of a command one by one from the matches of `clap`.
 ghost use Rattle.std.specs.Prelude.{◌≡◌, IfErr, IfOk, ok_or, option_map, true};
 ghost use Rattle.std.specs.Result.{result_map_both};
 ghost use Rattle.clap.specs.Words.{first_of, found_of, rows_of};
@@ -24,7 +24,7 @@ use sub_request::{PesSelection, TransportStream, UsageFault};
 use ttx_packet::PageId;
 use ttx_pes::PesPacketRange;
 
-/// Returns the text of an option; `None` if it is left out and has no default.
+/// Returns the text of an option, or `None` if the user left it out and it has no default.
 #[tactic(auto, using(crate::proofs::CommandLemmas::values))]
 pub fn given_at<'a>(matches: &ArgMatches<'a>, id: &str) -> Option<&'a str>
     ensures { option_map (λ text. text.now) result
@@ -33,7 +33,7 @@ pub fn given_at<'a>(matches: &ArgMatches<'a>, id: &str) -> Option<&'a str>
     matches.get_str(id)
 }
 
-/// Returns the text of an argument, defaults included.
+/// Returns the text of an argument; its default if the user gave none.
 pub fn text_at<'a>(matches: &ArgMatches<'a>, id: &str) -> &'a str
     ensures { result.now ≡ argument id.now (rows_of (found_of matches.now)) }
 {
@@ -47,8 +47,8 @@ pub fn flag_at<'a>(matches: &ArgMatches<'a>, id: &str) -> bool
     text_at(matches, id) == "true"
 }
 
-/// Returns the options with this repeat bound, the page, the PTS of frame 0, and whether complete
-/// pages are required. A missing number counts as out of range.
+/// Returns the options with this repeat bound, and with the page, the PTS of frame 0 and the flag
+/// for complete pages from the arguments. A missing number counts as out of range.
 ///
 /// # Errors
 ///
@@ -67,7 +67,8 @@ pub fn options_at<'a>(matches: &ArgMatches<'a>, every: Option<u64>) -> Result<Op
     }
 }
 
-/// Returns the options with the frames of `--within`. A missing number counts as out of range.
+/// Returns the options with the number of frames of `--within`. A missing number counts as out of
+/// range.
 ///
 /// # Errors
 ///
@@ -81,7 +82,8 @@ pub fn allowing_at<'a>(matches: &ArgMatches<'a>, options: Options) -> Result<Opt
         .map_err(usage_fault_of)
 }
 
-/// Returns the options with the maximum distance of `--pace`; unchanged if it is left out.
+/// Returns the options with the maximum distance of PES packets from `--pace`; unchanged if the
+/// user gave no `--pace`.
 ///
 /// # Errors
 ///
@@ -92,12 +94,12 @@ pub fn pacing_at<'a>(matches: &ArgMatches<'a>, options: Options) -> Result<Optio
     let Some(text) = given_at(matches, "pace") else {
         return Ok(options);
     };
-    // A missing number counts as out of range.
+    // A text that is no number counts as out of range, like 0.
     let frames = parse_number(text);
     options.pacing(frames.unwrap_or(0)).map_err(usage_fault_of)
 }
 
-/// Returns the options; repeats may keep the page if `--keeping` is given.
+/// Returns the options, in which repeats may keep the page if `--keeping` is given.
 pub fn keeping_at<'a>(matches: &ArgMatches<'a>, options: Options) -> Options
     ensures { result ≡ keeping_of options (rows_of (found_of matches.now)) }
 {
@@ -108,7 +110,7 @@ pub fn keeping_at<'a>(matches: &ArgMatches<'a>, options: Options) -> Options
     }
 }
 
-// Converts a fault of options to one of the arguments.
+// Converts a fault of options to a fault of the arguments.
 fn usage_fault_of(fault: OptionFault) -> UsageFault
     ensures every { fault ≡ OptionFault.Every → result ≡ UsageFault.Every }
     ensures origin { fault ≡ OptionFault.Origin → result ≡ UsageFault.Origin }
@@ -123,7 +125,7 @@ fn usage_fault_of(fault: OptionFault) -> UsageFault
     }
 }
 
-/// Returns the layout of `--layout`; the default if it is left out.
+/// Returns the layout of `--layout`, or the default layout if the user gave none.
 ///
 /// # Errors
 ///
@@ -137,8 +139,8 @@ pub fn layout_at<'a>(matches: &ArgMatches<'a>) -> Result<Layout, UsageFault>
     }
 }
 
-/// Returns the part of a subtitle file that is used: `--from` and `--to` give the frames at which
-/// subtitles may start, `--open` includes open subtitles.
+/// Returns the scope of a subtitle file: `--from` and `--to` limit the frames at which subtitles
+/// may start, `--open` accepts open subtitles.
 ///
 /// # Errors
 ///
@@ -155,7 +157,8 @@ pub fn scope_at<'a>(matches: &ArgMatches<'a>) -> Result<Scope, UsageFault>
     })
 }
 
-// Returns the frame of an option's TIME; `None` if it is left out. The fault is `BadTime`.
+// Returns the frame of an option with a time, or `None` if the user left the option out. The fault
+// is `BadTime`.
 fn frame_at<'a>(matches: &ArgMatches<'a>, id: &str) -> Result<Option<u32>, UsageFault>
     ensures { result ≡ ok_or (given_as frame_of_text id.now (rows_of (found_of matches.now)))
         UsageFault.BadTime }
@@ -177,7 +180,7 @@ pub fn pid_at<'a>(matches: &ArgMatches<'a>) -> Result<Pid, UsageFault>
     parse_pid(text_at(matches, "pid")).ok_or(UsageFault::Pid)
 }
 
-/// Returns the distance of transport packets of `--packet-size`.
+/// Returns the packet size of `--packet-size`: the distance of transport packets.
 ///
 /// # Errors
 ///
@@ -188,8 +191,8 @@ pub fn packet_size_at<'a>(matches: &ArgMatches<'a>) -> Result<PacketSize, UsageF
     parse_packet_size(text_at(matches, "packet-size")).ok_or(UsageFault::PacketSize)
 }
 
-// Returns the transport packets with the PID of `--pid`; `None` if it is left out, when the packet
-// size has no effect. The faults are `Pid`, then `PacketSize`.
+// Returns the transport stream with the PID of `--pid`, or `None` without `--pid`, in which case
+// the packet size has no effect. The faults are `Pid`, then `PacketSize`.
 fn stream_at<'a>(matches: &ArgMatches<'a>) -> Result<Option<TransportStream>, UsageFault>
     ensures { result ≡ stream_of (rows_of (found_of matches.now)) }
 {
@@ -227,8 +230,7 @@ pub fn survey_options_at<'a>(matches: &ArgMatches<'a>) -> Result<SurveyOptions, 
     })
 }
 
-// Returns the PES packets of `--pes`, by their numbers; `None` if it is left out. The fault is
-// `Range`.
+// Returns the range of PES packets of `--pes`, or `None` without `--pes`. The fault is `Range`.
 fn range_at<'a>(matches: &ArgMatches<'a>) -> Result<Option<PesPacketRange>, UsageFault>
     ensures { result ≡ range_given_of (rows_of (found_of matches.now)) }
 {
@@ -238,12 +240,13 @@ fn range_at<'a>(matches: &ArgMatches<'a>) -> Result<Option<PesPacketRange>, Usag
     }
 }
 
-/// Returns the selected PES packets: the file, `--pid`, `--packet-size` and `--pes`.
+/// Returns the PES packets to read: the file, `--pid`, `--packet-size` and `--pes`.
 ///
 /// # Errors
 ///
 /// Returns `Pid`, then `PacketSize`, then `Range`.
-// Its callers match: the prover has no rule for `?` on a struct that contains a reference.
+// Callers of `pes_at` match on the result, since the prover has no rule for `?` on a struct that
+// contains a reference.
 #[tactic(auto, unfolding(crate::specs::Arguments::pes_selection_of))]
 pub fn pes_at<'a>(matches: &ArgMatches<'a>) -> Result<PesSelection<'a>, UsageFault>
     ensures value { result_map_both pes_requested (λ fault. fault) result
@@ -259,8 +262,8 @@ pub fn pes_at<'a>(matches: &ArgMatches<'a>) -> Result<PesSelection<'a>, UsageFau
     })
 }
 
-/// Returns the items of an option with a list, which is empty if the option is left out; `None` if
-/// its text is no such list.
+/// Returns the items of an option with a list: an empty list if the user left the option out, or
+/// `None` if the text is no valid list.
 ///
 /// # Errors
 ///

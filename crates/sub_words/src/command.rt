@@ -1,7 +1,7 @@
-//! The command line, as `clap` reads it: one level of subcommands, of which one is required.
+//! The command line as rules for `clap`: one level of subcommands, one of which is required.
 //!
-//! The commands are a table here and in specs/Commands. Help and version are not defined: `clap`
-//! refuses these words.
+//! The table of commands is repeated in specs/Commands. The rules do not define help and version,
+//! so `clap` refuses these words.
 ghost use Rattle.std.specs.Prelude.{◌≡◌, IfOk, false, map};
 ghost use Rattle.std.specs.List.{fold};
 ghost use Rattle.clap.specs.Words.{app_of, new_app, rule_of, with_rule};
@@ -16,17 +16,17 @@ use std::alloc::{AllocError, Global};
 pub enum Argument {
     /// A required argument.
     Required(&'static str),
-    /// A required option.
+    /// A required option, `--name TEXT`.
     RequiredOption(&'static str),
-    /// An option with its default.
+    /// An option with a default, `--name TEXT`.
     Option(&'static str, &'static str),
-    /// An optional option without a default.
+    /// An optional option without a default, `--name TEXT`.
     BareOption(&'static str),
-    /// A flag.
+    /// A flag, `--name`.
     Flag(&'static str),
 }
 
-// The commands, each with its arguments.
+// The table of commands, each with its arguments.
 const COMMANDS: [(&str, &[Argument]); 9] = [
     ("packet", &[Argument::Required("hex")]),
     (
@@ -133,7 +133,7 @@ pub fn is_command(word: &str) -> bool
     false
 }
 
-/// Returns the program and its commands.
+/// Returns the program with all its commands, as rules for `clap`.
 ///
 /// # Errors
 ///
@@ -152,7 +152,7 @@ pub fn subttx_command<'a>(alloc: Global) -> Result<Command<'a>, AllocError>
     Ok(program)
 }
 
-// Returns a command with these arguments.
+// Returns a command with these arguments, as rules for `clap`.
 fn command_with<'a>(
     alloc: Global,
     name: &'a str,
@@ -169,7 +169,7 @@ fn command_with<'a>(
     Ok(command)
 }
 
-// Converts an argument for `clap`.
+// Converts an argument of the table to a rule for `clap`.
 fn clap_argument<'a>(alloc: Global, argument: Argument) -> Arg<'a>
     ensures rule { rule_of result ≡ clap_rule argument }
     ensures local { result.global ≡ false }

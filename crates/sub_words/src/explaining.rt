@@ -1,4 +1,4 @@
-//! Explains why arguments are no command.
+//! Explains why the arguments of the command line are no command.
 use crate::command::subttx_command;
 use crate::help::requests_help;
 use crate::version::requests_version;

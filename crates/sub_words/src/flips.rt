@@ -30,7 +30,7 @@ impl Item for Flip {
     }
 }
 
-// Returns the part of a text between two colons, counted from 0.
+// Returns part `number` of a text that is split at its colons, counted from 0.
 fn field_of(text: &str, number: usize) -> Option<&str>
     ensures { option_map (λ x. x.now) result
         ≡ slice_get (slice_split (λ c. c == colon) text.now) number }

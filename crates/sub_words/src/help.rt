@@ -5,10 +5,10 @@ ghost use Rattle.sub_words.specs.Help as specs;
 
 use crate::command::is_command;
 
-/// Returns whether arguments request help: after the program's name there is a word for help, alone
-/// or together with the name of a command.
+/// Returns whether arguments request help: after the program's name comes a word for help, alone or
+/// together with the name of a command.
 ///
-/// No other arguments do, so status 0 of a command is its answer.
+/// No other arguments request help, so otherwise status 0 is the result of a command.
 #[tactic(auto, unfolding(crate::specs::Help::requests_help))]
 pub fn requests_help(arguments: &[&str]) -> bool
     ensures { result ≡ specs.requests_help (texts_of arguments.now) }
@@ -22,7 +22,7 @@ pub fn requests_help(arguments: &[&str]) -> bool
     }
 }
 
-// Returns whether one of two words requests help, and the other is the name of a command.
+// Returns whether one of the two words requests help, and the other is the name of a command.
 fn is_help_of(first: &str, second: &str) -> bool
     ensures { result ≡ specs.is_help_of first.now second.now }
 {

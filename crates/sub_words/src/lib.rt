@@ -1,7 +1,7 @@
 //! Parses the arguments of the command line as a request.
 //!
-//! `Request::parse` uses `clap`, which no other crate does: `command` defines the command line for
-//! `clap`, and the arguments that it returns are read one by one, each by a function of its own.
+//! `Request::parse` is the only function of the program that uses `clap`: `command` defines the
+//! command line, and each argument in the result is read by a function of its own.
 //!
 //! ```text
 //! let request = Request::parse(alloc, &["subttx", "show", "film.stl"])?;

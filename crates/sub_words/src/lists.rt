@@ -1,4 +1,4 @@
-//! Lists as users write them.
+//! Parses lists as users write them.
 ghost use Rattle.std.specs.Prelude.{◌≡◌, ◌==◌, ℕ, Bool, IfOk, List, [], ◌∷◌, None, Option};
 ghost use Rattle.std.specs.Prelude.{Some, map};
 ghost use Rattle.std.specs.Prelude.{if◌then◌else◌, option_map};
@@ -10,26 +10,26 @@ use std::alloc::{AllocError, Allocator};
 /// The maximum number of items of a list.
 const MOST_ITEMS: usize = 64;
 
-/// An item of a list.
+/// An item of a list in the text of an option.
 pub trait Item: Copy {
-    /// The item of a text.
+    /// The function from a text to an item.
     ghost parsed: { List ℕ → Option Self };
 
-    /// Whether two items are not allowed in one list.
+    /// The test whether two items must not be in the same list.
     ghost same: { Self → Self → Bool };
 
-    /// Returns the item of a text.
+    /// Returns the item that a text describes, or `None` if the text describes no item.
     fn read(text: &str) -> Option<Self>
         ensures { result ≡ parsed text.now };
 
-    /// Returns whether the two are not allowed in one list.
+    /// Returns whether the two items must not be in the same list.
     fn is_same(&self, other: &Self) -> bool
         ensures { result ≡ same self.now other.now };
 }
 
 /// Parses a list: 1 to 64 different items, separated by commas. Returns `None` for any other text.
 ///
-/// It works with any allocator, so that a test can refuse an allocation.
+/// Works with any allocator, so that a test can let an allocation fail.
 ///
 /// # Errors
 ///
@@ -56,7 +56,8 @@ fn texts_of<A: Allocator>(alloc: A, text: &str) -> Result<Vec<&str, A>, AllocErr
     text.split(',').collect(alloc)
 }
 
-// Returns the items of the texts; `None` if one of them is no item, or the same as one before it.
+// Returns the items of the texts, or `None` if a text is no item, or an item is the same as an
+// earlier one.
 fn items_of<A: Allocator + Drop, T: Item + Drop>(
     alloc: A,
     texts: &[&str],
@@ -69,8 +70,8 @@ fn items_of<A: Allocator + Drop, T: Item + Drop>(
     Ok(if all { Some(list) } else { None })
 }
 
-// Adds the items of the texts to a list, up to the first text that is no item, or the same as one
-// before it. Returns whether all were added.
+// Appends the items of the texts to a list, up to the first text that is no item or repeats an
+// earlier one. Returns whether all items were added.
 fn add_items<A: Allocator, T: Item>(
     list: &mut Vec<T, A>,
     texts: &[&str],
@@ -87,7 +88,8 @@ fn add_items<A: Allocator, T: Item>(
     Ok(true)
 }
 
-// Adds the item of a text to a list. Returns whether it is one, and not the same as one before it.
+// Appends the item of a text to a list. Returns `false` if the text is no item or repeats an
+// earlier one.
 fn add_item<A: Allocator, T: Item>(list: &mut Vec<T, A>, text: &str) -> Result<bool, AllocError>
     ensures { IfOk result (λ added. (more : List (List ℕ))
         → items_after T.parsed T.same list.old.items (text.now ∷ more)
@@ -103,7 +105,7 @@ fn add_item<A: Allocator, T: Item>(list: &mut Vec<T, A>, text: &str) -> Result<b
     Ok(true)
 }
 
-// Returns whether an item is in a list.
+// Returns whether a list contains an item that is the same as `item`.
 fn is_listed<T: Item>(item: &T, list: &[T]) -> bool
     ensures { result ≡ list_any (T.same item.now) list.now }
 {

@@ -14,22 +14,22 @@ use clap::error::ErrorKind;
 use std::alloc::Global;
 use sub_request::{Request, UsageFault};
 
-/// Parses arguments.
+/// Parses the arguments of the command line as a request.
 ///
-/// The type of requests is in a lower crate, so its constructor is in a trait.
+/// The type `Request` is in a lower crate, so the function that parses it is in a trait.
 pub trait ParseWords<'a>: Sized {
-    /// Parses the arguments, of which the first is the program's name.
+    /// Parses the arguments of the command line, of which the first is the program's name.
     ///
-    /// If they request help or the version, nothing else is read. Otherwise the request is made
-    /// from the matches that `clap` returns, defaults included, by the rules of their command.
+    /// If the arguments request help or the version, nothing else is read. Otherwise the request is
+    /// made from the matches that `clap` returns, defaults included, by the rules of the command.
     ///
     /// # Errors
     ///
-    /// Returns `Words` if `clap` refuses the arguments. Then the first fault of the command's
+    /// Returns `Words` if `clap` refuses the arguments. Otherwise the first fault of the command's
     /// arguments: `BadHex`, `SameFile`, `BadPage`, `Every`, `Origin`, `BadOption`, `Within`, `Pid`,
     /// `PacketSize`, `Range`, `BadLayout`, `BadTime`, `BadSkip`, `BadFlip`, `BadLose`,
-    /// `BadReceiver`. Returns `Memory` if memory ran out before that was known; without arguments
-    /// none is needed.
+    /// `BadReceiver`. Returns `Memory` if memory runs out before the fault is known, which needs at
+    /// least one argument.
     fn parse(alloc: Global, arguments: &'a [&'a str]) -> Result<Self, UsageFault>;
 }
 

@@ -1,4 +1,4 @@
-//! The selection of PES packets as users write it: `--pid P`, `--packet-size S` and `--pes I-J`.
+//! Parses the options that select PES packets: `--pid P`, `--packet-size S` and `--pes I-J`.
 ghost use Rattle.std.specs.Prelude.{◌≡◌, ◌<◌, ◌^◌, IfSome, option_map};
 ghost use Rattle.std.specs.Char.{is_ascii_hexdigit};
 ghost use Rattle.std.specs.List.{list_all};
@@ -24,7 +24,7 @@ pub fn parse_pid(text: &str) -> Option<Pid>
     Pid::new(u16::try_from(number).ok()?)
 }
 
-// Returns the text after a leading `0x`.
+// Returns the text after a leading `0x`, or `None` if the text does not begin with `0x`.
 fn digits_after_0x(text: &str) -> Option<&str>
     ensures { option_map (λ x. x.now) result ≡ digits_after_0x text.now }
 {
@@ -44,7 +44,7 @@ fn parse_hex_digits(text: &str) -> Option<u64>
     u64::from_str_radix(text, 16).ok()
 }
 
-// Returns whether all bytes are hexadecimal digits.
+// Returns whether all bytes of a text are hexadecimal digits.
 fn are_hex_digits(bytes: &[u8]) -> bool
     ensures { result ≡ list_all is_ascii_hexdigit bytes.now }
 {
@@ -81,7 +81,7 @@ pub fn parse_range(text: &str) -> Option<PesPacketRange>
     PesPacketRange::new(first, Some(last))
 }
 
-// Returns the texts before and after the first dash.
+// Returns the texts before and after the first dash, or `None` if the text has no dash.
 fn around_dash(text: &str) -> Option<(&str, &str)>
     ensures { option_map (λ x. (x.0.now, x.1.now)) result ≡ around_dash text.now }
 {

@@ -17,12 +17,12 @@ use std::alloc::Global;
 use stl_rows::National;
 use sub_request::{Listening, Request, TransportStream, UsageFault};
 
-/// Reads the arguments of a command, given its name.
+/// Reads the arguments of the command `name` as a request.
 ///
 /// # Errors
 ///
-/// Returns the first fault of the arguments by the program's own rules, or `Memory` if memory ran
-/// out before that was known: only `listen` needs memory.
+/// Returns the first fault of the arguments by the program's own rules, or `Memory` if memory runs
+/// out before the fault is known: only `listen` needs memory.
 #[tactic(auto, using(crate::proofs::CommandLemmas::read_exactly))]
 pub fn read_command<'a>(
     alloc: Global,
@@ -46,7 +46,7 @@ pub fn read_command<'a>(
     }
 }
 
-// `packet HEX`
+// Reads the arguments of `packet HEX`.
 fn read_packet<'a>(matches: &ArgMatches<'a>) -> Result<Request<'a>, UsageFault>
     ensures { IsReadExactly (packet_requested (rows_of (found_of matches.now))) result }
 {
@@ -57,7 +57,7 @@ fn read_packet<'a>(matches: &ArgMatches<'a>) -> Result<Request<'a>, UsageFault>
     }
 }
 
-// `packets PES [--pid P] [--packet-size S] [--pes I-J]`
+// Reads the arguments of `packets PES [--pid P] [--packet-size S] [--pes I-J]`.
 fn read_packets<'a>(matches: &ArgMatches<'a>) -> Result<Request<'a>, UsageFault>
     ensures { IsReadExactly (packets_requested (rows_of (found_of matches.now))) result }
 {
@@ -67,7 +67,7 @@ fn read_packets<'a>(matches: &ArgMatches<'a>) -> Result<Request<'a>, UsageFault>
     }
 }
 
-// `normal IN OUT`
+// Reads the arguments of `normal IN OUT`.
 fn read_normal<'a>(matches: &ArgMatches<'a>) -> Result<Request<'a>, UsageFault>
     ensures { IsReadExactly (normal_requested (rows_of (found_of matches.now))) result }
 {
@@ -79,8 +79,8 @@ fn read_normal<'a>(matches: &ArgMatches<'a>) -> Result<Request<'a>, UsageFault>
     Ok(Request::Normal { input, output })
 }
 
-// `schedule STL PES [--page P] [--every N] [--origin T] [--option O] [--serial] [--layout TEXT]
-// [--from TIME] [--to TIME] [--open]`
+// Reads the arguments of `schedule STL PES [--page P] [--every N] [--origin T] [--option O]
+// [--serial] [--layout TEXT] [--from TIME] [--to TIME] [--open]`.
 fn read_schedule<'a>(matches: &ArgMatches<'a>) -> Result<Request<'a>, UsageFault>
     ensures { IsReadExactly (schedule_requested (rows_of (found_of matches.now))) result }
 {
@@ -106,9 +106,9 @@ fn read_schedule<'a>(matches: &ArgMatches<'a>) -> Result<Request<'a>, UsageFault
     })
 }
 
-// `check STL PES [--page P] [--every N] [--origin T] [--option O] [--within N] [--pid P]
-// [--packet-size S] [--pes I-J] [--layout TEXT] [--pace K] [--from TIME] [--to TIME] [--open]
-// [--keeping] [--complete] [--all]`
+// Reads the arguments of `check STL PES [--page P] [--every N] [--origin T] [--option O] [--within
+// N] [--pid P] [--packet-size S] [--pes I-J] [--layout TEXT] [--pace K] [--from TIME] [--to TIME]
+// [--open] [--keeping] [--complete] [--all]`.
 fn read_check<'a>(matches: &ArgMatches<'a>) -> Result<Request<'a>, UsageFault>
     ensures { IsReadExactly (check_requested (rows_of (found_of matches.now))) result }
 {
@@ -135,12 +135,12 @@ fn read_check<'a>(matches: &ArgMatches<'a>) -> Result<Request<'a>, UsageFault>
     })
 }
 
-// `listen PES [--page P] [--origin T] [--within N] [--complete] [--pid P] [--packet-size S]
-// [--pes I-J] --at TIME [--skip N] [--flip F] [--lose L] [--receiver R]`
+// Reads the arguments of `listen PES [--page P] [--origin T] [--within N] [--complete] [--pid P]
+// [--packet-size S] [--pes I-J] --at TIME [--skip N] [--flip F] [--lose L] [--receiver R]`.
 fn read_listen<'a>(alloc: Global, matches: &ArgMatches<'a>) -> Result<Request<'a>, UsageFault>
     ensures { IsReadGivenMemory (listen_requested (rows_of (found_of matches.now))) result }
 {
-    // The repeat bound is not used.
+    // `listen` does not use the repeat bound, so any valid one will do.
     let plain = options_at(matches, Some(1))?;
     let options = allowing_at(matches, plain)?;
     let pes = match pes_at(matches) {
@@ -173,7 +173,7 @@ fn read_listen<'a>(alloc: Global, matches: &ArgMatches<'a>) -> Result<Request<'a
     Ok(Request::Listen { pes, listening })
 }
 
-// `extract TS PES --pid P [--packet-size S]`
+// Reads the arguments of `extract TS PES --pid P [--packet-size S]`.
 fn read_extract<'a>(matches: &ArgMatches<'a>) -> Result<Request<'a>, UsageFault>
     ensures { IsReadExactly (extract_requested (rows_of (found_of matches.now))) result }
 {
@@ -191,7 +191,7 @@ fn read_extract<'a>(matches: &ArgMatches<'a>) -> Result<Request<'a>, UsageFault>
     })
 }
 
-// `survey RECORDING [--page P] [--pid P] [--packet-size S]`
+// Reads the arguments of `survey RECORDING [--page P] [--pid P] [--packet-size S]`.
 fn read_survey<'a>(matches: &ArgMatches<'a>) -> Result<Request<'a>, UsageFault>
     ensures { IsReadExactly (survey_requested (rows_of (found_of matches.now))) result }
 {

@@ -1,4 +1,4 @@
-//! TIME and the receiver of `listen` as users write them.
+//! Parses the time and the receiver of `listen` as users write them.
 ghost use Rattle.std.specs.Prelude.{◌≡◌, ◌+◌, ◌<◌, ◌≤◌, IfSome, length};
 ghost use Rattle.stl_file.specs.TimeCode.{day};
 ghost use Rattle.sub_words.specs.Texts.{frame_of_text, receiver_of_text, two_digits_at};
@@ -6,7 +6,8 @@ ghost use Rattle.sub_words.specs.Texts.{frame_of_text, receiver_of_text, two_dig
 use stl_file::TimeCode;
 use sub_request::ReceiverKind;
 
-/// Parses a receiver: `blank`, `keep`, `drop` or `anew`.
+/// Parses the name of a receiver: `blank`, `keep`, `drop` or `anew`. Returns `None` for any other
+/// text.
 #[tactic(auto, unfolding(crate::specs::Texts::receiver_of_text))]
 pub fn parse_receiver(text: &str) -> Option<ReceiverKind>
     ensures { result ≡ receiver_of_text text.now }
@@ -20,7 +21,7 @@ pub fn parse_receiver(text: &str) -> Option<ReceiverKind>
     }
 }
 
-/// Parses a frame of the day: `HH:MM:SS:FF`, two digits each, at 25 frames a second.
+/// Parses a frame of the day: `HH:MM:SS:FF`, two digits each, at 25 frames per second.
 ///
 /// Returns `None` for any other text.
 #[tactic(auto, unfolding(crate::specs::Texts::frame_of_text))]
@@ -40,7 +41,7 @@ pub fn parse_time(text: &str) -> Option<u32>
     Some(time.frame())
 }
 
-// Returns the value of two decimal digits at a place.
+// Returns the value of two decimal digits at a place of a text, or `None` if either is no digit.
 #[tactic(auto, unfolding(crate::specs::Texts::two_digits_at))]
 fn two_digits_at(text: &[u8], place: usize) -> Option<u8>
     requires { place + 2 ≤ length text.now }

@@ -3,7 +3,8 @@ ghost use Rattle.std.specs.Prelude.{◌≡◌};
 ghost use Rattle.sub_words.specs.Commands.{texts_of};
 ghost use Rattle.sub_words.specs.Version as specs;
 
-/// Returns whether arguments request the version: a word for it is alone after the program's name.
+/// Returns whether arguments request the version: after the program's name comes only a word for
+/// the version.
 #[tactic(auto, unfolding(crate::specs::Version::requests_version))]
 pub fn requests_version(arguments: &[&str]) -> bool
     ensures { result ≡ specs.requests_version (texts_of arguments.now) }

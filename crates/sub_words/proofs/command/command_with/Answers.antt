@@ -1,4 +1,4 @@
--- The command with one more rule.
+-- `command_with`: adding one more rule to the command.
 use Rattle.std.proofs.Common.{◌∙◌, ap, refl}
 use Rattle.clap.specs.Words.{app_of, with_rule}
 use Rattle.sub_words.specs.Commands.{clap_rule}

@@ -1,4 +1,4 @@
--- No command so far has this name, so the others decide.
+-- Loop invariant: no command so far has the name, so the result depends only on the other commands.
 use Rattle.std.proofs.Common.{◌≡◌, drop}
 use Rattle.std.specs.List.{list_any}
 use Rattle.std.specs.Str.{bytes_eq}

@@ -1,4 +1,4 @@
--- The program before its commands, with one more command, and with all.
+-- `subttx_command`: the program without commands, with one more command, and with all commands.
 use Rattle.std.proofs.Common.{◌∙◌, ap, rules}
 use Rattle.clap.specs.Words.{app_of, with_subcommand}
 use Rattle.sub_words.specs.Commands.{subttx_app, with_command}

@@ -1,4 +1,4 @@
--- The items with one more text, whether it is an item or not, and with all.
+-- `add_items`: the list after one more text, which may be an item or not, and after all texts.
 use Rattle.std.proofs.Common.{◌≡◌, ◌∙◌, ◌+◌, ◌<◌, ◌≤◌, ℕ, Bool, true, false, List, ◌∷◌, Option}
 use Rattle.std.proofs.Common.{Some, None, drop, get_or, length, map, subst, sym}
 use Rattle.std.proofs.lemmas.List.{at_drop_all, at_drop_more}

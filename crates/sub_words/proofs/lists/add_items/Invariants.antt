@@ -1,4 +1,5 @@
--- The items so far and those of the remaining texts are those of all texts.
+-- Loop invariant: the items so far, followed by those of the remaining texts, are the items of all
+-- texts.
 use Rattle.std.proofs.Common.{◌≡◌, drop, map}
 use Rattle.sub_words.specs.Texts.{items_after}
 use Rattle.sub_words.proofs.lists.add_items.Given as goal

@@ -1,4 +1,4 @@
--- What `parse` returns for one to ten digits: parse-digits.
+-- The standard library parses one to ten digits as their value: parse-digits.
 use Rattle.std.proofs.Common.{arith}
 use Rattle.std.proofs.lemmas.Grind.{common_steps}
 use Rattle.sub_words.specs.Texts.{number_of_text}

@@ -1,5 +1,5 @@
--- Parsing the program's command line is exact; by command_in-parsed, has_subcommand-parsed,
--- refusals-parsed and IsFaultOfCommand-refused.
+-- The matches that clap returns for the program's command line are exact, by command_in-parsed,
+-- has_subcommand-parsed, refusals-parsed and IsFaultOfCommand-refused.
 use Rattle.std.proofs.Common.{◌∙◌}
 use Rattle.sub_words.specs.Commands.{texts_of}
 use Rattle.sub_words.proofs.CommandLemmas.{IsFaultOfCommand-refused, command_in-parsed}

@@ -1,4 +1,4 @@
--- The request is that of the command's arguments: asked_for-met.
+-- `parse_command` returns the request of the command's arguments: asked_for-met.
 use Rattle.std.proofs.Common.{rules}
 use Rattle.clap.specs.Words.{found_of, rows_of}
 use Rattle.clap.specs.declared.parser.matches.ArgMatches.TheViews.{out-ArgMatches}
