@@ -1,4 +1,4 @@
--- The arguments that the system gives are collected.
+-- Collecting the arguments that the system gives yields all of them.
 use Rattle.std.proofs.Common.{◌≡◌, List, Ok, refl, sym}
 use Rattle.std.proofs.lemmas.Iterator.{items_from_collect}
 use Rattle.std.proofs.lemmas.Iterator.Adapters.{YieldsList-from_vec}
@@ -8,7 +8,6 @@ use Rattle.std.specs.Vec.Iter.{into_iter_items, into_iter_steps}
 use Rattle.std.specs.declared.alloc.AllocError.{AllocError}
 use Rattle.std.specs.declared.vec.IntoIter.{IntoIter}
 
--- All elements of the iterator are collected.
 pub collected : {X Z : Type 0} (s : IntoIter X Z) (v : Vec X Z)
     → (xs : List X) × DrainsIf into_iter_steps ⊤ s xs × ((v.items ≡ xs) × (vec_len v ≡ length xs))
     → into_iter_items s ≡ v.items

@@ -10,7 +10,7 @@ use Rattle.clap.specs.Words.{Text}
 use Rattle.sub_request.specs.declared.request.UsageFault.{UsageFault}
 use Rattle.sub_request.specs.declared.request.UsageFault.TheVariants as usage
 
--- Why there are no arguments: memory ran out, or one of them is no text.
+-- Why there are no arguments: memory ran out, or an argument is no text.
 abbrev pub no_arguments : ErrorKind → UsageFault
 no_arguments OutOfMemory = usage.Memory
 no_arguments _ = usage.Words
@@ -21,7 +21,7 @@ abbrev pub arguments_given : {Z : Type 0}
 arguments_given (Ok arguments) = Ok (map string_bytes (into_iter_items arguments))
 arguments_given (Err error) = Err (no_arguments (error_kind error))
 
--- Why arguments are not passed on: memory ran out, or there are none.
+-- Why the arguments are not passed on: memory ran out, or the system gave none.
 abbrev pub IsLost : Result (List Text) UsageFault → UsageFault → Type 0
 IsLost (Ok arguments) fault = fault ≡ usage.Memory
 IsLost (Err why) fault = fault ≡ why

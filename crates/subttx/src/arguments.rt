@@ -9,12 +9,12 @@ use std::io;
 use std::io::ErrorKind;
 use sub_request::UsageFault;
 
-/// Returns all arguments in order.
+/// Returns all arguments of the command line in order.
 ///
 /// # Errors
 ///
-/// Returns `Memory` if memory ran out, and `Words` if the system gave none: an argument that is no
-/// text belongs to no command.
+/// Returns `Memory` if memory ran out, and `Words` if the system gave no arguments. The system
+/// gives none if an argument is not valid UTF-8.
 pub fn words_of(alloc: Global, given: io::Result<Args>) -> Result<Vec<String>, UsageFault>
     ensures arguments { IfOk result (λ arguments.
         arguments_given given ≡ Ok (map (λ word. string_bytes word) arguments.items)) }

@@ -18,15 +18,16 @@ use sub_files::MemFiles;
 use sub_headline::law_of_headline;
 use sub_io::Sink;
 
-/// Runs the program with files in memory, as `main` runs it with those of the system.
+/// Runs the program with files in memory, as `main` runs it with the files of the system.
 ///
-/// If the arguments are `check STL PES`, 0 means that the subtitles and frames in the files keep
-/// the headline. With `--page`, `--every`, `--origin`, `--pace`, `--complete` or `--all` after
-/// them, in any order, it means that with these options, also for receivers that drop hit rows and
-/// for the screens of all; and that the bytes match their formats, and contain nothing else. Any
-/// code but 2 says whether the files are accepted. With `--pid`, `--packet-size`, `--pes`,
-/// `--from`, `--to` or `--open` this applies to the selected parts of a recording and of a subtitle
-/// file; with `--option` or `--layout` the headline applies to subtitles drawn in that way.
+/// If the arguments are `check STL PES`, the exit status 0 means that the headline holds for the
+/// subtitles and frames in the files. With `--page`, `--every`, `--origin`, `--pace`, `--complete`
+/// or `--all` after these arguments, in any order, 0 means that the headline holds with these
+/// options, also for receivers that drop hit rows and for the screens of all receivers; and that
+/// the bytes match their formats, and contain nothing else. Any code but 2 says whether the files
+/// are accepted. With `--pid`, `--packet-size`, `--pes`, `--from`, `--to` or `--open` all this
+/// applies to the selected parts of a recording and of a subtitle file; with `--option` or
+/// `--layout` the headline applies to subtitles drawn with this national option or layout.
 pub fn run_in_memory<K: Sink + Drop>(
     alloc: Global,
     given: io::Result<Args>,

@@ -1,6 +1,6 @@
 //! `subttx` reads and checks Teletext subtitles from the command line.
 //!
-//! It is the top crate: arguments become a `Request` (`sub_words`), which is answered with the
+//! This is the top crate: arguments become a `Request` (`sub_words`), which is answered with the
 //! files that it names, and ends in a `Status` (`sub_answer`).
 #![tactic(auto)]
 
@@ -25,7 +25,7 @@ use sub_io::{BufferedSink, IntoWrite, Sink};
 use sub_request::{Request, UsageFault};
 use sub_words::{ParseWords, explain_words};
 
-// Room for the line that reports want of memory.
+// Room for the line that reports that memory ran out, in bytes.
 const LITTLE: usize = 64;
 
 fn main(rt: HostRuntime) -> ExitCode {
@@ -60,12 +60,12 @@ fn explain_arguments(rt: &HostRuntime) {
     }
 }
 
-/// How the program ended.
+/// The end of a run of the program.
 #[derive(Drop)]
 pub(crate) struct Ended<K> {
-    /// The exit status.
+    /// The exit status, 0 to 2.
     code: u8,
-    /// Standard output at the end: nothing was printed after the answer.
+    /// Standard output after the answer was printed.
     standard_output: K,
 }
 
@@ -128,7 +128,11 @@ fn answer_or_say<D: FileSystem, K: Sink>(
     }
 }
 
-// Answers the arguments.
+// Answers the arguments with the files that they name.
+//
+// # Errors
+//
+// Returns why the arguments are not answered.
 fn answer_given<D: FileSystem, K: Sink>(
     alloc: Global,
     given: io::Result<Args>,

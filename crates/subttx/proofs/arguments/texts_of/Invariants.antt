@@ -1,4 +1,4 @@
--- The texts so far, and those of the remaining arguments, are those of all.
+-- The texts so far, followed by those of the remaining arguments, are the texts of all arguments.
 use Rattle.std.proofs.Common.{◌≡◌, ◌++◌, drop, map, string_bytes}
 use Rattle.sub_words.specs.Commands.{texts_of}
 use Rattle.subttx.proofs.arguments.texts_of.Given as goal

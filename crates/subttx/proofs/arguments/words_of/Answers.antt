@@ -1,4 +1,4 @@
--- All arguments are collected; by collected.
+-- Collecting the arguments from the system yields all of them; by collected.
 use Rattle.std.proofs.Common.{Ok, ap, map, string_bytes}
 use Rattle.subttx.proofs.WordsLemmas.{collected}
 use Rattle.subttx.proofs.arguments.words_of.Goals as goal
