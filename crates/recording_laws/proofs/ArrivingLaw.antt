@@ -1,5 +1,5 @@
--- If at most 14 packets in a row are missing, `law_of_reading` says which PES packets arrive:
--- `law_of_losses`, `law_of_neighbours`.
+-- If at most 14 carriers in a row are missing, `law_of_reading` determines which PES packets
+-- arrive: `law_of_losses`, `law_of_neighbours`.
 use Rattle.std.proofs.Common.{◌≡◌, ℕ, inl, inr, Bool, true, false, ◌||◌, List, [], ◌∷◌, ◌++◌}
 use Rattle.std.proofs.Common.{length, refl, sym, ap, ◌∙◌}
 use Rattle.std.specs.List.{concat}
@@ -18,19 +18,18 @@ use Rattle.recording_laws.proofs.ReadingLemmas.{has_previous}
 use Rattle.recording_laws.proofs.ReadingLemmas.{Located, located, sent-next, skip}
 use Rattle.std.specs.Bool.{⊤}
 
--- A skipped PES packet is a gap.
 skip-gap : (previous : Previous) (s : SentPes Fated)
     → (has_previous (skip previous s) ≡ has_previous previous) × (is_gap (skip previous s) ≡ true)
 skip-gap Nothing s = (refl, refl)
 skip-gap Marked s = (refl, refl)
 skip-gap (After x t between skipped) s = (refl, refl)
 
--- Gap markers alone.
 concat-alone : (marked : Bool) → concat (gap_markers_where marked) ≡ gap_marker_where marked
 concat-alone true = append-nil (gap_marker_where true)
 concat-alone false = refl
 
--- If few packets are missing, the PES packets that are read are those that arrive.
+-- If few carriers are missing in a row, the PES packets that are read are those that arrive, in
+-- order.
 reads-lead : (previous : Previous) (sent : List (SentPes Fated)) (pes_packets : List (List ℕ))
     → Reads true previous sent pes_packets
     → Leads (has_previous previous) (is_gap previous) sent (concat pes_packets)
@@ -56,7 +55,8 @@ reads-lead previous (s ∷ more) pes_packets reads = elim reads [
       (reads-lead (After here.1 s (length s.others) false) more here.2 here.6)
 ]
 
--- What is carried then.
+-- If few carriers are missing in a row, what the recording carries are results for the PES packets
+-- sent.
 given-few : (number distance : ℕ) (m : Multiplex Fated) (recording : List ℕ)
     → IsLossy number distance m recording
     → Gives true Nothing m.sent (carried number distance recording)

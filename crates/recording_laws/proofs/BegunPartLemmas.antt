@@ -1,5 +1,5 @@
--- The result of a part that begins like a PES packet, whatever was joined to its first packet. Main
--- lemma: closes-prefix.
+-- The result of a part that begins like a PES packet that was sent, whatever payloads were joined
+-- to its first packet. Main lemma: closes-prefix.
 use Rattle.std.proofs.Common.{◌≡◌, ℕ, ◌≤◌, ◌⊎◌, inl, inr, Bool, true, false, not, ◌&&◌, ◌||◌, List}
 use Rattle.std.proofs.Common.{[], ◌∷◌, ◌++◌, length, take, drop, Ok, sym, ap, ◌∙◌, arith, nat_le}
 use Rattle.std.proofs.Common.{nat_lt, length-take}
@@ -19,17 +19,13 @@ use Rattle.recording_laws.specs.Pace.{up_to_pts}
 use Rattle.recording_laws.proofs.ClosedPartLemmas.{Closes, closes-broken, closes-pes_packet}
 use Rattle.recording_laws.proofs.PartLemmas.{pes_packet-long, pes_packet-size}
 
--- ---- bytes with the same beginning
-
 take-less : (n m : ℕ) (l : List ℕ) → n ≤ length (take m l) → take n (take m l) ≡ take n l
 take-less n m l h =
     sym (take-append-le n (take m l) (drop m l) h) ∙ ap (take n) (take-append-drop m l)
 
--- It is long enough.
 prefix-long : (n m : ℕ) (l : List ℕ) → n ≤ m → m ≤ length l → n ≤ length (take m l)
 prefix-long n m l less long = omega (arith, length-take m l)
 
--- Bytes that agree up to a PTS agree in the first six.
 pub same-six : (a b : List ℕ)
     → 14 ≤ length a
     → 14 ≤ length b
@@ -40,12 +36,10 @@ same-six a b long_a long_b same =
     ∙ ap (take 6) same
     ∙ take-less 6 14 b (prefix-long 6 14 b (omega arith) long_b)
 
--- The first six bytes of a PES packet.
 pes_packet-six : (b : List ℕ) (h : IsPesPacket b)
     → take 6 b ≡ packet_start ++ bytes_high_first 2 (packet_length h.n)
 pes_packet-six b h = ap (take 6) h.bytes
 
--- Bytes with these, as long as the PES packet, are one.
 pes_packet-as : (b x : List ℕ)
     → IsPesPacket b
     → take 6 x ≡ take 6 b
@@ -60,24 +54,21 @@ pes_packet-as b x h six long = record {
   long = long ∙ h.long;
 }
 
--- ---- parts that begin like a PES packet
-
--- The part begins like the PES packet, up to its PTS.
+-- The part begins like the PES packet s, up to its PTS.
 pub record IsPrefix (part : Part) (s : SentPes Fated) : Type 0 where
   pub begins : part.begins ≡ true
   pub long : 14 ≤ length (part_bytes part)
   pub same : up_to_pts (part_bytes part) ≡ up_to_pts s.bytes
   pub is_pes_packet : IsPesPacket s.bytes
 
--- The bytes that it may give.
+-- The bytes that the part may yield as a PES packet.
 abbrev pub given_bytes : Part → SentPes Fated → List ℕ
 given_bytes part s = take (length s.bytes) (part_bytes part)
 
--- More bytes follow them.
+-- The part has more bytes than its PES packet.
 abbrev pub is_longer : Part → SentPes Fated → Bool
 is_longer part s = nat_lt (length s.bytes) (length (part_bytes part))
 
--- Its size is known.
 prefix-size : (part : Part) (s : SentPes Fated)
     → IsPrefix part s
     → size_at (take 6 (part_bytes part)) ≡ Ok (length s.bytes)
@@ -86,7 +77,7 @@ prefix-size part s h =
     ap size_at (same-six (part_bytes part) s.bytes h.long (omega (arith, long)) h.same)
     ∙ pes_packet-size s.bytes h.is_pes_packet
 
--- If all of it is there, it gives a PES packet.
+-- If a part that begins like a PES packet is at least as long, it yields a PES packet.
 outcome-prefix : (cut_off : Bool) (part : Part) (s : SentPes Fated)
     → IsPrefix part s
     → nat_le (length s.bytes) (length (part_bytes part)) ≡ true
@@ -98,7 +89,7 @@ outcome-prefix cut_off part s h enough =
     let long = h.long in grind (arith, nat_tests) in
     rw (h.begins, six, size, enough)
 
--- Otherwise it is incomplete.
+-- If a part that begins like a PES packet is shorter, it is incomplete.
 outcome-short : (cut_off : Bool) (part : Part) (s : SentPes Fated)
     → IsPrefix part s
     → nat_le (length s.bytes) (length (part_bytes part)) ≡ false
@@ -110,7 +101,6 @@ outcome-short cut_off part s h short =
     let long = h.long in grind (arith, nat_tests) in
     rw (h.begins, six, size, short)
 
--- The result begins like the PES packet.
 given-prefix : (part : Part) (s : SentPes Fated)
     → IsPrefix part s
     → nat_le (length s.bytes) (length (part_bytes part)) ≡ true
@@ -132,7 +122,6 @@ given-prefix part s h enough = (long, prefix)
         take-less 14 (length s.bytes) (part_bytes part) (omega (arith, size, long))
         ∙ h.same
 
--- It is a PES packet.
 given-pes_packet : (part : Part) (s : SentPes Fated)
     → IsPrefix part s
     → nat_le (length s.bytes) (length (part_bytes part)) ≡ true
@@ -145,10 +134,8 @@ given-pes_packet part s h enough =
     (same-six (given_bytes part s) s.bytes (omega (arith, size, same)) (omega (arith, size)) is.1)
     is.0
 
--- ---- its result
-
--- It gives a PES packet that begins like this one, and equals it if the part has no other bytes; or
--- nothing, and there is a gap.
+-- A closed part yields a PES packet that begins like s, up to its PTS, and equals s if the part has
+-- the bytes of s only.
 pub record ClosesGiven (part : Part) (given gap : Bool) (s : SentPes Fated) : Type 0 where
   pub pes_packet : List ℕ
   pub longer : Bool
@@ -159,7 +146,7 @@ pub record ClosesGiven (part : Part) (given gap : Bool) (s : SentPes Fated) : Ty
       Closes part given gap (gap_marker_where (given && (gap || part.after_break)) ++ pes_packet)
       true longer
 
--- One of the two.
+-- A closed part yields a PES packet that begins like s, or nothing, which is a gap.
 pub closes-prefix : (part : Part) (given gap : Bool) (s : SentPes Fated)
     → IsPrefix part s
     → ClosesGiven part given gap s ⊎ Closes part given gap [] given true

@@ -1,5 +1,5 @@
--- What a recording carries of carriers some of which are lost: the good packets of what is left.
--- Main lemma: carried-left.
+-- What a recording carries if carriers are missing is determined by the good packets of the
+-- recorded units. Main lemma: carried-left.
 use Rattle.std.proofs.Common.{◌≡◌, ℕ, ◌+◌, ◌%◌, ◌≤◌, ◌⊎◌, inl, inr, Bool, true, false, ◌||◌, ◌==◌}
 use Rattle.std.proofs.Common.{List, [], ◌∷◌, ◌++◌, length, length-append, map, None, refl, ap, ◌∙◌}
 use Rattle.std.proofs.Common.{subst, arith, append_assoc, slice_index}
@@ -27,23 +27,19 @@ use Rattle.recording_laws.proofs.LeftNoteLemmas.{heard_left}
 use Rattle.recording_laws.proofs.LeftNoteLemmas.{history_after_loss}
 use Rattle.recording_laws.proofs.RecordingLemmas.{noted, notes-units}
 
--- ---- the recording
-
--- If no unit was sent, none is left.
 none-left : (fs : List Fated)
     → map (λ (f : Fated). f.unit) fs ≡ []
     → units_left fs ≡ []
 none-left [] none = refl
 none-left (f ∷ fs) none = absurd (cc)
 
--- What is left of a unit is a unit.
+-- A unit that was damaged still is a unit of a recording.
 spoiled-unit : (distance number : ℕ) (unit other : List ℕ)
     → IsRecordedUnit distance unit
     → IsSpoiled distance number unit other
     → IsRecordedUnit distance other
 spoiled-unit distance number unit other h1 h2 = grind (arith, nat_tests)
 
--- A unit before those that are left.
 left-unit : (distance number : ℕ) (unit : List ℕ) (fate : Fate) (sent left : List (List ℕ))
     → IsFate distance number unit fate
     → IsRecordedUnit distance unit
@@ -54,7 +50,7 @@ left-unit : (distance number : ℕ) (unit : List ℕ) (fate : Fate) (sent left :
 left-unit distance number unit fate sent left h1 h2 h3 h4 h5 =
     grind (arith, nat_tests, spoiled-unit)
 
--- The remaining units are those of a recording.
+-- The recorded units are consecutive units of a recording.
 left-units : (distance number : ℕ) (fs : List Fated)
     → AreRecordedUnits distance (map (λ (f : Fated). f.unit) fs)
     → AllByRecursion (λ (f : Fated). IsFate distance number f.unit f.fate) fs
@@ -63,13 +59,11 @@ left-units distance number [] each fates = grind (arith, nat_tests)
 left-units distance number (f ∷ fs) each fates =
     grind (arith, nat_tests, left-unit, none-left, (left-units distance number fs each.2 fates.1))
 
--- What is left of a unit is not longer.
 length-left_of : (distance number : ℕ) (unit : List ℕ) (fate : Fate)
     → IsFate distance number unit fate
     → length (concat (recorded_of unit fate)) ≤ length unit
 length-left_of distance number unit fate h1 = grind (arith, nat_tests, length-append)
 
--- Nor is the whole.
 length-left : (distance number : ℕ) (fs : List Fated)
     → AllByRecursion (λ (f : Fated). IsFate distance number f.unit f.fate) fs
     → length (concat (units_left fs)) ≤ length (concat (map (λ (f : Fated). f.unit) fs))
@@ -84,7 +78,6 @@ length-left distance number (f ∷ fs) fates =
       length-append (concat (recorded_of f.unit f.fate)) (concat (units_left fs)),
     )
 
--- The notes of the remaining units.
 notes-left : (distance number : ℕ) (fs : List Fated)
     → flat_map (λ u. noted number (packet_in distance u)) (units_left fs)
     ≡ flat_map (heard_left distance number) fs
@@ -92,9 +85,7 @@ notes-left distance number [] = grind (arith, nat_tests)
 notes-left distance number (f ∷ fs) =
     grind (arith, nat_tests, flat_map-append, noted, heard_left, (notes-left distance number fs))
 
--- ---- the facts about each unit
-
--- What is left of a PES packet, whether it arrives or not.
+-- What became of the carriers of a PES packet, whether it arrives or not.
 pub record IsLeftPes (distance number : ℕ) (s : SentPes Fated) : Type 0 where
   pub is_pes_packet : IsPesPacket s.bytes
   pub first : IsLeftCarrier distance number true s.first
@@ -103,7 +94,6 @@ pub record IsLeftPes (distance number : ℕ) (s : SentPes Fated) : Type 0 where
       concat (map (λ c. payload (sent_packet distance c.packet)) (carriers_of_pes s)) ≡ s.bytes
 
 module _ (distance number : ℕ) where
-  -- What became of each unit.
   all-left : (fs : List Fated)
       → AreRecordedUnits distance (map (λ (f : Fated). f.unit) fs)
       → AllByRecursion (λ (f : Fated). IsFate distance number f.unit f.fate) fs
@@ -115,28 +105,24 @@ module _ (distance number : ℕ) where
     all-left fs each.2 fates.1 none.1,
   )
 
-  -- In a joined list, of the first part,
   all-first : (xs ys : List Fated)
       → AllByRecursion (IsLeft distance number) (xs ++ ys)
       → AllByRecursion (IsLeft distance number) xs
   all-first [] ys each = tt
   all-first (x ∷ xs) ys each = (each.0, all-first xs ys each.1)
 
-  -- and of the second.
   all-second : (xs ys : List Fated)
       → AllByRecursion (IsLeft distance number) (xs ++ ys)
       → AllByRecursion (IsLeft distance number) ys
   all-second [] ys each = each
   all-second (x ∷ xs) ys each = all-second xs ys each.1
 
-  -- A carrier with these facts.
   left-carrier : (first : Bool) (c : Carrier Fated)
       → IsCarrier (sent_packet distance) number first c
       → AllByRecursion (IsLeft distance number) (items_of_carrier c)
       → IsLeftCarrier distance number first c
   left-carrier first c h1 h2 = grind (arith, nat_tests, all-second, all-first)
 
-  -- Carriers within a PES packet.
   left-carriers : (cs : List (Carrier Fated)) (rest : List Fated)
       → AllByRecursion (IsCarrier (sent_packet distance) number false) cs
       → AllByRecursion (IsLeft distance number) (flat_map items_of_carrier cs ++ rest)
@@ -156,7 +142,6 @@ module _ (distance number : ℕ) where
         more.1,
       )
 
-  -- PES packets.
   left-pes : (sent : List (SentPes Fated))
       → AllByRecursion (IsSentPes (sent_packet distance) number) sent
       → AllByRecursion (IsLeft distance number) (flat_map items_of_carrier (carriers_of sent))
@@ -181,7 +166,6 @@ module _ (distance number : ℕ) where
         left-pes more is.1 others.1,
       )
 
-  -- Some carriers and others.
   some-left : (cs more : List (Carrier Fated))
       → AllByRecursion (IsLeftCarrier distance number false) cs
       → AllByRecursion (IsSomeLeft distance number) more
@@ -189,7 +173,6 @@ module _ (distance number : ℕ) where
   some-left [] more each rest = rest
   some-left (c ∷ cs) more each rest = ((false, each.0), some-left cs more each.1 rest)
 
-  -- All carriers.
   pub all-carriers-left : (sent : List (SentPes Fated))
       → AllByRecursion (IsLeftPes distance number) sent
       → AllByRecursion (IsSomeLeft distance number) (carriers_of sent)
@@ -197,9 +180,6 @@ module _ (distance number : ℕ) where
   all-carriers-left (s ∷ more) each =
       grind (arith, nat_tests, some-left, (all-carriers-left more each.1))
 
-  -- ---- counters
-
-  -- They announce no jump.
   none-announced : (fs : List Fated)
       → AllByRecursion (IsLeft distance number) fs
       → list_any (λ f. announces number (sent_packet distance f)) fs ≡ false
@@ -209,11 +189,9 @@ module _ (distance number : ℕ) where
       each.0.no_jump
       ∙ none-announced fs each.1
 
-  -- The number after next.
   next-number : (a b j : ℕ) → a ≡ j % 16 → (b == (a + 1) % 16) ≡ true → b ≡ (j + 1) % 16
   next-number a b j first on = grind (arith, nat_tests)
 
-  -- Without an announced jump the counter is the next.
   next-rises : (c d : Carrier Fated) (j : ℕ)
       → IsSomeLeft distance number c
       → IsSomeLeft distance number d
@@ -236,7 +214,6 @@ module _ (distance number : ℕ) where
     ]
   ]
 
-  -- The counters rise after a carrier.
   next-rising : (c : Carrier Fated) (cs : List (Carrier Fated)) (j : ℕ)
       → IsSomeLeft distance number c
       → AllByRecursion (IsSomeLeft distance number) cs
@@ -248,16 +225,14 @@ module _ (distance number : ℕ) where
       let second = next-rises c d j left_c each.0 next.0 first in
       (second, next-rising d cs (j + 1) each.0 each.1 next.1 second)
 
-  -- The counter of the first carrier.
   pub first_counter : List (Carrier Fated) → ℕ
   first_counter [] = 0
   first_counter (c ∷ cs) = counter (sent_packet distance c.packet)
 
-  -- A counter is less than 16.
   counter-number : (a : ℕ) → a % 16 ≡ (15 + a % 16 + 1 + 0) % 16
   counter-number a = omega arith
 
-  -- All counters rise from there.
+  -- Without announced jumps, the counters of all carriers rise by one from carrier to carrier.
   all-rising : (cs : List (Carrier Fated))
       → AllByRecursion (IsSomeLeft distance number) cs
       → AreInSequence (sent_packet distance) number cs
@@ -271,16 +246,12 @@ module _ (distance number : ℕ) where
             first,
       )
 
--- ---- the facts if units are missing or damaged
-
 module _ (distance number : ℕ) (m : Multiplex Fated) (recording : List ℕ) where
-  -- For the units,
   all-units : AreLosses number distance m recording
       → AllByRecursion (IsLeft distance number) (items_of_multiplex m)
   all-units h =
       all-left distance number (items_of_multiplex m) h.is_recording.each h.fates h.no_jump
 
-  -- for the PES packets,
   pub all-pes : AreLosses number distance m recording
       → AllByRecursion (IsLeftPes distance number) m.sent
   all-pes h =
@@ -288,7 +259,6 @@ module _ (distance number : ℕ) (m : Multiplex Fated) (recording : List ℕ) wh
       (all-second distance number m.lead (flat_map items_of_carrier (carriers_of m.sent))
       (all-units h))
 
-  -- and their counters rise.
   pub pes-rising : AreLosses number distance m recording
       → AreRising distance number (15 + first_counter distance number (carriers_of m.sent) + 1 + 0)
       (carriers_of m.sent)
@@ -296,7 +266,7 @@ module _ (distance number : ℕ) (m : Multiplex Fated) (recording : List ℕ) wh
       all-rising distance number (carriers_of m.sent)
       (all-carriers-left distance number m.sent (all-pes h)) h.is_multiplex.linked
 
-  -- What is left is a recording.
+  -- The recorded units form a recording.
   left-recording : AreLosses number distance m recording
       → IsRecording distance (units_left (items_of_multiplex m)) recording
   left-recording h = record {
@@ -310,7 +280,7 @@ module _ (distance number : ℕ) (m : Multiplex Fated) (recording : List ℕ) wh
         omega arith;
   }
 
-  -- What is carried follows from the carriers.
+  -- What the recording carries is determined by the good packets of the carriers that are recorded.
   pub carried-left : AreLosses number distance m recording
       → carried number distance recording
       ≡ with_gap_markers false false

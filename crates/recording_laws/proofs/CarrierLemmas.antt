@@ -1,4 +1,4 @@
--- The notes of a carrier's items, and its good packet. Main lemma: good-carrier.
+-- The events of a carrier's items, and the good packet of a carrier. Main lemma: good-carrier.
 use Rattle.std.proofs.Common.{◌≡◌, ℕ, ◌+◌, ◌%◌, ◌<◌, inl, inr, Bool, true, false, ◌||◌, ◌==◌, List}
 use Rattle.std.proofs.Common.{[], ◌∷◌, ◌++◌, Option, Some, refl, sym, ap, ◌∙◌}
 use Rattle.std.proofs.Common.{arith, append_assoc}
@@ -18,22 +18,19 @@ use Rattle.recording_laws.specs.Multiplex.{is_irrelevant}
 use Rattle.recording_laws.specs.Multiplex.{carries, announces, items_of_carrier, AreNextCarriers}
 use Rattle.recording_laws.proofs.RecordingLemmas.{noted}
 
--- The state after a packet without payload.
+-- The history after a packet without payload, which may announce a jump.
 abbrev pub history_after_irrelevant : PacketHistory → Bool → PacketHistory
 history_after_irrelevant history jump = record history { has_jump = history.has_jump || jump }
 
--- Nothing is announced.
 history_after_irrelevant-none : (history : PacketHistory) → history_after_irrelevant history false ≡
     history
 history_after_irrelevant-none history = grind (arith, nat_tests)
 
--- Two announcements count as one.
 history_after_irrelevant-twice : (history : PacketHistory) (a b : Bool)
     → history_after_irrelevant (history_after_irrelevant history a) b ≡ history_after_irrelevant
     history (a || b)
 history_after_irrelevant-twice history a b = grind (arith, nat_tests)
 
--- A packet without payload.
 pub good-irrelevant : (number : ℕ) (history : PacketHistory) (p : List ℕ) (ns : List Note)
     → is_irrelevant number p ≡ true
     → good_after history (noted number p ++ ns)
@@ -41,7 +38,6 @@ pub good-irrelevant : (number : ℕ) (history : PacketHistory) (p : List ℕ) (n
 unfolding good_after
 good-irrelevant number history p ns h1 = grind (arith, nat_tests, history_after_irrelevant-none)
 
--- A packet with a payload that is no repeat.
 pub good-packet : (number : ℕ) (history : PacketHistory) (p : List ℕ) (ns : List Note)
     → carries number p ≡ true
     → is_repeat history p ≡ false
@@ -50,7 +46,6 @@ pub good-packet : (number : ℕ) (history : PacketHistory) (p : List ℕ) (ns : 
 unfolding good_after
 good-packet number history p ns carried fresh = grind (arith, nat_tests)
 
--- A repeat.
 pub good-repeat : (number : ℕ) (history : PacketHistory) (p : List ℕ) (ns : List Note)
     → carries number p ≡ true
     → is_repeat history p ≡ true
@@ -59,30 +54,27 @@ pub good-repeat : (number : ℕ) (history : PacketHistory) (p : List ℕ) (ns : 
 unfolding good_after
 good-repeat number history p ns carried again = grind (arith, nat_tests)
 
--- A packet that was sent again is the repeat of the packet before it.
+-- A transport packet that was sent again counts as the repeat of the packet before it.
 pub is_repeat-again : (number : ℕ) (p q : List ℕ)
     → IsRepetition number p q
     → is_repeat (empty_history (Some p)) q ≡ true
 is_repeat-again number p q h = grind (arith, nat_tests, h.same, h.jump)
 
--- Equal packets have the same counter.
 pub counter-same : (p q : List ℕ) → is_same p q ≡ true → counter p ≡ counter q
 counter-same p q h1 = grind (arith, nat_tests, bytes_eq-Decides, get_or-take)
 
--- A counter is not the next after itself.
 next-counter : (c : ℕ) → c < 16 → (c == (c + 1) % 16) ≡ true → ⊥
 next-counter c small e = grind (arith, nat_tests)
 
--- A packet with the next counter is another one.
+-- A transport packet with the next counter differs from the packet before it.
 pub not-same : (p q : List ℕ) → counts_on p q ≡ true → is_same p q ≡ false
 not-same p q h1 = grind (arith, nat_tests, counter-same, next-counter)
 
 module _ {A : Type 0} (packet_of : A → List ℕ) (number : ℕ) where
-  -- The note of an item.
   abbrev pub heard : A → List Note
   heard x = noted number (packet_of x)
 
-  -- The state after a carrier without losses.
+  -- The history after a carrier without losses.
   abbrev pub history_after_carrier : Carrier A → PacketHistory
   history_after_carrier c = record {
     good = Some (packet_of c.packet);
@@ -92,7 +84,6 @@ module _ {A : Type 0} (packet_of : A → List ℕ) (number : ℕ) where
     has_loss = false;
   }
 
-  -- Items without payload.
   pub good-quiets : (history : PacketHistory) (xs : List A) (ns : List Note)
       → AllByRecursion (λ x. is_irrelevant number (packet_of x) ≡ true) xs
       → good_after history (flat_map heard xs ++ ns)
@@ -110,7 +101,6 @@ module _ {A : Type 0} (packet_of : A → List ℕ) (number : ℕ) where
       ∙ ap (λ (s : PacketHistory). good_after s ns) (history_after_irrelevant-twice history one
       others)
 
-  -- Items without payload that announce nothing.
   pub good-silent : (history : PacketHistory) (xs : List A) (ns : List Note)
       → AllByRecursion (λ x. is_irrelevant number (packet_of x) ≡ true) xs
       → AllByRecursion (λ x. announces number (packet_of x) ≡ false) xs
@@ -125,14 +115,13 @@ module _ {A : Type 0} (packet_of : A → List ℕ) (number : ℕ) where
       ∙ ap (λ (s : PacketHistory). good_after s (flat_map heard xs ++ ns)) same
       ∙ good-silent history xs ns irrelevant.1 none.1
 
-  -- The repeat of a packet, if it has one.
   good-again : (p : List ℕ) (again : Option A) (ns : List Note)
       → AllByRecursion (λ x. IsRepetition number p (packet_of x)) (option_to_list again)
       → good_after (empty_history (Some p)) (flat_map heard (option_to_list again) ++ ns)
       ≡ good_after (record (empty_history (Some p)) { has_repeat = is_some again }) ns
   good-again p again ns h1 = grind (arith, nat_tests, append-nil, good-repeat, is_repeat-again)
 
-  -- A carrier, whatever follows it.
+  -- A carrier adds its packet as a good packet, whatever items follow it.
   pub good-carrier : (history : PacketHistory) (c : Carrier A) (ns : List Note) (first : Bool)
       → IsCarrier packet_of number first c
       → is_repeat history (packet_of c.packet) ≡ false
@@ -164,7 +153,7 @@ module _ {A : Type 0} (packet_of : A → List ℕ) (number : ℕ) where
           ≡ heard c.packet ++ (before ++ (again ++ (after ++ ns)))
       split = simp (flat_map-append, append_assoc)
 
-  -- A carrier that may follow another is no repeat of it,
+  -- The packet of a carrier that may follow another carrier is no repeat of that carrier's packet.
   pub next-fresh : (c d : Carrier A)
       → IsNextCarrier packet_of number c d
       → is_repeat (history_after_carrier c) (packet_of d.packet) ≡ false
@@ -175,7 +164,7 @@ module _ {A : Type 0} (packet_of : A → List ℕ) (number : ℕ) where
         | inr jump ↦ grind (arith, nat_tests)
       ]
 
-  -- nothing is lost between them,
+  -- No data is lost between a carrier and the carrier that may follow it.
   pub next-unbroken : (c d : Carrier A)
       → IsNextCarrier packet_of number c d
       → is_break (link_from (Some (packet_of c.packet)) (history_after_carrier c)
@@ -183,7 +172,7 @@ module _ {A : Type 0} (packet_of : A → List ℕ) (number : ℕ) where
       ≡ false
   next-unbroken c d h1 = grind (arith, nat_tests)
 
-  -- and within a PES packet it continues it.
+  -- Within a PES packet, a carrier continues the carrier before it.
   pub next-follows : (c d : Carrier A)
       → IsNextCarrier packet_of number c d
       → begins (packet_of d.packet) ≡ false
@@ -191,17 +180,16 @@ module _ {A : Type 0} (packet_of : A → List ℕ) (number : ℕ) where
       Follows
   next-follows c d h1 h2 = grind (arith, nat_tests)
 
-  -- The good packets of carriers.
+  -- The good packets of a list of carriers.
   abbrev pub goods : PacketHistory → List (Carrier A) → List GoodPacket
   goods history [] = []
   goods history (c ∷ more) = linked history (packet_of c.packet) ∷ goods (history_after_carrier c)
       more
 
-  -- A carrier, whether a PES packet begins with it or not.
   abbrev pub IsSomeCarrier : Carrier A → Type 0
   IsSomeCarrier c = (first : Bool) × IsCarrier packet_of number first c
 
-  -- They are those that are found after a carrier.
+  -- The good packets of the items of carriers are the good packets of these carriers.
   pub good-carriers : (c : Carrier A) (more : List (Carrier A))
       → AllByRecursion IsSomeCarrier more
       → AreNextCarriers packet_of number c more

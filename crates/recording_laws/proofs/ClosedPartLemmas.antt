@@ -1,4 +1,5 @@
--- The result of a closed part, whatever follows it. Main lemmas: closes-pes_packet, closes-broken.
+-- The result of a closed part, whatever parts follow it. Main lemmas: closes-pes_packet,
+-- closes-broken.
 use Rattle.std.proofs.Common.{◌≡◌, ℕ, ◌<◌, ◌≤◌, inl, inr, Bool, true, false, not, ◌&&◌, ◌||◌, List}
 use Rattle.std.proofs.Common.{[], ◌∷◌, ◌++◌, length, length-append, take, Ok, refl, sym, ap, ◌∙◌}
 use Rattle.std.proofs.Common.{arith, append_assoc, nat_le}
@@ -13,20 +14,20 @@ use Rattle.mpeg_ts.specs.Parts.{Gap, PartOutcome, Part, Pes, part_bytes, gap_whe
 use Rattle.mpeg_ts.specs.Parts.{outcome, outcomes, parts_from, with_packet}
 use Rattle.recording_laws.proofs.PartLemmas.{pes_packet-size}
 
--- A gap before results.
 pub gap-before : (given gap here : Bool) (more : List PartOutcome)
     → with_gap_markers given gap (gap_where here ++ more) ≡ with_gap_markers given (gap || here)
     more
 unfolding with_gap_markers
 gap-before given gap here more = grind (arith, nat_tests)
 
--- The bytes are these, with at most one gap marker after them, if a PES packet came before.
+-- The bytes are `prefix`, followed by at most one gap marker, which needs a PES packet before it.
 pub record EndsMarked (given : Bool) (prefix bytes : List ℕ) : Type 0 where
   pub is_marked : Bool
   pub after_one : is_marked ≡ true → given ≡ true
   pub bytes_are : bytes ≡ prefix ++ gap_marker_where is_marked
 
--- A closed part gives these bytes, and this is known for what follows.
+-- A closed part yields the bytes `prefix`, whatever parts follow; `given'` and `gap'` describe the
+-- state after it.
 pub record Closes (part : Part) (given gap : Bool) (prefix : List ℕ) (given' gap' : Bool)
     : Type 0 where
   pub next :
@@ -38,7 +39,6 @@ pub record Closes (part : Part) (given gap : Bool) (prefix : List ℕ) (given' g
       (wrong_after : Bool)
       → EndsMarked given' prefix (with_gap_markers given gap (outcomes wrong_after (part ∷ [])))
 
--- A gap marker after a PES packet, if there was a gap.
 gap_marker-following : (gap : Bool)
     → (wrong_after : Bool)
     → with_gap_markers true gap (outcomes wrong_after []) ≡ gap_marker_where (gap || wrong_after)
@@ -46,8 +46,8 @@ unfolding with_gap_markers outcomes
 gap_marker-following gap true = elim (cases_Bool gap) [ inl e ↦ rw e | inr e ↦ rw e ]
 gap_marker-following gap false = elim (cases_Bool gap) [ inl e ↦ rw e | inr e ↦ rw e ]
 
--- A part that gives a PES packet, after a gap marker if there was a gap; another one follows if the
--- part has more bytes.
+-- A part that yields a PES packet yields it after a gap marker if a gap came before; a gap follows
+-- if the part has more bytes.
 pub closes-pes_packet : (part : Part) (given gap : Bool) (bytes : List ℕ) (longer : Bool)
     → ((cut_off : Bool) → outcome cut_off part ≡ Pes bytes ∷ gap_where longer)
     → Closes part given gap (gap_marker_where (given && (gap || part.after_break)) ++ bytes) true
@@ -80,11 +80,11 @@ closes-pes_packet part given gap bytes longer gives = record {
         ∙ sym (append_assoc (gap_marker_where (given && (gap || part.after_break))) bytes
         (with_gap_markers true longer (outcomes wrong_after more)))
 
--- A part that is incomplete, wherever it is.
+-- The part is incomplete, wherever in the recording it is.
 pub record IsBroken (part : Part) : Type 0 where
   pub outcome_is : (cut_off : Bool) → outcome cut_off part ≡ gap_where (not cut_off)
 
--- It is a gap, unless it is the last.
+-- An incomplete part yields a gap, unless it is the last part.
 pub closes-broken : (part : Part) (given gap : Bool)
     → IsBroken part
     → Closes part given gap [] given true
@@ -125,7 +125,7 @@ pub broken-unbegun : (part : Part) → part.begins ≡ false → IsBroken part
 unfolding outcome
 broken-unbegun part h1 = grind (arith, nat_tests)
 
--- So is one with only the first bytes of a PES packet.
+-- A part that has only the first bytes of a PES packet is incomplete.
 pub broken-short : (part : Part) (missing bytes : List ℕ)
     → part_bytes part ++ missing ≡ bytes
     → 0 < length missing
@@ -153,9 +153,6 @@ broken-short part missing bytes joined some pes_packet = record { outcome_is = i
       | inr test ↦ rw test
     ]
 
--- ---- parts of good packets
-
--- A recording does not end before a part.
 pub parts_from-some : (wrong_after : Bool) (part : Part) (goods : List GoodPacket)
     → may_be_cut_off wrong_after (parts_from part goods) ≡ false
 unfolding parts_from

@@ -1,4 +1,4 @@
--- If everything that is carried is PES packets with Teletext, there is no gap marker among them:
+-- If all that is carried are PES packets with Teletext, no gap marker is among them:
 -- `law_of_complete_file`.
 use Rattle.std.proofs.Common.{◌≡◌, ℕ, List, [], ◌∷◌, ◌++◌, length, slice_index, ap, subst, ◌∙◌}
 use Rattle.std.proofs.Common.{arith}
@@ -11,14 +11,14 @@ use Rattle.recording_laws.specs.Laws.{LawOfCompleteFile}
 use Rattle.recording_laws.proofs.ArrivingLaw.{law_of_neighbours}
 use Rattle.recording_laws.proofs.PesPacketLemmas.{pes_packets-append}
 
--- Byte 6 of a gap marker is FF, that of a PES packet with Teletext begins with the bits 1000.
+-- A gap marker is no PES packet with Teletext: its byte 6 is FF, but byte 6 of a PES packet with
+-- Teletext begins with the bits 1000.
 no-packet : (v : PesValue) → IsValidPesPacket v gap_marker → ⊥
 unfolding gap_marker
 no-packet v h =
     let byte : 0xFF ≡ h.flags = ap (λ (l : List ℕ). slice_index l 6) h.bytes in
     absurd (omega (arith, byte, h.not_scrambled))
 
--- None of them is a gap marker.
 no-gap_markers : (values : List PesValue) (packets : List (List ℕ))
     → AllZip IsValidPesPacket values packets
     → AllByRecursion (λ p. p ≡ gap_marker → ⊥) packets
@@ -40,7 +40,6 @@ packet-pes_packet v p h =
       long = ap length is ∙ omega (arith, long, h.size.0);
     }
 
--- All PES packets with Teletext are PES packets.
 packet-pes_packets : (values : List PesValue) (packets : List (List ℕ))
     → AllZip IsValidPesPacket values packets
     → AllByRecursion IsPesPacket packets

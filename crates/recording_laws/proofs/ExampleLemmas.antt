@@ -1,4 +1,4 @@
--- Complete recordings: example_of_multiplex, example_of_losses.
+-- The two example recordings satisfy their definitions: example_of_multiplex, example_of_losses.
 use Rattle.std.proofs.Common.{◌≡◌, ◌≤◌, ℕ, true, List, [], ◌∷◌, ◌++◌, length, refl, inl, inr, arith}
 use Rattle.std.proofs.Common.{le_refl}
 use Rattle.std.proofs.lemmas.Bool.{true≢false}
@@ -15,7 +15,6 @@ use Rattle.recording_laws.specs.Multiplex.{IsRecordedUnit, IsSentPes, carries, p
 is_pes_packet : (filler : ℕ) → IsPesPacket (pes_of filler)
 is_pes_packet filler = grind (arith, nat_tests)
 
--- It is sent in one packet, as can be computed.
 sent_complete :
     {A : Type 0} (packet_of : A → List ℕ) (item : A) (filler : ℕ)
     → carries 257 (packet_of item) ≡ true
@@ -36,14 +35,12 @@ sent_complete packet_of item filler carried begun joined = record {
   joined = joined;
 }
 
--- A packet is a unit of a recording.
 unit_of : (byte_3 filler : ℕ) → IsRecordedUnit 188 (packet_with byte_3 (pes_of filler))
 unit_of byte_3 filler = record { long = le_refl 188; short = le_refl 188; sync = refl }
 
 null_unit : IsRecordedUnit 188 null_packet
 null_unit = record { long = le_refl 188; short = le_refl 188; sync = refl }
 
--- The recording is short enough to be read.
 few : (bytes : List ℕ) (n : ℕ) → length bytes ≡ n → n ≤ 1000 → length bytes ≤ most_bytes
 unfolding most_bytes
 few bytes n size short = omega (arith, size, short)
@@ -73,7 +70,6 @@ example_of_multiplex = record {
   };
 }
 
--- What was sent, before losses.
 abbrev sent_before_losses : List ℕ
 sent_before_losses =
     null_packet
@@ -81,7 +77,6 @@ sent_before_losses =
     ++ (packet_with 0x11 (pes_of 0x21)
     ++ (packet_with 0x12 (pes_of 0x22) ++ packet_with 0x13 (pes_of 0x23))))
 
--- The damaged packet.
 abbrev wrong : List ℕ
 wrong = wrong_packet_with 0x12 (pes_of 0x22)
 

@@ -1,4 +1,5 @@
--- If the frames of PES packets are close together, so are the PES packets: `near-sendings`.
+-- If the frames of a transmission are at most pace apart, so are its PES packets before they are
+-- merged into frames: `near-sendings`.
 use Rattle.std.proofs.lemmas.Bool.Decides.{nat_tests}
 use Rattle.std.proofs.Common.{◌≡◌, ℕ, suc, ◌+◌, ◌-◌, ◌≤◌, ◌==◌, ◌&&◌, not, Bool, true, false, List}
 use Rattle.std.proofs.Common.{[], ◌∷◌, ◌++◌, length, refl, sym, ap, ◌∙◌, subst, arith, cond}
@@ -9,8 +10,6 @@ use Rattle.sub_rules.specs.Transmission.{SentFrame, Transmission}
 use Rattle.sub_rules.proofs.JoinedLemmas.{with_packets-frames}
 use Rattle.recording_laws.proofs.PacedFrameLemmas.{AreNear, AreNearFrom, numbers}
 
--- ---- numbers
-
 module _ (pace : ℕ) where
   near-from-init : (x : ℕ) (xs : List ℕ) (y : ℕ)
       → AreNearFrom pace x (xs ++ y ∷ [])
@@ -18,7 +17,6 @@ module _ (pace : ℕ) where
   near-from-init x [] y h = tt
   near-from-init x (z ∷ xs) y h = (h.0, near-from-init z xs y h.1)
 
-  -- All but the last are close together,
   near-init : (xs : List ℕ) (y : ℕ) → AreNear pace (xs ++ y ∷ []) → AreNear pace xs
   near-init [] y h = tt
   near-init (x ∷ xs) y h = near-from-init x xs y h
@@ -29,7 +27,6 @@ module _ (pace : ℕ) where
   near-from-two x [] last y h = h.1.0
   near-from-two x (z ∷ init) last y h = near-from-two z init last y h.1
 
-  -- and the last is close to the one before it.
   near-two : (init : List ℕ) (last y : ℕ)
       → AreNear pace ((init ++ last ∷ []) ++ y ∷ [])
       → y ≤ last + pace
@@ -49,9 +46,6 @@ numbers-length : (sent : Transmission) → length (numbers sent) ≡ length sent
 numbers-length [] = refl
 numbers-length (s ∷ sent) = ap suc (numbers-length sent)
 
--- ---- the last frame
-
--- The last frame has this number.
 record EndsWith (sent : Transmission) (last : ℕ) : Type 0 where
   pub init : List ℕ
   pub are : numbers sent ≡ init ++ last ∷ []
@@ -65,7 +59,6 @@ ends-at sent last h =
     ∙ ap (λ (l : List ℕ). slice_index l (length h.init)) h.are
     ∙ last-at h.init last
 
--- A PES packet that continues a frame belongs to the last one.
 both-hold : (b : Bool) (m n : ℕ) → (b && (m == n)) ≡ true → m ≡ n
 both-hold b m n h = grind (arith, nat_tests)
 
@@ -75,10 +68,7 @@ goes-on : (within : ℕ) (sent : Transmission) (s : SentFrame)
 goes-on within [] s h = grind (arith, nat_tests)
 goes-on within (x ∷ sent) s h = both-hold (not (within == 0)) (end_frame (x ∷ sent)) s.frame h
 
--- ---- PES packets
-
 module _ (pace within : ℕ) where
-  -- The frames before others stay the same.
   kept-near : (sent frames : Transmission)
       → AreNear pace (numbers (joined_after within sent frames))
       → AreNear pace (numbers sent)
@@ -94,7 +84,8 @@ module _ (pace within : ℕ) where
       go false near =
           near-init pace (numbers sent) s.frame (subst (AreNear pace) (numbers-push sent s) near)
 
-  -- PES packets after others are close to them.
+  -- If the frames after joining PES packets are at most pace apart, these PES packets are at most
+  -- `pace` apart, also from the last frame before them.
   after-near : (last : ℕ) (sent frames : Transmission)
       → EndsWith sent last
       → AreNear pace (numbers (joined_after within sent frames))
@@ -126,7 +117,6 @@ module _ (pace within : ℕ) where
         more s.frame (record { init = numbers sent; are = numbers-push sent s }),
       )
 
-  -- All of them are.
   pub near-sendings : (sendings : Transmission)
       → AreNear pace (numbers (joined within sendings))
       → AreNear pace (numbers sendings)

@@ -1,4 +1,4 @@
--- The condition for bytes to be the PES packets that arrive.
+-- When bytes are those of the PES packets that arrive.
 use Rattle.std.proofs.lemmas.Bool.Decides.{nat_tests}
 use Rattle.std.proofs.Common.{arith, ◌≡◌, ℕ, Bool, true, false, ◌&&◌, ◌||◌, List, [], ◌∷◌, ◌++◌}
 use Rattle.std.proofs.Common.{append_assoc}
@@ -9,13 +9,12 @@ use Rattle.recording_laws.specs.Losses.{units_before}
 use Rattle.recording_laws.specs.Multiplex.{SentPes}
 use Rattle.recording_laws.proofs.LeftNoteLemmas.{or-true}
 
--- The bytes are the PES packets that arrive, with at most one gap marker after them.
+-- The bytes are those of the PES packets that arrive, followed by at most one gap marker.
 pub record Leads (given gap : Bool) (sent : List (SentPes Fated)) (bytes : List ℕ) : Type 0 where
   pub is_marked : Bool
   pub after_one : is_marked ≡ true → (given || list_any arrives sent) ≡ true
   pub bytes_are : bytes ≡ arriving given gap sent ++ gap_marker_where is_marked
 
--- A PES packet that does not arrive.
 pub leads-gone : (given gap : Bool) (s : SentPes Fated) (more : List (SentPes Fated))
     (bytes : List ℕ)
     → arrives s ≡ false
@@ -24,7 +23,6 @@ pub leads-gone : (given gap : Bool) (s : SentPes Fated) (more : List (SentPes Fa
 unfolding arriving
 leads-gone given gap s more bytes h1 h2 = grind (arith, nat_tests)
 
--- One that does.
 pub leads-there : (given gap : Bool) (s : SentPes Fated) (more : List (SentPes Fated))
     (bytes inner : List ℕ)
     → arrives s ≡ true
@@ -36,7 +34,6 @@ unfolding arriving
 leads-there given gap s more bytes inner h1 h2 h3 =
     grind (arith, nat_tests, or-true, append_assoc)
 
--- Before the first PES packet gaps do not matter.
 pub leads-ungiven : (a b : Bool) (sent : List (SentPes Fated)) (bytes : List ℕ)
     → Leads false a sent bytes
     → Leads false b sent bytes

@@ -1,5 +1,4 @@
--- The good packets of what is left of carriers, and what links them. Main lemmas: copy-again,
--- break-left.
+-- The good packets of recorded carriers, and their links. Main lemmas: copy-again, break-left.
 use Rattle.std.proofs.Common.{◌≡◌, ℕ, ◌+◌, ◌%◌, ◌<◌, Bool, true, false, not, ◌||◌, ◌==◌, List, []}
 use Rattle.std.proofs.Common.{◌∷◌, Option, Some, None, arith, if◌then◌else◌, length, length-drop}
 use Rattle.std.proofs.Common.{length-take, drop, nat_lt}
@@ -21,38 +20,31 @@ use Rattle.recording_laws.specs.Multiplex.{packet_in}
 use Rattle.recording_laws.proofs.CarrierLemmas.{counter-same}
 use Rattle.recording_laws.proofs.LeftNoteLemmas.{IsLeft, IsLeftCarrier, copy_of, history_after_loss}
 
--- ---- copies
-
--- A packet has the contents of another, and announces no jump.
+-- The packet h has the counter and payload of p, and announces no jump.
 pub record IsCopy (p h : List ℕ) : Type 0 where
   pub counter : counter h ≡ counter p
   pub begins : begins h ≡ begins p
   pub payload : payload h ≡ payload p
   pub no_jump : announces_jump h ≡ false
 
--- Of equal packets both begin a PES packet, or neither.
 begins-same : (p q : List ℕ) → is_same p q ≡ true → begins p ≡ begins q
 begins-same p q h1 = grind (arith, nat_tests, bytes_eq-Decides, get_or-take)
 
--- They have the same payload.
 payload-same : (p q : List ℕ) → is_same p q ≡ true → payload p ≡ payload q
 payload-same p q h1 = grind (arith, nat_tests, bytes_eq-Decides)
 
--- A packet of the PID announces no jump.
 pub carried-no_jump : (number : ℕ) (p : List ℕ)
     → carries number p ≡ true
     → announces number p ≡ false
     → announces_jump p ≡ false
 carried-no_jump number p carried none = grind (arith, nat_tests)
 
--- A payload has at least one byte.
 payload-long : (number : ℕ) (p : List ℕ)
     → length p ≡ 188
     → carries number p ≡ true
     → 0 < length (payload p)
 payload-long number p long carried = grind (arith, nat_tests, length-drop)
 
--- The packet of a unit is complete.
 length-packet : (distance : ℕ) (u : List ℕ)
     → IsRecordedUnit distance u
     → length (packet_in distance u) ≡ 188
@@ -60,9 +52,7 @@ length-packet distance u h =
     let long = h.long in
     omega (arith, length-take 188 (drop (lead_size distance) u), length-drop (lead_size distance) u)
 
--- ---- counters
-
--- Fewer than 16 carriers later the counter is another one.
+-- If fewer than 15 carriers are missing between two packets, their counters differ.
 counter-far : (i n a b : ℕ)
     → a ≡ i % 16
     → b ≡ (i + 1 + n) % 16
@@ -71,11 +61,9 @@ counter-far : (i n a b : ℕ)
     → ⊥
 counter-far i n a b first second small same = omega arith
 
--- At the next carrier it is the next,
 counter-next : (i a b : ℕ) → a ≡ i % 16 → b ≡ (i + 1 + 0) % 16 → (b == (a + 1) % 16) ≡ true
 counter-next i a b first second = grind (arith, nat_tests)
 
--- and at a later one it is not.
 counter-later : (i n a b : ℕ)
     → a ≡ i % 16
     → b ≡ (i + 1 + n) % 16
@@ -84,7 +72,6 @@ counter-later : (i n a b : ℕ)
     → (b == (a + 1) % 16) ≡ false
 counter-later i n a b first second some small = grind (arith, nat_tests)
 
--- Whether a packet continues another, given how many carriers are missing between them.
 counts_on-by_lost : (i n : ℕ) (g h : List ℕ)
     → counter g ≡ i % 16
     → counter h ≡ (i + 1 + n) % 16
@@ -92,12 +79,12 @@ counts_on-by_lost : (i n : ℕ) (g h : List ℕ)
     → counts_on g h ≡ not (nat_lt 0 n)
 counts_on-by_lost i n g h h1 h2 h3 = grind (arith, nat_tests, counter-later, counter-next)
 
--- The counter of a good packet's carrier, if there is one.
 abbrev pub IsCounter : Option (List ℕ) → ℕ → Type 0
 IsCounter None i = ⊤
 IsCounter (Some g) i = counter g ≡ i % 16
 
--- A packet of a later carrier is no repeat.
+-- A packet of a later carrier is no repeat of the last good packet, if fewer than 15 carriers are
+-- missing between them.
 pub fresh-later : (good : Option (List ℕ)) (again wrong : Bool) (h : List ℕ) (i n : ℕ)
     → IsCounter good i
     → counter h ≡ (i + 1 + n) % 16
@@ -105,24 +92,21 @@ pub fresh-later : (good : Option (List ℕ)) (again wrong : Bool) (h : List ℕ)
     → is_repeat (history_after_loss good again wrong) h ≡ false
 fresh-later good again wrong h i n h1 h2 h3 = grind (arith, nat_tests, counter-far, counter-same)
 
--- ---- links
-
--- What links a packet to the good one before, given whether a unit was damaged between them.
+-- The link of a packet to the good packet before it, given whether a unit was damaged between them.
 abbrev pub link_left : Option (List ℕ) → Bool → List ℕ → Link
 link_left None wrong h = First
 link_left (Some g) wrong h = if wrong then Break else if counts_on g h then Follows else Break
 
--- The good packet with that link.
 abbrev pub good_left : Option (List ℕ) → Bool → List ℕ → GoodPacket
 good_left good wrong h = record { link = link_left good wrong h; packet = h }
 
--- That is its link.
 pub linked-left : (good : Option (List ℕ)) (again wrong : Bool) (h : List ℕ)
     → announces_jump h ≡ false
     → linked (history_after_loss good again wrong) h ≡ good_left good wrong h
 linked-left good again wrong h h1 = grind (arith, nat_tests)
 
--- Something is lost if a unit was damaged or a carrier is missing.
+-- Data is lost between two good packets exactly if a unit was damaged between them or a carrier is
+-- missing.
 pub break-left : (i n : ℕ) (g h : List ℕ) (wrong : Bool)
     → counter g ≡ i % 16
     → counter h ≡ (i + 1 + n) % 16
@@ -130,19 +114,16 @@ pub break-left : (i n : ℕ) (g h : List ℕ) (wrong : Bool)
     → is_break (link_left (Some g) wrong h) ≡ (wrong || nat_lt 0 n)
 break-left i n g h wrong h1 h2 h3 = grind (arith, nat_tests, counts_on-by_lost)
 
--- After a good packet a link cuts if something is lost.
 pub cut-left : (g h : List ℕ) (wrong : Bool)
     → is_unlinked (link_left (Some g) wrong h) ≡ is_break (link_left (Some g) wrong h)
 cut-left g h wrong = grind (arith, nat_tests)
 
--- If a carrier is there, none is missing.
 pub few-there : (n : ℕ) (c : Carrier Fated) (cs : List (Carrier Fated))
     → is_recorded c ≡ true
     → are_few_lost n (c ∷ cs) ≡ true
     → are_few_lost 0 cs ≡ true
 few-there n c cs there few = rw there at few
 
--- If it is missing, there is one more.
 pub few-gone : (n : ℕ) (c : Carrier Fated) (cs : List (Carrier Fated))
     → is_recorded c ≡ false
     → are_few_lost n (c ∷ cs) ≡ true
@@ -150,7 +131,7 @@ pub few-gone : (n : ℕ) (c : Carrier Fated) (cs : List (Carrier Fated))
 few-gone n c cs gone few = (grind (arith, nat_tests), grind (arith, nat_tests))
 
 module _ (distance number : ℕ) where
-  -- A repeat is a copy.
+  -- A repeat has the contents of the packet that it repeats.
   pub copy-again : (p : List ℕ) (again : Option Fated)
       → announces_jump p ≡ false
       → AllByRecursion (IsLeft distance number) (option_to_list again)
@@ -159,18 +140,16 @@ module _ (distance number : ℕ) where
   copy-again p again h1 h2 h3 =
       grind (arith, nat_tests, counter-same, begins-same, payload-same, carried-no_jump)
 
-  -- The payload of a carrier has at least one byte.
   pub carrier-payload : (first : Bool) (c : Carrier Fated)
       → IsLeftCarrier distance number first c
       → 0 < length (payload (sent_packet distance c.packet))
   carrier-payload first c h1 = grind (arith, nat_tests, payload-long, length-packet)
 
-  -- The counters of carriers rise, from a number on.
+  -- The counters of the carriers rise by one from carrier to carrier, from j on.
   abbrev pub AreRising : ℕ → List (Carrier Fated) → Type 0
   AreRising j [] = ⊤
   AreRising j (c ∷ more) =
       (counter (sent_packet distance c.packet) ≡ j % 16) × AreRising (j + 1) more
 
-  -- A carrier, and whether a PES packet begins with it.
   abbrev pub IsSomeLeft : Carrier Fated → Type 0
   IsSomeLeft c = (first : Bool) × IsLeftCarrier distance number first c

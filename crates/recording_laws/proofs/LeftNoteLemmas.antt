@@ -1,5 +1,5 @@
--- The notes of what is left of a carrier, and its good packet, if it is there. Main lemmas:
--- good-first, good-second.
+-- The events of the recorded units of a carrier, and the good packet of the carrier if it is
+-- recorded. Main lemmas: good-first, good-second.
 use Rattle.std.proofs.Common.{◌≡◌, ℕ, Bool, true, false, ◌||◌, List, [], ◌∷◌, ◌++◌, Option, Some}
 use Rattle.std.proofs.Common.{None, sym, ap, ◌∙◌, arith, append_assoc}
 use Rattle.std.specs.List.{AllByRecursion, flat_map}
@@ -19,7 +19,7 @@ use Rattle.recording_laws.proofs.CarrierLemmas.{is_repeat-again}
 use Rattle.recording_laws.proofs.CarrierLemmas.{history_after_irrelevant}
 use Rattle.recording_laws.proofs.RecordingLemmas.{noted}
 
--- The state since a good packet, without announced jumps and skipped bytes.
+-- The history since a good packet, without announced jumps and skipped bytes.
 abbrev pub history_after_loss : Option (List ℕ) → Bool → Bool → PacketHistory
 history_after_loss good again wrong = record {
   good = good;
@@ -39,17 +39,16 @@ pub or-true : (a : Bool) → (a || true) ≡ true
 or-true a = grind (arith, nat_tests)
 
 module _ (distance number : ℕ) where
-  -- The notes of what is left of a unit.
+  -- The events of the recorded bytes of a unit.
   abbrev pub heard_left : Fated → List Note
   heard_left f = flat_map (λ u. noted number (packet_in distance u)) (recorded_of f.unit f.fate)
 
-  -- The facts about a unit: what may have become of it, and that it announces no jump.
+  -- What may have become of a unit that announces no jump.
   pub record IsLeft (f : Fated) : Type 0 where
     pub recorded : IsRecordedUnit distance f.unit
     pub fate : IsFate distance number f.unit f.fate
     pub no_jump : announces number (sent_packet distance f) ≡ false
 
-  -- A unit that is not there as it was sent: nothing, or a wrong packet.
   good-lost : (good : Option (List ℕ)) (again wrong : Bool) (unit : List ℕ) (fate : Fate)
       (ns : List Note)
       → IsFate distance number unit fate
@@ -60,7 +59,6 @@ module _ (distance number : ℕ) where
   unfolding good_after
   good-lost good again wrong unit fate ns h1 h2 = grind (arith, nat_tests, or-false, or-true)
 
-  -- A unit without payload.
   good-irrelevant-left : (good : Option (List ℕ)) (again wrong : Bool) (unit : List ℕ) (fate : Fate)
       (ns : List Note)
       → IsFate distance number unit fate
@@ -81,7 +79,6 @@ module _ (distance number : ℕ) where
         good-lost,
       )
 
-  -- Units without payload.
   pub good-quiets-left : (good : Option (List ℕ)) (again wrong : Bool) (fs : List Fated)
       (ns : List Note)
       → AllByRecursion IsLeft fs
@@ -100,18 +97,15 @@ module _ (distance number : ℕ) where
       ∙ ap (λ (w : Bool). good_after (history_after_loss good again w) ns)
       (or-assoc wrong (is_made_wrong f.fate) (any_wrong fs))
 
-  -- The notes of a unit that is there as it was sent.
   pub heard-kept : (unit : List ℕ) (fate : Fate)
       → is_as_sent fate ≡ true
       → flat_map (λ u. noted number (packet_in distance u)) (recorded_of unit fate)
       ≡ noted number (packet_in distance unit)
   heard-kept unit fate h1 = grind (arith, nat_tests, append-nil, noted)
 
-  -- It was not damaged.
   kept-not_wrong : (fate : Fate) → is_as_sent fate ≡ true → is_made_wrong fate ≡ false
   kept-not_wrong fate h1 = grind (arith, nat_tests)
 
-  -- The repeat of a packet that is there, if it has one.
   good-again-left : (p : List ℕ) (wrong : Bool) (again : Option Fated) (ns : List Note)
       → AllByRecursion IsLeft (option_to_list again)
       → AllByRecursion (λ f. IsRepetition number p (sent_packet distance f)) (option_to_list again)
@@ -133,9 +127,6 @@ module _ (distance number : ℕ) where
         good-lost,
       )
 
-  -- ---- carriers
-
-  -- The copy of a carrier's packet that is received, if there is one.
   abbrev pub copy_of : Option Fated → List ℕ → List ℕ
   copy_of None p = p
   copy_of (Some f) p = sent_packet distance f
@@ -148,19 +139,17 @@ module _ (distance number : ℕ) where
     pub again : AllByRecursion IsLeft (option_to_list c.again)
     pub after : AllByRecursion IsLeft c.after
 
-  -- The notes of a carrier, part by part.
   pub heard-carrier : (c : Carrier Fated) (ns : List Note)
       → flat_map heard_left (items_of_carrier c) ++ ns
       ≡ heard_left c.packet ++ (flat_map heard_left c.before
       ++ (flat_map heard_left (option_to_list c.again) ++ (flat_map heard_left c.after ++ ns)))
   heard-carrier c ns = simp (flat_map-append, append_assoc)
 
-  -- The damaged units of three lists.
   wrong-of_three : (a b c : List Fated)
       → any_wrong (a ++ (b ++ c)) ≡ ((any_wrong a || any_wrong b) || any_wrong c)
   wrong-of_three a b c = grind (arith, nat_tests, list_any-append, or-assoc)
 
-  -- A carrier whose packet is there.
+  -- If the packet of a carrier is recorded, it becomes a good packet.
   pub good-first : (good : Option (List ℕ)) (again wrong first : Bool) (c : Carrier Fated)
       (ns : List Note)
       → IsLeftCarrier first c
@@ -184,7 +173,8 @@ module _ (distance number : ℕ) where
         wrong-of_three,
       )
 
-  -- The facts about it if its packet is not there.
+  -- If the packet of a carrier is not recorded, its repeat and the items after the repeat determine
+  -- the good packet.
   pub good-no_first : (good : Option (List ℕ)) (again wrong first : Bool) (c : Carrier Fated)
       (ns : List Note)
       → IsLeftCarrier first c
@@ -196,7 +186,8 @@ module _ (distance number : ℕ) where
   good-no_first good again wrong first c ns h1 h2 =
       grind (arith, nat_tests, heard-carrier, good-lost, good-quiets-left, or-assoc)
 
-  -- A repeat whose packet is not there.
+  -- If the repeat of a carrier's packet is recorded and the packet itself is not, the repeat
+  -- becomes a good packet.
   pub good-second : (good : Option (List ℕ)) (again wrong : Bool) (p : List ℕ) (o : Option Fated)
       (after : List Fated) (ns : List Note)
       → AllByRecursion (λ f. IsRepetition number p (sent_packet distance f)) (option_to_list o)
@@ -211,7 +202,6 @@ module _ (distance number : ℕ) where
   good-second good again wrong p o after ns h1 h2 h3 h4 h5 =
       grind (arith, nat_tests, append-nil, heard-kept, or-false, good-packet, good-quiets-left)
 
-  -- No repeat is there.
   pub good-no_second : (good : Option (List ℕ)) (again wrong : Bool) (o : Option Fated)
       (after : List Fated) (ns : List Note)
       → AllByRecursion IsLeft (option_to_list o)

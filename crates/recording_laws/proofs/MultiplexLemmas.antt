@@ -1,4 +1,4 @@
--- What a multiplexer sends is returned: `law_of_multiplex`.
+-- A complete recording carries exactly what a multiplexer sent: `law_of_multiplex`.
 use Rattle.std.proofs.lemmas.Bool.Decides.{nat_tests}
 use Rattle.std.proofs.Common.{arith}
 use Rattle.std.proofs.Common.{◌≡◌, ℕ, Bool, true, false, List, [], ◌∷◌, ◌++◌, map, None, refl, sym}
@@ -26,14 +26,12 @@ use Rattle.recording_laws.proofs.PartLemmas.{IsCompletePart, concat-snoc, parts_
 use Rattle.recording_laws.proofs.PartLemmas.{with_gap_markers-whole}
 use Rattle.recording_laws.proofs.RecordingLemmas.{notes-units}
 
--- A good packet that begins a PES packet begins a part.
 parts_from-begins : (part : Part) (g : GoodPacket) (more : List GoodPacket)
     → begins g.packet ≡ true
     → parts_from part (g ∷ more) ≡ part ∷ parts_from (part_of g) more
 unfolding parts_from
 parts_from-begins part g more first = rw first
 
--- Carriers of a PES packet are carriers.
 some-carriers : {A : Type 0} (packet_of : A → List ℕ) (number : ℕ) (others : List (Carrier A))
     (more : List (Carrier A))
     → AllByRecursion (IsCarrier packet_of number false) others
@@ -44,21 +42,19 @@ some-carriers packet_of number (c ∷ others) more each rest =
     ((false, each.0), some-carriers packet_of number others more each.1 rest)
 
 module _ {A : Type 0} (packet_of : A → List ℕ) (number : ℕ) where
-  -- So are those of all PES packets.
   pub all-carriers : (sent : List (SentPes A))
       → AllByRecursion (IsSentPes packet_of number) sent
       → AllByRecursion (IsSomeCarrier packet_of number) (carriers_of sent)
   all-carriers [] each = grind (arith, nat_tests)
   all-carriers (s ∷ more) each = grind (arith, nat_tests, some-carriers, (all-carriers more each.1))
 
-  -- What is carried from an open part on, after a carrier.
   abbrev carried_from : Bool → Part → Carrier A → List (Carrier A) → List ℕ
   carried_from given part c more =
       with_gap_markers given false
       (outcomes false
       (parts_from part (goods packet_of number (history_after_carrier packet_of number c) more)))
 
-  -- The other carriers of a PES packet complete the part of the first.
+  -- The other carriers of a PES packet complete the part that its first carrier began.
   fills-part : (given : Bool) (part : Part) (c : Carrier A) (others rest : List (Carrier A))
       (bytes then : List ℕ)
       → IsPesPacket bytes
@@ -103,7 +99,8 @@ module _ {A : Type 0} (packet_of : A → List ℕ) (number : ℕ) where
       within =
           rw (each.0.begins, next-follows packet_of number c d next.0 each.0.begins)
 
-  -- A complete part and the PES packets after it are carried one after another.
+  -- A complete part and the PES packets after it are carried one after another, without a gap
+  -- marker.
   whole-then : (given : Bool) (part : Part) (c : Carrier A) (sent : List (SentPes A))
       (bytes : List ℕ)
       → IsCompletePart part bytes
@@ -139,7 +136,7 @@ module _ {A : Type 0} (packet_of : A → List ℕ) (number : ℕ) where
           goods packet_of number (history_after_carrier packet_of number s.first)
           (s.others ++ carriers_of more)
 
-  -- What is carried of all.
+  -- A complete recording carries the bytes of all its PES packets, one after another.
   carried-all : (jump : Bool) (sent : List (SentPes A))
       → AllByRecursion (IsSentPes packet_of number) sent
       → AreInSequence packet_of number (carriers_of sent)

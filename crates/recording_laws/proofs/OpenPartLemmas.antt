@@ -1,5 +1,5 @@
--- The rest of a PES packet, if any number of packets is missing, by induction from the front, from
--- any state. Main lemmas: headless-within, open-within.
+-- Reading the rest of a PES packet if any number of packets is missing, from any state, by
+-- induction over what is still to come. Main lemmas: headless-within, open-within.
 use Rattle.std.proofs.Common.{◌≡◌, ℕ, ◌+◌, ◌%◌, ◌≤◌, ◌⊎◌, inl, inr, Bool, true, false, ◌&&◌, ◌||◌}
 use Rattle.std.proofs.Common.{List, [], ◌∷◌, ◌++◌, length, length-append, refl, sym, ap, ◌∙◌, subst}
 use Rattle.std.proofs.Common.{arith, append_assoc, not, nat_lt, map}
@@ -34,7 +34,6 @@ use Rattle.recording_laws.proofs.PesPacketLemmas.{concat-gap_markers, gap_marker
 use Rattle.recording_laws.proofs.PesPacketLemmas.{gap_markers_where}
 use Rattle.recording_laws.proofs.TraceLemmas.{IsHeard, Traced}
 
--- A part that is closed by a good packet.
 pub closed-by : (wrong_after : Bool) (part : Part) (given gap : Bool) (prefix : List ℕ)
     (given' gap' : Bool) (g : GoodPacket) (later : List GoodPacket)
     → Closes part given gap prefix given' gap'
@@ -44,16 +43,14 @@ pub closed-by : (wrong_after : Bool) (part : Part) (given gap : Bool) (prefix : 
 closed-by wrong_after part given gap prefix given' gap' g later h1 h2 =
     grind (arith, nat_tests, parts_from-cut, parts_from-some)
 
--- The bytes of carriers.
 abbrev pub payloads_of : ℕ → List (Carrier Fated) → List ℕ
 payloads_of distance cs = concat (map (λ c. payload (sent_packet distance c.packet)) cs)
 
--- The state if there is a gap since the last result.
 abbrev pub gapped : Bool → Previous
 gapped true = Marked
 gapped false = Nothing
 
--- The bytes are results for PES packets.
+-- The bytes carry results for the PES packets sent, after the state `previous`.
 pub record Gives (few : Bool) (previous : Previous) (sent : List (SentPes Fated)) (bytes : List ℕ)
     : Type 0 where
   pub pes_packets : List (List ℕ)
@@ -61,8 +58,8 @@ pub record Gives (few : Bool) (previous : Previous) (sent : List (SentPes Fated)
   pub joined : bytes ≡ concat pes_packets
   pub reads : Reads few previous sent pes_packets
 
--- The first of them, after a gap marker or none, is that of the PES packet whose first packet began
--- the open part.
+-- The first result, with or without a gap marker before it, is that of the PES packet s whose first
+-- packet began the open part.
 pub record GivesOne (few marked : Bool) (s : SentPes Fated) (between : ℕ) (skipped : Bool)
     (sent : List (SentPes Fated)) (bytes : List ℕ) : Type 0 where
   pub pes_packet : List ℕ
@@ -74,16 +71,13 @@ pub record GivesOne (few marked : Bool) (s : SentPes Fated) (between : ℕ) (ski
   pub joined : bytes ≡ gap_marker_where marked ++ (pes_packet ++ concat rest)
   pub reads : Reads few (After pes_packet s between skipped) sent rest
 
--- This holds, or that PES packet has no result.
+-- The open part yields a result for the PES packet s, or s has no result.
 abbrev pub Opens : Bool → Bool → Bool → SentPes Fated → ℕ → Bool → List (SentPes Fated) → List ℕ
     → Type 0
 Opens few given marked s between skipped sent bytes =
     GivesOne few marked s between skipped sent bytes
     ⊎ ((few ≡ true → arrives s ≡ false) × Gives few (gapped given) sent bytes)
 
--- ---- the state
-
--- After a gap a PES packet without a result changes nothing.
 gapped-skip : (few given : Bool) (s : SentPes Fated) (more : List (SentPes Fated))
     (pes_packets : List (List ℕ))
     → Reads few (gapped given) more pes_packets
@@ -91,7 +85,6 @@ gapped-skip : (few given : Bool) (s : SentPes Fated) (more : List (SentPes Fated
 gapped-skip few true s more pes_packets h = h
 gapped-skip few false s more pes_packets h = h
 
--- What follows a gap follows the results before it.
 previous-skip : (few : Bool) (previous : Previous) (given : Bool) (s : SentPes Fated)
     (more : List (SentPes Fated)) (pes_packets : List (List ℕ))
     → has_previous previous ≡ given
@@ -105,7 +98,6 @@ previous-skip few (After x t between skipped) true s more pes_packets e h =
     reads-marked few x t (between + length (carriers_of_pes s)) true more pes_packets (λ e. refl) h
 previous-skip few (After x t between skipped) false s more pes_packets e h = absurd (cc e)
 
--- A PES packet without a result.
 pub gives-later : (few given : Bool) (s : SentPes Fated) (more : List (SentPes Fated))
     (bytes : List ℕ)
     → (few ≡ true → arrives s ≡ false)
@@ -118,7 +110,6 @@ gives-later few given s more bytes gone h = record {
   reads = inl (gone, gapped-skip few given s more h.pes_packets h.reads);
 }
 
--- The same, while the part of another one is open.
 pub opens-later : (few given marked : Bool) (s : SentPes Fated) (between : ℕ) (skipped : Bool)
     (t : SentPes Fated) (more : List (SentPes Fated)) (bytes : List ℕ)
     → (few ≡ true → arrives t ≡ false)
@@ -140,7 +131,6 @@ opens-later few given marked s between skipped t more bytes gone h = elim h [
   | inr none ↦ inr (none.0, gives-later few given t more bytes gone none.1)
 ]
 
--- A PES packet whose part was opened.
 pub gives-opened : (few : Bool) (previous : Previous) (given marked : Bool) (s : SentPes Fated)
     (more : List (SentPes Fated)) (bytes : List ℕ)
     → has_previous previous ≡ given
@@ -181,7 +171,6 @@ gives-opened few previous given marked s more bytes is fits exact h = elim h [
       }
 ]
 
--- A result before others.
 pub gives-one : (few marked : Bool) (s : SentPes Fated) (between : ℕ) (skipped : Bool)
     (sent : List (SentPes Fated)) (pes_packet bytes inner : List ℕ)
     → IsPesPacket pes_packet
@@ -204,7 +193,6 @@ gives-one few marked s between skipped sent pes_packet bytes inner is prefix as_
   reads = h.reads;
 }
 
--- What follows a gap.
 pub gives-marked : (few : Bool) (x : List ℕ) (s : SentPes Fated) (between : ℕ) (skipped : Bool)
     (sent : List (SentPes Fated)) (bytes : List ℕ)
     → (few ≡ true → (skipped || is_wrong_after s) ≡ true)
@@ -217,17 +205,12 @@ gives-marked few x s between skipped sent bytes gap h = record {
   reads = reads-marked few x s between skipped sent h.pes_packets gap h.reads;
 }
 
--- ---- links of carriers, if few are missing
-
--- The next carrier is missing,
 not-there : (a b c d : Bool) → b ≡ false → (not a && (b && (not c && d))) ≡ false
 not-there a b c d h1 = grind (arith, nat_tests)
 
--- a unit was damaged before it,
 wrong-between : (a b c d : Bool) → (a || c) ≡ true → (not a && (b && (not c && d))) ≡ false
 wrong-between a b c d h1 = grind (arith, nat_tests)
 
--- or neither.
 there-after : (a b c d : Bool)
     → a ≡ false
     → b ≡ true
@@ -235,14 +218,12 @@ there-after : (a b c d : Bool)
     → (not a && (b && (not c && d))) ≡ d
 there-after a b c d h1 h2 h3 = grind (arith, nat_tests)
 
--- Nothing is lost.
 nothing-lost : (a b : Bool) (n : ℕ)
     → ((a || b) || nat_lt 0 n) ≡ false
     → (n ≡ 0) × (a ≡ false) × (b ≡ false)
 nothing-lost a b n h1 =
     (grind (arith, nat_tests), grind (arith, nat_tests), grind (arith, nat_tests))
 
--- Something is lost, but no carrier.
 wrong-lost : (a b : Bool) (n : ℕ)
     → ((a || b) || nat_lt 0 n) ≡ true
     → n ≡ 0
@@ -250,14 +231,11 @@ wrong-lost : (a b : Bool) (n : ℕ)
 wrong-lost a b n h1 h2 = grind (arith, nat_tests)
 
 module _ (distance number : ℕ) (wrong_after few : Bool) where
-  -- What is carried from an open part on.
   abbrev pub carried_from : Part → Bool → Bool → List GoodPacket → List ℕ
   carried_from part given gap goods =
       with_gap_markers given gap (outcomes wrong_after (parts_from part goods))
 
-  -- ---- the state of an open part
-
-  -- It has all of its PES packet up to these carriers.
+  -- The open part has all payloads of its PES packet s up to the carriers that are still to come.
   pub record IsUnbroken (part : Part) (s : SentPes Fated) (between : ℕ) (skipped : Bool) (n : ℕ)
       (wrong : Bool) (cs : List (Carrier Fated)) : Type 0 where
     pub unskipped : skipped ≡ false
@@ -271,27 +249,29 @@ module _ (distance number : ℕ) (wrong_after few : Bool) where
         × (is_wrong_after s ≡ any_wrong (units_after (last_carrier last cs)))
         × (wrong ≡ any_wrong (units_after last))
 
-  -- It is incomplete; or it is complete, and the first carrier of the next PES packet is missing.
+  -- The open part is incomplete; or it is complete, and the first carrier of the next PES packet is
+  -- missing.
   abbrev pub IsLost : Part → SentPes Fated → Bool → Type 0
   IsLost part s skipped =
       (IsBroken part × (arrives s ≡ false))
       ⊎ (IsCompletePart part s.bytes × (arrives s ≡ true) × (skipped ≡ true))
 
-  -- It is unbroken; or carriers are missing, after its first packet or later; or at least 16 were.
-  -- `between` carriers, with these, are between its first packet and that of the next PES packet.
+  -- The state of an open part: it has all payloads so far; or carriers are missing; or at least 16
+  -- carriers were missing. `between` counts the carriers from its first packet to that of the next
+  -- PES packet, including those still to come.
   abbrev pub IsGoing : Part → SentPes Fated → ℕ → Bool → ℕ → Bool → List (Carrier Fated) → Type 0
   IsGoing part s between skipped n wrong cs =
       IsUnbroken part s between skipped n wrong cs
       ⊎ (((1 ≤ n) × (n + length cs ≤ between) × (few ≡ true → IsLost part s skipped))
       ⊎ ((16 + length cs ≤ between) × (few ≡ false)))
 
-  -- It begins like its PES packet.
+  -- The open part begins like its PES packet.
   pub record IsFirst (part : Part) (s : SentPes Fated) : Type 0 where
     pub begins : part.begins ≡ true
     pub is_pes_packet : IsPesPacket s.bytes
     pub prefix : few ≡ false → IsPrefix part s
 
-  -- It is incomplete while carriers are to come.
+  -- As long as carriers of its PES packet are still to come, an open part is incomplete.
   broken-here : (part : Part) (s : SentPes Fated) (between : ℕ) (skipped : Bool) (n : ℕ)
       (wrong : Bool) (c : Carrier Fated) (cs : List (Carrier Fated))
       → IsPesPacket s.bytes
@@ -309,7 +289,6 @@ module _ (distance number : ℕ) (wrong_after few : Bool) where
       ))
       is
 
-  -- One more is missing.
   going-gone : (part : Part) (s : SentPes Fated) (between : ℕ) (skipped : Bool) (n : ℕ)
       (wrong wrong_since : Bool) (c : Carrier Fated) (cs : List (Carrier Fated))
       → IsPesPacket s.bytes
@@ -336,7 +315,6 @@ module _ (distance number : ℕ) (wrong_after few : Bool) where
   going-gone part s between skipped n wrong wrong_since c cs is left gone (inr (inr far)) =
       let many = far.0 in inr (inr (omega (arith, many), far.1))
 
-  -- It is complete.
   whole-here : (part : Part) (s : SentPes Fated) (between : ℕ) (skipped : Bool) (n : ℕ)
       (wrong : Bool)
       → IsFirst part s
@@ -348,14 +326,12 @@ module _ (distance number : ℕ) (wrong_after few : Bool) where
     is_pes_packet = first.is_pes_packet;
   }
 
-  -- What is lost stays lost.
   lost-skip : (part : Part) (s : SentPes Fated) (skipped : Bool)
       → IsLost part s skipped
       → IsLost part s true
   lost-skip part s skipped (inl broken) = inl broken
   lost-skip part s skipped (inr whole) = inr (whole.0, whole.1, refl)
 
-  -- All of a PES packet is skipped, from its first packet on.
   pub going-skip : (part : Part) (s : SentPes Fated) (between : ℕ) (skipped : Bool) (n : ℕ)
       (wrong wrong_since : Bool) (t : SentPes Fated)
       → IsFirst part s
@@ -379,7 +355,6 @@ module _ (distance number : ℕ) (wrong_after few : Bool) where
   going-skip part s between skipped n wrong wrong_since t first (inr (inr far)) =
       let many = far.0 in inr (inr (omega (arith, many), far.1))
 
-  -- 16 are missing, if a packet follows and any are.
   sixteen : (n size between : ℕ)
       → 1 ≤ n
       → n % 16 ≡ 0
@@ -387,13 +362,12 @@ module _ (distance number : ℕ) (wrong_after few : Bool) where
       → 16 + size ≤ between
   sixteen n size between h1 h2 h3 = omega arith
 
-  -- The facts about a packet that follows, if few are missing.
   abbrev StillRecorded : ℕ → Bool → Carrier Fated → Type 0
   StillRecorded n wrong c =
       few ≡ true
       → (n ≡ 0) × (wrong ≡ false) × (any_wrong (units_before c) ≡ false) × (is_recorded c ≡ true)
 
-  -- A packet that continues the counter belongs to the part.
+  -- If a packet continues the counter and begins no PES packet, it belongs to the open part.
   going-follows : (part : Part) (s : SentPes Fated) (between : ℕ) (skipped : Bool) (n : ℕ)
       (wrong wrong_since : Bool) (c : Carrier Fated) (cs : List (Carrier Fated)) (g : GoodPacket)
       → IsGoing part s between skipped n wrong (c ∷ cs)
@@ -437,7 +411,7 @@ module _ (distance number : ℕ) (wrong_after few : Bool) where
   going-follows part s between skipped n wrong wrong_since c cs g (inr (inr far)) same on still is =
       let many = far.0 in inr (inr (omega (arith, many), far.1))
 
-  -- When the next PES packet begins, the result fits.
+  -- When the next PES packet begins, the result of the open part fits the PES packet sent.
   pub going-fits : (part : Part) (given gap : Bool) (s : SentPes Fated) (between : ℕ)
       (skipped : Bool) (n : ℕ) (wrong : Bool) (pes_packet : List ℕ) (longer breaks : Bool)
       → (part_bytes part ≡ s.bytes → pes_packet ≡ s.bytes)
@@ -458,7 +432,7 @@ module _ (distance number : ℕ) (wrong_after few : Bool) where
       none =
       let many = far.0 in inl (omega (arith, many))
 
-  -- It begins like its PES packet, whatever is joined to it.
+  -- A part that begins like its PES packet still does after another packet is joined to it.
   prefix-with : (part : Part) (s : SentPes Fated) (g : GoodPacket)
       → IsPrefix part s
       → IsPrefix (with_packet part g) s
@@ -480,7 +454,6 @@ module _ (distance number : ℕ) (wrong_after few : Bool) where
           ∙ concat-snoc part.payloads (payload g.packet) [] (part_bytes part ++ payload g.packet)
           (ap (λ (x : List ℕ). part_bytes part ++ x) (append-nil (payload g.packet)))
 
-  -- So does the part with one more packet.
   first-with : (part : Part) (s : SentPes Fated) (g : GoodPacket)
       → IsFirst part s
       → IsFirst (with_packet part g) s
@@ -490,26 +463,24 @@ module _ (distance number : ℕ) (wrong_after few : Bool) where
     prefix = λ e. prefix-with part s g (h.prefix e);
   }
 
-  -- ---- its result
-
-  -- A PES packet; if few are missing, the one that was sent.
+  -- The open part yields a PES packet; if few carriers are missing, it yields the one that was
+  -- sent.
   pub record ClosesAs (part : Part) (given gap : Bool) (s : SentPes Fated) : Type 0 where
     pub is : ClosesGiven part given gap s
     pub exact : few ≡ true → (arrives s ≡ true) × (is.pes_packet ≡ s.bytes) × (is.longer ≡ false)
 
-  -- Or nothing.
+  -- The open part yields a PES packet, or nothing.
   abbrev pub Closing : Part → Bool → Bool → SentPes Fated → Type 0
   Closing part given gap s =
       ClosesAs part given gap s
       ⊎ (Closes part given gap [] given true × (few ≡ true → arrives s ≡ false))
 
-  -- If few are missing it is complete, or not.
+  -- If few carriers are missing, the open part is complete exactly if its PES packet arrives.
   abbrev pub Ends : Part → SentPes Fated → Type 0
   Ends part s =
       few ≡ true
       → (IsBroken part × (arrives s ≡ false)) ⊎ (IsCompletePart part s.bytes × (arrives s ≡ true))
 
-  -- So it is one of the two.
   pub closing : (part : Part) (given gap : Bool) (s : SentPes Fated)
       → IsFirst part s
       → Ends part s
@@ -539,7 +510,6 @@ module _ (distance number : ℕ) (wrong_after few : Bool) where
     ]
   ]
 
-  -- What is lost ends in this way.
   lost-ends : (part : Part) (s : SentPes Fated) (skipped : Bool)
       → (few ≡ true → IsLost part s skipped)
       → Ends part s
@@ -548,7 +518,6 @@ module _ (distance number : ℕ) (wrong_after few : Bool) where
     | inr whole ↦ inr (whole.0, whole.1)
   ]
 
-  -- How it ends before the next PES packet.
   pub going-ends : (part : Part) (s : SentPes Fated) (between : ℕ) (skipped : Bool) (n : ℕ)
       (wrong : Bool)
       → IsFirst part s
@@ -560,9 +529,7 @@ module _ (distance number : ℕ) (wrong_after few : Bool) where
       lost-ends part s skipped some.2 is
   going-ends part s between skipped n wrong first (inr (inr far)) is = absurd (cc (is, far.1))
 
-  -- ---- the rest of a PES packet
-
-  -- PES packets follow a part that begins no PES packet.
+  -- What follows a part that begins no PES packet are results for the PES packets still to come.
   abbrev pub OnwardHeadless : List (SentPes Fated) → Type 0
   OnwardHeadless sent =
       (part : Part) (given gap following : Bool) (n : ℕ) (wrong : Bool) (goods : List GoodPacket)
@@ -570,7 +537,8 @@ module _ (distance number : ℕ) (wrong_after few : Bool) where
       → Traced distance number few following n wrong (carriers_of sent) goods
       → Gives few (gapped given) sent (carried_from part given gap goods)
 
-  -- PES packets follow a part that begins one.
+  -- What follows a part that begins a PES packet are a result for it, if any, and results for the
+  -- PES packets still to come.
   abbrev pub OnwardOpen : List (SentPes Fated) → Type 0
   OnwardOpen sent =
       (part : Part) (given gap : Bool) (s : SentPes Fated) (between : ℕ) (skipped : Bool) (n : ℕ)
@@ -581,19 +549,16 @@ module _ (distance number : ℕ) (wrong_after few : Bool) where
       → Opens few given (given && (gap || part.after_break)) s between skipped sent
       (carried_from part given gap goods)
 
-  -- Both.
   pub record Onward (sent : List (SentPes Fated)) : Type 0 where
     pub headless : OnwardHeadless sent
     pub opened : OnwardOpen sent
 
-  -- The first good packet of a carrier within a PES packet begins none.
   heard-begins : (following : Bool) (n : ℕ) (wrong : Bool) (c : Carrier Fated) (g : GoodPacket)
       → IsLeftCarrier distance number false c
       → IsHeard distance number few following n wrong c g
       → begins g.packet ≡ false
   heard-begins following n wrong c g is heard = heard.copy.begins ∙ is.is_carrier.begins
 
-  -- If it belongs to the part, it continues the counter.
   heard-follows : (n : ℕ) (wrong : Bool) (c : Carrier Fated) (g : GoodPacket)
       → IsHeard distance number few true n wrong c g
       → begins_part g ≡ false
@@ -601,7 +566,6 @@ module _ (distance number : ℕ) (wrong_after few : Bool) where
   heard-follows n wrong c g heard within =
       let link = (heard.linked refl).cut in grind (arith, nat_tests)
 
-  -- So nothing is lost.
   heard-still : (n : ℕ) (wrong : Bool) (c : Carrier Fated) (g : GoodPacket)
       → IsHeard distance number few true n wrong c g
       → begins_part g ≡ false
@@ -612,7 +576,6 @@ module _ (distance number : ℕ) (wrong_after few : Bool) where
       (sym ((heard.linked refl).exact is).1 ∙ heard-follows n wrong c g heard within) in
       (none.0, none.1, none.2, heard.there is)
 
-  -- If it does not, something is lost.
   heard-breaks : (n : ℕ) (wrong : Bool) (c : Carrier Fated) (g : GoodPacket)
       → begins g.packet ≡ false
       → IsHeard distance number few true n wrong c g
@@ -621,7 +584,6 @@ module _ (distance number : ℕ) (wrong_after few : Bool) where
   heard-breaks n wrong c g begun heard cut =
       let link = (heard.linked refl).cut in grind (arith, nat_tests)
 
-  -- So the open part is incomplete, or was complete before.
   cut-lost : (part : Part) (s : SentPes Fated) (between : ℕ) (skipped : Bool) (n : ℕ)
       (wrong : Bool) (c : Carrier Fated) (cs : List (Carrier Fated)) (g : GoodPacket)
       → IsPesPacket s.bytes
@@ -647,7 +609,7 @@ module _ (distance number : ℕ) (wrong_after few : Bool) where
   cut-lost part s between skipped n wrong c cs g is left heard cut (inr (inr far)) e =
       absurd (cc (e, far.1))
 
-  -- The rest, after a part that begins no PES packet.
+  -- The rest of a PES packet, after a part that begins no PES packet.
   pub headless-within : (more : List (SentPes Fated)) (part : Part) (given gap following : Bool)
       (n : ℕ) (wrong : Bool) (cs : List (Carrier Fated)) (goods : List GoodPacket)
       → Onward more
@@ -682,7 +644,8 @@ module _ (distance number : ℕ) (wrong_after few : Bool) where
         ]
       ]
 
-  -- A part is closed by a packet that begins none: what follows.
+  -- If a packet closes an open part and begins no PES packet, the part yields a gap or its PES
+  -- packet.
   open-cut : (more : List (SentPes Fated)) (part : Part) (given gap : Bool) (s : SentPes Fated)
       (between : ℕ) (skipped : Bool) (g : GoodPacket) (later : List GoodPacket)
       → IsFirst part s
@@ -721,7 +684,7 @@ module _ (distance number : ℕ) (wrong_after few : Bool) where
             )
       ]
 
-  -- The rest, after a part that begins one.
+  -- The rest of a PES packet, after a part that begins a PES packet.
   pub open-within : (more : List (SentPes Fated)) (part : Part) (given gap : Bool)
       (s : SentPes Fated) (between : ℕ) (skipped : Bool) (n : ℕ) (wrong : Bool)
       (cs : List (Carrier Fated)) (goods : List GoodPacket)

@@ -1,4 +1,4 @@
--- What is accepted with a maximum distance of PES packets was sent one after another:
+-- PES packets that the check accepts with a maximum distance were sent one after another:
 -- `law_of_paced_check`.
 use Rattle.std.proofs.Common.{◌≡◌, ℕ, ◌<◌, List, [], ◌∷◌, ◌++◌, length, refl, sym, ap, ◌∙◌}
 use Rattle.std.proofs.Common.{subst, arith, append_assoc}
@@ -21,9 +21,6 @@ use Rattle.recording_laws.proofs.JoinedPaceLemmas.{near-sendings}
 use Rattle.recording_laws.proofs.PacedFrameLemmas.{AreNear, near-covered, numbers}
 use Rattle.recording_laws.proofs.ReadPaceLemmas.{are-pes_packets, keeps-pace}
 
--- ---- lists
-
--- Of joined lists each consists of PES packets.
 pes_packets-left : (xs ys : List (List ℕ))
     → AllByRecursion IsPesPacket (xs ++ ys)
     → AllByRecursion IsPesPacket xs
@@ -36,7 +33,6 @@ pes_packets-right : (xs ys : List (List ℕ))
 pes_packets-right [] ys each = each
 pes_packets-right (x ∷ xs) ys each = pes_packets-right xs ys each.1
 
--- A list that is not empty has a last element.
 record HasLast (packets : List (List ℕ)) : Type 0 where
   pub run : List (List ℕ)
   pub last : List ℕ
@@ -52,7 +48,6 @@ has-last p (q ∷ packets) =
       are = ap (λ (l : List (List ℕ)). p ∷ l) rest.are;
     }
 
--- PES packets of a transmission with a frame have a last one.
 sent-last : (options : OptionsValue) (within : ℕ) (values : List PesValue)
     (packets : List (List ℕ)) (sendings : Transmission)
     → AllZip IsValidPesPacket values packets
@@ -64,8 +59,6 @@ sent-last options within values (p ∷ packets) sendings each read some = has-la
 sent-last options within (v ∷ values) [] sendings each read some = absurd each
 sent-last options within [] [] (s ∷ sendings) each read some = absurd read
 sent-last options within [] [] [] each read some = absurd (omega (arith, some))
-
--- ---- the law
 
 pub law_of_paced_check : LawOfPacedCheck
 law_of_paced_check number distance pace m recording before packets following programme transmission

@@ -1,4 +1,4 @@
--- Rising frames that keep a maximum distance are close together: `near-covered`.
+-- Frames of a transmission that keep a maximum distance are at most pace apart: `near-covered`.
 use Rattle.std.proofs.Common.{ℕ, zero, suc, ◌+◌, ◌<◌, ◌≤◌, inl, inr, List, [], ◌∷◌, length}
 use Rattle.std.proofs.Common.{map, arith}
 use Rattle.std.specs.Prelude.{⊤}
@@ -7,21 +7,22 @@ use Rattle.sub_rules.specs.FrameRules.{frame_at}
 use Rattle.sub_rules.specs.Transmission.{IsRising, SentFrame, Transmission, first_frame}
 use Rattle.sub_rules.specs.Transmission.{last_frame}
 
--- Each number is at most `pace` more than the one before it; the first is so for the given one.
+-- Each number is at most `pace` more than the number before it, and the first is at most `pace`
+-- more than `frame`.
 abbrev pub AreNearFrom : ℕ → ℕ → List ℕ → Type 0
 AreNearFrom pace frame [] = ⊤
 AreNearFrom pace frame (x ∷ more) = (x ≤ frame + pace) × AreNearFrom pace x more
 
--- Each is at most `pace` more than the one before it.
+-- Each number is at most `pace` more than the number before it.
 abbrev pub AreNear : ℕ → List ℕ → Type 0
 AreNear pace [] = ⊤
 AreNear pace (x ∷ more) = AreNearFrom pace x more
 
--- The numbers of frames.
 abbrev pub numbers : Transmission → List ℕ
 numbers frames = map (λ (s : SentFrame). s.frame) frames
 
--- Each frame from the first to the last is one of these, or less than `pace` after one of them.
+-- Each frame from the first to the last is one of the list, or less than `pace` after a frame of
+-- the list.
 abbrev pub AreCovering : ℕ → Transmission → Type 0
 AreCovering pace frames =
     (f : ℕ)
@@ -32,8 +33,6 @@ AreCovering pace frames =
     × (frame_at frames j ≤ f)
     × (f < frame_at frames j + pace)
 
--- ---- rising frames
-
 rising-tail : (s : SentFrame) (frames : Transmission) → IsRising (s ∷ frames) → IsRising frames
 rising-tail s frames h i j d l m = h (suc i) (suc j) d (omega arith) (omega arith)
 
@@ -42,7 +41,6 @@ rising-first : (s t : SentFrame) (more : Transmission)
     → s.frame < t.frame
 rising-first s t more h = h 0 1 s (omega arith) (omega arith)
 
--- None is before the first,
 rising-at : (t : SentFrame) (more : Transmission) (i : ℕ)
     → IsRising (t ∷ more)
     → i < length (t ∷ more)
@@ -53,7 +51,6 @@ rising-at t (u ∷ more) (suc i) rising l =
     let rest = rising-at u more i (rising-tail t (u ∷ more) rising) (omega arith) in
     omega (arith, rest, rising-first t u more rising)
 
--- nor is the last.
 rising-last : (t : SentFrame) (more : Transmission)
     → IsRising (t ∷ more)
     → t.frame ≤ last_frame (t ∷ more)
@@ -62,10 +59,8 @@ rising-last t (u ∷ more) rising =
     let rest = rising-last u more (rising-tail t (u ∷ more) rising) in
     omega (arith, rest, rising-first t u more rising)
 
--- ---- covering frames
-
 module _ (pace : ℕ) (s t : SentFrame) (more : Transmission) (rising : IsRising (s ∷ t ∷ more)) where
-  -- The frame `pace` after the first is not covered unless the second comes by then.
+  -- The frame `pace` after the first frame is not covered unless the second frame comes by then.
   uncovered : (j : ℕ)
       → s.frame + pace < t.frame
       → j < length (s ∷ t ∷ more)
@@ -86,7 +81,6 @@ module _ (pace : ℕ) (s t : SentFrame) (more : Transmission) (rising : IsRising
     | inr near ↦ near
   ]
 
-  -- From the second on, what the first covers the second covers.
   covered-by : (f j : ℕ)
       → t.frame ≤ f
       → j < length (s ∷ t ∷ more)
@@ -106,7 +100,6 @@ module _ (pace : ℕ) (s t : SentFrame) (more : Transmission) (rising : IsRising
       let at = covered f (omega (arith, first, begun)) lasts in
       covered-by f at.0 begun at.1 at.2 at.3
 
--- So each is close to the one before it.
 pub near-covered : (pace : ℕ) (frames : Transmission)
     → IsRising frames
     → AreCovering pace frames

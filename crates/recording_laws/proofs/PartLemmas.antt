@@ -1,4 +1,4 @@
--- The result of a complete part. Main lemma: outcome-whole.
+-- The result of a complete part is its PES packet. Main lemma: outcome-whole.
 use Rattle.std.proofs.Common.{◌≡◌, ℕ, ◌≤◌, inl, inr, Bool, true, false, List, [], ◌∷◌, ◌++◌, length}
 use Rattle.std.proofs.Common.{append_assoc, take, arith, Ok}
 use Rattle.std.proofs.lemmas.Bool.{cases_Bool}
@@ -16,21 +16,18 @@ use Rattle.mpeg_ts.specs.Parts.{begins_part, may_be_cut_off, outcomes, part_of, 
 use Rattle.mpeg_ts.specs.Parts.{with_packet}
 use Rattle.mpeg_ts.specs.Carried.{with_gap_markers}
 
--- The beginning of a PES packet gives its size.
 pub pes_packet-size : (b : List ℕ) → IsPesPacket b → size_at (take 6 b) ≡ Ok (length b)
 pes_packet-size b h1 = grind (arith, nat_tests, head_complete)
 
--- It is long.
 pub pes_packet-long : (b : List ℕ) → IsPesPacket b → 184 ≤ length b
 pes_packet-long b h1 = grind (arith, nat_tests)
 
--- A part that begins a PES packet, and has exactly its bytes.
+-- The part begins a PES packet, and has exactly the bytes of that packet.
 pub record IsCompletePart (part : Part) (bytes : List ℕ) : Type 0 where
   pub begins : part.begins ≡ true
   pub bytes_are : part_bytes part ≡ bytes
   pub is_pes_packet : IsPesPacket bytes
 
--- It gives the PES packet.
 pub outcome-whole : (cut_off : Bool) (part : Part) (bytes : List ℕ)
     → IsCompletePart part bytes
     → outcome cut_off part ≡ Pes bytes ∷ []
@@ -41,7 +38,6 @@ outcome-whole cut_off part bytes h =
     let all = take-length bytes in
     grind (arith, nat_tests, h.begins, h.bytes_are)
 
--- So do parts of which it is the first.
 pub outcomes-whole : (wrong_after : Bool) (part : Part) (more : List Part) (bytes : List ℕ)
     → IsCompletePart part bytes
     → outcomes wrong_after (part ∷ more)
@@ -50,7 +46,7 @@ unfolding outcomes
 outcomes-whole wrong_after part more bytes h =
     rw (outcome-whole (may_be_cut_off wrong_after more) part bytes h)
 
--- Without a break before it, its PES packet is carried next, without a gap marker.
+-- A complete part without a break before it yields its PES packet without a gap marker.
 pub with_gap_markers-whole : (given wrong_after : Bool) (part : Part) (more : List Part)
     (bytes : List ℕ)
     → IsCompletePart part bytes
@@ -62,23 +58,18 @@ with_gap_markers-whole given wrong_after part more bytes h whole =
     rw (outcomes-whole wrong_after part more bytes h, whole)
     (elim (cases_Bool given) [ inl e ↦ rw e | inr e ↦ rw e ])
 
--- ---- parts of good packets
-
--- A good packet that begins a part.
 pub parts_from-cut : (part : Part) (g : GoodPacket) (more : List GoodPacket)
     → begins_part g ≡ true
     → parts_from part (g ∷ more) ≡ part ∷ parts_from (part_of g) more
 unfolding parts_from
 parts_from-cut part g more cut = rw cut
 
--- One that continues the counter, and begins none, belongs to the part.
 pub parts_from-follows : (part : Part) (g : GoodPacket) (more : List GoodPacket)
     → begins_part g ≡ false
     → parts_from part (g ∷ more) ≡ parts_from (with_packet part g) more
 unfolding parts_from
 parts_from-follows part g more within = rw within
 
--- The payloads of a part with one more packet.
 pub concat-snoc : (xs : List (List ℕ)) (x y z : List ℕ)
     → concat xs ++ (x ++ y) ≡ z
     → concat (xs ++ x ∷ []) ++ y ≡ z

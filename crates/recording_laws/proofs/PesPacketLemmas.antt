@@ -1,4 +1,4 @@
--- Bytes as PES packets, one after another. Main lemma: one-way.
+-- Bytes split into PES packets in only one way. Main lemma: one-way.
 use Rattle.std.proofs.lemmas.Bool.Decides.{nat_tests}
 use Rattle.std.proofs.Common.{◌≡◌, ℕ, Bool, true, false, List, [], ◌∷◌, ◌++◌, length, length-append}
 use Rattle.std.proofs.Common.{take, drop, map, Ok, refl, sym, ap, ◌∙◌, arith}
@@ -12,26 +12,19 @@ use Rattle.recording_laws.specs.Losses.{Fated}
 use Rattle.recording_laws.specs.Multiplex.{SentPes}
 use Rattle.recording_laws.proofs.PartLemmas.{pes_packet-long, pes_packet-size}
 
--- ---- PES packets
-
--- Equal lists have equal first elements.
 pub heads : {A : Type 0} (x y : A) (xs ys : List A) → x ∷ xs ≡ y ∷ ys → x ≡ y
 heads x y xs ys e = cc
 
--- They have equal rests.
 pub tails : {A : Type 0} (x y : A) (xs ys : List A) → x ∷ xs ≡ y ∷ ys → xs ≡ ys
 tails x y xs ys e = cc
 
--- A list with an element is not empty.
 pub not-empty : {A : Type 0} (xs ys : List A) (y : A) → [] ≡ xs ++ (y ∷ ys) → ⊥
 not-empty [] ys y e = cc
 not-empty (x ∷ xs) ys y e = cc
 
--- A PES packet at the beginning of bytes gives its size.
 prefix-size : (p more : List ℕ) → IsPesPacket p → size_at (take 6 (p ++ more)) ≡ Ok (length p)
 prefix-size p more h1 = grind (arith, nat_tests, pes_packet-long, take-append-le, pes_packet-size)
 
--- Two PES packets at the beginning of the same bytes have the same size.
 prefix-length : (p q more others : List ℕ)
     → IsPesPacket p
     → IsPesPacket q
@@ -39,7 +32,6 @@ prefix-length : (p q more others : List ℕ)
     → length p ≡ length q
 prefix-length p q more others h1 h2 h3 = grind (arith, nat_tests, prefix-size)
 
--- They are equal.
 prefix-pes_packet : (p q more others : List ℕ)
     → length p ≡ length q
     → p ++ more ≡ q ++ others
@@ -48,7 +40,6 @@ prefix-pes_packet p q more others long e =
     sym (take-append_seam p more) ∙ ap (take (length p)) e
     ∙ ap (λ (n : ℕ). take n (q ++ others)) long ∙ take-append_seam q others
 
--- The same bytes follow.
 prefix-rest : (p q more others : List ℕ)
     → length p ≡ length q
     → p ++ more ≡ q ++ others
@@ -57,11 +48,10 @@ prefix-rest p q more others long e =
     sym (drop-append_seam p more) ∙ ap (drop (length p)) e
     ∙ ap (λ (n : ℕ). drop n (q ++ others)) long ∙ drop-append_seam q others
 
--- No PES packet is empty.
 pes_packet-some : (p more : List ℕ) → IsPesPacket p → [] ≡ p ++ more → ⊥
 pes_packet-some p more h1 h2 = grind (arith, nat_tests, pes_packet-long, length-append)
 
--- Bytes can be split into PES packets in one way only.
+-- Bytes can be split into PES packets in only one way, since each PES packet states its size.
 pub one-way : (ps qs : List (List ℕ))
     → AllByRecursion IsPesPacket ps
     → AllByRecursion IsPesPacket qs
@@ -76,34 +66,26 @@ one-way (p ∷ ps) (q ∷ qs) each others e =
     let rest = one-way ps qs each.1 others.1 (prefix-rest p q (concat ps) (concat qs) long e) in
     cc
 
--- The gap marker is a PES packet.
 pub gap_marker-pes_packet : IsPesPacket gap_marker
 unfolding gap_marker
 gap_marker-pes_packet = grind (arith, nat_tests)
 
--- ---- the carried bytes
-
--- A gap marker, if there is one.
 abbrev pub gap_markers_where : Bool → List (List ℕ)
 gap_markers_where true = gap_marker ∷ []
 gap_markers_where false = []
 
--- A gap marker before PES packets.
 pub concat-gap_markers : (b : Bool) (x : List ℕ) (xs : List (List ℕ))
     → concat (gap_markers_where b ++ (x ∷ xs)) ≡ gap_marker_where b ++ (x ++ concat xs)
 concat-gap_markers b x xs = grind (arith, nat_tests)
 
--- They are PES packets.
 pub gap_markers-pes_packets : (b : Bool) (xs : List (List ℕ))
     → AllByRecursion IsPesPacket xs
     → AllByRecursion IsPesPacket (gap_markers_where b ++ xs)
 gap_markers-pes_packets b xs h1 = grind (arith, nat_tests, gap_marker-pes_packet)
 
--- So is a gap marker alone.
 pub gap_markers-alone : (b : Bool) → AllByRecursion IsPesPacket (gap_markers_where b)
 gap_markers-alone b = grind (arith, nat_tests, gap_marker-pes_packet)
 
--- Joined lists.
 pub pes_packets-append : (xs ys : List (List ℕ))
     → AllByRecursion IsPesPacket xs
     → AllByRecursion IsPesPacket ys
@@ -111,12 +93,8 @@ pub pes_packets-append : (xs ys : List (List ℕ))
 pes_packets-append [] ys each others = others
 pes_packets-append (x ∷ xs) ys each others = (each.0, pes_packets-append xs ys each.1 others)
 
--- ---- without a gap marker
-
--- None of these is the gap marker.
 abbrev pub HasNoGapMarker : List (List ℕ) → Type 0
 HasNoGapMarker run = AllByRecursion (λ p. p ≡ gap_marker → ⊥) run
 
--- The PES packets as they were sent.
 abbrev pub sent_bytes : List (SentPes Fated) → List (List ℕ)
 sent_bytes sent = map (λ s. s.bytes) sent

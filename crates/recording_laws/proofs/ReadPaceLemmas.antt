@@ -1,4 +1,4 @@
--- PES packets whose frames are close together keep the maximum distance: `keeps-pace`.
+-- PES packets whose frames are at most pace apart keep the maximum distance: `keeps-pace`.
 use Rattle.std.proofs.lemmas.Bool.Decides.{nat_tests}
 use Rattle.std.proofs.Common.{◌≡◌, ℕ, ◌+◌, ◌^◌, ◌<◌, ◌≤◌, List, [], ◌∷◌, take, drop, sym, ap, ◌∙◌}
 use Rattle.std.proofs.Common.{subst, arith, Option}
@@ -16,7 +16,6 @@ use Rattle.sub_rules.proofs.PesPacketFileLemmas.{packet_is_pes_packet}
 use Rattle.recording_laws.specs.PacedCheck.{frame_by_clock}
 use Rattle.recording_laws.proofs.PacedFrameLemmas.{AreNear, AreNearFrom, numbers}
 
--- All valid PES packets are PES packets.
 pub are-pes_packets : (values : List PesValue) (packets : List (List ℕ))
     → AllZip IsValidPesPacket values packets
     → AllByRecursion IsPesPacket packets
@@ -26,11 +25,10 @@ are-pes_packets (v ∷ values) [] each = absurd each
 are-pes_packets (v ∷ values) (p ∷ packets) each =
     (packet_is_pes_packet v p each.0, are-pes_packets values packets each.1)
 
--- The bits of a PTS, in its bytes after two flags and a length.
 written-bits : (a b c pts : ℕ) → pts < 2 ^ 33 → pts_bits (a ∷ b ∷ c ∷ pts_bytes pts) ≡ pts
 written-bits a b c pts fits = grind (arith, nat_tests)
 
--- The bytes of a PES packet up to its PTS give the PTS.
+-- The bytes of a PES packet up to its PTS determine the PTS.
 prefix-bits : (v : PesValue) (p : List ℕ)
     → IsValidPesPacket v p
     → pts_bits (drop 6 (up_to_pts p)) ≡ v.pts
@@ -39,7 +37,6 @@ prefix-bits v p h =
     ∙ written-bits h.flags h.pts_dts_flags header_data_length v.pts h.pts_fits
 
 module _ (options : OptionsValue) where
-  -- So they give its frame.
   prefix-frame : (v : PesValue) (p : List ℕ) (s : SentFrame)
       → IsValidPesPacket v p
       → IsReadAs (clock_of options) v s
@@ -64,7 +61,6 @@ module _ (options : OptionsValue) where
         subst (λ (f : ℕ). KeepPaceFrom (frame_by_clock options) pace f packets) (sym own) rest,
       )
 
-  -- They keep the maximum distance.
   pub keeps-pace : (pace : ℕ) (values : List PesValue) (packets : List (List ℕ))
       (sendings : Transmission)
       → AllZip IsValidPesPacket values packets

@@ -1,6 +1,6 @@
 -- What is read of the PES packets that were sent, whatever was lost: `law_of_reading`, by induction
--- on what was sent. The laws of losses, of neighbours and of the maximum distance follow; the last
--- one here: `law_of_pace`.
+-- over the PES packets sent. The laws of losses, of neighbours and of the maximum distance follow;
+-- the last of these is in this file: `law_of_pace`.
 use Rattle.std.proofs.Common.{◌≡◌, ℕ, ◌+◌, inl, inr, Bool, true, false, ◌&&◌, ◌||◌, List, [], ◌∷◌}
 use Rattle.std.proofs.Common.{◌++◌, length, None, refl, sym, ap, ◌∙◌, subst, arith, nat_lt, ◌≤◌}
 use Rattle.std.specs.List.{AllByRecursion, flat_map}
@@ -40,7 +40,6 @@ use Rattle.recording_laws.proofs.PesPacketLemmas.{gap_markers-alone, gap_markers
 use Rattle.recording_laws.proofs.TraceLemmas.{IsHeard, Traced, traced}
 use Rattle.recording_laws.proofs.BegunPartLemmas.{IsPrefix}
 
--- Gap markers alone are no results.
 gives-gap_markers : (few : Bool) (previous : Previous) (marked : Bool)
     → (marked ≡ true → has_previous previous ≡ true)
     → Gives few previous [] (gap_marker_where marked)
@@ -57,11 +56,9 @@ gives-gap_markers few previous false after = record {
   reads = (false, refl, after);
 }
 
--- A PES packet does not arrive if its first packet is missing.
 not-first : (s : SentPes Fated) → is_recorded s.first ≡ false → arrives s ≡ false
 not-first s gone = ap (λ (b : Bool). b && are_recorded_after s.first s.others) gone
 
--- Whether a gap marker comes before a PES packet, if the one before is complete,
 gap_marker-following-whole : (longer break wrong here skipped following : Bool) (n : ℕ)
     → longer ≡ false
     → break ≡ ((wrong || here) || nat_lt 0 n)
@@ -72,7 +69,6 @@ gap_marker-following-whole : (longer break wrong here skipped following : Bool) 
 gap_marker-following-whole longer break wrong here skipped following n h1 h2 h3 h4 h5 =
     grind (arith, nat_tests)
 
--- and if others are missing in between.
 gap_marker-following-gone : (longer break wrong here skipped following : Bool) (n : ℕ)
     → break ≡ ((wrong || here) || nat_lt 0 n)
     → 1 ≤ n
@@ -82,7 +78,7 @@ gap_marker-following-gone longer break wrong here skipped following n h1 h2 h3 =
     (arith, nat_tests)
 
 module _ (distance number : ℕ) (wrong_after few : Bool) where
-  -- The part of a PES packet's first packet begins like it.
+  -- The part that the first packet of a PES packet begins, begins like that PES packet.
   prefix-first : (s : SentPes Fated) (g : GoodPacket)
       → IsLeftPes distance number s
       → HoldsPts distance s
@@ -104,7 +100,6 @@ module _ (distance number : ℕ) (wrong_after few : Bool) where
       bytes : part_bytes (part_of g) ≡ first
       bytes = append-nil (payload g.packet) ∙ copy.payload
 
-  -- A PES packet's first packet is there.
   opening : (s : SentPes Fated) (more : List (SentPes Fated)) (g : GoodPacket)
       (later : List GoodPacket) (wrong_since : Bool) (previous : Previous) (given gap : Bool)
       → Onward distance number wrong_after few more
@@ -149,7 +144,6 @@ module _ (distance number : ℕ) (wrong_after few : Bool) where
       }))
       is.others traced)
 
-  -- It begins a part.
   first-cuts : (s : SentPes Fated) (g : GoodPacket)
       → IsLeftPes distance number s
       → IsCopy (sent_packet distance s.first.packet) g.packet
@@ -157,23 +151,19 @@ module _ (distance number : ℕ) (wrong_after few : Bool) where
   first-cuts s g is copy =
       ap (λ (b : Bool). b || is_unlinked g.link) (copy.begins ∙ is.first.is_carrier.begins)
 
-  -- After a gap comes a gap marker, if there was a result.
   gapped-fits : (given b : Bool) → Fits (gapped given) (given && (true || b))
   gapped-fits true b = refl
   gapped-fits false b = tt
 
-  -- After a gap there was a result, or there was none.
   gapped-previous : (given : Bool) → has_previous (gapped given) ≡ given
   gapped-previous true = refl
   gapped-previous false = refl
 
-  -- A gap marker is there exactly then.
   gapped-exact : (given b : Bool) (s : SentPes Fated)
       → IsGapMarkerExact few (gapped given) s (given && (true || b))
   gapped-exact true b s = λ e. refl
   gapped-exact false b s = λ e. refl
 
-  -- It is exact after a result, too.
   going-exact : (part : Part) (s : SentPes Fated) (between : ℕ) (skipped : Bool) (n : ℕ)
       (wrong : Bool) (pes_packet : List ℕ) (longer : Bool) (t : SentPes Fated) (g : GoodPacket)
       → IsGoing distance number wrong_after few part s between skipped n wrong []
@@ -197,9 +187,6 @@ module _ (distance number : ℕ) (wrong_after few : Bool) where
   going-exact part s between skipped n wrong pes_packet longer t g (inr (inr far)) heard is = λ e.
       absurd (cc (e, far.1))
 
-  -- ---- PES packets follow
-
-  -- The last part, if it begins no PES packet,
   end-headless : (part : Part) (given gap : Bool) (goods : List GoodPacket)
       → part.begins ≡ false
       → goods ≡ []
@@ -213,7 +200,6 @@ module _ (distance number : ℕ) (wrong_after few : Bool) where
       (gives-gap_markers few (gapped given) end.is_marked
       (λ e. gapped-previous given ∙ end.after_one e))
 
-  -- and if it does.
   end-open : (part : Part) (given gap : Bool) (s : SentPes Fated) (between : ℕ) (skipped : Bool)
       (n : ℕ) (wrong : Bool) (goods : List GoodPacket)
       → IsFirst distance number wrong_after few part s
@@ -250,7 +236,6 @@ module _ (distance number : ℕ) (wrong_after few : Bool) where
             )
       ]
 
-  -- The next PES packet after a part that begins none,
   next-headless : (t : SentPes Fated) (more : List (SentPes Fated)) (part : Part)
       (given gap following : Bool) (n : ℕ) (wrong : Bool) (goods : List GoodPacket)
       → Onward distance number wrong_after few more
@@ -282,7 +267,6 @@ module _ (distance number : ℕ) (wrong_after few : Bool) where
             (gapped-exact given (is_break here.0.link) t))
       ]
 
-  -- and after one that does, if its first packet is there.
   next-opened : (t : SentPes Fated) (more : List (SentPes Fated)) (part : Part)
       (given gap : Bool) (s : SentPes Fated) (between : ℕ) (skipped : Bool) (n : ℕ)
       (wrong : Bool) (g : GoodPacket) (later : List GoodPacket) (wrong_since : Bool)
@@ -337,7 +321,6 @@ module _ (distance number : ℕ) (wrong_after few : Bool) where
             )
       ]
 
-  -- Whether it is or not.
   next-open : (t : SentPes Fated) (more : List (SentPes Fated)) (part : Part) (given gap : Bool)
       (s : SentPes Fated) (between : ℕ) (skipped : Bool) (n : ℕ) (wrong : Bool)
       (goods : List GoodPacket)
@@ -369,11 +352,11 @@ module _ (distance number : ℕ) (wrong_after few : Bool) where
             holds first going here.3 here.5 here.6)
       ]
 
-  -- All of them have a PTS in their first packets, if more may be missing in a row.
   abbrev AllHold : List (SentPes Fated) → Type 0
   AllHold sent = few ≡ false → AllByRecursion (HoldsPts distance) sent
 
-  -- So PES packets follow.
+  -- From any state of reading, the PES packets still to come have results (by induction over these
+  -- PES packets).
   onward : (sent : List (SentPes Fated))
       → AllByRecursion (IsLeftPes distance number) sent
       → AllHold sent
@@ -393,17 +376,12 @@ module _ (distance number : ℕ) (wrong_after few : Bool) where
         (onward more each.1 (λ e. (holds e).1)) each.0 (λ e. (holds e).0) first going traced;
   }
 
-  -- ---- from the beginning
-
-  -- What the good packets at the beginning of a recording carry.
   abbrev from_goods : List GoodPacket → List ℕ
   from_goods goods = with_gap_markers false false (outcomes wrong_after (parts goods))
 
-  -- No packet yet.
   abbrev no_part : Part
   no_part = record { after_break = false; begins = false; payloads = [] }
 
-  -- Before the first result gaps do not matter.
   ungiven : (a b : Bool) (os : List PartOutcome) → with_gap_markers false a os ≡ with_gap_markers
       false b os
   unfolding with_gap_markers
@@ -412,7 +390,7 @@ module _ (distance number : ℕ) (wrong_after few : Bool) where
   ungiven a b (Pes bytes ∷ os) = refl
   ungiven a b (Other bytes ∷ os) = refl
 
-  -- So the first good packet may follow a part of no PES packet.
+  -- The first good packet of a recording may be taken to follow a part without a PES packet.
   from-no_part : (n : ℕ) (wrong : Bool) (cs : List (Carrier Fated)) (goods : List GoodPacket)
       → Traced distance number few false n wrong cs goods
       → from_goods goods ≡ carried_from distance number wrong_after few no_part false false goods
@@ -432,7 +410,6 @@ module _ (distance number : ℕ) (wrong_after few : Bool) where
         ∙ or-true (begins here.0.packet)))
   ]
 
-  -- The first PES packets.
   pub starting : (sent : List (SentPes Fated)) (wrong : Bool) (goods : List GoodPacket)
       → AllByRecursion (IsLeftPes distance number) sent
       → AllHold sent
@@ -442,8 +419,8 @@ module _ (distance number : ℕ) (wrong_after few : Bool) where
       subst (Gives few Nothing sent) (sym (from-no_part 0 wrong (carriers_of sent) goods traced))
       ((onward sent each holds).headless no_part false false false 0 wrong goods refl traced)
 
--- What is carried are results for PES packets, if few carriers in a row are missing, or if the
--- first packet of each PES packet contains its PTS.
+-- What a recording carries are results for its PES packets, if few carriers in a row are missing,
+-- or if the first transport packet of each PES packet contains its PTS.
 pub law_of_reading : (number distance : ℕ) (few : Bool) (m : Multiplex Fated) (recording : List ℕ)
     → AreLosses number distance m recording
     → (few ≡ true → are_few_lost 0 (carriers_of m.sent) ≡ true)

@@ -1,6 +1,6 @@
--- The results for the PES packets that were sent, if any number of packets is missing. Those that
--- keep the maximum distance, without a gap marker among them, were sent one after another. Main
--- lemma: read-run.
+-- The results for the PES packets that were sent, if any number of packets is missing. PES packets
+-- that are read within the maximum distance, without a gap marker among them, were sent one after
+-- another. Main lemma: read-run.
 use Rattle.std.proofs.Common.{◌≡◌, ℕ, ◌+◌, ◌<◌, ◌≤◌, ◌⊎◌, inl, inr, Bool, true, false, List, []}
 use Rattle.std.proofs.Common.{◌∷◌, ◌++◌, length, refl, sym, ap, ◌∙◌, subst, arith, ◌&&◌, ◌||◌}
 use Rattle.std.specs.Bool.{⊤}
@@ -15,48 +15,46 @@ use Rattle.recording_laws.proofs.PesPacketLemmas.{HasNoGapMarker, heads, gap_mar
 use Rattle.recording_laws.proofs.PesPacketLemmas.{not-empty}
 use Rattle.recording_laws.proofs.PesPacketLemmas.{sent_bytes, tails}
 
--- The state before a result: there was no result yet; there was one, and a gap since; or the last
--- one begins like this PES packet, with so many carriers between its first one and the next PES
--- packet, and perhaps PES packets without a result among them.
+-- The state before a result: no result yet; a result with a gap after it; or a result x that begins
+-- like the PES packet s, with `between` carriers from the first carrier of s to the next PES
+-- packet, and possibly PES packets without a result between them (`skipped`).
 pub data Previous : Type 0 where
   Nothing : Previous
   Marked : Previous
   After : List ℕ → SentPes Fated → ℕ → Bool → Previous
 
--- A PES packet without a result comes between.
+-- The state after a PES packet without a result.
 abbrev pub skip : Previous → SentPes Fated → Previous
 skip Nothing t = Nothing
 skip Marked t = Marked
 skip (After x s between skipped) t = After x s (between + length (carriers_of_pes t)) true
 
--- A gap marker may be missing before the next result: if there was none; or if the one before is as
--- it was sent and the next one was sent after it, unless 16 carriers are between them.
+-- A gap marker may be missing before the next result only in three cases: no result came before;
+-- the result before is as it was sent, and no PES packet without a result follows it; or 16 or more
+-- carriers are between them.
 abbrev pub Fits : Previous → Bool → Type 0
 Fits Nothing marked = ⊤
 Fits Marked marked = marked ≡ true
 Fits (After x s between skipped) marked =
     marked ≡ false → (16 ≤ between) ⊎ ((skipped ≡ false) × (x ≡ s.bytes))
 
--- There was a result.
 abbrev pub has_previous : Previous → Bool
 has_previous Nothing = false
 has_previous Marked = true
 has_previous (After x s between skipped) = true
 
--- There was a gap since, if few are missing in a row.
 abbrev pub is_gap : Previous → Bool
 is_gap Nothing = true
 is_gap Marked = true
 is_gap (After x s between skipped) = skipped || is_wrong_after s
 
--- If few are missing in a row, there is a gap marker exactly if there was a gap.
 abbrev pub IsGapMarkerExact : Bool → Previous → SentPes Fated → Bool → Type 0
 IsGapMarkerExact few previous s marked =
     few ≡ true → marked ≡
     (has_previous previous && (is_gap previous || any_wrong (units_before s.first)))
 
--- The results for PES packets, in order; each begins like its PES packet. If few are missing in a
--- row they are those that arrive, each as it was sent.
+-- The results for PES packets, in order; each result begins like its PES packet. If few carriers
+-- are missing in a row, the results are the PES packets that arrive, each as it was sent.
 abbrev pub Reads : Bool → Previous → List (SentPes Fated) → List (List ℕ) → Type 0
 Reads few previous [] pes_packets =
     (marked : Bool) × (pes_packets ≡ gap_markers_where marked) × (marked ≡ true → has_previous
@@ -71,7 +69,6 @@ Reads few previous (s ∷ more) pes_packets =
     × (few ≡ true → (arrives s ≡ true) × (x ≡ s.bytes))
     × IsGapMarkerExact few previous s marked)
 
--- What may follow a gap may follow a PES packet with a gap after it.
 pub reads-marked : (few : Bool) (x : List ℕ) (s : SentPes Fated) (between : ℕ) (skipped : Bool)
     (sent : List (SentPes Fated)) (pes_packets : List (List ℕ))
     → (few ≡ true → (skipped || is_wrong_after s) ≡ true)
@@ -101,14 +98,10 @@ reads-marked few x s between skipped (t ∷ more) pes_packets gap h = elim h [
       )
 ]
 
--- They are gap markers.
 gap_markers-same : (marked : Bool) → AllByRecursion (λ p. p ≡ gap_marker) (gap_markers_where marked)
 gap_markers-same true = (refl, tt)
 gap_markers-same false = tt
 
--- ---- where a result begins
-
--- None of these is another result.
 pub no-pes_packet : (pes_packets before tail : List (List ℕ)) (x : List ℕ)
     → AllByRecursion (λ p. p ≡ gap_marker) pes_packets
     → pes_packets ≡ before ++ (x ∷ tail)
@@ -118,12 +111,12 @@ no-pes_packet (p ∷ pes_packets) [] tail x all e = sym (heads p x pes_packets t
 no-pes_packet (p ∷ pes_packets) (q ∷ before) tail x all e =
     no-pes_packet pes_packets before tail x all.1 (tails p q pes_packets (before ++ (x ∷ tail)) e)
 
--- `IsFar` is a property of PES packets, and of those after the first of them.
 module _ (few : Bool) (IsFar : List (SentPes Fated) → Type 0)
     (following-far : (s : SentPes Fated) (more : List (SentPes Fated)) → IsFar (s ∷ more) → IsFar
     more)
   where
-    -- A result other than a gap marker began as one of them, and equals it if few are missing.
+    -- A result x other than a gap marker begins like one of the PES packets sent, and equals that
+    -- packet if few carriers are missing.
     pub record Located
         (x : List ℕ) (tail : List (List ℕ)) (sent : List (SentPes Fated))
         : Type 0 where
@@ -136,7 +129,6 @@ module _ (few : Bool) (IsFar : List (SentPes Fated) → Type 0)
       pub as_sent : few ≡ true → x ≡ here.bytes
       pub far : IsFar (here ∷ later)
 
-    -- With one more.
     located-following : (x : List ℕ) (tail : List (List ℕ)) (s : SentPes Fated)
         (more : List (SentPes Fated))
         → Located x tail more
@@ -152,7 +144,6 @@ module _ (few : Bool) (IsFar : List (SentPes Fated) → Type 0)
       far = h.far;
     }
 
-    -- It is this one, or comes later.
     located-here : (s : SentPes Fated) (more : List (SentPes Fated)) (y : List ℕ)
         (rest before tail : List (List ℕ)) (x : List ℕ)
         → y ∷ rest ≡ before ++ (x ∷ tail)
@@ -180,7 +171,6 @@ module _ (few : Bool) (IsFar : List (SentPes Fated) → Type 0)
     located-here s more y rest (z ∷ before) tail x e prefix reads as_sent far go =
         located-following x tail s more (go before (tails y z rest (before ++ (x ∷ tail)) e))
 
-    -- After a gap marker, or none.
     located-marked : (marked : Bool) (s : SentPes Fated) (more : List (SentPes Fated)) (y : List ℕ)
         (rest before tail : List (List ℕ)) (x : List ℕ)
         → gap_markers_where marked ++ (y ∷ rest) ≡ before ++ (x ∷ tail)
@@ -200,7 +190,6 @@ module _ (few : Bool) (IsFar : List (SentPes Fated) → Type 0)
         (tails gap_marker z (y ∷ rest) (before ++ (x ∷ tail)) e)
         prefix reads as_sent far go
 
-    -- Where it begins.
     pub located : (previous : Previous) (sent : List (SentPes Fated)) (pes_packets before tail :
         List (List ℕ))
         (x : List ℕ)
@@ -228,9 +217,6 @@ module _ (few : Bool) (IsFar : List (SentPes Fated) → Type 0)
     ]
 
 module _ (frame_of : List ℕ → ℕ) (pace : ℕ) where
-  -- ---- what follows it
-
-  -- What was sent after a PES packet that was read.
   record Follows (x : List ℕ) (s : SentPes Fated) (skipped : Bool) (more : List (SentPes Fated))
       (run : List (List ℕ)) (last : List ℕ) : Type 0 where
     unskipped : skipped ≡ false
@@ -240,7 +226,7 @@ module _ (frame_of : List ℕ → ℕ) (pace : ℕ) where
     sent_are : sent_bytes more ≡ run ++ (next ∷ later)
     prefix : up_to_pts next ≡ up_to_pts last
 
-  -- 16 carriers are too many to keep the maximum distance.
+  -- PES packets that are 16 or more carriers apart do not keep the maximum distance.
   too-far : (x y a b : List ℕ) (between : ℕ)
       → up_to_pts x ≡ up_to_pts a
       → up_to_pts y ≡ up_to_pts b
@@ -254,7 +240,6 @@ module _ (frame_of : List ℕ → ℕ) (pace : ℕ) where
       let second = ap frame_of h2 in
       omega (arith, far, h4, first, second)
 
-  -- The result before was as it was sent, and none was skipped.
   as-sent : (x y : List ℕ) (s t : SentPes Fated) (between : ℕ) (skipped : Bool)
       → up_to_pts x ≡ up_to_pts s.bytes
       → up_to_pts y ≡ up_to_pts t.bytes
@@ -267,7 +252,6 @@ module _ (frame_of : List ℕ → ℕ) (pace : ℕ) where
       absurd (too-far x y s.bytes t.bytes between h1 h2 h3 h4 far)
   as-sent x y s t between skipped h1 h2 h3 h4 (inr next) = next
 
-  -- The next result is that of this PES packet.
   follows-here : (x : List ℕ) (s : SentPes Fated) (between : ℕ) (skipped : Bool)
       (t : SentPes Fated) (more : List (SentPes Fated)) (y : List ℕ) (rest run : List (List ℕ))
       (last : List ℕ) (following : List (List ℕ))
@@ -317,7 +301,6 @@ module _ (frame_of : List ℕ → ℕ) (pace : ℕ) where
         prefix = more_is.prefix;
       }
 
-  -- After a gap marker, or none.
   follows-marked : (marked : Bool) (x : List ℕ) (s : SentPes Fated) (between : ℕ)
       (skipped : Bool) (t : SentPes Fated) (more : List (SentPes Fated)) (y : List ℕ)
       (rest run : List (List ℕ)) (last : List ℕ) (following : List (List ℕ))
@@ -346,7 +329,6 @@ module _ (frame_of : List ℕ → ℕ) (pace : ℕ) where
       second fits far go =
       absurd (none.0 (sym (heads gap_marker z (y ∷ rest) (run ++ (last ∷ following)) e)))
 
-  -- No result follows.
   nothing-follows : (rest run : List (List ℕ)) (last : List ℕ) (following : List (List ℕ))
       → AllByRecursion (λ p. p ≡ gap_marker) rest
       → rest ≡ run ++ (last ∷ following)
@@ -357,15 +339,14 @@ module _ (frame_of : List ℕ → ℕ) (pace : ℕ) where
   nothing-follows rest (z ∷ run) last following all e none =
       none.0 (no-pes_packet rest [] (run ++ (last ∷ following)) z all e)
 
-  -- It was skipped.
   follows-later : (x : List ℕ) (s : SentPes Fated) (skipped : Bool) (t : SentPes Fated)
       (more : List (SentPes Fated)) (run : List (List ℕ)) (last : List ℕ)
       → Follows x s true more run last
       → Follows x s skipped (t ∷ more) run last
   follows-later x s skipped t more run last h = absurd (cc h.unskipped)
 
-  -- What is read after a result without a gap marker, and keeps the maximum distance, was sent
-  -- after it.
+  -- Results that follow one another without a gap marker and within the maximum distance were sent
+  -- one after another.
   follows : (x : List ℕ) (s : SentPes Fated) (between : ℕ) (skipped : Bool)
       (more : List (SentPes Fated)) (rest run : List (List ℕ)) (last : List ℕ)
       (following : List (List ℕ))
@@ -397,7 +378,8 @@ module _ (frame_of : List ℕ → ℕ) (pace : ℕ) where
             unmarked paced here.4 apart.0 apart.1)
       ]
 
-  -- What was sent if a run of results and one more were read.
+  -- The PES packets sent contain `run` and then a PES packet that begins like `last`, one after
+  -- another.
   pub record WasSent (sent : List (SentPes Fated)) (run : List (List ℕ)) (last : List ℕ)
       : Type 0 where
     pub earlier : List (List ℕ)
@@ -406,7 +388,7 @@ module _ (frame_of : List ℕ → ℕ) (pace : ℕ) where
     pub sent_are : sent_bytes sent ≡ earlier ++ (run ++ (next ∷ later))
     pub prefix : up_to_pts next ≡ up_to_pts last
 
-  -- Results without a gap marker among them, which keep the maximum distance, were sent one after
+  -- Results without a gap marker among them, within the maximum distance, were sent one after
   -- another.
   pub read-run : (previous : Previous) (sent : List (SentPes Fated)) (before run : List (List ℕ))
       (last : List ℕ) (following : List (List ℕ))
@@ -446,9 +428,6 @@ module _ (frame_of : List ℕ → ℕ) (pace : ℕ) where
         prefix = after_it.prefix;
       }
 
--- ---- if few are missing
-
--- After a gap a gap marker comes first.
 gap_marker-first : (x : List ℕ) (s : SentPes Fated) (between : ℕ) (sent : List (SentPes Fated))
     (pes_packets : List (List ℕ)) (y : List ℕ) (tail : List (List ℕ))
     → Reads true (After x s between true) sent pes_packets
@@ -467,7 +446,8 @@ gap_marker-first x s between (t ∷ more) pes_packets y tail reads e = elim read
       ∙ sym here.3 ∙ e))
 ]
 
--- What follows a PES packet without a gap marker was sent after it.
+-- If few carriers are missing, a result that follows a PES packet without a gap marker was sent
+-- directly after it.
 pub sent-next : (x : List ℕ) (s : SentPes Fated) (between : ℕ) (sent : List (SentPes Fated))
     (pes_packets run following : List (List ℕ))
     → Reads true (After x s between false) sent pes_packets

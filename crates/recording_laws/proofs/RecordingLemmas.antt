@@ -1,4 +1,5 @@
--- The packets of a recording of units, and the notes of a PID among them. Main lemma: notes-units.
+-- The transport packets of a recording of units, and the events of a PID among them. Main lemma:
+-- notes-units.
 use Rattle.std.proofs.Common.{◌≡◌, ℕ, zero, suc, ◌+◌, ◌<◌, ◌≤◌, inl, inr, true, List, [], ◌∷◌, ◌++◌}
 use Rattle.std.proofs.Common.{length, take, drop, map, slice_index, refl, sym, ap, ap₂, ◌∙◌, arith}
 use Rattle.std.proofs.Common.{if◌then◌else◌, ◌==◌, length-append, length-drop}
@@ -13,11 +14,10 @@ use Rattle.mpeg_ts.specs.PacketsInStep.{read_bytes}
 use Rattle.mpeg_ts.specs.TransportPacket.{packet_size, sync_byte, pid}
 use Rattle.recording_laws.specs.Multiplex.{AreRecordedUnits, IsRecordedUnit, IsRecording, packet_in}
 
--- The notes of one packet.
+-- The events of one transport packet: one event if it has the PID, and otherwise none.
 abbrev pub noted : ℕ → List ℕ → List Note
 noted number p = if pid p == number then note_of p ∷ [] else []
 
--- A packet at the beginning, at its place.
 items-packet : (distance room : ℕ) (b : List ℕ)
     → packet_size ≤ length b
     → slice_index b 0 ≡ sync_byte
@@ -26,39 +26,33 @@ items-packet : (distance room : ℕ) (b : List ℕ)
 unfolding items
 items-packet distance room b long sync = grind (arith, nat_tests)
 
--- Nothing is left if there are fewer bytes than a packet has.
 items-none : (distance room : ℕ) (b : List ℕ)
     → length b < packet_size
     → items distance true room b ≡ []
 unfolding items
 items-none distance room b h1 = grind (arith, nat_tests)
 
--- A part of a unit's beginning is a part of the bytes that it begins.
 take-prefix : (n l : ℕ) (u x : List ℕ)
     → l + n ≤ length u
     → take n (drop l (u ++ x)) ≡ take n (drop l u)
 take-prefix n l u x h1 = grind (arith, nat_tests, drop-append-le, take-append-le, length-drop)
 
--- It is long enough.
 length-prefix : (n l : ℕ) (u x : List ℕ) → l + n ≤ length u → n ≤ length (drop l (u ++ x))
 length-prefix n l u x long = omega (arith, length-drop l (u ++ x), length-append u x)
 
--- The place of the next packet, if the unit is as long as the distance.
 drop-unit : (d l : ℕ) (u x : List ℕ)
     → length u ≡ d
     → l ≤ length u
     → drop d (drop l (u ++ x)) ≡ drop l x
 drop-unit d l u x h1 h2 = grind (arith, nat_tests, drop-drop, drop-append-add)
 
--- The place after the last unit.
 drop-last : (d l : ℕ) (u : List ℕ) → length u ≤ d → drop d (drop l (u ++ [])) ≡ []
 drop-last d l u h1 = grind (arith, nat_tests, drop_all, length-drop, length-append)
 
--- The first byte of a part.
 first-taken : (n : ℕ) (b : List ℕ) → 0 < n → slice_index (take n b) 0 ≡ slice_index b 0
 first-taken n b some = get_or-take n b 0 0 some
 
--- The packets of a recording's units are its items.
+-- The items of a recording are the transport packets of its units.
 pub items-units : (distance room : ℕ) (units : List (List ℕ))
     → AreRecordedUnits distance units
     → length units ≤ room
@@ -99,7 +93,6 @@ items-units distance (suc room) (u ∷ more) each enough =
       | inr long ↦ drop-unit distance lead u rest long (omega (arith, is.long))
     ]
 
--- There are no more units than bytes.
 few-units : (distance : ℕ) (units : List (List ℕ))
     → AreRecordedUnits distance units
     → length units ≤ length (concat units)
@@ -108,7 +101,6 @@ few-units distance (u ∷ more) each =
     let rest = few-units distance more each.2 in
     omega (arith, length-append u (concat more), each.0.long)
 
--- Nor are there from the first packet on.
 few-units-following : (distance : ℕ) (units : List (List ℕ))
     → AreRecordedUnits distance units
     → length units ≤ length (drop (lead_size distance) (concat units))
@@ -116,7 +108,6 @@ few-units-following distance [] each = grind (arith, nat_tests)
 few-units-following distance (u ∷ more) each =
     grind (arith, nat_tests, few-units, length-append, length-drop)
 
--- The notes of a PID among packets, one after another.
 notes-packets : {A : Type 0} (packet_of : A → List ℕ) (distance number run : ℕ) (xs : List A)
     → notes distance number run (map (λ x. Packet (packet_of x)) xs)
     ≡ flat_map (λ x. noted number (packet_of x)) xs
@@ -126,7 +117,7 @@ notes-packets packet_of distance number run (x ∷ xs) =
     let rest = notes-packets packet_of distance number 0 xs in
     grind (arith, nat_tests)
 
--- The notes of a PID in the recording of units.
+-- The events of a PID in a recording are those of the transport packets of its units.
 pub notes-units : (distance number : ℕ) (units : List (List ℕ)) (recording : List ℕ)
     → IsRecording distance units recording
     → notes distance number 0 (items_of distance recording)

@@ -1,6 +1,6 @@
--- If any number of carriers is missing: each good packet is a copy of a carrier's packet, and the
--- next one continues it only if the number of missing ones between is a multiple of 16. Main lemma:
--- traced.
+-- If any number of carriers is missing, each good packet is a copy of a carrier's packet, and the
+-- next good packet continues it only if the number of missing carriers between them is a multiple
+-- of 16. Main lemma: traced.
 use Rattle.std.proofs.Common.{◌<◌, nat_lt, ◌≡◌, ℕ, ◌+◌, ◌%◌, ◌⊎◌, inl, inr, Bool, true, false, ◌||◌}
 use Rattle.std.proofs.Common.{List, [], ◌∷◌, ◌++◌, Option, Some, None, refl, sym, ap, arith, ◌∙◌}
 use Rattle.std.proofs.Common.{subst}
@@ -28,7 +28,8 @@ use Rattle.recording_laws.proofs.LeftNoteLemmas.{good-no_first, good-no_second, 
 use Rattle.recording_laws.proofs.LeftNoteLemmas.{good-second, heard-carrier, heard-kept, heard_left}
 use Rattle.recording_laws.proofs.LeftNoteLemmas.{history_after_loss}
 
--- The number of missing carriers between two good packets, if the second continues the first.
+-- If the second of two good packets continues the counter of the first, the number of missing
+-- carriers between them is a multiple of 16.
 gone-between : (i n a b : ℕ)
     → a ≡ i % 16
     → b ≡ (i + 1 + n) % 16
@@ -36,7 +37,6 @@ gone-between : (i n a b : ℕ)
     → n % 16 ≡ 0
 gone-between i n a b first second on = omega arith
 
--- Without a break the counter continues.
 link-far : (i n : ℕ) (g h : List ℕ) (wrong : Bool)
     → counter g ≡ i % 16
     → counter h ≡ (i + 1 + n) % 16
@@ -45,8 +45,7 @@ link-far : (i n : ℕ) (g h : List ℕ) (wrong : Bool)
 link-far i n g h wrong h1 h2 h3 = grind (arith, nat_tests, gone-between)
 
 module _ (distance number : ℕ) (few : Bool) where
-  -- The good packets after those of a carrier, with these notes after it: none, or a copy of its
-  -- packet.
+  -- A carrier adds no good packet.
   pub record Stays (good : Option (List ℕ)) (c : Carrier Fated) (goods : GoodPackets)
       (ns : List Note) : Type 0 where
     pub again : Bool
@@ -54,7 +53,7 @@ module _ (distance number : ℕ) (few : Bool) where
     pub gone : few ≡ true → is_recorded c ≡ false
     pub goods_are : goods ≡ good_after (history_after_loss good again wrong_since) ns
 
-  -- A copy of its packet comes first.
+  -- A carrier adds a copy of its packet as a good packet.
   pub record Comes (good : Option (List ℕ)) (wrong : Bool) (c : Carrier Fated)
       (goods : GoodPackets) (ns : List Note) : Type 0 where
     pub copy : List ℕ
@@ -72,11 +71,11 @@ module _ (distance number : ℕ) (few : Bool) where
         ≡ with_good (good_left good spoiled copy)
         (good_after (history_after_loss (Some copy) again wrong_since) ns)
 
-  -- One of the two.
   abbrev pub Steps : Option (List ℕ) → Bool → Carrier Fated → GoodPackets → List Note → Type 0
   Steps good wrong c goods ns = Stays good c goods ns ⊎ Comes good wrong c goods ns
 
-  -- If few are missing, its packet is not taken for a repeat of the one before.
+  -- If few carriers are missing, the packet of the carrier is not taken for a repeat of the good
+  -- packet before it.
   abbrev pub IsFresh : Option (List ℕ) → Carrier Fated → Type 0
   IsFresh good c =
       few ≡ true
@@ -84,7 +83,6 @@ module _ (distance number : ℕ) (few : Bool) where
       → IsCopy (sent_packet distance c.packet) q
       → is_repeat (history_after_loss good again wrong) q ≡ false
 
-  -- A repeat that is taken for one.
   second-repeat : (good : Option (List ℕ)) (again wrong : Bool) (p : List ℕ) (o : Option Fated)
       (after : List Fated) (ns : List Note)
       → AllByRecursion (λ f. IsRepetition number p (sent_packet distance f)) (option_to_list o)
@@ -99,7 +97,6 @@ module _ (distance number : ℕ) (few : Bool) where
   second-repeat good again wrong p o after ns h1 h2 h3 h4 h5 =
       grind (arith, nat_tests, append-nil, heard-kept, good-repeat, good-quiets-left)
 
-  -- The repeat and what follows it.
   second-steps : (good : Option (List ℕ)) (again was wrong first : Bool) (c : Carrier Fated)
       (ns : List Note)
       → IsLeftCarrier distance number first c
@@ -166,7 +163,6 @@ module _ (distance number : ℕ) (few : Bool) where
       q : List ℕ
       q = copy_of distance number c.again p
 
-  -- A packet that is taken for a repeat.
   first-repeat : (good : Option (List ℕ)) (again wrong first : Bool) (c : Carrier Fated)
       (ns : List Note)
       → IsLeftCarrier distance number first c
@@ -180,7 +176,6 @@ module _ (distance number : ℕ) (few : Bool) where
   first-repeat good again wrong first c ns h1 h2 h3 =
       grind (arith, nat_tests, heard-carrier, heard-kept, good-repeat, good-quiets-left)
 
-  -- A carrier, whatever follows it.
   carrier-steps : (good : Option (List ℕ)) (again wrong first : Bool) (c : Carrier Fated)
       (ns : List Note)
       → IsLeftCarrier distance number first c
@@ -233,10 +228,8 @@ module _ (distance number : ℕ) (few : Bool) where
       copy : IsCopy p (copy_of distance number c.again p)
       copy = copy-again distance number p c.again none h.again h.is_carrier.again
 
-  -- ---- all carriers
-
-  -- What links a good packet to the one before, given how many carriers are missing since, and
-  -- whether a unit was damaged.
+  -- The link of a good packet to the good packet before it, given how many carriers are missing
+  -- between them and whether a unit was damaged.
   pub record IsLinked (n : ℕ) (wrong : Bool) (c : Carrier Fated) (g : GoodPacket) : Type 0 where
     pub cut : is_unlinked g.link ≡ is_break g.link
     pub far : is_break g.link ≡ false → n % 16 ≡ 0
@@ -244,7 +237,8 @@ module _ (distance number : ℕ) (few : Bool) where
         few ≡ true
         → (n < 15) × (is_break g.link ≡ ((wrong || any_wrong (units_before c)) || nat_lt 0 n))
 
-  -- A good packet that came from a carrier, after another one or not.
+  -- The good packet is a copy of the packet of this carrier, with or without a good packet before
+  -- it.
   pub record IsHeard (following : Bool) (n : ℕ) (wrong : Bool) (c : Carrier Fated) (g : GoodPacket)
       : Type 0 where
     pub copy : IsCopy (sent_packet distance c.packet) g.packet
@@ -252,8 +246,8 @@ module _ (distance number : ℕ) (few : Bool) where
     pub first : following ≡ false → is_unlinked g.link ≡ true
     pub linked : following ≡ true → IsLinked n wrong c g
 
-  -- Good packets that come from carriers, given how many are missing since the one before, if there
-  -- is one, and whether a unit was damaged.
+  -- The good packets come from the carriers, given how many carriers are missing since the good
+  -- packet before, if any, and whether a unit was damaged since then.
   abbrev pub Traced : Bool → ℕ → Bool → List (Carrier Fated) → List GoodPacket → Type 0
   Traced following n wrong [] goods = goods ≡ []
   Traced following n wrong (c ∷ cs) goods =
@@ -264,11 +258,9 @@ module _ (distance number : ℕ) (few : Bool) where
       × (wrong_since : Bool) × (few ≡ true → wrong_since ≡ any_wrong (units_after c))
       × Traced true 0 wrong_since cs more)
 
-  -- Fewer than 15 are missing, with those to come.
   abbrev pub AreFew : ℕ → List (Carrier Fated) → Type 0
   AreFew n cs = few ≡ true → (n < 15) × (are_few_lost n cs ≡ true)
 
-  -- One step, followed by all others.
   split-step : (good : Option (List ℕ)) (again wrong : Bool) (c : Carrier Fated)
       (cs : List (Carrier Fated))
       → IsSomeLeft distance number c
@@ -288,7 +280,6 @@ module _ (distance number : ℕ) (few : Bool) where
       (carrier-steps good again wrong is.0 c
       (flat_map (heard_left distance number) (flat_map items_of_carrier cs)) is.1 new)
 
-  -- The link of a copy of a carrier's packet.
   linked-copy : (good : Option (List ℕ)) (i n : ℕ) (wrong spoiled : Bool) (c : Carrier Fated)
       (h : List ℕ)
       → IsCounter good i
@@ -308,7 +299,6 @@ module _ (distance number : ℕ) (few : Bool) where
     );
   }
 
-  -- The first packet is linked to none.
   first-link : (good : Option (List ℕ)) (spoiled : Bool) (h : List ℕ)
       → is_some good ≡ false
       → is_unlinked (link_left good spoiled h) ≡ true

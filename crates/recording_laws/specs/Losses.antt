@@ -1,5 +1,5 @@
--- Recordings with losses, and what they carry: units are left out, and packets of the PID are
--- damaged.
+-- Recordings with losses, and what they carry: units are left out, and transport packets of the PID
+-- are damaged.
 use Rattle.std.specs.Prelude.{◌≡◌, ℕ, ◌+◌, ◌&&◌, ◌||◌, not, nat_lt, Bool, true, false}
 use Rattle.std.specs.Prelude.{if◌then◌else◌, List, [], ◌∷◌, ◌++◌, length, map, slice_index, ⊤}
 use Rattle.std.specs.List.{AllByRecursion, concat, list_any, flat_map}
@@ -9,49 +9,49 @@ use Rattle.mpeg_ts.specs.TransportPacket.{sync_byte, pid, is_wrong}
 use Rattle.recording_laws.specs.Multiplex.{Carrier, SentPes, Multiplex, IsMultiplex, IsRecording}
 use Rattle.recording_laws.specs.Multiplex.{announces, carriers_of, packet_in, items_of_multiplex}
 
--- What became of a unit: it is there as it was sent, it is left out, or other bytes are there
--- instead, with a wrong packet.
+-- What became of a unit in a recording: it is recorded as it was sent, it is left out, or other
+-- bytes with an unusable packet are recorded instead.
 pub data Fate : Type 0 where
   Kept : Fate
   LeftOut : Fate
   MadeWrong : List ℕ → Fate
 
--- A unit as it was sent, and what became of it.
+-- A unit as it was sent, and what became of it in the recording.
 pub record Fated : Type 0 where
   pub unit : List ℕ
   pub fate : Fate
 
--- The packet as it was sent.
+-- The transport packet of a unit, as it was sent.
 abbrev pub sent_packet : ℕ → Fated → List ℕ
 sent_packet distance f = packet_in distance f.unit
 
--- A unit is there as it was sent.
+-- The unit is recorded as it was sent.
 abbrev pub is_as_sent : Fate → Bool
 is_as_sent Kept = true
 is_as_sent _ = false
 
--- A wrong packet is there.
+-- An unusable packet is recorded instead of the unit.
 abbrev pub is_made_wrong : Fate → Bool
 is_made_wrong (MadeWrong _) = true
 is_made_wrong _ = false
 
--- One of these units was damaged.
+-- One of the units was damaged: an unusable packet is recorded instead.
 abbrev pub any_wrong : List Fated → Bool
 any_wrong units = list_any (λ f. is_made_wrong f.fate) units
 
--- The recorded bytes of a unit.
+-- The bytes that are recorded of a unit, if any.
 abbrev pub recorded_of : List ℕ → Fate → List (List ℕ)
 recorded_of unit Kept = unit ∷ []
 recorded_of unit LeftOut = []
 recorded_of unit (MadeWrong other) = other ∷ []
 
--- The recorded units.
+-- The units that are recorded, of a list of units that were sent.
 abbrev pub units_left : List Fated → List (List ℕ)
 units_left units = flat_map (λ f. recorded_of f.unit f.fate) units
 
 -- A unit of the PID was damaged, for example because transport_error_indicator or one bit of
--- transport_scrambling_control was set. Its first byte and its PID are unchanged; other bytes may
--- have changed.
+-- transport_scrambling_control was set. The first byte and the PID of its packet are unchanged;
+-- other bytes may have changed.
 pub record IsSpoiled (distance number : ℕ) (unit other : List ℕ) : Type 0 where
   pub size : length other ≡ length unit
   pub sync : slice_index (packet_in distance other) 0 ≡ sync_byte
@@ -59,66 +59,67 @@ pub record IsSpoiled (distance number : ℕ) (unit other : List ℕ) : Type 0 wh
   pub pid_after : pid (packet_in distance other) ≡ number
   pub wrong : is_wrong (packet_in distance other) ≡ true
 
--- What may become of a unit.
+-- What may become of a unit: it is kept or left out, or it is damaged if it is a unit of the PID.
 abbrev pub IsFate : ℕ → ℕ → List ℕ → Fate → Type 0
 IsFate distance number unit Kept = ⊤
 IsFate distance number unit LeftOut = ⊤
 IsFate distance number unit (MadeWrong other) = IsSpoiled distance number unit other
 
--- ---- the recorded parts of carriers
+-- ---- which carriers are recorded
 
--- A unit that may be there, as its packet or its repeat.
+-- One of the units is recorded as it was sent.
 abbrev pub any_kept : List Fated → Bool
 any_kept units = list_any (λ f. is_as_sent f.fate) units
 
--- The packet of a carrier is there, or its repeat.
+-- The packet of a carrier is recorded, or its repeat.
 abbrev pub is_recorded : Carrier Fated → Bool
 is_recorded c = is_as_sent c.packet.fate || any_kept (option_to_list c.again)
 
--- The units of a carrier before the first recorded copy of its packet,
+-- The units of a carrier before the first recorded copy of its packet.
 abbrev pub units_before : Carrier Fated → List Fated
 units_before c = if is_as_sent c.packet.fate then [] else c.packet ∷ c.before
 
--- and those after that copy.
+-- The units of a carrier after the first recorded copy of its packet.
 abbrev pub units_after : Carrier Fated → List Fated
 units_after c =
     if is_as_sent c.packet.fate then c.before ++ (option_to_list c.again ++ c.after) else c.after
 
--- Fewer than 15 carriers in a row are missing, packet and repeat, counting `gone` missing ones
--- before these.
+-- Fewer than 15 carriers in a row are missing, both packet and repeat. `gone` counts the missing
+-- carriers before the list.
 abbrev pub are_few_lost : ℕ → List (Carrier Fated) → Bool
 are_few_lost gone [] = true
 are_few_lost gone (c ∷ more) =
     if is_recorded c then are_few_lost 0 more
     else nat_lt (gone + 1) 15 && are_few_lost (gone + 1) more
 
--- The carriers after one that is there are there, with nothing damaged between any two.
+-- All carriers after c are recorded, and no unit between any two of them was damaged.
 abbrev pub are_recorded_after : Carrier Fated → List (Carrier Fated) → Bool
 are_recorded_after c [] = true
 are_recorded_after c (d ∷ more) =
     not (any_wrong (units_after c))
     && (is_recorded d && (not (any_wrong (units_before d)) && are_recorded_after d more))
 
--- Each packet of a PES packet, or its repeat, is there, with no damaged packet of the PID among
--- them.
+-- The PES packet arrives: each of its transport packets, or its repeat, is recorded, and no damaged
+-- packet of the PID is between them.
 abbrev pub arrives : SentPes Fated → Bool
 arrives s = is_recorded s.first && are_recorded_after s.first s.others
 
--- The last carrier of a list that is not empty.
+-- The last carrier of the list that begins with c.
 abbrev pub last_carrier : Carrier Fated → List (Carrier Fated) → Carrier Fated
 last_carrier c [] = c
 last_carrier c (d ∷ more) = last_carrier d more
 
--- A unit after the last packet of a PES packet that arrives, or after its repeat, was damaged.
+-- A unit after the last transport packet of an arriving PES packet, or after its repeat, was
+-- damaged.
 abbrev pub is_wrong_after : SentPes Fated → Bool
 is_wrong_after s = any_wrong (units_after (last_carrier s.first s.others))
 
--- ---- the carried bytes
+-- ---- what the recording carries
 
--- The bytes of the PES packets that arrive, each as it was sent, in order. `given`: one arrived
--- before these; `gap`: something is missing since then. One gap marker is between two that are no
--- neighbours, and between neighbours if a unit of the PID was damaged between their first recorded
--- packets.
+-- The bytes of the PES packets that arrive, each as it was sent, in order, with gap markers.
+-- `given`: a PES packet arrived before these; `gap`: something is missing after that packet. One
+-- gap marker is between two arriving PES packets if others are missing between them, or if a unit
+-- of the PID was damaged between their first recorded packets.
 unfoldable pub arriving : Bool → Bool → List (SentPes Fated) → List ℕ
 arriving given gap [] = []
 arriving given gap (s ∷ more) =
@@ -127,7 +128,8 @@ arriving given gap (s ∷ more) =
     ++ (s.bytes ++ arriving true (is_wrong_after s) more)
     else arriving given true more
 
--- The bytes are the PES packets that arrive, with at most one gap marker after the last of them.
+-- The bytes are those of the PES packets that arrive, with at most one gap marker after the last of
+-- them.
 pub record AreArriving (sent : List (SentPes Fated)) (bytes : List ℕ) : Type 0 where
   pub is_marked : Bool
   pub after_one : is_marked ≡ true → list_any arrives sent ≡ true
@@ -146,7 +148,7 @@ pub record AreLosses (number distance : ℕ) (m : Multiplex Fated) (recording : 
       AllByRecursion (λ (f : Fated). IsFate distance number f.unit f.fate) (items_of_multiplex m)
   pub left : recording ≡ concat (units_left (items_of_multiplex m))
 
--- The same, if fewer than 15 carriers in a row are missing.
+-- A recording with losses in which fewer than 15 carriers in a row are missing.
 pub record IsLossy (number distance : ℕ) (m : Multiplex Fated) (recording : List ℕ) : Type 0 where
   pub losses : AreLosses number distance m recording
   pub few : are_few_lost 0 (carriers_of m.sent) ≡ true

@@ -1,9 +1,10 @@
--- What a multiplexer sends in packets of a PID: PES packets one after another, each in the payloads
--- of consecutive packets (ISO/IEC 13818-1, payload_unit_start_indicator, continuity_counter,
--- discontinuity_indicator).
+-- What a multiplexer sends in the transport packets of a PID: PES packets one after another, each
+-- in the payloads of consecutive transport packets (ISO/IEC 13818-1, payload_unit_start_indicator,
+-- continuity_counter, discontinuity_indicator).
 --
 -- The items of a multiplex are units of a recording, or units with what became of them; `packet_of`
--- is the packet of an item. So one grammar covers what was sent and what is left of it.
+-- gives the transport packet of an item. So one grammar describes both what was sent and what is
+-- recorded.
 use Rattle.std.specs.Prelude.{◌≡◌, ◌⊎◌, ℕ, ◌+◌, ◌≤◌, ◌==◌, ◌&&◌, ◌||◌, not, Bool, true, false, List}
 use Rattle.std.specs.Prelude.{[], ◌∷◌, ◌++◌, length, map, take, drop, slice_index, Option, ⊤}
 use Rattle.std.specs.List.{AllByRecursion, concat, flat_map, list_any}
@@ -14,30 +15,30 @@ use Rattle.mpeg_ts.specs.PacketsInStep.{lead_size, most_bytes}
 use Rattle.mpeg_ts.specs.TransportPacket.{packet_size, sync_byte, pid, begins, is_wrong}
 use Rattle.mpeg_ts.specs.TransportPacket.{has_payload, announces_jump, payload}
 
--- ---- packets of a PID
+-- ---- transport packets of a PID
 
--- A packet of another PID, or a correct one without a payload.
+-- The transport packet has another PID, or is usable and has no payload.
 abbrev pub is_irrelevant : ℕ → List ℕ → Bool
 is_irrelevant number p = not (pid p == number) || (not (is_wrong p) && not (has_payload p))
 
--- A correct packet of the PID with a payload.
+-- The transport packet has the PID, is usable and has a payload.
 abbrev pub carries : ℕ → List ℕ → Bool
 carries number p = (pid p == number) && (not (is_wrong p) && has_payload p)
 
--- A packet of the PID that announces a jump of the counter.
+-- The transport packet has the PID and announces a jump of the counter.
 abbrev pub announces : ℕ → List ℕ → Bool
 announces number p = (pid p == number) && announces_jump p
 
--- The second packet repeats the first, and announces no jump that the first did not.
+-- The transport packet q repeats the packet p, and announces a jump only if p does.
 pub record IsRepetition (number : ℕ) (p q : List ℕ) : Type 0 where
   pub carries : carries number q ≡ true
   pub same : is_same p q ≡ true
   pub jump : announces_jump q ≡ true → announces_jump p ≡ true
 
--- ---- the grammar
+-- ---- the grammar of a multiplex
 
--- A packet with a payload, and what is sent before the next one: packets without payload, and its
--- repeat among them, if it has one.
+-- A carrier: a transport packet with a payload, and the items that are sent before the next such
+-- packet: packets without payload, and possibly the repeat of the carrier's packet among them.
 pub record Carrier (A : Type 0) : Type 0 where
   pub packet : A
   pub before : List A
@@ -50,16 +51,16 @@ pub record SentPes (A : Type 0) : Type 0 where
   pub first : Carrier A
   pub others : List (Carrier A)
 
--- PES packets, and what comes before the first.
+-- A multiplex: the PES packets that are sent in a PID, and the items before the first of them.
 pub record Multiplex (A : Type 0) : Type 0 where
   pub lead : List A
   pub sent : List (SentPes A)
 
--- All carriers of a PES packet.
+-- All carriers of a PES packet, in order.
 abbrev pub carriers_of_pes : {A : Type 0} → SentPes A → List (Carrier A)
 carriers_of_pes s = s.first ∷ s.others
 
--- All carriers, in order.
+-- All carriers of a list of PES packets, in order.
 abbrev pub carriers_of : {A : Type 0} → List (SentPes A) → List (Carrier A)
 carriers_of sent = flat_map carriers_of_pes sent
 
@@ -71,8 +72,8 @@ items_of_carrier c = c.packet ∷ (c.before ++ (option_to_list c.again ++ c.afte
 abbrev pub items_of_multiplex : {A : Type 0} → Multiplex A → List A
 items_of_multiplex m = m.lead ++ flat_map items_of_carrier (carriers_of m.sent)
 
--- A carrier of the PID, and whether a PES packet begins with it. No jump is announced between its
--- packet and the repeat.
+-- The value c is a carrier of the PID; `first` says whether a PES packet begins with it. No jump is
+-- announced between its packet and the repeat.
 pub record IsCarrier {A : Type 0} (packet_of : A → List ℕ) (number : ℕ) (first : Bool)
     (c : Carrier A) : Type 0 where
   pub carries : carries number (packet_of c.packet) ≡ true
@@ -84,8 +85,9 @@ pub record IsCarrier {A : Type 0} (packet_of : A → List ℕ) (number : ℕ) (f
       (option_to_list c.again)
   pub after : AllByRecursion (λ x. is_irrelevant number (packet_of x) ≡ true) c.after
 
--- A PES packet in its carriers: it begins with the first byte of the first one's payload, no other
--- carrier begins one, and its bytes are their joined payloads.
+-- A PES packet is sent in its carriers: it begins with the first byte of the first carrier's
+-- payload, no other carrier begins a PES packet, and its bytes are the joined payloads of all its
+-- carriers.
 pub record IsSentPes {A : Type 0} (packet_of : A → List ℕ) (number : ℕ) (s : SentPes A)
     : Type 0 where
   pub is_pes_packet : IsPesPacket s.bytes
@@ -93,17 +95,17 @@ pub record IsSentPes {A : Type 0} (packet_of : A → List ℕ) (number : ℕ) (s
   pub others : AllByRecursion (IsCarrier packet_of number false) s.others
   pub joined : concat (map (λ c. payload (packet_of c.packet)) (carriers_of_pes s)) ≡ s.bytes
 
--- A jump is announced between two carriers: by a packet without payload, or by the second one's
--- packet. That packet can't be taken for a repeat of the first: the first has one, or is another
--- packet.
+-- A jump is announced between the carriers c and d: by a packet without payload, or by the packet
+-- of d. The packet of d cannot be taken for a repeat of the packet of c, since c has a repeat or
+-- the two packets differ.
 abbrev pub IsJump : {A : Type 0} → (A → List ℕ) → ℕ → Carrier A → Carrier A → Type 0
 IsJump packet_of number c d =
     (list_any (λ x. announces number (packet_of x)) c.after ≡ true)
     ⊎ ((announces_jump (packet_of d.packet) ≡ true)
     × ((is_some c.again || not (is_same (packet_of c.packet) (packet_of d.packet))) ≡ true))
 
--- The second carrier may follow the first: its counter is the next, or a jump is announced; none is
--- announced within a PES packet.
+-- The carrier d may follow the carrier c: its counter is the next, or a jump is announced. No jump
+-- is announced within a PES packet.
 pub record IsNextCarrier {A : Type 0} (packet_of : A → List ℕ) (number : ℕ) (c d : Carrier A)
     : Type 0 where
   pub counter :
@@ -113,41 +115,43 @@ pub record IsNextCarrier {A : Type 0} (packet_of : A → List ℕ) (number : ℕ
       → (list_any (λ x. announces number (packet_of x)) c.after ≡ false)
       × (announces_jump (packet_of d.packet) ≡ false)
 
--- Each carrier may follow the one before it; the first of the list follows c.
+-- Each carrier may follow the carrier before it; the first of the list follows c.
 abbrev pub AreNextCarriers : {A : Type 0} → (A → List ℕ) → ℕ → Carrier A → List (Carrier A) → Type 0
 AreNextCarriers packet_of number c [] = ⊤
 AreNextCarriers packet_of number c (d ∷ more) =
     IsNextCarrier packet_of number c d × AreNextCarriers packet_of number d more
 
--- Each carrier may follow the one before it.
+-- Each carrier of the list may follow the carrier before it.
 abbrev pub AreInSequence : {A : Type 0} → (A → List ℕ) → ℕ → List (Carrier A) → Type 0
 AreInSequence packet_of number [] = ⊤
 AreInSequence packet_of number (c ∷ more) = AreNextCarriers packet_of number c more
 
--- PES packets as a multiplexer sends them.
+-- The PES packets and items of m form a multiplex that a multiplexer may send.
 pub record IsMultiplex {A : Type 0} (packet_of : A → List ℕ) (number : ℕ) (m : Multiplex A)
     : Type 0 where
   pub lead : AllByRecursion (λ x. is_irrelevant number (packet_of x) ≡ true) m.lead
   pub sent : AllByRecursion (IsSentPes packet_of number) m.sent
   pub linked : AreInSequence packet_of number (carriers_of m.sent)
 
--- The PES packets of a multiplex.
+-- The bytes of the PES packets of a multiplex.
 abbrev pub sent_pes_packets : {A : Type 0} → Multiplex A → List (List ℕ)
 sent_pes_packets m = map (λ s. s.bytes) m.sent
 
--- ---- recordings
+-- ---- recordings of a multiplex
 
--- The packet of a unit: 188 bytes, after the time stamp if there is one.
+-- The transport packet of a unit: 188 bytes, after the time stamp if the unit has one.
 abbrev pub packet_in : ℕ → List ℕ → List ℕ
 packet_in distance unit = take packet_size (drop (lead_size distance) unit)
 
--- A unit of a recording with this packet distance: a packet, and what comes before or after it.
+-- A unit of a recording with this distance of packets: a transport packet, and the bytes that the
+-- recorder adds before or after it.
 pub record IsRecordedUnit (distance : ℕ) (unit : List ℕ) : Type 0 where
   pub long : lead_size distance + packet_size ≤ length unit
   pub short : length unit ≤ distance
   pub sync : slice_index (packet_in distance unit) 0 ≡ sync_byte
 
--- Consecutive units of a recording. What comes after the last packet may be missing.
+-- Consecutive units of a recording. The bytes that the recorder adds after the last packet may be
+-- missing.
 abbrev pub AreRecordedUnits : ℕ → List (List ℕ) → Type 0
 AreRecordedUnits distance [] = ⊤
 AreRecordedUnits distance (unit ∷ more) =
@@ -155,13 +159,14 @@ AreRecordedUnits distance (unit ∷ more) =
     × ((more ≡ []) ⊎ (length unit ≡ distance))
     × AreRecordedUnits distance more
 
--- The bytes of a recording of these units.
+-- The recording consists of the bytes of these units.
 pub record IsRecording (distance : ℕ) (units : List (List ℕ)) (recording : List ℕ) : Type 0 where
   pub each : AreRecordedUnits distance units
   pub joined : recording ≡ concat units
   pub few : length recording ≤ most_bytes
 
--- A recording of what a multiplexer sent: these PES packets in packets of the PID.
+-- The recording contains all that a multiplexer sent: these PES packets in transport packets of the
+-- PID.
 pub record IsMultiplexed (number distance : ℕ) (packets : List (List ℕ)) (recording : List ℕ)
     : Type 0 where
   pub multiplex : Multiplex (List ℕ)

@@ -1,12 +1,12 @@
 -- How far apart in time the PES packets of a PID are sent and read, so that no loss of any length
--- goes unseen. Counters alone can't show it: after 16 packets they repeat (ISO/IEC 13818-1,
--- continuity_counter).
+-- goes unnoticed. Counters alone cannot show a loss of any length, since they repeat after 16
+-- packets (ISO/IEC 13818-1, continuity_counter).
 use Rattle.std.specs.Prelude.{ℕ, ◌+◌, ◌<◌, ◌≤◌, List, [], ◌∷◌, length, take, ⊤}
 use Rattle.mpeg_ts.specs.TransportPacket.{payload}
 use Rattle.recording_laws.specs.Losses.{Fated, sent_packet}
 use Rattle.recording_laws.specs.Multiplex.{SentPes, carriers_of_pes}
 
--- The bytes of a PES packet up to its PTS, which ends with byte 13.
+-- The bytes of a PES packet up to its PTS, which ends with byte 13, counted from 0.
 abbrev pub up_to_pts : List ℕ → List ℕ
 up_to_pts packet = take 14 packet
 
@@ -16,41 +16,41 @@ frame_by frame_of packet = frame_of (up_to_pts packet)
 
 -- The first transport packet of a PES packet contains its PTS.
 --
--- Otherwise a PES packet that nobody sent could be read: nine bytes of one arrive in its first
--- packet, 16 packets of the PID are lost, and the next packet is from the middle of another PES
--- packet. Its bytes are then read as a PTS, whose frame may happen to fit.
+-- Otherwise a PES packet that was never sent could be read: nine bytes of a PES packet arrive in
+-- its first transport packet, 16 packets of the PID are lost, and the next packet is from the
+-- middle of another PES packet. Its bytes are then read as a PTS, whose frame may happen to fit.
 abbrev pub HoldsPts : ℕ → SentPes Fated → Type 0
 HoldsPts distance s = 14 ≤ length (payload (sent_packet distance s.first.packet))
 
--- ---- as they are sent
+-- ---- distances of the PES packets sent
 
--- These PES packets begin `between` carriers after one with this frame: those that begin 16 or more
--- carriers after it are more than `pace` frames later.
+-- The PES packets begin `between` carriers after a PES packet with this frame: those that begin 16
+-- or more carriers after it are more than `pace` frames later.
 abbrev pub AreFarFrom : (List ℕ → ℕ) → ℕ → ℕ → ℕ → List (SentPes Fated) → Type 0
 AreFarFrom frame_of pace frame between [] = ⊤
 AreFarFrom frame_of pace frame between (s ∷ more) =
     (16 ≤ between → frame + pace < frame_by frame_of s.bytes)
     × AreFarFrom frame_of pace frame (between + length (carriers_of_pes s)) more
 
--- Any two PES packets that begin 16 or more carriers apart are more than `pace` frames apart, in
--- rising order.
+-- Any two PES packets that begin 16 or more carriers apart are more than `pace` frames apart, and
+-- the later one has the greater frame.
 abbrev pub AreFarApart : (List ℕ → ℕ) → ℕ → List (SentPes Fated) → Type 0
 AreFarApart frame_of pace [] = ⊤
 AreFarApart frame_of pace (s ∷ more) =
     AreFarFrom frame_of pace (frame_by frame_of s.bytes) (length s.others) more
     × AreFarApart frame_of pace more
 
--- ---- as they are read
+-- ---- distances of the PES packets read
 
--- Each PES packet is at most `pace` frames later than the one before it; the first is so for this
--- frame.
+-- Each PES packet is at most `pace` frames later than the PES packet before it, and the first is at
+-- most `pace` frames later than `frame`.
 abbrev pub KeepPaceFrom : (List ℕ → ℕ) → ℕ → ℕ → List (List ℕ) → Type 0
 KeepPaceFrom frame_of pace frame [] = ⊤
 KeepPaceFrom frame_of pace frame (p ∷ more) =
     (frame_by frame_of p ≤ frame + pace)
     × KeepPaceFrom frame_of pace (frame_by frame_of p) more
 
--- Each is at most `pace` frames later than the one before it.
+-- Each PES packet is at most `pace` frames later than the PES packet before it.
 abbrev pub KeepPace : (List ℕ → ℕ) → ℕ → List (List ℕ) → Type 0
 KeepPace frame_of pace [] = ⊤
 KeepPace frame_of pace (p ∷ more) = KeepPaceFrom frame_of pace (frame_by frame_of p) more

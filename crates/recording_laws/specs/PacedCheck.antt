@@ -1,4 +1,4 @@
--- Laws that compare what `check` accepts of a recording with what was sent.
+-- Laws that compare a transmission that `check` accepts from a recording with what was sent.
 use Rattle.std.specs.Prelude.{◌≡◌, ℕ, List, [], ◌∷◌, ◌++◌, drop, Some, unwrap_or}
 use Rattle.std.specs.List.{AllByRecursion, concat}
 use Rattle.ttx_pes.specs.PesPackets.{IsPesPacket}
@@ -14,13 +14,13 @@ use Rattle.sub_rules.specs.PesFrames.{CarriesBy}
 use Rattle.sub_rules.specs.Repeats.{GoodBy}
 use Rattle.sub_rules.specs.Transmission.{Transmission}
 
--- The frame of a PES packet by the clock of the options, from its bytes up to its PTS; 0 if it has
--- none.
+-- The frame of a PES packet by the clock of the options, from its bytes up to its PTS; 0 if the
+-- clock gives no frame.
 abbrev pub frame_by_clock : OptionsValue → List ℕ → ℕ
 frame_by_clock options prefix = unwrap_or (clock_of options (pts_bits (drop 6 prefix))) 0
 
--- The PES packets are a run of those that were sent, with none missing between them. Each is as it
--- was sent; the last one, only up to its PTS. There is at least one.
+-- `packets` is a nonempty run of the PES packets that were sent, and none is missing between them.
+-- Each is as it was sent; the last is as it was sent up to its PTS.
 pub record WereSent (sent packets : List (List ℕ)) : Type 0 where
   pub run : List (List ℕ)
   pub last : List ℕ
@@ -31,11 +31,12 @@ pub record WereSent (sent packets : List (List ℕ)) : Type 0 where
   pub sent_are : sent ≡ earlier ++ (run ++ (next ∷ later))
   pub last_is : up_to_pts next ≡ up_to_pts last
 
--- Assume that two PES packets are always more than `pace` frames apart by the clock of the options
--- if their first transport packets are 16 or more packets of the PID apart. If what is carried, or
--- a run of PES packets in it, is a transmission that is good by options with that maximum distance,
--- they were sent one after another, however many packets were lost. `check` with `--pace` accepts
--- only such transmissions. So if it accepts a recording, no loss of any length went unseen.
+-- The law of `check` with `--pace`. Assumption: two PES packets are more than `pace` frames apart
+-- by the clock of the options if their first transport packets are 16 or more packets of the PID
+-- apart. If what a recording carries, or a run of its PES packets, is a transmission that is good
+-- by options with that maximum distance, these PES packets were sent one after another, however
+-- many transport packets were lost. `check` with `--pace` accepts only such transmissions. So if it
+-- accepts a recording, no loss of any length went unnoticed.
 abbrev pub LawOfPacedCheck : Type 0
 LawOfPacedCheck =
     (number distance pace : ℕ) (m : Multiplex Fated) (recording : List ℕ)

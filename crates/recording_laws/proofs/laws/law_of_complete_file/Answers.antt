@@ -1,4 +1,4 @@
--- The law: CompleteFileLemmas.
+-- The law of complete files is proved in CompleteFileLemmas.
 use Rattle.recording_laws.proofs.CompleteFileLemmas as lemma
 use Rattle.recording_laws.proofs.laws.law_of_complete_file.Goals as goal
 

@@ -1,4 +1,4 @@
--- The law: ArrivingLaw.
+-- The law of neighbours is proved in ArrivingLaw.
 use Rattle.recording_laws.proofs.ArrivingLaw as lemma
 use Rattle.recording_laws.proofs.laws.law_of_neighbours.Goals as goal
 

@@ -1,4 +1,4 @@
--- The law: ReadingLaw.
+-- The law of pace is proved in ReadingLaw.
 use Rattle.recording_laws.proofs.ReadingLaw as lemma
 use Rattle.recording_laws.proofs.laws.law_of_pace.Goals as goal
 
