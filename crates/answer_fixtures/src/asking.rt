@@ -1,4 +1,4 @@
-//! Commands, and the program's answers to them.
+//! Commands of the program, and its answers to them.
 ghost use Rattle.sub_io.specs.Device.{CanFail};
 
 use std::alloc::Global;
@@ -10,7 +10,7 @@ use sub_words::ParseWords;
 /// The arguments of a check with the default options.
 pub const CHECK: [&str; 4] = ["subttx", "check", "a", "b"];
 
-/// The same with `--all`.
+/// The arguments of a check with the default options and `--all`.
 pub const CHECK_ALL: [&str; 5] = ["subttx", "check", "--all", "a", "b"];
 
 /// The line of a check of `Hi` and its schedule, with two page transmissions.
@@ -40,7 +40,7 @@ pub fn answer_arguments<'a, S: Source, T: Source, F: Close, K: Flush>(
 }
 
 /// Answers the arguments of a check with `--all` after them, with two files in memory; `None` if
-/// there are too many.
+/// there are too many arguments.
 pub(crate) fn answer_all<'a>(
     alloc: Global,
     arguments: &[&'a str],

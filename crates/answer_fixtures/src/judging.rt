@@ -1,4 +1,4 @@
-//! Compares what a command prints and writes with what is expected.
+//! Compares the output of a command and the file that it writes with the expected bytes.
 ghost use Rattle.sub_io.specs.Device.{CanFail};
 
 use crate::asking::{answer_all, answer_arguments};
@@ -8,8 +8,8 @@ use std::alloc::Global;
 use sub_answer::Status;
 use sub_io::{MemSink, MemSource, Source};
 
-/// Returns whether a command prints these two parts for two sources, with the status that the last
-/// line implies.
+/// Returns whether a command prints `prefix` and then the expected end for two sources, with the
+/// status that the last line implies.
 pub fn prints<'a, S: Source, T: Source>(
     alloc: Global,
     arguments: &'a [&'a str],
@@ -28,7 +28,8 @@ pub fn prints<'a, S: Source, T: Source>(
     is_made_of(out.written(), prefix, end) && status == status_of(end)
 }
 
-/// Returns whether it prints these two parts for one file in memory, with the status.
+/// Returns whether a command prints `prefix` and then `end` for one file in memory, with the status
+/// that the last line implies.
 pub fn prints_of<'a>(
     alloc: Global,
     arguments: &'a [&'a str],
@@ -40,7 +41,8 @@ pub fn prints_of<'a>(
     prints(alloc, arguments, &mut file, &mut none, prefix, end)
 }
 
-// Returns whether it prints this for two files in memory, with the status.
+// Returns whether a command prints `want` for two files in memory, with the status that the last
+// line implies.
 fn prints_both<'a>(
     alloc: Global,
     arguments: &'a [&'a str],
@@ -52,8 +54,9 @@ fn prints_both<'a>(
     prints(alloc, arguments, &mut first, &mut second, &[], want)
 }
 
-/// Returns whether a check with `--all` prints these two parts for two files in memory, with the
-/// status; and without it the first of these lines that is not about trusted frames.
+/// Returns whether a check with `--all` prints the two expected parts for two files in memory, with
+/// the status that the last line implies; and whether the check without `--all` prints the first of
+/// these lines that is not about trusted frames.
 pub fn reports_all<'a>(
     alloc: Global,
     arguments: &'a [&'a str],
@@ -77,8 +80,9 @@ pub fn reports_all<'a>(
     )
 }
 
-// Returns whether a check with `--all` prints the line of the check without it: alone if nothing is
-// refused, otherwise as its first line `refused`, with the number of faults as the last line.
+// Returns whether a check with `--all` prints the line of the check without `--all`: alone if
+// nothing is refused, otherwise as its first line `refused`, with the number of faults as the last
+// line.
 fn reports_first<'a>(
     alloc: Global,
     arguments: &[&'a str],
@@ -96,8 +100,9 @@ fn reports_first<'a>(
     is_right && status == Some(status_of(text))
 }
 
-/// Returns whether a command prints this for two files in memory, with the status that it implies.
-/// For a check, also whether with `--all` it is the first line that is not about trusted frames.
+/// Returns whether a command prints `want` for two files in memory, with the status that this line
+/// implies. For a check, also whether the check with `--all` prints the line as the first that is
+/// not about trusted frames.
 pub fn reports<'a>(
     alloc: Global,
     arguments: &'a [&'a str],
@@ -116,7 +121,7 @@ pub fn reports<'a>(
 }
 
 // Returns whether an output with less room gets the beginning of a text and is not used afterwards,
-// with the status `Fault`, and whether all of the file is written.
+// with the status `Fault`, and whether the written file is complete.
 fn cuts<'a>(
     alloc: Global,
     arguments: &'a [&'a str],
@@ -144,7 +149,7 @@ fn cuts<'a>(
     is_left_alone && out.inner.written() == text && file.written() == written
 }
 
-/// Returns whether each output with less room than a text gets the beginning of it.
+/// Returns whether each output with less room than a text gets the beginning of the text.
 pub fn fills<'a>(
     alloc: Global,
     arguments: &'a [&'a str],

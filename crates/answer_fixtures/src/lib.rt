@@ -1,8 +1,8 @@
-//! What the tests of answers share: commands, their answers with devices in memory, and the
-//! comparison with what is expected.
+//! Code that several crates with tests of answers use: commands, their answers with devices in
+//! memory, and the comparison with the expected output.
 //!
-//! Not part of the product: only tests use it. It asserts nothing, since a library may contain
-//! nothing that can end the process.
+//! Not part of the product: only tests use this crate. It asserts nothing, since a library may
+//! contain nothing that can end the process.
 #![tactic(auto)]
 
 mod asking;

@@ -1,4 +1,4 @@
-//! Lines of a text, and the status that they imply.
+//! Lines of a text, and the status that the lines imply.
 
 use sub_answer::Status;
 
@@ -16,8 +16,8 @@ pub fn first_lines(text: &[u8], count: usize) -> &[u8] {
     text
 }
 
-/// Returns the status that the last line of a text implies: by its first word, or by its end if it
-/// counts faults.
+/// Returns the status that the last line of a text implies: by the first word of the line, or by
+/// its end if the line counts faults.
 pub fn status_of(text: &[u8]) -> Status {
     let mut line = text;
     for (place, byte) in text.iter().enumerate() {
@@ -35,12 +35,12 @@ pub fn status_of(text: &[u8]) -> Status {
     }
 }
 
-/// Returns whether a text consists of these two parts.
+/// Returns whether a text is `prefix` followed by `end`.
 pub(crate) fn is_made_of(text: &[u8], prefix: &[u8], end: &[u8]) -> bool {
     text.len() == prefix.len() + end.len() && text.starts_with(prefix) && text.ends_with(end)
 }
 
-/// Returns the text in a room, without the zeros after it.
+/// Returns the text at the beginning of a buffer, without the zeros after it.
 pub(crate) fn text_in(buffer: &[u8]) -> &[u8] {
     for (place, byte) in buffer.iter().enumerate() {
         if *byte == 0 {

@@ -1,5 +1,5 @@
-//! Devices behind buffers: how often the inner device is called, what it is given, and what reaches
-//! it.
+//! Devices with buffers: how often the inner device is called, with which bytes, and which bytes
+//! reach it.
 ghost use Rattle.std.specs.Prelude.{◌≡◌, ◌+◌, ◌<◌, ◌≤◌, None, length};
 ghost use Rattle.std.specs.Io.{ReadsAtMost};
 ghost use Rattle.sub_io.specs.Device.{CountsFailure, Pulls, Pushes};
@@ -12,8 +12,8 @@ use sub_io::{
     MemSource, Sink, Source,
 };
 
-// A source of which each byte says how long the slice was that the source got, and the first of
-// each call how many calls there were.
+// A source whose bytes tell the length of the slice that it got; the first byte of each call tells
+// the number of calls so far.
 #[derive(Drop)]
 struct Borrowed {
     calls: u8,
@@ -43,7 +43,7 @@ impl Source for Borrowed {
     }
 }
 
-// A sink that takes as many bytes as the last one that it gets says.
+// A sink that takes as many bytes as the last byte of the slice says.
 #[derive(Drop)]
 struct TakesLast;
 
@@ -67,10 +67,9 @@ fn reads_once_and_only_where_nothing_is_buffered(rt: HostRuntime) {
     let mut buffer = [0; 4];
     let mut source = BufferedSource::new(Borrowed { calls: 0 }, &mut buffer);
     assert_pulls(&rt, &mut source, Ok(2), &[1, 4], 0);
-    // The buffer has fewer bytes than there is room for, and the inner source is not asked for
-    // more.
+    // The buffer has fewer bytes than the slice has room for, and the inner source is not called.
     assert_pulls(&rt, &mut source, Ok(2), &[4, 4, 0], 0);
-    // A long pull bypasses the buffer.
+    // A pull that is longer than the buffer bypasses it.
     assert_pulls(&rt, &mut source, Ok(5), &[2, 5, 5, 5, 5], 0);
     assert_pulls(&rt, &mut source, Ok(3), &[3, 4, 4], 0);
 }
@@ -110,7 +109,7 @@ fn flushes_nothing_when_it_ends(rt: HostRuntime) {
     let mut sink = BufferedSink::new(MemSink::new(&mut taken), &mut buffer);
     assert_puts(&rt, &mut sink, b"sub", Ok(()), 0);
     assert_puts(&rt, &mut sink, b"tt", Ok(()), 0);
-    // "t" is held back.
+    // The last byte, "t", is still in the buffer.
     assert_same(&rt, &taken, b"subt\0\0");
 }
 

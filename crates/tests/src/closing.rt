@@ -8,8 +8,8 @@ use std::io::{self, Cursor, ErrorKind, Write};
 use std::process::Abort;
 use sub_io::{BufferedSink, Close, FailAt, Failed, IntoFile, MemSink};
 
-// A file that takes all bytes, and that the system stores or not: it returns the error with this
-// number, or none if it is 0.
+// A file that takes all bytes. When it is stored, the system returns the error `errno`, or no error
+// if `errno` is 0.
 #[derive(Drop)]
 struct Answering {
     errno: i32,
@@ -56,7 +56,7 @@ fn a_closed_file_takes_nothing(rt: HostRuntime) {
     assert_pushes(&rt, &mut sink, b"t", Err(Failed), 1);
     assert_stores(&rt, &mut sink, Err(Failed), 2);
 
-    // The writer has room for five bytes, and then writes none.
+    // The inner writer has room for five bytes, and then writes none.
     let mut sink = IntoFile::new(Cursor::new([0u8; 5]));
     assert_puts(&rt, &mut sink, b"subttx", Err(Failed), 1);
 }
@@ -70,7 +70,7 @@ fn buffered_bytes_are_not_written_by_closing(rt: HostRuntime) {
     assert_flushes(&rt, &mut sink, Err(Failed), 1);
 }
 
-// Asserts the result of storing a file, also behind a buffer, given what the system does.
+// Asserts the result of storing a file, with and without a buffer, if the system returns `errno`.
 fn assert_stored(rt: &impl Abort, errno: i32, answer: Result<(), Failed>, failures: u64) {
     let mut sink = IntoFile::new(Answering { errno });
     assert_puts(rt, &mut sink, b"sub", Ok(()), 0);
@@ -83,11 +83,12 @@ fn assert_stored(rt: &impl Abort, errno: i32, answer: Result<(), Failed>, failur
 
 #[test]
 fn a_file_is_stored_where_nothing_is_lost(rt: HostRuntime) {
-    // EINVAL, ENOSYS and ENOTSUP: a pipe, a terminal or a device stores nothing.
+    // EINVAL, ENOSYS and ENOTSUP: a pipe, a terminal or a device stores nothing, which is no
+    // failure.
     for errno in [0, 22, 38, 95] {
         assert_stored(&rt, errno, Ok(()), 0);
     }
-    // EIO, EBADF, ENOSPC, EROFS, ESTALE and EDQUOT.
+    // The errors EIO, EBADF, ENOSPC, EROFS, ESTALE and EDQUOT are failures to store.
     for errno in [5, 9, 28, 30, 116, 122] {
         assert_stored(&rt, errno, Err(Failed), 1);
     }
@@ -101,7 +102,7 @@ fn buffered_bytes_are_written_before_it_is_stored(rt: HostRuntime) {
     assert_stores(&rt, &mut sink, Ok(()), 0);
     assert!(rt; sink.into_inner().written() == b"sub".as_slice());
 
-    // Its push fails, and nothing is stored then; or the store itself fails.
+    // First the push of the buffer fails, and nothing is stored; then the store itself fails.
     for call in 0..2 {
         let (mut bytes, mut buffer) = ([0; 8], [0; 4]);
         let inner = FailAt::new(MemSink::new(&mut bytes), call);

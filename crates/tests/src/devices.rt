@@ -1,4 +1,4 @@
-//! Devices in memory, over std, and failing ones.
+//! Devices in memory, devices over `std`, and failing devices.
 ghost use Rattle.std.specs.Prelude.{◌<◌};
 ghost use Rattle.sub_io.specs.Device.{CanFail};
 
@@ -20,7 +20,8 @@ fn gives_its_bytes_and_then_ends(rt: HostRuntime) {
     assert_fills(&rt, &mut source, Ok(0), b"\0\0\0", 0);
 }
 
-// Asserts how many of five bytes are read into this much room, and with how many pulls.
+// Asserts how many of a source's five bytes are read into a slice of length `buffer`, and with how
+// many pulls.
 fn assert_gets(rt: &impl Abort, buffer: usize, got: usize, pulls: u64) {
     let inner = MemSource::new(b"abcde");
     let mut source = Counting { inner, pulls: 0 };
@@ -34,12 +35,12 @@ fn assert_gets(rt: &impl Abort, buffer: usize, got: usize, pulls: u64) {
 fn reads_no_more_once_a_pull_gave_nothing(rt: HostRuntime) {
     assert_gets(&rt, 0, 0, 0);
     assert_gets(&rt, 5, 5, 1);
-    // the last pull finds the end
+    // The last pull finds the end of the source.
     assert_gets(&rt, 6, 5, 2);
     assert_gets(&rt, 9, 5, 2);
 }
 
-// Asserts the result of a sink for bytes, and its contents then.
+// Asserts the result of `put_all` for a sink in memory, and the contents of the sink afterwards.
 fn assert_takes(
     rt: &impl Abort,
     sink: &mut MemSink,
@@ -78,7 +79,7 @@ fn writes_and_counts_a_call_that_writes_nothing(rt: HostRuntime) {
     let mut sink = IntoWrite::new(Cursor::new([0u8; 5]));
     assert_puts(&rt, &mut sink, b"sub", Ok(()), 0);
     assert_flushes(&rt, &mut sink, Ok(()), 0);
-    // The writer has room for two more bytes, and then writes none.
+    // The inner writer has room for two more bytes, and then writes none.
     assert_puts(&rt, &mut sink, b"ttx", Err(Failed), 1);
 
     let mut sink = IntoWrite::new(Interrupted { calls: 9 });
@@ -86,7 +87,7 @@ fn writes_and_counts_a_call_that_writes_nothing(rt: HostRuntime) {
     assert_flushes(&rt, &mut sink, Err(Failed), 2);
 }
 
-// Asserts that exactly this one of four calls of a source fails.
+// Asserts that exactly call `number` of four calls of a source fails.
 fn assert_fails_to_read(rt: &impl Abort, number: u64) {
     let mut source = FailAt::new(MemSource::new(b"abcdef"), number);
     for call in 0..4 {
@@ -97,7 +98,8 @@ fn assert_fails_to_read(rt: &impl Abort, number: u64) {
     assert_same(rt, &source.failures(), &1);
 }
 
-// Asserts that exactly this one of four calls of a sink, the second a flush, fails.
+// Asserts that exactly call `number` of four calls of a sink, the second of which is a flush,
+// fails.
 fn assert_fails_to_write(rt: &impl Abort, number: u64) {
     let mut buffer = [0; 6];
     let mut sink = FailAt::new(MemSink::new(&mut buffer), number);

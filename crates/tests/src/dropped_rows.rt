@@ -1,4 +1,5 @@
-//! A receiver that drops rows, with each single wrong bit of a subtitle's first transmission.
+//! A receiver that drops rows, with each single wrong bit in the first page transmission of a
+//! subtitle.
 ghost use Rattle.std.specs.Prelude.{◌<◌};
 
 use crate::asserting::{assert_same, assert_same_in};
@@ -8,7 +9,7 @@ use std::process::Abort;
 use ttx_packet::{Packet, PageId};
 use ttx_page::{DropRow, Page};
 
-// The codes of row 22.
+// The codes of row 22 of the transmission of `Hi`.
 #[rattlefmt::skip]
 const CODES: [u8; 40] = [
     0x20, 0x20, 0x20, 0x20, 0x20, 0x20, 0x20, 0x20, 0x20, 0x20, 0x20, 0x20, 0x20, 0x20, 0x20, 0x20,
@@ -24,7 +25,7 @@ fn shown_page() -> Page {
     page
 }
 
-// Returns the packets of its first page transmission, with these wrong bits in one byte.
+// Returns the packets of the first page transmission of `Hi`, with wrong bits in one byte.
 fn sending(number: usize, place: usize, bits: u8) -> [Packet; 3]
     requires number { number < 3 }
     requires place { place < 42 }
@@ -38,8 +39,8 @@ fn sending(number: usize, place: usize, bits: u8) -> [Packet; 3]
     ]
 }
 
-// Asserts what a receiver shows after a page transmission with these wrong bits in a byte, and that
-// its row is right again after the next.
+// Asserts what a receiver shows after a page transmission with wrong bits in one byte, and that its
+// row is right again after the next page transmission.
 fn assert_drops(rt: &impl Abort, number: usize, place: usize, bits: u8)
     requires number { number < 3 }
     requires place { place < 42 }
@@ -71,7 +72,8 @@ fn keeps_what_the_row_had(rt: HostRuntime) {
     let page_id = PageId::parse("888").expect(&rt, "page 888");
     let mut receiver = DropRow::tune(page_id, old_page());
     assert!(rt; receiver.watched() == page_id && !receiver.heard() && !receiver.open());
-    // The same row, except for byte 20, another code of odd parity, and byte 21, which is even.
+    // The row is sent again with another code of odd parity in byte 20 and an even byte 21, so it
+    // is dropped.
     let mut row = ROW;
     (row[20], row[21]) = (0xE9, 0x41);
     receiver.hear_all(&[Packet::new(HEADER), Packet::new(ROW), Packet::new(row)]);

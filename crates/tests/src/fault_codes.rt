@@ -1,11 +1,12 @@
-//! Codes of faults that no command prints. The others are tested by the printed lines.
+//! Codes of faults that no command prints. The codes of all other faults are tested by the printed
+//! lines.
 use crate::asserting::assert_same;
 use std::process::Abort;
 use stl_file::StlFault;
 use sub_io::FaultCode;
 use ttx_pes::PesFault;
 
-// Asserts the number and the name of a code.
+// Asserts the number and the name of a fault code.
 fn assert_is(rt: &impl Abort, code: FaultCode, number: u8, name: &str) {
     assert_same(rt, &(code.number(), code.name()), &(number, name));
 }
@@ -14,7 +15,7 @@ fn assert_is(rt: &impl Abort, code: FaultCode, number: u8, name: &str) {
 fn keeps_a_number_and_a_name(rt: HostRuntime) {
     let longest = FaultCode::new(255, "SixteenLettersOf");
     assert_is(&rt, longest, 255, "SixteenLettersOf");
-    // Calls after a fault.
+    // Readers return `Ended` for calls after a fault.
     assert_is(&rt, StlFault::Ended.code(), 27, "Ended");
     assert_is(&rt, PesFault::Ended.code(), 43, "Ended");
 }

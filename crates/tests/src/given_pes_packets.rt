@@ -5,10 +5,10 @@ ghost use Rattle.sub_io.specs.Device.{CanFail, CountsFailure};
 use sub_io::{Failed, MemSink, Sink, put_all};
 use ttx_pes::{PesPackets, Received, TakePesPacket};
 
-/// Puts the PES packets that it reads into a sink, as far as there is room.
+/// Copies the PES packets that were read to a sink, as far as the sink has room.
 #[derive(Drop)]
 pub(crate) struct Given<'a> {
-    /// The sink.
+    /// The sink for the PES packets.
     pub sink: MemSink<'a>,
 }
 
@@ -24,12 +24,12 @@ impl TakePesPacket for Given<'_> {
     }
 }
 
-// Returns whether a PES packet came.
+// Returns whether a PES packet was received.
 fn is_pes_packet(received: &Received<()>) -> bool {
     matches!(received, Received::PesPacket(()))
 }
 
-// Reads at most four PES packets, and returns what came last.
+// Reads at most four PES packets, and returns what was received last.
 fn take_four<P: PesPackets>(
     pes_packets: &mut P,
     given: &mut Given<'_>,
@@ -53,7 +53,7 @@ fn take_four<P: PesPackets>(
     pes_packets.next(given)
 }
 
-/// Reads all PES packets, at most seven, and returns what comes then.
+/// Reads all PES packets, at most seven, and returns what is received after them.
 pub(crate) fn take_all<P: PesPackets>(
     pes_packets: &mut P,
     given: &mut Given<'_>,

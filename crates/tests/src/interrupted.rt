@@ -7,7 +7,7 @@ use std::io::{self, ErrorKind, Read, Write};
 /// A reader and a writer whose first calls are interrupted, including a flush.
 #[derive(Drop)]
 pub struct Interrupted {
-    /// How many more calls are interrupted.
+    /// The number of calls that are still to be interrupted.
     pub calls: u8,
 }
 

@@ -1,4 +1,5 @@
-//! Tests of the libraries, and values from other programs. Nothing here is part of the product.
+//! Tests of the libraries, and values from other programs. Nothing in this crate is part of the
+//! product.
 //!
 //! The libraries have no tests of their own, since a crate with tests is proved twice.
 #![tactic(auto)]

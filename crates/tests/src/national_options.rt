@@ -1,5 +1,6 @@
-//! The letters of each national option: the cells that they draw, and the texts that it refuses.
-//! The characters of the places were obtained by running libzvbi.
+//! The characters of each national option: the cells with which they are drawn, and the texts that
+//! the option refuses. The characters at the places of each sub-set were obtained by running
+//! libzvbi.
 use crate::asserting::{assert_same, assert_same_in};
 use fixtures::{TEN, block, file_of_two, gsi, head, put};
 use std::alloc::Global;
@@ -9,7 +10,7 @@ use stl_file::{Scope, Subtitle, TimeCode};
 use stl_rows::{Layout, National, RowFault, RowFaultKind, draw, load};
 use sub_io::MemSource;
 
-// Returns the subtitle of a text, from a row on.
+// Returns a subtitle with a text from row `vp` on.
 fn subtitle(rt: &impl Abort, vp: u8, jc: u8, text: &[u8]) -> Subtitle {
     let (tci, tco) = (TimeCode::of_frame(TEN), TimeCode::of_frame(TEN + 50));
     Subtitle::new(0, 1, tci, tco, vp, jc, text).expect(rt, "a subtitle")
@@ -26,7 +27,7 @@ fn boxed(rt: &impl Abort, column: usize, cells: &[u8]) -> [u8; 40] {
     row
 }
 
-// Asserts what row 5 shows of texts that begin there: each text is followed by its cells.
+// Asserts how texts that begin in row 5 are drawn in that row: each text is followed by its cells.
 fn assert_draws(rt: &impl Abort, national: National, texts: &[[&[u8]; 2]]) {
     for text in texts {
         match draw(&subtitle(rt, 5, 0, text[0]), national, Layout::default()) {
@@ -36,7 +37,7 @@ fn assert_draws(rt: &impl Abort, national: National, texts: &[[&[u8]; 2]]) {
     }
 }
 
-// Asserts that an option has no character for a byte of these texts.
+// Asserts that a national option refuses these texts with the fault `Character` at byte `at`.
 fn assert_refuses(rt: &impl Abort, national: National, at: u16, texts: &[&[u8]]) {
     let refused = Some(RowFault {
         kind: RowFaultKind::Character,
@@ -52,7 +53,7 @@ fn assert_refuses(rt: &impl Abort, national: National, at: u16, texts: &[&[u8]])
     }
 }
 
-// Texts, each with its cells.
+// Texts for the Swedish option, each followed by its cells.
 #[rattlefmt::skip]
 const SWEDISH: [[&[u8]; 2]; 2] = [
     [
@@ -121,10 +122,10 @@ fn draws_the_characters_of_each_option(rt: HostRuntime) {
     assert_draws(&rt, National::Czech, &CZECH);
 }
 
-// `été`.
+// The text `été`.
 const ETE: [u8; 5] = [0xC2, 0x65, 0x74, 0xC2, 0x65];
 
-// Asserts the cell of é in the middle of row 22.
+// Asserts the cell of é when `ETE` is drawn in the middle of row 22.
 fn assert_draws_ete(rt: &impl Abort, national: National, cell: u8) {
     match draw(&subtitle(rt, 22, 2, &ETE), national, Layout::default()) {
         Ok(page) => assert_same(rt, page.row(22), &boxed(rt, 16, &[cell, 0x74, cell])),
@@ -143,7 +144,7 @@ fn draws_one_character_by_the_option(rt: HostRuntime) {
     assert_refuses(&rt, National::German, 0, &[&ETE]);
 }
 
-// Texts that are refused at their first byte.
+// Texts that the Swedish, Italian and other options refuse at their first byte.
 #[rattlefmt::skip]
 const NOT_SWEDISH: [&[u8]; 5] = [&[0x24], &[0xA4], &[0x40], &[0xCF, 0x73], &[0xF9]];
 
@@ -166,7 +167,7 @@ const NOT_SPANISH: [&[u8]; 6] = [
 #[rattlefmt::skip]
 const NOT_CZECH: [&[u8]; 5] = [&[0xCF, 0x6E], &[0x24], &[0xCF, 0x43], &[0xC2, 0x6F], &[0xA8]];
 
-// Texts that French refuses at their second byte.
+// Texts that the French option refuses at their second byte.
 #[rattlefmt::skip]
 const NOT_FRENCH_LATER: [&[u8]; 5] = [
     &[0x63, 0xFA, 0x75, 0x72], &[0x4D, 0xC8, 0x75], &[0x41, 0xC2, 0x8A, 0x65], &[0x65, 0xC2],
@@ -181,7 +182,7 @@ fn refuses_characters_that_an_option_lacks(rt: HostRuntime) {
     assert_refuses(&rt, National::French, 1, &NOT_FRENCH_LATER);
     assert_refuses(&rt, National::Spanish, 0, &NOT_SPANISH);
     assert_refuses(&rt, National::Czech, 0, &NOT_CZECH);
-    // A control code before a diacritical mark without a letter.
+    // A control code is followed by a diacritical mark without a letter.
     let control = draw(
         &subtitle(&rt, 5, 0, &[0x0E, 0xC2]),
         National::French,
@@ -198,21 +199,21 @@ fn refuses_characters_that_an_option_lacks(rt: HostRuntime) {
     );
 }
 
-// Returns three lines of 36 letters, with a diacritical mark at the end of the block.
+// Returns a text field with three lines of 36 letters, and a diacritical mark as its last byte.
 fn mark_at_end() -> [u8; 112] {
     let mut text = [0x41; 112];
     (text[36], text[73], text[110], text[111]) = (0x8A, 0x8A, 0x8A, 0xC2);
     text
 }
 
-// Returns the fields of a block from a row on: a block of its subtitle (EBN), or a comment (CF).
+// Returns the fields of a TTI block for row `vp`: a block of a subtitle (EBN), or a comment (CF).
 fn fields(vp: u8, ebn: u8, cf: u8) -> [u8; 16] {
     let mut fields = head(TEN, TEN + 50, vp);
     (fields[3], fields[14], fields[15]) = (ebn, 0, cf);
     fields
 }
 
-// Asserts that a row of the page of a file shows é in French.
+// Asserts that the page of a file shows é in a row, drawn with the French option.
 fn assert_shows_e(rt: &(impl Abort + Alloc<A = Global>), file: &[u8], row: u8) -> Result<(), Fail> {
     assert!(rt; row >= 1 && row <= 24);
     let programme = load(
@@ -260,7 +261,7 @@ fn refuses_the_diacritic_of_such_a_pair(rt: HostRuntime) {
     }
 }
 
-// The texts and their options.
+// The names of the national options on the command line, and the options.
 #[rattlefmt::skip]
 const WORDS: [&str; 7] =
     ["english", "german", "swedish", "italian", "french", "spanish", "czech"];

@@ -52,7 +52,8 @@ fn reads_a_header_as_it_is_sent(rt: HostRuntime) {
     let mut sent = packet.mirrored();
     assert_same(&rt, &SentPacket::new(&sent).packet(), &packet);
     assert_header_is(&rt, &sent, Some((0, 0)), Some(0x88), packet.header());
-    // A bit of the first address byte, and of the last coded byte: corrected only by a `Packet`.
+    // A wrong bit in the first address byte, and one in the last coded byte, are corrected only by
+    // a `Packet`.
     sent[0] ^= 0x01;
     sent[9] ^= 0x80;
     assert_header_is(&rt, &sent, None, Some(0x88), None);
@@ -65,7 +66,7 @@ fn reads_a_header_as_it_is_sent(rt: HostRuntime) {
 
 #[test]
 fn reads_addresses(rt: HostRuntime) {
-    // two address bytes, the magazine and the packet number
+    // Two address bytes, and the magazine and packet number to which they decode.
     for [low, high, magazine, number] in [
         [0x15, 0x8C, 0, 20],
         [0xD0, 0x8C, 0, 21],
@@ -88,7 +89,7 @@ fn makes_and_reads_a_row(rt: HostRuntime) {
     assert_same(&rt, &packet.first_even(), &None);
 }
 
-// Returns `first_even`, computed byte by byte.
+// Returns the first column with an even byte, computed byte by byte.
 fn plain_first_even(packet: &Packet) -> Option<u8> {
     for column in 0..40u8 {
         if !is_odd(packet.data()[column as usize]) {
@@ -112,7 +113,7 @@ fn finds_the_only_even_byte_at_each_place(rt: HostRuntime) {
             &column,
         );
     }
-    // Even bytes in the address are not part of the text.
+    // Even bytes in the address of a packet are not part of its text.
     let packet = Packet::new([0x20; 42]);
     assert_same(&rt, &packet.first_even(), &plain_first_even(&packet));
 }
@@ -122,7 +123,7 @@ fn codes_hamming_8_4(rt: HostRuntime) {
     assert!(rt; ham(8) == 0xD0 && is_word(0xD0) && !is_word(0xD1));
 }
 
-// Asserts the magazine and the page number of a text.
+// Asserts the magazine and the page number that a text names.
 fn assert_names(rt: &impl Abort, text: &str, magazine: u8, page: u8) {
     let id = PageId::parse(text).expect(rt, "a page");
     assert_same_in(rt, &(id.magazine(), id.page()), &(magazine, page), &text);
@@ -132,7 +133,8 @@ fn assert_names(rt: &impl Abort, text: &str, magazine: u8, page: u8) {
 fn reads_page_numbers(rt: HostRuntime) {
     assert_names(&rt, "18a", 1, 0x8A);
     assert_names(&rt, "888", 0, 0x88); // magazine 8 is sent as 0
-    // no magazines 0 and 9; a page that is not displayed; too short, no digit, too long
+    // Texts that name no page: magazines 0 and 9; a page that is not displayed; too short, no
+    // digit, too long.
     for text in ["088", "988", "8FF", "88", "8G8", "8888"] {
         assert_same_in(&rt, &PageId::parse(text).is_err(), &true, &text);
     }

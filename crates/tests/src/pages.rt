@@ -1,4 +1,4 @@
-//! Pages: their cells, and where two differ.
+//! Pages: their cells, and where two pages differ.
 use crate::asserting::assert_same;
 use ttx_page::{Page, differing_columns};
 

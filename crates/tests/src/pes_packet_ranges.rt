@@ -1,4 +1,4 @@
-//! Part of a PES file, PES packet by PES packet.
+//! A range of the PES packets of a file, read one PES packet at a time.
 ghost use Rattle.sub_io.specs.Device.{CanFail};
 
 use crate::asserting::{assert_same, assert_same_in};
@@ -11,7 +11,7 @@ use ttx_pes::{
     PesPacketRange, PesPackets, PesPacketsAhead, Received,
 };
 
-// Returns a range.
+// Returns a range of PES packets.
 fn range(rt: &impl Abort, first: u64, last: Option<u64>) -> PesPacketRange {
     PesPacketRange::new(first, last).expect(rt, "the last one stands behind the first")
 }
@@ -24,7 +24,7 @@ fn part_of<P: PesPackets>(all: &mut P, range: PesPacketRange) -> PartOfPesPacket
     }
 }
 
-// Asserts everything that comes: these PES packets, joined, and then this.
+// Asserts everything that a source of PES packets gives: the bytes `wanted`, and then `end`.
 fn assert_next<P: PesPackets>(
     rt: &impl Abort,
     pes_packets: &mut P,
@@ -42,8 +42,9 @@ fn assert_next<P: PesPackets>(
     assert_same_in(rt, &given.sink.written(), &wanted, case);
 }
 
-// Asserts which bytes of three PES packets of 184 bytes each and a few more belong to a range:
-// their beginning and end; the number of its first PES packet; and what comes then.
+// Asserts which bytes of three PES packets of 184 bytes each, and a few more bytes, belong to a
+// range: their beginning and end; the number of the first PES packet of the range; and what follows
+// the range.
 fn assert_output(
     rt: &(impl Abort + Copy),
     cut: usize,
@@ -109,7 +110,7 @@ fn has_no_range_that_ends_before_it_begins(rt: HostRuntime) {
 #[test]
 fn reads_nothing_after_the_last_pes_packet(rt: HostRuntime) {
     let file = every_second();
-    // The first pull after 368 bytes would fail.
+    // The first pull after 368 bytes would fail, but is not needed.
     let mut source = FailAt::new(Drip { rest: &file }, 368);
     let mut all = FilePesPackets::new(&mut source);
     let mut pes_packets = part_of(&mut all, range(&rt, 0, Some(1)));
@@ -129,7 +130,7 @@ fn reports_where_it_failed_before_the_range(rt: HostRuntime) {
     let mut all = FilePesPackets::new(&mut source);
     let mut pes_packets = part_of(&mut all, range(&rt, 2, None));
     assert_same(&rt, &pes_packets.find_first(), &Err(FailedAt { pes: 1 }));
-    // Nothing is lost by it.
+    // After the number of the first PES packet was found, no PES packet is missing.
     assert_same(&rt, &pes_packets.find_first(), &Ok(2));
     let (_, wanted) = file.split_at(368);
     assert_next(&rt, &mut pes_packets, wanted, Received::End, &(200, 2));
@@ -153,6 +154,6 @@ fn skips_a_pes_packet_that_is_borrowed_by_one_call(rt: HostRuntime) {
     };
     let mut pes_packets = FilePesPackets::new(&mut source);
     assert_next(&rt, &mut pes_packets, &file, Received::End, &(552, 0));
-    // One for each of the three PES packets, and one at the end.
+    // The source is called once for each of the three PES packets, and once at the end.
     assert_same(&rt, &source.pulls, &4);
 }

@@ -1,5 +1,5 @@
-//! Files of PES packets, read and written: values from other programs, and failing devices. Each
-//! refusal of a packet is tested by the lines that the program prints.
+//! Files of PES packets, read and written: values from other programs, and failing devices. The
+//! refusals of PES packets are tested by the lines that the program prints.
 ghost use Rattle.std.specs.Prelude.{◌≡◌, ◌<◌, length};
 ghost use Rattle.sub_io.specs.Device.{CanFail};
 
@@ -10,7 +10,8 @@ use sub_io::{FailAt, MemSink, MemSource, Sink, Source};
 use ttx_packet::Packet;
 use ttx_pes::{PesFault, PesFrame, PesReader, PesWriter, RepeatedPacket, Unit, put_frame};
 
-// Returns the value of a schedule's first PES packet, or an empty frame if it can't be read.
+// Returns the value of a schedule's first PES packet, or an empty frame if the packet can't be
+// read.
 fn first_frame() -> PesFrame {
     match PesReader::new().next(&mut MemSource::new(&FIRST)) {
         Ok(Some(frame)) => frame,
@@ -40,8 +41,8 @@ fn writes_a_schedules_first_pes_packet(rt: HostRuntime) {
     assert!(rt; buffer == FIRST);
 }
 
-// Asserts the result of a reader, and how often the source has failed then. If there is no PES
-// packet the frame has PTS 0 and no units.
+// Asserts the result of a reader, and how often the source has failed afterwards. If no PES packet
+// is read, the frame has PTS 0 and no units.
 fn assert_answers<S: Source>(
     rt: &impl Abort,
     reader: &mut PesReader,
@@ -86,7 +87,7 @@ fn refuses_a_byte_after_the_pes_packets_of_a_day(rt: HostRuntime) {
     assert_same(&rt, &after, &Err(PesFault::TooMany));
 }
 
-// Returns the PES packet of 10:00:00:00 with 25 row packets.
+// Returns the PES packet of frame 10:00:00:00 with 25 row packets.
 fn put_25(rt: &impl Abort) -> [u8; 1656] {
     let mut buffer = [0; 1656];
     let mut sink = MemSink::new(&mut buffer);
@@ -96,7 +97,7 @@ fn put_25(rt: &impl Abort) -> [u8; 1656] {
     buffer
 }
 
-// Asserts the bytes at a place of others.
+// Asserts the bytes at a place of a PES packet.
 fn assert_bytes_at(rt: &impl Abort, bytes: &[u8; 1656], at: usize, want: &[u8]) {
     assert!(rt; at < 1656);
     assert!(rt; bytes[at..].starts_with(want), "at {at}");
@@ -107,7 +108,7 @@ fn puts_25_packets_in_seven_payloads(rt: HostRuntime) {
     let bytes = put_25(&rt);
     assert_bytes_at(&rt, &bytes, 4, &[0x05, 0x02]);
     assert_bytes_at(&rt, &bytes, 9, &[0x27, 0x04, 0x79, 0xF4, 0x01]);
-    // Two stuffing units come last.
+    // The PES packet ends in two stuffing units.
     assert_bytes_at(&rt, &bytes, 1196, &[0xFF, 0x2C, 0xFF]);
     assert_bytes_at(&rt, &bytes, 1242, &[0xFF, 0x2C, 0xFF]);
 }
@@ -115,7 +116,8 @@ fn puts_25_packets_in_seven_payloads(rt: HostRuntime) {
 #[test]
 fn numbers_the_lines_of_25_packets(rt: HostRuntime) {
     let bytes = put_25(&rt);
-    // lines 7 to 22 of the first field, and from 7 on of the second
+    // The data units are on lines 7 to 22 of the first field, and from line 7 on of the second
+    // field.
     for number in 0..25u8 {
         let line = if number < 16 {
             0xE7 + number
@@ -166,8 +168,8 @@ fn twice() -> [u8; 368]
     file
 }
 
-// Asserts that a reader of two PES packets, a byte a pull, gives as many as were pulled completely,
-// and then reports the pull that fails, once.
+// Asserts that a reader of two PES packets, from a source that gives one byte per pull, returns the
+// PES packets that were pulled completely, and then reports the pull that fails, once.
 fn assert_reports_pull(rt: &impl Abort, number: u64, file: &[u8]) {
     let mut source = FailAt::new(Drip { rest: file }, number);
     let mut reader = PesReader::new();
@@ -184,7 +186,7 @@ fn assert_reports_pull(rt: &impl Abort, number: u64, file: &[u8]) {
 #[test]
 fn a_failing_pull_is_reported_at_once_and_ends_the_reader(rt: HostRuntime) {
     let file = twice();
-    // 368 pulls give a byte each, and one the end.
+    // The source gives a byte in each of 368 pulls, and then reports its end.
     for number in 0..=368u64 {
         assert_reports_pull(&rt, number, &file);
     }
@@ -215,12 +217,12 @@ fn a_failing_push_ends_the_writer(rt: HostRuntime) {
             &number,
         );
     }
-    // A byte a push: there are 184.
+    // The sink takes one byte per push, so 184 pushes are needed.
     let answer = PesWriter::new().put(&mut FailAt::new(Trickle, 184), &frame);
     assert_same(&rt, &answer, &Ok(()));
 }
 
-// Asserts what is written of a frame if there is room for so many bytes.
+// Asserts which bytes of a frame are written if the sink has room for `len` bytes.
 fn assert_leaves(rt: &impl Abort, frame: &PesFrame, len: usize) {
     let mut buffer = [0; 184];
     assert!(rt; len < 184);

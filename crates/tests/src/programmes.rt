@@ -16,8 +16,8 @@ use stl_rows::{
 use sub_io::{Audience, MemSource, Stopped};
 use ttx_page::Page;
 
-// Asserts the first frame after this one at which another page may be due, and the first cell other
-// than a space of the page that is due at this one.
+// Asserts the first frame after `frame` at which another page may be due, and the first cell other
+// than a space of the page that is due at `frame`.
 fn assert_due(
     rt: &impl Abort,
     programme: &Programme,
@@ -34,7 +34,7 @@ fn assert_due(
     );
 }
 
-// Asserts both for a programme of two subtitles, of two seconds each.
+// Asserts the due pages of a programme of two subtitles, of two seconds each.
 fn assert_both_due(rt: &impl Abort, programme: &Programme) {
     assert_due(rt, programme, TEN - 1, Some(TEN), None);
     assert_due(rt, programme, TEN, Some(TEN + 50), Some((22, 16)));
@@ -43,7 +43,8 @@ fn assert_both_due(rt: &impl Abort, programme: &Programme) {
     assert_due(rt, programme, TEN + 100, None, None);
 }
 
-// Asserts its contents.
+// Asserts the number of subtitles, the times and the national option of the programme of two
+// subtitles.
 fn assert_holds(rt: &impl Abort, programme: &Programme) {
     assert_same(rt, &(programme.len(), programme.is_empty()), &(2, false));
     assert_same(rt, &programme.first_in(), &Some(TEN));
@@ -51,7 +52,7 @@ fn assert_holds(rt: &impl Abort, programme: &Programme) {
     assert_same(rt, &programme.national(), &National::German);
 }
 
-// Asserts which of the two ends at a frame.
+// Asserts at which frames one of the two subtitles of a programme ends.
 fn assert_both_end(rt: &impl Abort, programme: &Programme) {
     for frame in [0, TEN - 1, TEN, TEN + 49, TEN + 51, TEN + 99, TEN + 101] {
         assert_same_in(rt, &programme.tci_of_ending(frame), &None, &frame);
@@ -90,8 +91,8 @@ fn file_of_nine() -> [u8; 2176] {
     file
 }
 
-// Loads the nine subtitles in this much memory. Returns the block at whose end an allocation was
-// refused, if one was.
+// Loads a file of nine subtitles with this much memory. Returns the block at whose end an
+// allocation was refused, if any.
 fn refused_block(rt: &(impl Abort + Alloc<A = Global>), file: &[u8], size: usize) -> Option<u32> {
     let heap = LocalHeap::new(rt.alloc(), size).expect(rt, "memory for the heap");
     let drawing = Drawing {
@@ -114,7 +115,7 @@ fn refused_block(rt: &(impl Abort + Alloc<A = Global>), file: &[u8], size: usize
 #[test]
 fn reports_each_growth_that_is_refused(rt: HostRuntime) {
     let file = file_of_nine();
-    // The reported blocks, with more and more memory.
+    // With more and more memory, an allocation is refused at a later block.
     let mut reported = [false; 10];
     for size in 0..80 {
         if let Some(block) = refused_block(&rt, &file, 16 * size) {
@@ -129,7 +130,7 @@ fn reports_each_growth_that_is_refused(rt: HostRuntime) {
     assert_same(&rt, &reported, &growths);
 }
 
-// A device that counts its events.
+// An audience that counts the reported faults.
 #[derive(Drop)]
 struct Counts {
     reported: u32,

@@ -5,8 +5,8 @@ use fixtures::file_of_three;
 use stl_file::{Found, ResumingReader, Scope, StlFault, Subtitle};
 use sub_io::MemSource;
 
-// Returns the blocks at which a subtitle, a refused one of two blocks and the end are found in a
-// file.
+// Returns the blocks of a file at which a subtitle, a refused subtitle of two blocks and the end
+// are found.
 fn blocks_found(file: &[u8]) -> [u32; 3] {
     let mut source = MemSource::new(file);
     let mut subtitle = Subtitle::empty();
@@ -38,8 +38,8 @@ fn finds_what_comes_after_a_refused_subtitle(rt: HostRuntime) {
 }
 
 // Returns how many subtitles, at most two, are read before anything else is found in a file that
-// has three at 900,000, 900,050 and 900,100, of which the second is cumulative; 9 if the file is
-// refused.
+// has three subtitles at 900,000, 900,050 and 900,100, of which the second is cumulative; 9 if the
+// file is refused.
 fn taken(display: u8, takes_open: bool, from: u32, to: u32) -> u32 {
     let mut file = file_of_three(2, 1);
     file[11] = display;

@@ -1,5 +1,5 @@
-//! Subtitle files that are read and normalised, one topic a file. Refused files are tried on the
-//! built program by `dev/check-every-place`.
+//! Subtitle files that are read and normalised, one topic per file. `dev/check-every-place` tries
+//! refused files on the built program.
 
 mod devices;
 mod fields;

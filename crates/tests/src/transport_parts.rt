@@ -1,5 +1,5 @@
-//! How the packets of a PID are split into parts, and what these give: at announced jumps, at the
-//! end, and after other bytes.
+//! How the transport packets of a PID are split into PES packets: at announced jumps, at the end,
+//! and after other bytes.
 
 use crate::transport_recordings::{
     BACK_1, BEGINS_0, BEGINS_1, BEGINS_2, BEGINS_9, FILL, JUMP, JUMP_FILL, MARK_HEAD, MARK_REST,
@@ -42,7 +42,7 @@ fn follows_an_announced_jump(rt: HostRuntime) {
 
 #[test]
 fn cuts_parts_at_an_announced_jump(rt: HostRuntime) {
-    // Within a PES packet, although the counter continues.
+    // A jump is announced within a PES packet, although the counter continues.
     assert_output(
         &rt,
         &[
@@ -61,7 +61,7 @@ fn cuts_parts_at_an_announced_jump(rt: HostRuntime) {
         ],
         &[&FIRST, &MARK_HEAD, &MARK_REST, &SECOND],
     );
-    // The first packet of the later PES packet announces it.
+    // The first transport packet of the later PES packet announces the jump.
     assert_output(
         &rt,
         &[
@@ -76,7 +76,7 @@ fn cuts_parts_at_an_announced_jump(rt: HostRuntime) {
         ],
         &[&FIRST, &SECOND],
     );
-    // The second one: the PES packet is incomplete.
+    // The second transport packet announces the jump, so the PES packet is incomplete.
     assert_output(
         &rt,
         &[
@@ -111,7 +111,7 @@ fn joins_the_payloads_of_a_pes_packet(rt: HostRuntime) {
         ],
         &both,
     );
-    // The first of them announces a jump, and comes twice.
+    // The first transport packet announces a jump, and is sent twice.
     assert_output(
         &rt,
         &[
@@ -134,7 +134,7 @@ fn joins_the_payloads_of_a_pes_packet(rt: HostRuntime) {
 #[test]
 fn reports_a_gap_after_a_pes_packet(rt: HostRuntime) {
     let long_head: [u8; 6] = [0x47, 0x01, 0x01, 0x31, 83, 0x00];
-    // Bytes after the PES packet are a gap.
+    // Bytes after the end of the PES packet are a gap.
     assert_output(
         &rt,
         &[
@@ -150,7 +150,7 @@ fn reports_a_gap_after_a_pes_packet(rt: HostRuntime) {
         ],
         &[&FIRST, &MARK_HEAD, &MARK_REST, &SECOND],
     );
-    // A part that the recording cuts off is no gap.
+    // A PES packet that the end of the recording cuts off is no gap.
     assert_output(
         &rt,
         &[
@@ -166,13 +166,13 @@ fn reports_a_gap_after_a_pes_packet(rt: HostRuntime) {
 
 #[test]
 fn skips_a_part_that_is_not_complete(rt: HostRuntime) {
-    // Before one that begins.
+    // The first PES packet is incomplete before another one begins.
     assert_output(
         &rt,
         &[&PREFIX_0, &FILL[..82], &FIRST[..100], &BEGINS_1, &SECOND],
         &[&SECOND],
     );
-    // It begins none, after a complete one.
+    // After a complete PES packet comes a transport packet that begins none.
     assert_output(
         &rt,
         &[&BEGINS_0, &FIRST, &[0x47, 0x01, 0x01, 0x11], &SECOND],
@@ -194,10 +194,10 @@ fn ends_at_another_start_or_length(rt: HostRuntime) {
         &[&BEGINS_0, &length, &FIRST[5..], &BEGINS_1, &SECOND],
         &[&length, &FIRST[5..]],
     );
-    // Ten payloads are one too many.
+    // Ten payloads are one more than a PES packet may have.
     let long: [u8; 6] = [0x00, 0x00, 0x01, 0xBD, 0x07, 0x2A];
     assert_output(&rt, &[&BEGINS_0, &long, &FIRST[6..]], &[&long, &FIRST[6..]]);
-    // A gap marker comes before it only after a PES packet.
+    // A gap marker comes before unreadable bytes only if a PES packet was read before.
     assert_output(
         &rt,
         &[&BEGINS_0, &FIRST, &BEGINS_2, &start, &FIRST[4..]],
@@ -239,7 +239,8 @@ fn finds_packets_after_other_bytes(rt: HostRuntime) {
         ],
         &both,
     );
-    // As many bytes as 15 packets may hide some; fewer may not, nor may those at the end.
+    // As many unreadable bytes as 15 transport packets may hide lost packets; fewer bytes may not,
+    // and neither may bytes at the end.
     assert_output(
         &rt,
         &[&BEGINS_0, &FIRST, &ZEROS, &NULL, &FILL, &BEGINS_1, &SECOND],
@@ -263,7 +264,8 @@ fn finds_packets_after_other_bytes(rt: HostRuntime) {
 
 #[test]
 fn finds_packets_where_they_begin_again(rt: HostRuntime) {
-    // Fewer bytes than may hide some, twice, with a packet between them.
+    // Two runs of unreadable bytes, with a transport packet between them, are each too short to hide
+    // lost packets.
     assert_output(
         &rt,
         &[
@@ -282,13 +284,13 @@ fn finds_packets_where_they_begin_again(rt: HostRuntime) {
         ],
         &[&FIRST, &SECOND],
     );
-    // A recording begins and ends anywhere.
+    // A recording may begin and end within a transport packet.
     assert_output(
         &rt,
         &[&FIRST[..88], &NULL, &FILL, &BEGINS_1, &SECOND],
         &[&SECOND],
     );
-    // Out of step a packet counts if another follows it.
+    // If the recording is out of step, a transport packet counts only if another one follows it.
     assert_output(&rt, &[&FIRST[..88], &BEGINS_1, &SECOND], &[]);
     assert_output(&rt, &[&BEGINS_0, &FIRST[..183]], &[]);
 }

@@ -1,4 +1,5 @@
-//! What the tests of transport streams share: packets, and what the packets of a PID give.
+//! Code that several tests of transport streams use: transport packets, and the PES packets that
+//! the transport packets of a PID carry.
 
 ghost use Rattle.std.specs.Prelude.{◌≡◌, ⊤, true};
 ghost use Rattle.sub_io.specs.Device.{CanFail};
@@ -8,7 +9,8 @@ use std::process::Abort;
 use sub_io::{MemSink, MemSource, Sink, put_all};
 use ttx_pes::{PesPackets, REST_BUFFER_SIZE, Received, TakePesPacket};
 
-/// Bytes 0 to 3 of packets of PID 101 (hexadecimal) that begin a PES packet, by their counters.
+/// Bytes 0 to 3 of transport packets of PID 101 (hexadecimal) that begin a PES packet, by their
+/// continuity counters.
 pub(crate) const BEGINS_0: [u8; 4] = [0x47, 0x41, 0x01, 0x10];
 
 pub(crate) const BEGINS_1: [u8; 4] = [0x47, 0x41, 0x01, 0x11];
@@ -17,47 +19,48 @@ pub(crate) const BEGINS_2: [u8; 4] = [0x47, 0x41, 0x01, 0x12];
 
 pub(crate) const BEGINS_9: [u8; 4] = [0x47, 0x41, 0x01, 0x19];
 
-/// The first one with transport_error_indicator.
+/// The packet `BEGINS_1` with transport_error_indicator.
 pub(crate) const WRONG_1: [u8; 4] = [0x47, 0xC1, 0x01, 0x11];
 
-/// A null packet, and bytes that fill it.
+/// A null packet's first bytes, and bytes that fill the packet.
 pub(crate) const NULL: [u8; 4] = [0x47, 0x1F, 0xFF, 0x10];
 
 pub(crate) const FILL: [u8; 184] = [0xFF; 184];
 
-/// A packet without a payload that announces a jump of the counter.
+/// The first bytes of a transport packet without a payload that announces a jump of the counter,
+/// and the bytes that fill it.
 pub(crate) const JUMP: [u8; 6] = [0x47, 0x01, 0x01, 0x20, 0xB7, 0x80];
 
 pub(crate) const JUMP_FILL: [u8; 182] = [0xFF; 182];
 
-/// Bytes 0 to 5 of packets with an adaptation field: one that begins a PES packet and has 100 bytes
-/// of it, and one that continues it with 84.
+/// Bytes 0 to 5 of transport packets with an adaptation field: one begins a PES packet and has 100
+/// bytes of it, the other continues the PES packet with 84 bytes.
 pub(crate) const PREFIX_0: [u8; 6] = [0x47, 0x41, 0x01, 0x30, 83, 0x00];
 
 pub(crate) const BACK_1: [u8; 6] = [0x47, 0x01, 0x01, 0x31, 99, 0x00];
 
-/// The first bytes of a gap marker; FILL has more of its others than it needs.
+/// The first bytes of a gap marker; the other bytes of the marker are in `MARK_REST`.
 pub(crate) const MARK_HEAD: [u8; 6] = [0x00, 0x00, 0x01, 0xBD, 0x00, 0xB2];
 
 pub(crate) const MARK_REST: [u8; 178] = [0xFF; 178];
 
 pub(crate) const ZEROS: [u8; 2820] = [0; 2820];
 
-/// Puts byte strings one after another, as far as there is room.
+/// Puts byte strings into a sink one after another, as far as the sink has room.
 pub(crate) fn put_pes_packets(sink: &mut MemSink<'_>, pes_packets: &[&[u8]]) {
     for pes_packet in pes_packets {
         put_pes_packet(sink, pes_packet);
     }
 }
 
-// Puts one of them, as far as there is room.
+// Puts one byte string into a sink, as far as the sink has room.
 fn put_pes_packet(sink: &mut MemSink<'_>, pes_packet: &[u8]) {
     if sink.failures() == 0 {
         let _ = put_all(sink, pes_packet);
     }
 }
 
-// Puts the bytes that begin no PES packet, as far as there is room.
+// Puts the bytes that begin no PES packet into a sink, as far as the sink has room.
 fn put_rest<P: PesPackets>(sink: &mut MemSink<'_>, pes_packets: &mut P)
     requires rest { P.is_rest pes_packets.old ≡ true }
     requires failures { CanFail (P.failure_count pes_packets.old) }
@@ -69,7 +72,7 @@ fn put_rest<P: PesPackets>(sink: &mut MemSink<'_>, pes_packets: &mut P)
     }
 }
 
-/// Puts each PES packet after those before it, as far as there is room.
+/// Appends each PES packet to a sink, as far as the sink has room.
 #[derive(Drop)]
 pub(crate) struct Gathered<'a> {
     pub(crate) sink: MemSink<'a>,
@@ -85,7 +88,8 @@ impl TakePesPacket for Gathered<'_> {
     }
 }
 
-/// Asserts what the packets of a PID give for a recording of these byte strings.
+/// Asserts the bytes that the transport packets of a PID carry in a recording of these byte
+/// strings.
 pub(crate) fn assert_output_of(
     rt: &impl Abort,
     number: u16,
@@ -124,7 +128,8 @@ pub(crate) fn assert_output_of(
     assert!(rt; gathered.sink.written() == wanted_bytes.written());
 }
 
-/// The same for PID 101 (hexadecimal) in packets of 188 bytes.
+/// Asserts the bytes that the transport packets of PID 101 (hexadecimal) carry, in packets of 188
+/// bytes.
 pub(crate) fn assert_output(rt: &impl Abort, recording: &[&[u8]], wanted: &[&[u8]]) {
     assert_output_of(rt, 0x101, PacketSize::Plain, recording, wanted);
 }

@@ -1,5 +1,5 @@
 //! The PES packets of a PID in transport streams with repeated, lost or wrong packets. Each stream
-//! is written here packet by packet.
+//! is written in the test, packet by packet.
 
 use crate::transport_recordings::{
     BACK_1, BEGINS_0, BEGINS_1, BEGINS_2, BEGINS_9, FILL, Gathered, JUMP, JUMP_FILL, MARK_HEAD,
@@ -15,7 +15,7 @@ fn gives_the_pes_packets_of_the_pid(rt: HostRuntime) {
     let stream: [&[u8]; 6] = [&BEGINS_0, &FIRST, &NULL, &FILL, &BEGINS_1, &SECOND];
     assert_output(&rt, &stream, &[&FIRST, &SECOND]);
     assert_output_of(&rt, 0x102, PacketSize::Plain, &stream, &[]);
-    // A PID has 13 bits.
+    // A PID has 13 bits: PID 1101 is not PID 101 (hexadecimal).
     let far: [&[u8]; 4] = [
         &[0x47, 0x51, 0x01, 0x10],
         &FIRST,
@@ -34,10 +34,10 @@ fn gives_a_gap_marker_where_a_packet_is_lost(rt: HostRuntime) {
         &[&BEGINS_0, &FIRST, &BEGINS_2, &SECOND],
         &[&FIRST, &MARK_HEAD, &MARK_REST, &SECOND],
     );
-    // Nothing comes before the first PES packet.
+    // No gap marker comes before the first PES packet.
     assert_output(&rt, &[&WRONG_1, &FIRST, &BEGINS_0, &SECOND], &[&SECOND]);
-    // One gap marker for everything that is missing, and none for a part that the recording cuts
-    // off.
+    // One gap marker replaces all missing packets; a PES packet that the end of the recording
+    // cuts off gives none.
     assert_output(
         &rt,
         &[
@@ -66,8 +66,8 @@ fn skips_one_repeat(rt: HostRuntime) {
         &[&BEGINS_0, &FIRST, &BEGINS_0, &FIRST, &BEGINS_0, &FIRST],
         &[&FIRST, &MARK_HEAD, &MARK_REST, &FIRST],
     );
-    // The same payload with the next counter is another packet, and so is the same counter with
-    // another payload.
+    // A transport packet with the same payload and the next counter is no repeat, and neither is
+    // one with the same counter and another payload.
     assert_output(
         &rt,
         &[&BEGINS_0, &FIRST, &BEGINS_1, &FIRST],
@@ -78,7 +78,7 @@ fn skips_one_repeat(rt: HostRuntime) {
         &[&BEGINS_0, &FIRST, &BEGINS_0, &SECOND],
         &[&FIRST, &MARK_HEAD, &MARK_REST, &SECOND],
     );
-    // None is a repeat across an announced jump.
+    // No transport packet is a repeat across an announced jump.
     assert_output(
         &rt,
         &[&BEGINS_0, &FIRST, &JUMP, &JUMP_FILL, &BEGINS_0, &FIRST],
@@ -88,7 +88,7 @@ fn skips_one_repeat(rt: HostRuntime) {
 
 #[test]
 fn recognizes_a_repeat_by_its_first_four_bytes_and_its_payload(rt: HostRuntime) {
-    // Other bytes of its adaptation field do not matter.
+    // For a repeat, the other bytes of the adaptation field do not matter.
     assert_output(
         &rt,
         &[
@@ -106,7 +106,7 @@ fn recognizes_a_repeat_by_its_first_four_bytes_and_its_payload(rt: HostRuntime) 
         ],
         &[&FIRST, &SECOND],
     );
-    // A packet that begins no PES packet does not repeat one that does.
+    // A transport packet that begins no PES packet does not repeat one that begins a PES packet.
     assert_output(
         &rt,
         &[
@@ -125,13 +125,14 @@ fn recognizes_a_repeat_by_its_first_four_bytes_and_its_payload(rt: HostRuntime) 
 fn takes_no_wrong_packet(rt: HostRuntime) {
     let gap: [&[u8]; 3] = [&FIRST, &MARK_HEAD, &MARK_REST];
     assert_output(&rt, &[&BEGINS_0, &FIRST, &WRONG_1, &SECOND], &gap);
-    // Scrambled.
+    // The transport packet is scrambled.
     assert_output(
         &rt,
         &[&BEGINS_0, &FIRST, &[0x47, 0x41, 0x01, 0x91], &SECOND],
         &gap,
     );
-    // An adaptation field that leaves no room for a payload, with one and without.
+    // Packets whose adaptation field leaves no room for a payload, first with a payload announced
+    // and then without.
     let full: [u8; 5] = [0x47, 0x01, 0x01, 0x31, 0xB7];
     assert_output(
         &rt,
@@ -150,7 +151,7 @@ fn takes_no_wrong_packet(rt: HostRuntime) {
         ],
         &[&FIRST, &MARK_HEAD, &MARK_REST, &SECOND],
     );
-    // Without a payload the same adaptation field is correct, and its counter is not followed.
+    // Without a payload the same adaptation field is correct, and the packet's counter is ignored.
     assert_output(
         &rt,
         &[
@@ -182,7 +183,7 @@ fn reads_packets_of_other_sizes(rt: HostRuntime) {
 #[test]
 fn finds_a_loss_of_15_packets_of_their_size(rt: HostRuntime) {
     let zeros: [u8; 4] = [0; 4];
-    // 2876 bytes are skipped, and 2880, after a time stamp.
+    // First 2876 bytes are skipped, and then 2880 bytes, after a time stamp.
     assert_output_of(
         &rt,
         0x101,
@@ -263,7 +264,8 @@ fn gives_a_gap_marker_and_then_the_pes_packet_that_is_ready(rt: HostRuntime) {
     }
     let pes_packet = Received::PesPacket(());
     let rest = Received::Rest(PesFault::Start);
-    // The gap marker before a PES packet is known with it; bytes that are no PES packet stay.
+    // Whether a gap marker precedes a PES packet is known with that packet; bytes that are no PES
+    // packet are kept.
     assert!(rt; ends == [pes_packet, pes_packet, pes_packet, pes_packet, rest, rest]);
     assert!(rt; ready == [false, false, true, false, true, true]);
     let mut rest_buffer = [0; REST_BUFFER_SIZE];
@@ -285,7 +287,7 @@ fn gives_a_pes_packet_before_it_reads_more(rt: HostRuntime) {
     let Some(pid) = Pid::new(0x101) else {
         return assert!(rt; false);
     };
-    // The second call of the device fails: it takes nothing, and the next one continues.
+    // The second call of the device fails and consumes nothing, and the next call continues.
     let device = FailAt::new(MemSource::new(recorded.written()), 1);
     let mut pes_packets = RecordingPesPackets::new(device, pid, PacketSize::Plain);
     let mut buffer = [0; 1024];

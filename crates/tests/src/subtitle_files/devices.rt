@@ -1,5 +1,5 @@
-//! Sources that give a byte at a time, or fail; those that never end are tested by the lines that
-//! the program prints.
+//! Sources that give one byte at a time, or fail. Sources that never end are tested by the lines
+//! that the program prints.
 
 use super::files::{a_file, read_all};
 use crate::asserting::{assert_same, assert_same_in};
@@ -26,7 +26,7 @@ fn reports_the_block_of_the_byte_that_could_not_be_read(rt: HostRuntime) {
         let failed = read_all(&mut FailAt::new(Drip { rest: &file }, k));
         assert_same_in(&rt, &failed, &(done, Some(StlFault::Read), block), &k);
     }
-    // The pull at the end was the last one.
+    // The reader's last pull was the one that found the end.
     let whole = read_all(&mut FailAt::new(Drip { rest: &file }, 1665));
     assert_same(&rt, &whole, &(2, None, 5));
 }

@@ -1,4 +1,4 @@
-//! Each field at its place.
+//! Each field of a GSI or TTI block at its place.
 
 use super::files::a_file;
 use crate::asserting::{assert_same, assert_same_in};
@@ -7,7 +7,8 @@ use std::process::Abort;
 use stl_file::{Gsi, StlReader, Subtitle, TimeCode, Tti, five_digits_of};
 use sub_io::MemSource;
 
-// Returns a field of more than one byte of a GSI block, or the bytes between fields, in order.
+// Returns field `number` of a GSI block, of the fields that have more than one byte and the bytes
+// between fields, in order.
 fn field(gsi: &Gsi, number: usize) -> &[u8] {
     match number {
         0 => gsi.cpn(),
@@ -40,7 +41,7 @@ fn field(gsi: &Gsi, number: usize) -> &[u8] {
     }
 }
 
-// The place of each of them in the block, and its length.
+// The place in the GSI block, and the length, of each field that `field` returns.
 #[rattlefmt::skip]
 const FIELDS: [[usize; 2]; 27] = [
     [0, 3], // CPN
@@ -75,7 +76,7 @@ const FIELDS: [[usize; 2]; 27] = [
 #[test]
 fn reads_each_gsi_field_at_its_place(rt: HostRuntime) {
     let mut bytes = [0; 1024];
-    // No two bytes less than 251 apart are equal, so a field at another place differs.
+    // No two bytes less than 251 apart are equal, so a field read at another place has other bytes.
     for i in 0..1024 {
         bytes[i] = (i % 251) as u8;
     }
@@ -85,7 +86,7 @@ fn reads_each_gsi_field_at_its_place(rt: HostRuntime) {
         assert_same_in(&rt, &field(&gsi, number).len(), &place[1], &number);
         assert!(rt; after.starts_with(field(&gsi, number)), "field {number}");
     }
-    // The bytes at 11, 255, 272 and 273: DSC, TCS, TND and DSN
+    // The bytes at 11, 255, 272 and 273: DSC, TCS, TND and DSN.
     let single = [gsi.dsc(), gsi.tcs(), gsi.tnd(), gsi.dsn()];
     assert_same(&rt, &single, &[11, 4, 21, 22]);
     assert!(rt; *gsi.bytes() == bytes);
@@ -108,7 +109,7 @@ fn reads_each_tti_field_at_its_place(rt: HostRuntime) {
         bytes[i] = i as u8;
     }
     let tti = Tti::read(&bytes);
-    // SGN, SN low byte first, EBN, CS, VP, JC, CF
+    // The fields SGN, SN (low byte first), EBN, CS, VP, JC and CF.
     assert_same(
         &rt,
         &(tti.sgn(), tti.sn(), tti.ebn(), tti.cs()),
@@ -129,7 +130,7 @@ fn counts_frames_of_the_day(rt: HostRuntime) {
     assert!(rt; TimeCode::new(0, 60, 0, 0).is_none() && TimeCode::new(0, 0, 60, 0).is_none());
 }
 
-// Asserts whether a subtitle with these times, row and justification, and text is accepted.
+// Asserts whether a subtitle with these times, row, justification and text is accepted.
 fn assert_takes(rt: &impl Abort, times: [u32; 2], [vp, jc]: [u8; 2], text: &[u8], want: bool) {
     assert!(rt; times[0] < 2_160_000 && times[1] < 2_160_000);
     let (tci, tco) = (TimeCode::of_frame(times[0]), TimeCode::of_frame(times[1]));
@@ -149,11 +150,11 @@ fn takes_what_a_subtitle_can_be(rt: HostRuntime) {
     assert_takes(&rt, [0, 1], [0, 2], b"A", false);
     assert_takes(&rt, [0, 1], [24, 2], b"A", false);
     assert_takes(&rt, [0, 1], [20, 4], b"A", false);
-    // unused space
+    // A text that contains unused space (8F) is not accepted.
     assert_takes(&rt, [0, 1], [20, 2], &[b'A', 0x8f], false);
 }
 
-// Asserts SGN, SN, VP, JC, TCI and TCO of a subtitle, and its text.
+// Asserts SGN, SN, VP, JC, TCI, TCO and the text of a subtitle.
 fn assert_holds(
     rt: &impl Abort,
     subtitle: &Subtitle,

@@ -1,4 +1,4 @@
-//! Files as bytes, and the result of reading a whole source.
+//! Subtitle files as bytes, and the result of reading a whole source.
 
 ghost use Rattle.sub_io.specs.Device.{CanFail};
 
@@ -6,23 +6,24 @@ use fixtures::{block, gsi, put};
 use stl_file::{StlFault, StlReader};
 use sub_io::Source;
 
-/// SGN 7, SN 0105, EBN 00, CS 0, 00:00:01:00 to 00:00:02:00, row 20, centred, CF 0.
+/// The fields of a first block: SGN 7, SN 0105, EBN 00, CS 0, 00:00:01:00 to 00:00:02:00, row 20,
+/// centred, CF 0.
 pub(crate) const FIRST: [u8; 16] = [7, 5, 1, 0x00, 0, 0, 0, 1, 0, 0, 0, 2, 0, 20, 2, 0];
 
-/// The last block of the same subtitle.
+/// The fields of the last block of the same subtitle: EBN FF.
 pub(crate) const LAST: [u8; 16] = [7, 5, 1, 0xff, 0, 0, 0, 1, 0, 0, 0, 2, 0, 20, 2, 0];
 
-/// A subtitle of one block, 00:00:02:00 to 00:00:04:24.
+/// The fields of a subtitle of one block, 00:00:02:00 to 00:00:04:24.
 pub(crate) const ALONE: [u8; 16] = [7, 6, 1, 0xff, 0, 0, 0, 2, 0, 0, 0, 4, 24, 1, 0, 0];
 
-/// A comment: CF 1. Its CS, times, VP and JC are not checked.
+/// The fields of a comment: CF 1. The CS, times, VP and JC of a comment are not checked.
 pub(crate) const COMMENT: [u8; 16] = [7, 5, 1, 0xff, 9, 9, 99, 9, 9, 9, 9, 9, 9, 99, 9, 1];
 
-/// User data: EBN FE, whatever its CF.
+/// The fields of user data: EBN FE, whatever the CF is.
 pub(crate) const USER_DATA: [u8; 16] = [9, 9, 9, 0xfe, 9, 9, 9, 9, 9, 9, 9, 9, 9, 99, 9, 9];
 
-/// Returns a comment, a subtitle of two blocks with user data between them, and a subtitle of one
-/// block with two bytes of text: 2 subtitles in 5 blocks.
+/// Returns a file with a comment, a subtitle of two blocks with user data between them, and a
+/// subtitle of one block with two bytes of text: 2 subtitles in 5 blocks.
 pub(crate) fn a_file() -> [u8; 1664] {
     let mut file = [0; 1664];
     put(&mut file, 0, &gsi());
@@ -35,7 +36,8 @@ pub(crate) fn a_file() -> [u8; 1664] {
     file
 }
 
-/// Returns how many subtitles a source gives, the fault after them, and the block then.
+/// Returns how many subtitles a source gives, the fault after the last one, and the block number
+/// afterwards.
 pub(crate) fn read_all<S: Source>(source: &mut S) -> (u32, Option<StlFault>, u32)
     requires { CanFail (S.failure_count source.old) }
 {

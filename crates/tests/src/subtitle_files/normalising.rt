@@ -1,4 +1,4 @@
-//! Normal forms; what a refused file or a failing device leaves is tested by the program's
+//! Normal forms. The output for a refused file or a failing device is tested by the program's
 //! `normal`.
 
 use super::files::{ALONE, FIRST, LAST, a_file};

@@ -1,4 +1,4 @@
--- The invariant: the source did not fail.
+-- The invariant of the loop: the source did not fail.
 use Rattle.std.proofs.Common.{◌≡◌}
 use Rattle.tests.proofs.subtitle_files.files.read_all.Given as goal
 
