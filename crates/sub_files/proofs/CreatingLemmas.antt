@@ -1,4 +1,5 @@
--- The calls for an output after the input was opened: for `open_and_create` and `open_and_extract`.
+-- The system calls for an output file after the input was opened, for `open_and_create` and
+-- `open_and_extract`.
 use Rattle.std.proofs.Common.{◌≡◌, ℕ, Bool, true, false, List, [], ◌∷◌, Option, Some, None}
 use Rattle.std.proofs.Common.{option_map, refl, ◌∙◌}
 use Rattle.sub_files.specs.Apart.{may_create}
@@ -8,8 +9,6 @@ use Rattle.sub_files.specs.Opening.{OpensAndCreates}
 use Rattle.sub_files.specs.declared.files.LookedUp.{LookedUp}
 use Rattle.sub_files.specs.declared.opening.Opened.{Opened}
 
--- Both names and standard output were looked up, and then the output was created, or no further
--- call was made.
 pub creates :
     {I O D : Type 0} (IsCall : D → FileCall I O → D → Type 0) (made : I → O → Opened I O)
     (start opened looked_up end : D)

@@ -1,28 +1,30 @@
--- The calls of a device that opens files: the names, the order, and the results. A device may
+-- The calls of a device that opens files, with their arguments, order and results. A device may
 -- define its calls by `is_call`; otherwise it has `any_file_call`.
 use Rattle.std.specs.Prelude.{◌≡◌, ℕ, List, [], ◌∷◌, Option}
 use Rattle.sub_files.specs.declared.apart.Found.{Found}
 
--- A call with its result. Input files have one type, output files another.
+-- A call of a device that opens files, with its result. Input files have type I, output files type
+-- O.
 pub data FileCall (I O : Type 0) : Type 0 where
-  -- Looks up a name.
+  -- Looks up a file by its name.
   LookUp : (name : List ℕ) → Found → FileCall I O
   -- Looks up the file to which standard output goes.
   LookUpStandardOutput : Found → FileCall I O
-  -- Opens a file for reading; `None` if it can't.
+  -- Opens a file for reading; `None` if the file can't be opened.
   Open : (name : List ℕ) → Option I → FileCall I O
-  -- Creates a file for writing; `None` if it can't.
+  -- Creates a file for writing; `None` if the file can't be created.
   Create : (name : List ℕ) → Option O → FileCall I O
-  -- Takes back a file that was read, as it is then.
+  -- Takes back a file that was read, in the state in which it was left.
   LetGoInput : I → FileCall I O
-  -- Takes back a file that was written, as it is then.
+  -- Takes back a file that was written, in the state in which it was left.
   LetGoOutput : O → FileCall I O
 
--- Any state before, any call, any state afterwards.
+-- The relation of calls of a device about which nothing is known: any state before and after any
+-- call is possible.
 abbrev pub any_file_call : {I O D : Type 0} → D → FileCall I O → D → Type 0
 any_file_call old call new = Unit {0}
 
--- Exactly these calls, one after another.
+-- The device made exactly these calls, one after another.
 abbrev pub CallsInOrder :
     {I O D : Type 0} → (D → FileCall I O → D → Type 0) → D → D → List (FileCall I O) → Type 0
 CallsInOrder IsCall old new [] = new ≡ old

@@ -1,4 +1,4 @@
--- The calls for the files that a request names, in order, and the files that are opened.
+-- The calls that open the files of a request, in order, and the opened files.
 use Rattle.std.specs.Prelude.{◌≡◌, ℕ, ◌*◌, Bool, true, false, List, [], ◌∷◌, Option, Some, None}
 use Rattle.std.specs.Prelude.{option_map}
 use Rattle.sub_request.specs.declared.files.FileNames.{FileNames}
@@ -12,8 +12,9 @@ use Rattle.sub_files.specs.declared.opening.Opened.{Opened}
 use Rattle.sub_files.specs.declared.opening.Opened.TheVariants.{Nothing, ReadBoth, ReadPes, ReadStl}
 use Rattle.sub_files.specs.declared.opening.Opened.TheVariants.{Extract, Write}
 
--- After the input was opened, the output is created if it is another file; otherwise no further
--- call is made, and nothing is opened. `opened` makes the result of both.
+-- The calls for an output file after the input was opened. If the output is another file, it is
+-- created; otherwise no further call is made, and no file is returned. `opened` combines both
+-- files.
 abbrev pub CreatesApart :
     {I O : Type 0}
     → (O → Opened I O) → Bool → (output : List ℕ) → List (FileCall I O) → Option (Opened I O)
@@ -23,8 +24,8 @@ CreatesApart opened true output (Create name file ∷ []) result =
 CreatesApart opened false output [] result = result ≡ None
 CreatesApart opened are_apart output calls result = ⊥
 
--- The input is opened. Then, for the output, both names and standard output are looked up, and it
--- is created only if the results show that it is another file.
+-- The calls that open an input and create an output. After the input was opened, both names and
+-- standard output are looked up, and the output is created only if it is another file.
 abbrev pub OpensAndCreates :
     {I O : Type 0}
     → (I → O → Opened I O) → (input output : List ℕ) → List (FileCall I O) → Option (Opened I O)
@@ -40,9 +41,9 @@ OpensAndCreates
     × CreatesApart (opened file) (may_create found own there) output calls result
 OpensAndCreates _ _ _ _ _ = ⊥
 
--- The calls for the files of a request, and what they open. Input files are opened in the order of
--- the arguments, before an output is created. The first call that fails is the last, and nothing is
--- opened then.
+-- The calls that open the files of a request, and the opened files. Input files are opened in the
+-- order of the arguments, before an output is created. If a call fails, it is the last call, and no
+-- files are returned.
 abbrev pub Opens :
     {I O : Type 0} → FileNames → List (FileCall I O) → Option (Opened I O) → Type 0
 Opens names.None [] result = result ≡ Some Nothing
@@ -67,26 +68,26 @@ pub record OpensBy
   pub are_made : AreMade calls
   pub opens : Opens names calls result
 
--- The size of a buffer in bytes: what a system call reads or writes at once.
+-- The size of a buffer in bytes: the maximum that a system call reads or writes at once.
 abbrev pub buffer_size : ℕ
 buffer_size = 0x1_0000
 
--- The total size of the buffers of these files, one for each.
+-- The total size of the buffers of a request's files in bytes, one buffer per file.
 abbrev pub rooms_size : FileNames → ℕ
 rooms_size (names.ReadBoth stl pes) = 2 * buffer_size
 rooms_size (names.Write stl output) = 2 * buffer_size
 rooms_size (names.Extract recording output) = 2 * buffer_size
 rooms_size _ = buffer_size
 
--- Why files are not opened: memory ran out, and no call was made; or the call for one of the files
--- failed, or found that it must not be overwritten.
+-- The reason why no files are opened. `Memory`: memory ran out before any call. `Open`: the call
+-- for one of the files failed, or the output would overwrite the input.
 abbrev pub IsUnopened :
     {I O : Type 0} → (List (FileCall I O) → Type 0) → FileNames → UsageFault → Type 0
 IsUnopened AreMade names usage.Memory = AreMade []
 IsUnopened AreMade names usage.Open = OpensBy AreMade names None
 IsUnopened AreMade names _ = ⊥
 
--- No call of these files has failed yet: they are as the device opened and created them.
+-- No call of the opened files has failed yet: they are as the device opened and created them.
 abbrev pub AreUnused : {I O : Type 0} → (I → ℕ) → (O → ℕ) → Opened I O → Type 0
 AreUnused reads writes Nothing = Unit {0}
 AreUnused reads writes (ReadStl stl) = reads stl ≡ 0

@@ -1,21 +1,21 @@
-//! Checks that the output file is another one than the input file, and than the one to which
-//! standard output goes.
+//! Checks that the output file differs from the input file and from the file to which standard
+//! output goes.
 ghost use Rattle.std.specs.Prelude.{◌≡◌};
 ghost use Rattle.sub_files.specs.Apart.{are_other_files, is_apart};
 
-/// What a name leads to.
+/// The result of looking up a file by its name.
 #[derive(Clone, Copy, Debug, PartialEq, Eq)]
 pub enum Found {
-    /// Nothing is there.
+    /// No file has this name.
     Nothing,
-    /// A file, with its device and its inode there.
+    /// A file with this device and inode.
     At(u64, u64),
-    /// It could not be looked up.
+    /// The name could not be looked up.
     Unknown,
 }
 
-/// Returns whether creating the output can't empty the input: there is nothing, or another file,
-/// which is not the input under another name.
+/// Returns whether creating the output can't empty the input: the output does not exist yet, or is
+/// another file than the input, not only another name of it.
 pub fn is_apart(input: Found, output: Found) -> bool
     ensures { result ≡ is_apart input output }
 {
@@ -29,8 +29,8 @@ pub fn is_apart(input: Found, output: Found) -> bool
     }
 }
 
-/// Returns whether the output is another file than the one to which standard output goes: one of
-/// them is no known file, or they differ.
+/// Returns whether the output is another file than the file to which standard output goes: either
+/// is unknown or missing, or they differ in device or inode.
 pub fn are_other_files(standard_output: Found, output: Found) -> bool
     ensures { result ≡ are_other_files standard_output output }
 {

@@ -1,7 +1,7 @@
-//! A file that is written, and checked again after it was closed.
+//! A written file whose size is checked again after it was closed.
 //!
 //! Some file systems report only at closing that nothing was stored, and std ignores the result of
-//! closing. So a file that has to be stored is closed, and then its size is looked up.
+//! closing. So a file that must be stored is closed, and then its size is looked up.
 ghost use Rattle.std.specs.Prelude.{◌≡◌, ℕ, [], Bool, None, OnOk, Some, false, is_none, length};
 ghost use Rattle.std.specs.Prelude.{true};
 ghost use Rattle.std.specs.Io.Iter.{u64_saturate};
@@ -13,21 +13,21 @@ use std::io::Write;
 use std::marker::Model;
 use sub_io::{Close, Failed, Flush, IntoFile, LetGo, Sink, Store};
 
-/// Looks up the size of a file after it was closed.
+/// A device that looks up the size of a file after the file was closed.
 pub trait SecondLook {
-    // Its state, the number of bytes, and its answer.
+    // The relation of the device's state, the number of bytes, and the result of `has_all`.
     ghost is_look: { Self → ℕ → Bool → Type 0 };
 
-    /// Returns whether the system has this closed file with this many bytes. Always `true` for what
-    /// is stored nowhere: a pipe, a terminal or a device.
+    /// Returns whether the system has this closed file with this many bytes. Returns `true` for a
+    /// pipe, a terminal or another device, which stores nothing.
     fn has_all<W: Write>(&self, file: &IntoFile<W>, length: u64) -> bool
         requires { file.now.device ≡ None }
         ensures { is_look self.now length result };
 }
 
-/// A file that is written, stored and closed, and then checked again.
+/// A file that is written, stored and closed, and whose size is then checked.
 ///
-/// In contracts its value is the file, what checks it, and how many bytes were written.
+/// The model has the file, the device that checks the size, and the number of bytes written.
 #[derive(Drop)]
 pub struct CheckedFile<W, L> {
     file: IntoFile<W>,
@@ -48,7 +48,7 @@ impl<W, L> Model for CheckedFile<W, L> {
 }
 
 impl<W: Write, L: SecondLook> CheckedFile<W, L> {
-    /// Returns a file for a writer of std to which nothing was written yet.
+    /// Creates a file for a writer of std to which nothing was written yet.
     pub fn new(writer: W, look: L) -> Self
         ensures { result ≡ record {
           file = record {
@@ -73,33 +73,34 @@ impl<W: Write, L: SecondLook> Sink for CheckedFile<W, L> {
 
     ghost failure_count = { λ s. s.file.failure_count };
 
-    /// Writes once. The bytes are not stored yet.
+    /// Writes bytes with one call of the writer. The bytes are not stored yet.
     ///
     /// # Errors
     ///
-    /// Returns `Failed` at each error of the writer, if it takes no byte, and after it was closed.
+    /// Returns `Failed` for each error of the writer, if the writer takes no byte, and after the
+    /// file was closed.
     fn push(&mut self, from: &[u8]) -> Result<usize, Failed> {
         let n = self.file.push(from)?;
         self.count = self.count.saturating_add(n as u64);
         Ok(n)
     }
 
-    /// Returns how many calls have failed, taken no byte or lost something, and how many came after
-    /// it was closed.
+    /// Returns the number of calls that have failed, that wrote no byte or lost bytes, or that came
+    /// after the file was closed.
     fn failures(&self) -> u64 {
         self.file.failures()
     }
 }
 
 impl<W: Write, L: SecondLook> Flush for CheckedFile<W, L> {
-    // It passes all bytes to the writer at once.
+    // The file passes all bytes to the writer at once, without a buffer of its own.
     ghost buffered = { buffers_nothing };
 
     /// Flushes the writer.
     ///
     /// # Errors
     ///
-    /// Returns `Failed` at each error of the writer, and after it was closed.
+    /// Returns `Failed` for each error of the writer, and after the file was closed.
     fn flush(&mut self) -> Result<(), Failed> {
         self.file.flush()
     }
@@ -112,15 +113,15 @@ impl<W: Write + LetGo + Store, L: SecondLook> Close for CheckedFile<W, L> {
 
     ghost is_close = { ClosesFile W.is_let_go };
 
-    /// Stores and closes the file, and checks it again.
+    /// Stores and closes the file, and checks its size.
     ///
     /// # Errors
     ///
-    /// Returns `Failed` at each error of the writer, if something is lost, if the system then has
-    /// another number of bytes, and after it was closed.
+    /// Returns `Failed` for each error of the writer, if bytes are lost, if the system then has
+    /// another number of bytes, and after the file was closed.
     fn store(&mut self) -> Result<(), Failed>
         requires { CanFail self.old.file.failure_count }
-        // It was closed, and the check found all bytes that were written.
+        // The file was closed, and the check found all bytes that were written.
         ensures closed { OnOk result (self.new.file.device ≡ None) }
         ensures look { OnOk result (L.is_look self.new.look
             (u64_saturate (length self.new.file.taken)) true) }
@@ -135,11 +136,11 @@ impl<W: Write + LetGo + Store, L: SecondLook> Close for CheckedFile<W, L> {
         if self.look.has_all(&self.file, self.count) {
             return Ok(());
         }
-        // A closed file fails, and counts that.
+        // After it was closed, the file returns an error for each call, and counts the error.
         self.file.flush()
     }
 
-    /// Releases the writer, which closes a file.
+    /// Releases the writer, which closes the file.
     fn close(&mut self) {
         self.file.close();
     }

@@ -1,6 +1,6 @@
 //! Devices of std that print on standard error why a call failed.
 //!
-//! These messages are not specified, and they change no result.
+//! The messages are not specified, and change no result.
 ghost use Rattle.std.specs.Prelude.{None};
 
 use std::fs::{Metadata, OpenFile};
@@ -17,7 +17,7 @@ pub struct Explained<'a, T, E> {
 }
 
 impl<'a, T, E: Eprint> Explained<'a, T, E> {
-    /// Returns the device, with the name that is printed for it.
+    /// Creates the device, with the name to print for it.
     pub fn new(inner: T, name: &'a str, errors: &'a E) -> Self {
         Explained {
             inner,
@@ -27,8 +27,8 @@ impl<'a, T, E: Eprint> Explained<'a, T, E> {
         }
     }
 
-    /// Returns standard output. Writing to a pipe without a reader, as `head` leaves one, is not
-    /// explained.
+    /// Creates standard output. If the reader of a pipe has ended, as `head` does, no message is
+    /// printed.
     pub fn standard_output(inner: T, errors: &'a E) -> Self {
         Explained {
             inner,
@@ -38,7 +38,7 @@ impl<'a, T, E: Eprint> Explained<'a, T, E> {
         }
     }
 
-    // Prints that the device could not do this.
+    // Prints that the device could not do `what`.
     fn explain(&self, what: &str, error: &io::Error) {
         if !self.is_standard_output || error.kind() != ErrorKind::BrokenPipe {
             explain(self.errors, what, self.name, error);
@@ -46,7 +46,7 @@ impl<'a, T, E: Eprint> Explained<'a, T, E> {
     }
 }
 
-/// Prints why something can't be done with a file or a device.
+/// Prints the reason why an operation on a file or a device failed.
 pub fn explain<E: Eprint>(errors: &E, what: &str, name: &str, error: &io::Error) {
     let _ = eprintln!(errors; "subttx: cannot {what} {name:?}: {error}");
 }
@@ -94,7 +94,7 @@ impl<T: OpenFile, E: Eprint> OpenFile for Explained<'_, T, E> {
         let answer = self.inner.sync_all();
         if let Err(error) = &answer {
             match error.kind() {
-                // A pipe or a device is stored nowhere.
+                // A pipe or a device can't be stored, which is no error.
                 ErrorKind::InvalidInput | ErrorKind::Unsupported => {}
                 _ => self.explain("store", error),
             }

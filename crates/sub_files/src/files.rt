@@ -1,4 +1,4 @@
-//! The files of a request, each with a type of its own from the moment it is opened.
+//! The opened files of a request, each with a type of its own.
 //!
 //! Subtitle files, files of PES packets and output files are created only here, from the names that
 //! a request has for each. So none of them can be taken for another.
@@ -11,7 +11,7 @@ use crate::file_system::FileSystem;
 use std::marker::Model;
 use sub_request::{Output, PesInput, StlInput};
 
-/// A subtitle file that was opened for reading. In contracts its value is the file.
+/// A subtitle file that was opened for reading. The model is the file.
 #[derive(Drop)]
 pub struct StlFile<F> {
     file: F,
@@ -24,7 +24,7 @@ impl<F> Model for StlFile<F> {
 }
 
 impl<F> StlFile<F> {
-    /// Returns the file.
+    /// Returns the opened subtitle file.
     pub fn into_file(self) -> F
         ensures { result ≡ self }
     {
@@ -33,7 +33,7 @@ impl<F> StlFile<F> {
     }
 }
 
-/// A file of PES packets that was opened for reading. In contracts its value is the file.
+/// A file of PES packets that was opened for reading. The model is the file.
 #[derive(Drop)]
 pub struct PesFile<F> {
     file: F,
@@ -46,7 +46,7 @@ impl<F> Model for PesFile<F> {
 }
 
 impl<F> PesFile<F> {
-    /// Returns the file.
+    /// Returns the opened file of PES packets.
     pub fn into_file(self) -> F
         ensures { result ≡ self }
     {
@@ -55,7 +55,7 @@ impl<F> PesFile<F> {
     }
 }
 
-/// A file that was created for writing. In contracts its value is the file.
+/// A file that was created for writing. The model is the file.
 #[derive(Drop)]
 pub struct CreatedFile<F> {
     file: F,
@@ -68,7 +68,7 @@ impl<F> Model for CreatedFile<F> {
 }
 
 impl<F> CreatedFile<F> {
-    /// Returns the file.
+    /// Returns the created file.
     pub fn into_file(self) -> F
         ensures { result ≡ self }
     {
@@ -77,7 +77,7 @@ impl<F> CreatedFile<F> {
     }
 }
 
-/// Opens a subtitle file for reading.
+/// Opens a subtitle file for reading. Returns `None` if the file can't be opened.
 pub fn open_stl<D: FileSystem>(files: &mut D, stl: &StlInput<'_>) -> Option<StlFile<D::Input>>
     ensures unused { IfSome result (λ file. D.Input.failure_count file ≡ 0) }
     ensures call { D.is_call files.old (FileCall.Open stl.now result) files.new }
@@ -88,7 +88,7 @@ pub fn open_stl<D: FileSystem>(files: &mut D, stl: &StlInput<'_>) -> Option<StlF
     }
 }
 
-/// Opens a file of PES packets for reading.
+/// Opens a file of PES packets for reading. Returns `None` if the file can't be opened.
 pub fn open_pes<D: FileSystem>(files: &mut D, pes: &PesInput<'_>) -> Option<PesFile<D::Input>>
     ensures unused { IfSome result (λ file. D.Input.failure_count file ≡ 0) }
     ensures call { D.is_call files.old (FileCall.Open pes.now result) files.new }
@@ -99,19 +99,19 @@ pub fn open_pes<D: FileSystem>(files: &mut D, pes: &PesInput<'_>) -> Option<PesF
     }
 }
 
-/// What was looked up before a file is created.
+/// The results of the lookups before a file is created.
 #[derive(Clone, Copy)]
 pub struct LookedUp {
-    /// What the name of the input leads to.
+    /// The file that has the name of the input.
     pub input: Found,
-    /// What the name of the output leads to.
+    /// The file that has the name of the output.
     pub output: Found,
-    /// Where standard output goes.
+    /// The file to which standard output goes.
     pub standard_output: Found,
 }
 
 /// Creates a file for writing, if the lookups show that this empties neither the input nor the file
-/// to which standard output goes. Otherwise makes no call.
+/// to which standard output goes. Otherwise makes no call, and returns `None`.
 pub fn create_apart<D: FileSystem>(
     files: &mut D,
     output: &Output<'_>,

@@ -1,7 +1,7 @@
-//! Files in memory, whose bytes are known.
+//! Files in memory, whose bytes are known to contracts.
 //!
 //! The bytes of the system's files are unknown to contracts. So clauses about the bytes of files
-//! apply to these.
+//! are shown for files in memory.
 ghost use Rattle.std.specs.Prelude.{◌≡◌, option_map};
 ghost use Rattle.sub_files.specs.MemoryFiles.{IsMemoryCall, bytes_at};
 
@@ -14,17 +14,17 @@ use sub_io::{MemSink, MemSource};
 #[derive(Clone, Copy)]
 pub struct MemFile<'a> {
     pub name: &'a str,
-    /// Its contents.
+    /// The contents of the file.
     pub bytes: &'a [u8],
 }
 
-/// Two files in memory, as many as a request reads, and room for one that is created. No call of a
-/// file that is read fails.
+/// Two files in memory, the most that a request reads, and room for one created file. Reading these
+/// files never fails.
 #[derive(Drop)]
 pub struct MemFiles<'a> {
     first: MemFile<'a>,
     second: MemFile<'a>,
-    // `None` once a file is created.
+    // The room for a created file; `None` after a file was created.
     room: Option<&'a mut [u8]>,
 }
 
@@ -44,7 +44,7 @@ impl<'a> Model for MemFiles<'a> {
 impl<'a> MemFiles<'a> {
     ghost use Rattle.std.specs.Prelude.{Some, length};
 
-    /// Returns these files; `room` is that of a file that is created.
+    /// Creates a device with these files, and with `room` for the bytes of a created file.
     pub fn new(first: MemFile<'a>, second: MemFile<'a>, room: &'a mut [u8]) -> Self
         ensures { result ≡ record {
           first = first.entry;
@@ -59,7 +59,7 @@ impl<'a> MemFiles<'a> {
         }
     }
 
-    // Returns the bytes of the file with this name.
+    // Returns the bytes of the file with this name, or `None` if there is no such file.
     fn bytes_at(&self, name: &str) -> Option<&'a [u8]>
         ensures { option_map (λ bytes. bytes.now) result ≡ bytes_at name.now self.now }
     {

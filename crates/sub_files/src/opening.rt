@@ -1,7 +1,7 @@
 //! Opens the files that a request names.
 //!
-//! Callers get only the opened files, so no function that takes files has another device or the
-//! output lines in its scope.
+//! Callers get only the opened files, so no function that takes the files also has the device that
+//! opened them, or the lines of the output.
 ghost use Rattle.std.specs.Prelude.{◌≡◌, ◌≤◌, [], ◌∷◌, IfSome, vec_len};
 ghost use Rattle.sub_files.specs.FileCalls.{CallsInOrder, FileCall};
 ghost use Rattle.sub_files.specs.Opening.{AreUnused, OpensBy, rooms_size};
@@ -11,34 +11,34 @@ use crate::files::{CreatedFile, LookedUp, PesFile, StlFile, create_apart, open_p
 use std::alloc::Global;
 use sub_request::{FileNames, Output, PesInput, StlInput};
 
-/// The size of a buffer in bytes: what a system call reads or writes at once.
+/// The size of a buffer in bytes: the maximum that a system call reads or writes at once.
 pub const BUFFER: usize = 0x1_0000;
 
 /// The opened files of a request.
 #[derive(Drop)]
 pub enum Opened<I, O> {
-    /// The request names none.
+    /// The request names no file.
     Nothing,
-    /// A subtitle file is read.
+    /// A subtitle file to read.
     ReadStl(StlFile<I>),
-    /// A file of PES packets is read.
+    /// A file of PES packets to read.
     ReadPes(PesFile<I>),
-    /// Both are read.
+    /// A subtitle file and a file of PES packets to read.
     ReadBoth(StlFile<I>, PesFile<I>),
-    /// A subtitle file is read, and another file was created, which is written.
+    /// A subtitle file to read, and a created file to write.
     Write(StlFile<I>, CreatedFile<O>),
-    /// A recording is read, and another file was created, which is written.
+    /// A recording to read, and a created file to write.
     Extract(PesFile<I>, CreatedFile<O>),
 }
 
-/// Allocates so many bytes; `None` if memory runs out.
+/// Allocates `size` bytes. Returns `None` if memory runs out.
 pub fn room(alloc: Global, size: usize) -> Option<Vec<u8>>
     ensures { IfSome result (λ room. vec_len room ≡ size) }
 {
     vec![in alloc; 0; size].ok()
 }
 
-/// Returns the total size of the buffers of these files.
+/// Returns the total size of the buffers of a request's files in bytes.
 pub fn size_of_rooms(names: &FileNames<'_>) -> usize
     ensures size { result ≡ rooms_size names.now }
     ensures least { 2 ≤ result }
@@ -49,8 +49,8 @@ pub fn size_of_rooms(names: &FileNames<'_>) -> usize
     }
 }
 
-/// Opens the files in the order of the arguments, and creates the output. Returns `None` at the
-/// first failure, without further calls.
+/// Opens the files of a request in the order of its arguments, and creates the output. Returns
+/// `None` at the first failure, without further calls.
 pub fn open<D: FileSystem>(
     files: &mut D,
     names: &FileNames<'_>,
@@ -133,7 +133,7 @@ fn open_and_extract<D: FileSystem>(
     }
 }
 
-// Looks up both names and standard output.
+// Looks up the names of the input and the output, and the file to which standard output goes.
 fn look_up_all<D: FileSystem>(files: &mut D, name: &str, output: &Output<'_>) -> LookedUp
     ensures { CallsInOrder D.is_call files.old files.new
         (FileCall.LookUp name.now result.input ∷ FileCall.LookUp output.now result.output

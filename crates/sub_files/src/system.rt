@@ -1,4 +1,4 @@
-//! The files of the system.
+//! Opens and creates files of the operating system.
 ghost use Rattle.std.specs.Prelude.{◌≡◌, ◌≢◌, IfErr, IfOk, true};
 ghost use Rattle.std.specs.IoError.{error_kind};
 ghost use Rattle.sub_files.specs.Apart.{was_found};
@@ -15,23 +15,24 @@ use std::rt::Files;
 use std::{fs, io, str};
 use sub_io::{FromRead, IntoFile, Store};
 
-/// The number of bytes for the names of a request's files: Linux opens no longer ones.
+/// The number of bytes for the names of a request's files: Linux opens no file with a longer name.
 pub const NAMES: usize = 2 * 4096;
 
-// The link to the file to which standard output goes.
+// The path of the link to the file to which standard output goes.
 const STANDARD_OUTPUT: &str = "/proc/self/fd/1";
 
-/// The files of the system. No contract says what the system returns, so each call is the one of
-/// `std::fs` with the same name, and prints on standard error why it failed.
+/// The files of the operating system. No contract says what the system returns, so each call is the
+/// call of `std::fs` with the same name, and prints on standard error why it failed.
 #[derive(Drop)]
 pub struct SystemFiles<'a, R> {
     rt: &'a R,
-    // Room for the names of open files.
+    // The room for the names of open files.
     names: Option<&'a mut [u8]>,
 }
 
 impl<'a, R: Files + Eprint> SystemFiles<'a, R> {
-    /// Returns the files that this runtime opens; `names` has room for their names, `NAMES` bytes.
+    /// Creates a device for the files that this runtime opens. `names` has `NAMES` bytes, the room
+    /// for the files' names.
     pub fn new(rt: &'a R, names: &'a mut [u8]) -> Self {
         SystemFiles {
             rt,
@@ -39,7 +40,8 @@ impl<'a, R: Files + Eprint> SystemFiles<'a, R> {
         }
     }
 
-    // Stores a name for as long as the file may be open; `None` if there is no room.
+    // Stores a name for as long as the file may be open. Returns `None` if there is no room for the
+    // name.
     fn keep(&mut self, name: &str) -> Option<&'a str> {
         let room = self.names.take()?;
         let length = name.len();
@@ -123,7 +125,7 @@ impl<'a, R: Files + Eprint> FileSystem for SystemFiles<'a, R> {
     }
 }
 
-// Returns what a lookup found. A name that can't be looked up is never taken for a free one.
+// Converts the result of a lookup. If the lookup failed, the name is never treated as free.
 fn found_by(looked_up: io::Result<Metadata>) -> Found
     ensures there { IfOk looked_up (λ _. was_found result ≡ true) }
     ensures nothing { IfErr looked_up (λ error.
@@ -140,19 +142,20 @@ fn found_by(looked_up: io::Result<Metadata>) -> Found
     }
 }
 
-/// Looks up the size of a file of the system after it was closed.
+/// A device that looks up the size of a file of the operating system after the file was closed.
 #[derive(Drop)]
 pub struct SystemLook<'a, R> {
     rt: &'a R,
     name: &'a str,
-    // It was a file when it was created: no pipe, terminal or device.
+    // Whether the file was a regular file when it was created: no pipe, terminal or other device.
     is_file: bool,
 }
 
 impl<R: Files + Eprint> SecondLook for SystemLook<'_, R> {
     ghost is_look = { λ _ _ _. Unit {0} };
 
-    /// Stores the folder, too, if it can be opened: a new file is found through it.
+    /// Also stores the folder of the file, if the folder can be opened, since a new file is found
+    /// through its folder.
     fn has_all<W: Write>(&self, _file: &IntoFile<W>, length: u64) -> bool {
         if !self.is_file {
             return true;
@@ -174,7 +177,8 @@ impl<R: Files + Eprint> SecondLook for SystemLook<'_, R> {
     }
 }
 
-// Returns how many bytes a file has, after opening it again, or from its name if it can't be read.
+// Returns the number of bytes of a file: of the file opened again, or looked up by its name if the
+// file can't be read.
 fn length_of<R: Files>(rt: &R, name: &str) -> io::Result<u64> {
     let there = match fs::open(rt, name) {
         Ok(file) => file.metadata(),
@@ -189,7 +193,8 @@ fn length_of<R: Files>(rt: &R, name: &str) -> io::Result<u64> {
     }
 }
 
-// Stores the folder of a file. One that can't be read can't be stored.
+// Stores the folder of a file on disk. Returns `true` if permission to open the folder is denied,
+// since the folder then can't be stored.
 fn is_folder_stored<R: Files + Eprint>(rt: &R, name: &str) -> bool {
     let folder = match Path::new(name).parent() {
         Some(folder) if !folder.as_str().is_empty() => folder.as_str(),
