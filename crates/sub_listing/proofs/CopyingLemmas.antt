@@ -1,4 +1,4 @@
--- Copying bytes: a PES packet at their beginning, and bytes that begin none. Main lemmas:
+-- Copying bytes: a PES packet at their beginning, or bytes that begin no PES packet. Main lemmas:
 -- pes_packet_copied, rest_stays, more_copied.
 use Rattle.std.proofs.Common.{◌≡◌, ◌∙◌, ap, sym, subst, arith, ℕ, ◌+◌, ◌<◌, ◌≤◌, ◌++◌, List}
 use Rattle.std.proofs.Common.{[], Bool, Option, Some, None, Ok, length, take, drop}
@@ -23,7 +23,6 @@ use Rattle.sub_io.proofs.DeviceLemmas.{AppendsPrefix-first, AppendsPrefix-second
 use Rattle.sub_listing.specs.Copying.{CopiesNext, HasCopied}
 use Rattle.sub_listing.specs.Extracting.{refusal_at}
 
--- Bytes that were read from the beginning of others.
 pub record IsPrefixOf (b prefix : List ℕ) (left : Option (List ℕ)) : Type 0 where
   pub same : take (length prefix) b ≡ prefix
   pub left_is : left ≡ Some (drop (length prefix) b)
@@ -36,7 +35,6 @@ pub prefix_taken : (b prefix : List ℕ) (left : Option (List ℕ))
 prefix_taken b prefix left taken =
     grind (arith, nat_tests, length-append, take-append_seam, drop-append_seam)
 
--- What a buffer got from the beginning of bytes.
 pub buffer_taken : (b room : List ℕ) (n : ℕ) (left : Option (List ℕ))
     → n ≤ length room
     → Consumes (Some b) left (take n room)
@@ -44,13 +42,9 @@ pub buffer_taken : (b room : List ℕ) (n : ℕ) (left : Option (List ℕ))
     × (IsAtEnd left → length b ≡ n)
 buffer_taken b room n left fits taken = grind (arith, nat_tests, prefix_taken, length-take-le)
 
--- ---- the next part of the bytes
-
--- A PES packet fits into the room. For `take`.
 pub pes_packet_fits : (p : List ℕ) → IsPesPacket p → length p ≤ 1656
 pes_packet_fits p is = (pes_packet_sized p is).2
 
--- A PES packet that was read from these bytes was written.
 pub pes_packet_copied : (bytes p : List ℕ) (reported left old new : Option (List ℕ))
     (is_a_gap_marker : Bool)
     → reported ≡ Some bytes
@@ -79,7 +73,6 @@ pes_packet_copied bytes p reported left old new is_a_gap_marker is pes_packet ta
     size None taken = absurd taken
     size (Some rest) taken = ap pes_packet_size taken ∙ pes_packet_is p rest pes_packet
 
--- A part of it was.
 pub part_of_pes_packet : (bytes p : List ℕ) (reported left old new : Option (List ℕ))
     → reported ≡ Some bytes
     → Consumes reported left p
@@ -92,7 +85,6 @@ part_of_pes_packet bytes p reported left old new is taken part = go left (rw is 
     go (Some rest) taken =
         subst (AppendsPrefix old new) (sym taken) (AppendsPrefix-first old new p rest part)
 
--- Nothing is left.
 pub none_left : (bytes : List ℕ) (reported left : Option (List ℕ))
     → reported ≡ Some bytes
     → Keeps reported left
@@ -109,7 +101,6 @@ refused_rest : (b : List ℕ) (f : PesFault) → 0 < length b → rest_fault b �
 unfolding refusal_at
 refused_rest b f some is = grind (arith, nat_tests)
 
--- They begin no PES packet, and are all there.
 pub rest_stays : (bytes : List ℕ) (reported left following : Option (List ℕ)) (f : PesFault)
     → reported ≡ Some bytes
     → Keeps reported left
@@ -131,9 +122,6 @@ rest_stays bytes reported left following f is kept rest = (
     stays None kept = absurd kept
     stays (Some rest) kept = ap Some kept
 
--- ---- what was copied so far
-
--- At least so many of the bytes were copied.
 pub record HasCopiedSome
     (bytes : List ℕ) (left old new : Option (List ℕ)) (least : ℕ) : Type 0 where
   pub read : ℕ
@@ -151,7 +139,6 @@ none_copied bytes reported old is = record {
   copied = record { left_is = is; written = Appends-nil old };
 }
 
--- More of them were copied.
 pub more_copied : (bytes room : List ℕ) (left next old mid new : Option (List ℕ)) (least n : ℕ)
     → HasCopiedSome bytes left old mid least
     → Consumes left next (take n room)
@@ -181,13 +168,11 @@ more_copied bytes room left next old mid new least n some taken fits other writt
       };
     }
 
--- What was copied of them is a prefix.
 pub prefix_copied : (bytes : List ℕ) (left old mid : Option (List ℕ)) (least : ℕ)
     → HasCopiedSome bytes left old mid least
     → AppendsPrefix old mid bytes
 prefix_copied bytes left old mid least some = (some.read, some.within, some.copied.written)
 
--- The file has a part of the next ones.
 pub cut_copied : (bytes room : List ℕ) (left next old mid new : Option (List ℕ)) (least n : ℕ)
     → HasCopiedSome bytes left old mid least
     → Consumes left next (take n room)
@@ -206,7 +191,6 @@ cut_copied bytes room left next old mid new least n some taken part =
     cut rest (Some y) start =
         subst (AppendsPrefix mid new) (sym start) (AppendsPrefix-first mid new (take n room) y part)
 
--- All of them were copied.
 pub all_copied : (bytes : List ℕ) (left next old mid : Option (List ℕ)) (least : ℕ)
     → HasCopiedSome bytes left old mid least
     → Consumes left next []

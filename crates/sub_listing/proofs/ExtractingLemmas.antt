@@ -1,4 +1,5 @@
--- Copying PES packets one after another. Main lemmas: next_copied, pes_packets_given, rest_refused.
+-- Copying PES packets one after another, and the bytes after them. Main lemmas: next_copied,
+-- pes_packets_given, rest_refused.
 use Rattle.std.proofs.lemmas.Bool.Decides.{nat_tests}
 use Rattle.std.proofs.Common.{◌≡◌, ◌∙◌, ap, refl, sym, subst, arith, ℕ, zero, suc, ◌+◌, ◌<◌, ◌≤◌}
 use Rattle.std.proofs.Common.{◌++◌, List, [], Option, Some, None, length, take, drop}
@@ -29,7 +30,6 @@ gap_markers_one : (n : ℕ) (b : List ℕ) (size : ℕ) → pes_packet_size b �
 unfolding count_gap_markers
 gap_markers_one n b size e = rw e refl
 
--- One more PES packet, after k others.
 pub record OneMore (k : ℕ) (b : List ℕ) (size : ℕ) : Type 0 where
   pub following : rest_after_pes_packets (suc k) b ≡ drop size (rest_after_pes_packets k b)
   pub first : first_pes_packets (suc k) b ≡ first_pes_packets k b ++ take size
@@ -85,7 +85,7 @@ one_more (suc k) b size e =
               rw same (omega (arith, one, before, others));
         }
 
--- The bytes are the PES packets followed by the rest.
+-- The bytes are the PES packets at their beginning, followed by the rest.
 pub split_pes_packets : (k : ℕ) (b : List ℕ)
     → count_pes_packets k b ≡ k
     → first_pes_packets k b ++ rest_after_pes_packets k b ≡ b
@@ -108,7 +108,7 @@ split_pes_packets (suc k) b all =
         ∙ ap (λ l. take s b ++ l) rest
         ∙ take-append-drop s b)
 
--- There are no more PES packets than bytes.
+-- The bytes have no more PES packets than bytes, so the count cannot overflow.
 pub few_pes_packets : (k : ℕ) (b : List ℕ) → count_pes_packets k b ≤ length b
 unfolding count_pes_packets
 few_pes_packets zero b = omega arith
@@ -127,9 +127,6 @@ few_pes_packets (suc k) b = go (pes_packet_size b) refl (λ s. few_pes_packets k
         let rest = others s in
         omega (arith, here, large, within, less, rest)
 
--- ---- PES packets that were copied
-
--- None was.
 pub no_pes_packets : (bytes : List ℕ) (reported old : Option (List ℕ))
     → reported ≡ Some bytes
     → HasCopiedPesPackets bytes reported old old 0 0
@@ -141,7 +138,6 @@ no_pes_packets bytes reported old is = record {
   gap_markers = refl;
 }
 
--- One more was.
 pub next_copied : (bytes : List ℕ) (left next old mid new : Option (List ℕ)) (k gaps more size : ℕ)
     → HasCopiedPesPackets bytes left old mid k gaps
     → pes_packet_size (rest_after_pes_packets k bytes) ≡ Some size
@@ -167,7 +163,6 @@ next_copied bytes left next old mid new k gaps more size so_far is copied counte
           ∙ sym one.gap_markers;
     })
 
--- A part of the rest was written after them.
 pub part_copied : (bytes : List ℕ) (left old mid new : Option (List ℕ)) (k gaps : ℕ)
     → HasCopiedPesPackets bytes left old mid k gaps
     → AppendsPrefix mid new (rest_after_pes_packets k bytes)
@@ -177,7 +172,6 @@ part_copied bytes left old mid new k gaps so_far part =
     (AppendsPrefix-second old mid new (first_pes_packets k bytes) (rest_after_pes_packets k bytes)
     so_far.written part)
 
--- All of the rest was.
 pub entire_copied : (bytes : List ℕ) (left old mid new : Option (List ℕ)) (k gaps : ℕ)
     → HasCopiedPesPackets bytes left old mid k gaps
     → Appends mid new (rest_after_pes_packets k bytes)
@@ -190,7 +184,6 @@ entire_copied bytes left old mid new k gaps so_far rest =
 keeps_nothing : (mid new : Option (List ℕ)) → Keeps mid new → Appends mid new []
 keeps_nothing mid new kept = Appends-kept mid mid new [] (Appends-nil mid) kept
 
--- Nothing follows them.
 pub pes_packets_given : (bytes : List ℕ) (left old mid new : Option (List ℕ)) (k gaps : ℕ)
     → HasCopiedPesPackets bytes left old mid k gaps
     → rest_after_pes_packets k bytes ≡ []
@@ -206,7 +199,6 @@ pes_packets_given bytes left old mid new k gaps so_far none kept some = record {
       entire_copied bytes left old mid new k gaps so_far (rw none (keeps_nothing mid new kept));
 }
 
--- There are none.
 pub none_given : (bytes : List ℕ) (left old mid new : Option (List ℕ)) (k gaps : ℕ)
     → HasCopiedPesPackets bytes left old mid k gaps
     → rest_after_pes_packets k bytes ≡ []
@@ -216,7 +208,6 @@ pub none_given : (bytes : List ℕ) (left old mid new : Option (List ℕ)) (k ga
 unfolding rest_after_pes_packets first_pes_packets
 none_given bytes left old mid new k gaps so_far none kept is = grind (arith, nat_tests, append-nil)
 
--- The rest is refused, and was written.
 pub rest_refused : (bytes : List ℕ) (left old mid new : Option (List ℕ)) (k gaps : ℕ) (f : PesFault)
     → HasCopiedPesPackets bytes left old mid k gaps
     → refusal_at (rest_after_pes_packets k bytes) ≡ Some f
@@ -234,7 +225,6 @@ rest_refused bytes left old mid new k gaps f so_far is rest =
       refused = λ few. is;
     }
 
--- There are more than can be counted.
 pub too_many : (bytes : List ℕ) (left old mid : Option (List ℕ)) (k gaps : ℕ) (f : PesFault)
     → HasCopiedPesPackets bytes left old mid k gaps
     → k ≡ most_pes_packets
@@ -252,14 +242,12 @@ too_many bytes left old mid k gaps f so_far is =
       refused = λ less. absurd (omega (arith, large, less));
     }
 
--- The source failed after them: nothing was written after them.
 pub cut_behind : (bytes : List ℕ) (left old mid new : Option (List ℕ)) (k gaps : ℕ)
     → HasCopiedPesPackets bytes left old mid k gaps
     → Keeps mid new
     → AreCut bytes old new k
 cut_behind bytes left old mid new k gaps so_far kept = grind (arith, nat_tests)
 
--- It failed in the rest, which begins no PES packet.
 pub cut_in_rest : (bytes : List ℕ) (left old mid new : Option (List ℕ)) (k gaps : ℕ) (f : PesFault)
     → HasCopiedPesPackets bytes left old mid k gaps
     → refusal_at (rest_after_pes_packets k bytes) ≡ Some f
@@ -272,7 +260,7 @@ cut_in_rest bytes left old mid new k gaps f so_far is part = record {
   rest = inr (f, is, part);
 }
 
--- Storing does not change what was written.
+-- Storing the file does not change the bytes written to it.
 pub extracted-stored : (known old mid new : Option (List ℕ)) (e : Extracted)
     → Extracts known old mid (Ok e)
     → Keeps mid new
@@ -286,7 +274,7 @@ extracted-stored known old mid new e given kept = λ bytes is.
       written = Appends-kept _ _ _ _ g.written kept;
     }
 
--- If it is not stored, that is a prefix.
+-- If the file could not be stored, the bytes written to it count as a prefix.
 pub extracted-lost : (known old mid new : Option (List ℕ)) (e : Extracted)
     → Extracts known old mid (Ok e)
     → Keeps mid new

@@ -1,5 +1,5 @@
--- What was read of a source after its first PES packet was found. Main lemmas: prints_found,
--- prints_failed.
+-- The bytes consumed of a source, if nothing was consumed while its first PES packet was found.
+-- Main lemmas: prints_found, prints_failed.
 use Rattle.std.proofs.lemmas.Bool.Decides.{nat_tests}
 use Rattle.std.proofs.Common.{◌≡◌, refl, sym, inr, arith, ℕ, ◌+◌, ◌≤◌, List, [], Bool}
 use Rattle.std.proofs.Common.{Option, Some, None}
@@ -21,9 +21,6 @@ use Rattle.sub_listing.specs.FaultLine.{counted_from}
 use Rattle.sub_listing.specs.declared.status.Status.{Status}
 use Rattle.sub_listing.specs.declared.status.Status.TheVariants.{Fault}
 
--- ---- a source whose known bytes stay
-
--- Its bytes are the same afterwards.
 pub known_kept : (old mid : Option (List ℕ)) (bytes : List ℕ)
     → Keeps old mid
     → old ≡ Some bytes
@@ -32,7 +29,6 @@ known_kept None mid bytes kept reported = cc
 known_kept (Some x) None bytes kept reported = absurd kept
 known_kept (Some x) (Some y) bytes kept reported = cc
 
--- What is consumed afterwards is consumed from the start.
 pub consumed_kept : (old mid new : Option (List ℕ)) (bytes : List ℕ)
     → Keeps old mid
     → Consumes mid new bytes
@@ -41,7 +37,6 @@ consumed_kept None mid new bytes kept taken = tt
 consumed_kept (Some x) None new bytes kept taken = absurd kept
 consumed_kept (Some x) (Some y) new bytes kept taken = rw (sym kept) taken
 
--- Nothing of it was consumed.
 pub consumed_none : (old new : Option (List ℕ)) → Keeps old new → Consumes old new []
 consumed_none None new kept = tt
 consumed_none (Some x) None kept = absurd kept
@@ -65,7 +60,6 @@ refused_kept : (old mid new : Option (List ℕ)) (f : PesFault)
     → TakesRefused old new f
 refused_kept old mid new f kept t = grind (arith, nat_tests, consumed_kept)
 
--- PES packets consumed afterwards are consumed from the start.
 pub packets_kept : (n : ℕ) (old mid new : Option (List ℕ))
     → Keeps old mid
     → TakesPackets n mid new
@@ -84,8 +78,6 @@ pub fails_pes_packet_kept : (n : ℕ) (old mid new : Option (List ℕ))
     → FailsAtPesPacket n old new
 fails_pes_packet_kept n old mid new kept f = grind (arith, nat_tests, consumed_kept)
 
--- ---- a source that failed before anything was consumed
-
 pub fails_within_first : (old new : Option (List ℕ)) → Keeps old new → FailsWithin old new
 fails_within_first old new kept = grind (arith, nat_tests, consumed_none)
 
@@ -96,8 +88,6 @@ pub fails_first_pes_packet : (old new : Option (List ℕ)) → Keeps old new →
     new
 fails_first_pes_packet old new kept = grind (arith, nat_tests, consumed_none, fails_within_first)
 
--- ---- the listing
-
 reads_kept : (failed : Bool) (old mid : Option (List ℕ)) (o : PesOutcome) (left : Option (List ℕ))
     → Keeps old mid
     → ReadsPackets failed mid o left
@@ -107,7 +97,8 @@ reads_kept failed old mid (fails f) left kept reads =
     grind (arith, nat_tests, within_kept, refused_kept)
 reads_kept failed old mid (gives v more) left kept reads = grind (arith, nat_tests, packet_kept)
 
--- PES packets were listed after the first was found. For `list_packets`.
+-- If the first PES packet was found, its number in the file is the number from which PES packets
+-- are counted.
 pub prints_found : (first : FirstNumber) (number : ℕ) (old mid left : Option (List ℕ))
     (old_count mid_count new_count : ℕ) (out : SinkCall) (status : Status)
     → ((n : ℕ) → first.known ≡ Some n → number ≡ n)
@@ -121,7 +112,8 @@ prints_found
     first number old mid left old_count mid_count new_count out status found kept same prints =
     grind (arith, nat_tests, known_kept, reads_kept)
 
--- The source failed before. For `list_packets`.
+-- If the source failed before the first PES packet was found, only the line about the failure is
+-- printed.
 pub prints_failed : (first : FirstNumber) (number : ℕ) (source : SourceCall) (out : SinkCall)
     (status : Status)
     → ((n : ℕ) → first.known ≡ Some n → number ≤ n)

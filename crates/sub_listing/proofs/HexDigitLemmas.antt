@@ -1,5 +1,6 @@
--- Digits in lanes: the results of a table look-up (looked_up), and interleaved digits
--- (interleaved_are). Digits of split lists: encode_with-append, drop-encode_with.
+-- Hexadecimal digits in the lanes of a vector: a look-up in the table of digits, looked_up, and
+-- interleaved digits, interleaved_are. The digits of a list in two parts: encode_with-append,
+-- drop-encode_with.
 use Rattle.std.proofs.Common.{◌≡◌, ℕ, zero, suc, ◌+◌, ◌*◌, ◌/◌, ◌%◌, ◌^◌, ◌<◌, ◌≤◌, List, [], ◌∷◌}
 use Rattle.std.proofs.Common.{◌++◌, map, length, get_or, drop, replicate, bit_and, refl, sym, ap}
 use Rattle.std.proofs.Common.{◌∙◌, subst, arith, w8, Fits, take, ap₂, take_all, length-drop}
@@ -14,11 +15,9 @@ use lib.Lanes.{zip2, pick_l, Each1}
 use Rattle.hex.specs.Hex.{encode_with}
 use Rattle.hex.proofs.HexLemmas.{length-encode_with}
 
--- A lane shifted to the right.
 abbrev pub down : ℕ → ℕ → ℕ
 down a b = a / 2 ^ b
 
--- The upper halves of bytes are indices of a table of 16.
 pub upper_ok : (v : List ℕ) → length v ≡ 16 → Each1 (Fits w8) v
     → SwzOk w8 16 16 0 (zip2 down v (replicate 16 4))
 upper_ok v long fits =
@@ -31,7 +30,6 @@ upper_ok v long fits =
     (Each1-zip2 down (λ j. j < 16) v (replicate 16 4)
     (Each2-splat (λ a b. down a b < 16) v 16 4 small))
 
--- So are the lower halves.
 pub lower_ok : (v : List ℕ) → length v ≡ 16
     → SwzOk w8 16 16 0 (zip2 bit_and v (replicate 16 15))
 lower_ok v long =
@@ -41,7 +39,6 @@ lower_ok v long =
     (Each1-zip2 bit_and (λ j. j < 16) v (replicate 16 15)
     (Each2-splat (λ a b. bit_and a b < 16) v 16 15 small))
 
--- A look-up of 16 indices below 16.
 pub looked_up : (t : List ℕ) (g : ℕ → ℕ) (v js : List ℕ)
     → length v ≡ 16
     → Each1 (Fits w8) v
@@ -67,7 +64,6 @@ looked_up t g v js long fits e small =
     lane_fits (x ∷ xs) zero h = h.0.fits
     lane_fits (x ∷ xs) (suc i) h = lane_fits xs i h.1
 
--- Upper and lower digits of 16 bytes, interleaved.
 abbrev interleaved : List ℕ → List ℕ → List ℕ
 interleaved firsts seconds =
     pick_l 0 (firsts ++ seconds)
@@ -75,7 +71,6 @@ interleaved firsts seconds =
     ++ pick_l 0 (firsts ++ seconds)
     (8 ∷ 24 ∷ 9 ∷ 25 ∷ 10 ∷ 26 ∷ 11 ∷ 27 ∷ 12 ∷ 28 ∷ 13 ∷ 29 ∷ 14 ∷ 30 ∷ 15 ∷ 31 ∷ [])
 
--- They are the digits of the bytes.
 pub interleaved_are : (t v : List ℕ) → length v ≡ 16
     → interleaved (map (λ b. get_or t (b / 16) 0) v) (map (λ b. get_or t (b % 16) 0) v)
     ≡ encode_with t v
@@ -85,7 +80,6 @@ interleaved_are t v long =
     ≡ encode_with t l)
     (pick_l_whole 0 v 16 long) refl
 
--- The digits of two joined lists.
 pub encode_with-append : (t xs ys : List ℕ)
     → encode_with t (xs ++ ys) ≡ encode_with t xs ++ encode_with t ys
 unfolding encode_with
@@ -93,7 +87,6 @@ encode_with-append t [] ys = refl
 encode_with-append t (b ∷ xs) ys =
     ap (λ l. get_or t (b / 16) 0 ∷ get_or t (b % 16) 0 ∷ l) (encode_with-append t xs ys)
 
--- Each byte that is left out has two digits.
 pub drop-encode_with : (t xs : List ℕ) (n : ℕ)
     → drop (2 * n) (encode_with t xs) ≡ encode_with t (drop n xs)
 unfolding encode_with
@@ -103,8 +96,6 @@ drop-encode_with t (b ∷ xs) (suc n) =
     let e : 2 * suc n ≡ suc (suc (2 * n)) = omega arith in
     ap (λ m. drop m (encode_with t (b ∷ xs))) e ∙ drop-encode_with t xs n
 
--- The digits of 42 bytes after a line, from those of two blocks and the last 20 digits of the block
--- at the end. For `push_lower_hex`.
 pub digits_by_blocks : (t xs line one two three : List ℕ)
     → length xs ≡ 42
     → one ≡ line ++ encode_with t (take 16 xs)

@@ -1,10 +1,9 @@
--- The last line of a listing whose source failed. Main lemma: last_alone.
+-- The last line of a listing whose source failed is written alone. Main lemma: last_alone.
 use Rattle.std.proofs.lemmas.Bool.Decides.{nat_tests}
 use Rattle.std.proofs.Common.{◌≡◌, ℕ, ◌+◌, ◌<◌, Bool, true, false, if◌then◌else◌, List, Option}
 use Rattle.std.proofs.Common.{arith, refl}
 use Rattle.sub_listing.specs.LastLine.{BuffersLastLineOnly, IsAlone, PutsLine}
 
--- A count that rose counted a failure.
 pub risen_fails : (old new : ℕ) (fails : Bool)
     → old < new
     → new ≡ old + (if fails then 1 else 0)
@@ -12,7 +11,6 @@ pub risen_fails : (old new : ℕ) (fails : Bool)
 risen_fails old new true risen counted = refl
 risen_fails old new false risen counted = absurd (omega (arith, risen, counted))
 
--- The text that was written is that line.
 pub last_alone : {K : Type 0} (contents : K → Option (List ℕ)) (buffered : K → ℕ)
     (IsPush : K → List ℕ → Option ℕ → K → Type 0) (before new : K) (text put : List ℕ)
     → IsAlone (buffered before) text

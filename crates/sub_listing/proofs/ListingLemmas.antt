@@ -1,5 +1,5 @@
--- A listing that is printed one part after another. Main lemmas: prefix-more, prefix-end,
--- prefix-cut, gives-next, gives-last.
+-- Printing a listing one part after another. Main lemmas: prefix-more, prefix-end, prefix-cut,
+-- gives-next, gives-last.
 use Rattle.std.proofs.lemmas.Bool.Decides.{nat_tests}
 use Rattle.std.proofs.Common.{◌≡◌, ap, refl, sym, subst, arith, ℕ, ◌+◌, ◌<◌, ◌≤◌, List, []}
 use Rattle.std.proofs.Common.{◌∷◌, ◌++◌, append_assoc, drop, length, inl, inr, Bool, false, true}
@@ -37,10 +37,8 @@ use Rattle.sub_listing.specs.FaultLine.{line_of, status_of}
 use Rattle.sub_listing.specs.declared.status.Status.{Status}
 use Rattle.sub_listing.specs.declared.status.Status.TheVariants.{Fault}
 
--- ---- lines after lines
-
--- What was printed since the sink had `old` is the beginning of each listing that is still
--- possible.
+-- The lines printed since the sink had the contents `old` are the beginning of each listing that is
+-- still possible.
 pub record IsPrefix
     (Before After : IsListed)
     (reported left old now : Option (List ℕ))
@@ -52,7 +50,6 @@ pub record IsPrefix
       → After left end ending more
       → Before reported end ending (followed text more)
 
--- Nothing was printed so far. For `list`.
 pub prefix-none :
     (Before : IsListed)
     (reported old : Option (List ℕ))
@@ -63,14 +60,13 @@ prefix-none Before reported old = record {
   listed = λ end ending more is. is;
 }
 
--- Lines after lines are lines.
 followed-twice : (first second : List ℕ) (more : Listing)
     → followed first (followed second more) ≡ followed (first ++ second) more
 followed-twice first second more =
     ap (λ (t : List ℕ). let l : Listing = record { text = t; status = more.status } in l)
     (sym (append_assoc first second more.text))
 
--- What was printed stays when lines are flushed. For `list`.
+-- Flushing keeps the printed lines.
 pub prefix-kept :
     (Before After : IsListed)
     (reported left old now new : Option (List ℕ))
@@ -79,16 +75,13 @@ pub prefix-kept :
     → IsPrefix Before After reported left old new
 prefix-kept Before After reported left old now new i kept = grind (arith, nat_tests)
 
--- The count of a source's failures, if the sink failed. For `list`.
 pub counts-fault : (old new : ℕ) (failed : Bool) → RisesIf old failed new → Counts old Fault new
 counts-fault old new failed risen = grind (arith, nat_tests)
 
--- The count of a source's failures, if the sink did not fail.
 pub counts-status : (old new : ℕ) (status : Status) → RisesIf old (has_failed (Some status)) new
     → Counts old status new
 counts-status old new status risen = grind (arith, nat_tests)
 
--- The next lines were printed, and more may follow. For `list`.
 pub prefix-more :
     (Before At After : IsListed)
     (reported left rest old now new : Option (List ℕ)) (text : List ℕ)
@@ -104,7 +97,6 @@ prefix-more Before At After reported left rest old now new text i gives p = reco
       (i.listed end ending (followed text more) (gives.0 end ending more is));
 }
 
--- The last lines were printed. For `list`.
 pub prefix-end :
     (Before At After : IsListed) (source : SourceCall) (out : SinkCall)
     (left now : Option (List ℕ)) (text : List ℕ)
@@ -126,7 +118,6 @@ prefix-end Before At After source out left now text status i gives p same counte
   printed = inl (same, Appends-trans out.old now out.new i.text text i.printed p, refl);
 }
 
--- The sink failed at these lines, whatever should follow them. For `list`.
 pub prefix-cut :
     (Before At After : IsListed) (source : SourceCall) (out : SinkCall)
     (left now : Option (List ℕ)) (text : List ℕ)
@@ -163,7 +154,6 @@ prefix-cut Before At After source out left now text (Some status) i gives p rise
   printed = inr (risen, AppendsPrefix-second out.old now out.new i.text text i.printed p, refl);
 }
 
--- Lines were cut, since the sink failed when earlier lines were flushed. For `list`.
 pub prefix-stopped :
     (Before At : IsListed) (source : SourceCall) (out : SinkCall) (left now : Option (List ℕ))
     → IsPrefix Before At source.known left out.old now
@@ -187,7 +177,7 @@ prefix-stopped Before At source out left now i cut kept risen counted = record {
   );
 }
 
--- There is a listing if the sink failed.
+-- Even if the sink failed, a possible listing exists.
 pub lists-some :
     (O : Type 0) (listing_of : O → Listing) (given : List ℕ → O)
     (Takes : Bool → Option (List ℕ) → O → Option (List ℕ) → Type 0)
@@ -213,7 +203,6 @@ lists-some O listing_of given Takes (Some b) left o = (
   },
 )
 
--- A part was read, and the next ones come after it. For the listers.
 pub gives-next :
     (O : Type 0) (before after : O → Listing) (given given' : List ℕ → O)
     (Takes Takes' : Bool → Option (List ℕ) → O → Option (List ℕ) → Type 0)
@@ -229,7 +218,6 @@ gives-next O before after given given' Takes Takes' pes_packet reported left tex
     reads o =
     grind (arith, nat_tests, lists-some)
 
--- The last lines were made, and they are those of this outcome. For the listers.
 pub gives-last :
     (O : Type 0) (listing_of : O → Listing) (given : List ℕ → O)
     (Takes : Bool → Option (List ℕ) → O → Option (List ℕ) → Type 0)
@@ -243,9 +231,6 @@ pub gives-last :
 gives-last O listing_of given Takes reported left o text failed line is exact taken =
     grind (arith, nat_tests)
 
--- ---- PES packets
-
--- A PES packet was read, and what is read after it is listed afterwards. For `PacketLister`.
 pub gives-packet :
     (first index : ℕ) (v : PesValue) (reported left : Option (List ℕ)) (text : List ℕ)
     → index ≤ most_packets
@@ -267,9 +252,6 @@ gives-packet first index v reported left text few reports lines =
     ))
     pes.ends
 
--- ---- subtitles
-
--- At least one block was read.
 rises : (from to : ℕ) (blocks : List (List ℕ))
     → EndsKept blocks
     → from + length blocks ≡ to
@@ -277,18 +259,17 @@ rises : (from to : ℕ) (blocks : List (List ℕ))
 rises from to [] kept counted = absurd kept
 rises from to (b ∷ blocks) kept counted = omega arith
 
--- A subtitle has at least one block. For `SubtitleLister`.
+-- A subtitle has at least one block, so reading a subtitle raises the block number.
 pub block-rises : (from to : ℕ) (old new : Option (List ℕ)) (s : SubtitleValue)
     → TakesSubtitle from to old new s
     → from < to
 block-rises from to old new s t = rises from to t.blocks t.ends t.counted
 
--- Only a failed source ends a listing in a fault.
+-- A listing ends with the status `Fault` if and only if the source failed.
 pub kind_by-failed : (b : Bool) → has_failed (Some (status_of (kind_by b))) ≡ b
 kind_by-failed true = refl
 kind_by-failed false = refl
 
--- The GSI block was read, and what its reader gives follows. For `SubtitleLister`.
 pub gives-opened :
     (count : ℕ) (r : ReaderValue) (reported left : Option (List ℕ))
     → r.block ≡ 0
@@ -310,7 +291,6 @@ gives-opened count r reported left start reading gsi taken rest opened =
     ))
     ends
 
--- It was refused, or its source failed.
 pub gives-refused :
     (count : ℕ) (f : StlFault) (reported left : Option (List ℕ)) (text : List ℕ)
     → text ≡ line_of (stl_line f 0)

@@ -1,4 +1,5 @@
--- What `normal` writes and reads; main lemmas: answers_first, taken-at_end.
+-- The input that `normal` reads, and the file that it writes; main lemmas: answers_first,
+-- taken-at_end.
 use Rattle.std.proofs.Common.{◌≡◌, ◌≢◌, ℕ, ◌≤◌, List, ◌++◌, length, take, arith, sym, ap, ◌∙◌, refl}
 use Rattle.std.proofs.Common.{length-append, Option, Some, None, Result, Ok, Err, subst}
 use Rattle.std.specs.Io.KnownBytes.{Consumes, IsAtEnd, Keeps}
@@ -19,9 +20,8 @@ use Rattle.stl_file.proofs.FileLemmas.{file_complete, file_sound, outcome_of-fir
 use Rattle.sub_listing.specs.Writing.{ReportsRead, most_read}
 use Rattle.sub_listing.specs.declared.normal.InputFault.TheVariants as input
 
--- ---- what was written
-
--- A file whose first bytes are a complete file is one.
+-- If the first 12,800,897 bytes of a file are a complete subtitle file, then the file is that
+-- subtitle file.
 first-is_file : (s : List ℕ) (ts : List SubtitleValue)
     → IsFile (take most_read s) (take gsi_size (take most_read s)) ts
     → IsFile s (take gsi_size s) ts
@@ -29,7 +29,7 @@ first-is_file s ts is =
     file_sound whole s ts
     (ap subtitles_of (sym (outcome_of-first s)) ∙ (file_complete whole _ _ ts is).1)
 
--- The bytes that are read decide the result for all of them.
+-- The first 12,800,897 bytes of a file decide the result of `normal`.
 pub answers_first : (s read : List ℕ) (old new : Option (List ℕ)) (answer : Result ℕ NormalFault)
     → read ≡ take most_read s
     → NormalAnswers read old new answer
@@ -57,9 +57,6 @@ answers_first s read old new answer first answers =
     go (Err (normal.Refused f block)) w =
         (ap subtitles_of (sym (outcome_of-first s)) ∙ w.0, w.1)
 
--- ---- reading the input
-
--- The next part follows those before it.
 pub Consumes-next : (x y z : Option (List ℕ)) (n : ℕ) (xs ps vs : List ℕ)
     → vs ≡ xs ++ take n ps
     → Consumes x y xs
@@ -68,7 +65,6 @@ pub Consumes-next : (x y z : Option (List ℕ)) (n : ℕ) (xs ps vs : List ℕ)
 Consumes-next x y z n xs ps vs is p q =
     subst (Consumes x z) (sym is) (Consumes-trans x y z _ _ p q)
 
--- The last pull gave nothing.
 pub taken-at_end : (x y z : Option (List ℕ)) (n : ℕ) (xs ps : List ℕ)
     → n ≡ 0
     → Consumes x y xs
@@ -94,7 +90,6 @@ taken-at_end x y z n xs ps none p q end few =
         sym (same_Some b bytes e) ∙ p ∙ ap (λ l. xs ++ l) end ∙ append-nil xs in
         sym (ap (take most_read) all ∙ take_all most_read xs few)
 
--- The bytes that were read, if no more are.
 pub taken-to_most : (x y : Option (List ℕ)) (xs : List ℕ)
     → Consumes x y xs
     → length xs ≡ most_read
@@ -105,7 +100,7 @@ taken-to_most (Some b) (Some ys) xs p size bytes e =
     let all : bytes ≡ xs ++ ys = sym (same_Some b bytes e) ∙ p in
     sym (ap (take most_read) all ∙ take_at xs ys most_read size)
 
--- Memory is needed for a part that was read.
+-- Memory is allocated only after at least one byte was read.
 pub memory-wanted : (x y z : Option (List ℕ)) (n : ℕ) (xs ps : List ℕ)
     → n ≤ length ps
     → n ≢ 0
@@ -117,7 +112,6 @@ memory-wanted x y z n xs ps room some p q =
     let part = length-take-le n ps room in
     (xs ++ take n ps, Consumes-next x y z n xs ps _ refl p q, omega (arith, long, part, some))
 
--- The block of a byte that could not be read.
 pub block-at : (x y z : Option (List ℕ)) (block : ℕ) (xs : List ℕ)
     → Consumes x y xs
     → Keeps y z

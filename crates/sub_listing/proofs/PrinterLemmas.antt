@@ -1,4 +1,4 @@
--- A printer to which several events were reported; main lemma: prints_all.
+-- The effect of several events on a printer; main lemma: prints_all.
 use Rattle.std.proofs.Common.{◌≡◌, ◌∙◌, ap, refl, sym, subst, arith, ℕ, ◌+◌, ◌<◌, ◌≤◌, ◌||◌}
 use Rattle.std.proofs.Common.{not, List, [], ◌∷◌, ◌++◌, map, Bool, true, false, append_assoc, drop}
 use Rattle.std.proofs.Common.{take, inl, inr}
@@ -34,7 +34,6 @@ pub counted-few : (r m : ℕ) → counted r m ≤ most_counted
 unfolding counted
 counted-few r m = grind (arith, nat_tests)
 
--- A printer to which nothing was reported.
 prints-none : (p : PrinterValue) → p.failed ≡ false → p.refused ≤ most_counted
     → PrintsEvents p [] p
 prints-none p goes few = record {
@@ -46,7 +45,6 @@ prints-none p goes few = record {
   cut_count = λ failing. absurd (true≢false (sym failing ∙ goes));
 }
 
--- One event, after which the sink has not failed, followed by others.
 prints-more : (a b c : PrinterValue) (e : Event) (events : List Event)
     → PrintsEvent a e b
     → b.failed ≡ false
@@ -70,7 +68,6 @@ prints-more a b c e events one goes more = record {
   cut_count = λ failing. more.cut_count failing ∙ ap (λ n. n + 1) (one.put_count goes);
 }
 
--- One event, at which the sink failed, whatever should follow it.
 pub prints-cut : (a b : PrinterValue) (e : Event) (events : List Event)
     → PrintsEvent a e b
     → b.failed ≡ true
@@ -93,7 +90,6 @@ event_lines-append first (x ∷ xs) ys =
     ap (λ (l : List ℕ). event_line first x ++ l) (event_lines-append first xs ys)
     ∙ sym (append_assoc (event_line first x) (event_lines first xs) (event_lines first ys))
 
--- If the sink failed, more events might have followed.
 pub prints-prefix : (a b : PrinterValue) (events more : List Event)
     → b.failed ≡ true
     → PrintsEvents a events b
@@ -114,7 +110,6 @@ refusals-append : (xs ys : List Event) → refusals (xs ++ ys) ≡ refusals xs +
 refusals-append [] ys = omega arith
 refusals-append (x ∷ xs) ys = let rest = refusals-append xs ys in omega (arith, rest)
 
--- Events, after which the sink has not failed, followed by others. For `sub_answer`.
 pub prints-two : (a b c : PrinterValue) (xs ys : List Event)
     → PrintsEvents a xs b
     → b.failed ≡ false
@@ -143,9 +138,6 @@ prints-two a b c xs ys some goes more =
       cut_count = λ failing. more.cut_count failing ∙ ap (λ n. n + 1) (some.put_count goes);
     }
 
--- ---- lines of the subtitle file
-
--- They contain no PES packet.
 place-same : (n m block : ℕ) (kind : LoadFaultKind)
     → place_text n (load_place kind block) ≡ place_text m (load_place kind block)
 place-same n m block (load.Row f) = refl
@@ -158,13 +150,13 @@ lines-same n m (f ∷ fs) =
     rw (place-same n m f.block f.kind)
     (ap (λ (l : List ℕ). event_line m (subtitle_event f) ++ l) (lines-same n m fs))
 
--- So they are the same whichever number the first PES packet has. For `sub_answer`.
+-- The lines of faults of the subtitle file name no PES packet, so they do not depend on the number
+-- of the first PES packet.
 pub prints-renumbered : (n : ℕ) (a b : PrinterValue) (fs : List LoadFault)
     → PrintsEvents a (subtitle_events fs) b
     → PrintsEvents (record a { first = n }) (subtitle_events fs) (record b { first = n })
 prints-renumbered n a b fs prints = grind (arith, nat_tests, lines-same)
 
--- A printer that has failed has printed the events of a list if it has printed its first ones.
 pub prints-taken : {A : Type 0} (event : A → Event) (a b : PrinterValue) (n : ℕ) (items : List A)
     → b.failed ≡ true
     → PrintsEvents a (map event (take n items)) b
@@ -176,7 +168,6 @@ prints-taken event a b n items failing prints =
     subst (λ (es : List Event). PrintsEvents a es b) whole
     (prints-prefix a b (map event (take n items)) (map event (drop n items)) failing prints)
 
--- What stays the same at each event stays the same at all. For `report_every_fault`.
 same-one_by_one : {A D N : Type 0} (IsReported : D → A → D → Type 0) (name : D → N)
     (one : (s t : D) (x : A) → IsReported s x t → name t ≡ name s) (old new : D) (items : List A)
     → ReportsInOrder IsReported old new items
@@ -195,7 +186,7 @@ same_all IsReported name one old new some =
 module _ {A D : Type 0} (IsReported : D → A → D → Type 0) (value : D → PrinterValue)
     (event : A → Event)
     (one : (s t : D) (x : A) → IsReported s x t → PrintsEvent (value s) (event x) (value t)) where
-  -- Nothing is reported to a printer whose sink failed.
+  -- No event is reported to a printer after its sink failed.
   last_reported : (mid new : D) (items : List A) → ReportsInOrder IsReported mid new items
       → (value mid).failed ≡ true
       → (items ≡ []) × (new ≡ mid)
@@ -203,7 +194,6 @@ module _ {A D : Type 0} (IsReported : D → A → D → Type 0) (value : D → P
   last_reported mid new (y ∷ ys) (next, second, others) failing =
       absurd (true≢false (sym failing ∙ (one mid next y second).goes_on))
 
-  -- One event followed by others.
   step : (old mid new : D) (x : A) (xs : List A) (b : Bool) → (value mid).failed ≡ b
       → PrintsEvent (value old) (event x) (value mid)
       → ReportsInOrder IsReported mid new xs
@@ -229,7 +219,7 @@ module _ {A D : Type 0} (IsReported : D → A → D → Type 0) (value : D → P
       step old mid new x xs (value mid).failed refl (one old mid x first) rest
       (λ holds bound. one_by_one mid new xs holds bound rest)
 
-  -- A printer has printed the events that were reported to it.
+  -- A printer has printed the lines of exactly the events that were reported to it.
   pub prints_all : (old new : D) (items : List A)
       → (value old).failed ≡ false
       → (value old).refused ≤ most_counted
@@ -241,14 +231,12 @@ map-same : (events : List Event) → map (λ (e : Event). e) events ≡ events
 map-same [] = refl
 map-same (e ∷ events) = ap (λ (es : List Event). e ∷ es) (map-same events)
 
--- A list of events is printed as it is reported.
 pub as_reported : (a b : PrinterValue) (events : List Event)
     → PrintsEvents a (map (λ (e : Event). e) events) b
     → PrintsEvents a events b
 as_reported a b events prints =
     subst (λ (es : List Event). PrintsEvents a es b) (map-same events) prints
 
--- A device that has not failed, and whose count is unchanged, has not said stop.
 pub still_goes : (failed : Bool) (old new : ℕ)
     → old < 0xFFFF_FFFF_FFFF_FFFF
     → failed ≡ false
@@ -256,23 +244,17 @@ pub still_goes : (failed : Bool) (old new : ℕ)
     → (failed || not (can_fail new)) ≡ false
 still_goes failed old new room holds same = grind (arith, nat_tests)
 
--- One that has failed has said stop.
 pub has_stopped : (failed b : Bool) → failed ≡ true → (failed || b) ≡ true
 has_stopped true b failing = refl
 has_stopped false b failing = absurd (true≢false (sym failing))
 
--- One that can't have said stop has not failed.
 pub cannot_fail : (failed b : Bool) → ((failed || b) ≡ true → ⊥) → failed ≡ false
 cannot_fail true b holds = absurd (holds refl)
 cannot_fail false b holds = refl
 
--- ---- flushed lines
-
--- Nothing was flushed.
 pub stays-none : (a : PrinterValue) → StaysPrinted a a
 stays-none a = grind (arith, nat_tests)
 
--- One that has said stop, and had not failed, failed when lines were flushed.
 pub stopped_fails : (a b : PrinterValue) (is : Bool) → b.failed ≡ is
     → a.failed ≡ false
     → a.count < 0xFFFF_FFFF_FFFF_FFFF
@@ -281,7 +263,6 @@ pub stopped_fails : (a b : PrinterValue) (is : Bool) → b.failed ≡ is
     → b.failed ≡ true
 stopped_fails a b is h1 goes room stays stopped = grind (arith, nat_tests, still_goes)
 
--- Then whether it has failed says whether flushing was possible.
 failed_as : (a b : PrinterValue) (ok : Bool)
     → a.failed ≡ false
     → a.count < 0xFFFF_FFFF_FFFF_FFFF
@@ -290,7 +271,6 @@ failed_as : (a b : PrinterValue) (ok : Bool)
 failed_as a b true goes room on = cannot_fail _ _ (λ is. true≢false (sym is ∙ on.stopped))
 failed_as a b false goes room on = stopped_fails a b b.failed refl goes room on.stays on.stopped
 
--- What stays the same when a printer flushes. For reading the next PES packet.
 module _ {P N : Type 0} (name : P → N) (value : P → PrinterValue) (has_pending_reports : P → Bool)
     (IsFlushed : P → Bool → P → Type 0) (s t : P) (ok : Bool)
     (call : FlushesIfPending has_pending_reports IsFlushed s ok t)

@@ -1,4 +1,5 @@
--- A listing that was printed, or of which a sink that failed has a prefix; and a count.
+-- Consequences of printing a listing: the text was printed completely, or the sink failed and
+-- received a prefix.
 use Rattle.std.proofs.Common.{◌≡◌, ◌≢◌, ℕ, ◌+◌, arith, inl, inr, refl, Bool, true, false}
 use Rattle.std.proofs.Common.{if◌then◌else◌}
 use Rattle.std.specs.Io.KnownBytes.{Appends}
@@ -7,7 +8,7 @@ use Rattle.sub_listing.specs.Listing.{Listing, PrintsOrFails}
 use Rattle.sub_listing.specs.declared.status.Status.{Status}
 use Rattle.sub_listing.specs.declared.status.Status.TheVariants.{Fault}
 
--- If the sink did not fail, the text was printed completely and gives the status.
+-- If the sink did not fail, the text was printed completely, and the status is the listing's own.
 pub printed-whole : (out : SinkCall) (listing : Listing) (status : Status)
     → PrintsOrFails out listing status
     → out.new_count ≡ out.old_count
@@ -17,7 +18,7 @@ printed-whole out listing status (inl p) same = (p.1, p.2)
 printed-whole out listing status (inr p) same =
     let risen = p.0 in absurd (omega (arith, risen, same))
 
--- A status other than `Fault` is the listing's own.
+-- If the status is not `Fault`, it is the listing's own.
 pub printed-status : (out : SinkCall) (listing : Listing) (status : Status)
     → PrintsOrFails out listing status
     → status ≢ Fault
@@ -26,7 +27,6 @@ unfolding PrintsOrFails
 printed-status out listing status (inl p) other = p.2
 printed-status out listing status (inr p) other = absurd (other p.2)
 
--- A count that did not rise. For `print_listening` and `memory-printed`.
 pub did_not_rise : (b : Bool) (old new : ℕ)
     → new ≡ old + (if b then 1 else 0)
     → new ≡ old
@@ -34,7 +34,6 @@ pub did_not_rise : (b : Bool) (old new : ℕ)
 did_not_rise true old new counted same = absurd (omega (arith, counted, same))
 did_not_rise false old new counted same = refl
 
--- A count that rose. For `print_listening`.
 pub did_rise : (b : Bool) (old new : ℕ)
     → new ≡ old + (if b then 1 else 0)
     → new ≢ old

@@ -1,5 +1,5 @@
 -- One step of copying: a PES packet is read and written to a file. Only contracts of private
--- functions use it.
+-- functions use this file.
 use Rattle.std.specs.Prelude.{◌≡◌, ℕ, ◌<◌, List, [], Bool, true, false, length, take, drop}
 use Rattle.std.specs.Prelude.{Option, Some, Result, Ok, Err}
 use Rattle.std.specs.Io.KnownBytes.{Appends, Keeps}
@@ -14,33 +14,35 @@ use Rattle.sub_listing.specs.Extracting.{most_pes_packets, refusal_at}
 use Rattle.sub_listing.specs.declared.copying.CopyFault.{CopyFault}
 use Rattle.sub_listing.specs.declared.copying.CopyFault.TheVariants as fault
 
--- The device that gives the PES packets failed.
+-- The fault means that the device with the PES packets failed.
 abbrev pub is_copy_read : CopyFault → Bool
 is_copy_read fault.Read = true
 is_copy_read fault.Write = false
 
--- The file failed.
+-- The fault means that the output file failed.
 abbrev pub is_copy_write : CopyFault → Bool
 is_copy_write fault.Read = false
 is_copy_write fault.Write = true
 
--- A PES packet was copied.
+-- The result of reading is a PES packet.
 abbrev pub is_pes_packet : {A : Type 0} → Received A → Bool
 is_pes_packet (PesPacket answer) = true
 is_pes_packet _ = false
 
--- Unreadable bytes would be reported as a failed source, which never happens.
+-- The result of reading is a fault of the source, reported as the fault of unreadable bytes. This
+-- never happens.
 abbrev pub reports_read : {A : Type 0} → Received A → Bool
 reports_read (Rest f) = is_read f
 reports_read _ = false
 
--- The first `read` bytes were consumed, and the file has them.
+-- The first `read` of the bytes were consumed, and were written to the file.
 pub record HasCopied
     (bytes : List ℕ) (left old new : Option (List ℕ)) (read : ℕ) : Type 0 where
   pub left_is : left ≡ Some (drop read bytes)
   pub written : Appends old new (take read bytes)
 
--- What was copied of these bytes.
+-- What one step copied of the bytes, by its result. At the end: nothing was left. For a PES packet:
+-- the whole packet was copied.
 abbrev pub CopiesNext :
     List ℕ → Option (List ℕ) → Option (List ℕ) → Option (List ℕ) → Result (Received Bool) CopyFault
     → Type 0
@@ -54,14 +56,15 @@ CopiesNext bytes left old new (Ok (Rest f)) =
 CopiesNext bytes left old new (Err fault.Read) = Keeps old new
 CopiesNext bytes left old new (Err fault.Write) = AppendsPrefix old new bytes
 
--- What was copied when copying to the end of the bytes.
+-- What was copied of the bytes that begin no PES packet, by the result: all bytes, unless there are
+-- too many; or a prefix, if a device failed.
 abbrev pub CopiesRest :
     List ℕ → Option (List ℕ) → Option (List ℕ) → Result (Unit {0}) CopyFault → Type 0
 CopiesRest bytes old new (Ok u) =
     AppendsPrefix old new bytes × (length bytes < most_pes_packets → Appends old new bytes)
 CopiesRest bytes old new (Err f) = AppendsPrefix old new bytes
 
--- So many PES packets were copied, `gaps` gap markers among them.
+-- Exactly `pes_packets` PES packets were copied, `gaps` gap markers among them.
 pub record HasCopiedPesPackets
     (bytes : List ℕ) (left old new : Option (List ℕ)) (pes_packets gaps : ℕ) : Type 0 where
   pub left_is : left ≡ Some (rest_after_pes_packets pes_packets bytes)

@@ -1,5 +1,5 @@
--- The line that `check --all` prints for each event. The first PES packet that is read has the
--- number `first` in its file.
+-- The line that `check --all` prints for each event. `first` is the number, in its file, of the
+-- first PES packet that is read.
 use Rattle.std.specs.Prelude.{ℕ, ◌+◌, List, [], ◌∷◌, ◌++◌, codes, map}
 use Rattle.stl_rows.specs.declared.fault.LoadFault.{LoadFault}
 use Rattle.sub_rules.specs.Fault.{check_code, place_of, rule_code}
@@ -12,17 +12,17 @@ use Rattle.sub_listing.specs.Faults.{check_line}
 use Rattle.sub_listing.specs.FaultLine.{clock_text, code_text, frame_text, line_of, place_text}
 use Rattle.sub_listing.specs.FaultLine.{counted_from}
 
--- A rule was broken up to this frame, and is no longer.
+-- The line of a fault that ended: the rule was broken up to this frame.
 abbrev pub ended_line : EndRule → ℕ → List ℕ
 ended_line rule frame =
     codes "ended " ++ code_text (rule_code rule) ++ frame_text frame ++ codes "\n"
 
--- PES packets were skipped up to the one that this fault names.
+-- The line of a run of skipped PES packets: the run ended at the packet that this fault names.
 abbrev pub skipped_line : ℕ → CheckFault → List ℕ
 skipped_line first f =
     codes "ended " ++ code_text (check_code f) ++ place_text first (place_of f) ++ codes "\n"
 
--- These frames are trusted, the first and the last one included.
+-- The line of trusted frames, from the first to the last.
 abbrev pub trusted_line : ℕ → ℕ → List ℕ
 trusted_line from to =
     codes "trusted frames " ++ clock_text from ++ codes " " ++ clock_text to ++ codes "\n"
@@ -34,12 +34,12 @@ event_line first (Ended rule frame) = ended_line rule frame
 event_line first (SkippedUntil f) = skipped_line first f
 event_line first (Trusted from to) = trusted_line from to
 
--- The lines of events.
+-- The lines of all events in the list.
 abbrev pub event_lines : ℕ → List Event → List ℕ
 event_lines first [] = []
 event_lines first (e ∷ events) = event_line first e ++ event_lines first events
 
--- 1 if the event is a fault, otherwise 0.
+-- The number of faults that an event reports: 0 or 1.
 abbrev pub refusal : Event → ℕ
 refusal (Reported f) = 1
 refusal (Ended rule frame) = 0
@@ -51,14 +51,14 @@ abbrev pub refusals : List Event → ℕ
 refusals [] = 0
 refusals (e ∷ events) = refusal e + refusals events
 
--- A fault of the subtitle file, as an event.
+-- The event that reports a fault of the subtitle file.
 abbrev pub subtitle_event : LoadFault → Event
 subtitle_event f = Reported (Subtitles f)
 
--- Faults of the subtitle file, as events.
+-- The events that report faults of the subtitle file.
 abbrev pub subtitle_events : List LoadFault → List Event
 subtitle_events faults = map subtitle_event faults
 
--- The greatest number that is counted.
+-- The greatest count of faults, 2^64 - 1.
 abbrev pub most_counted : ℕ
 most_counted = 0xFFFF_FFFF_FFFF_FFFF

@@ -1,6 +1,6 @@
--- The line of a fault, which ends with a newline (own): whether the input is refused, a device or
--- memory failed, or the arguments make no request; number and name; the place. The status follows
--- from it.
+-- The line of a fault, which ends with a newline (own): whether the input is rejected, a device or
+-- memory failed, or the arguments are no request; the fault's number and name; and its place. The
+-- exit status follows from the line.
 use Rattle.std.specs.Prelude.{ℕ, ◌%◌, List, [], ◌++◌, codes, decimal}
 use Rattle.sub_io.specs.FaultCode.{FaultCodeValue}
 use Rattle.stl_file.specs.TimeCode.{day}
@@ -13,30 +13,32 @@ use Rattle.sub_listing.specs.declared.fault_line.FaultLine.{FaultLine}
 use Rattle.sub_rules.specs.declared.fault_place.FaultPlace.{FaultPlace}
 use Rattle.sub_rules.specs.declared.fault_place.FaultPlace.TheVariants as place
 
--- The line of a fault with this code. PES packets are counted from 0.
+-- The line of a fault with this kind, code and place, if the first PES packet that is read has the
+-- number 0.
 abbrev pub line_as : Kind → FaultCodeValue → FaultPlace → FaultLine
 line_as k c p = record { kind = k; code = c; place = p; first = 0 }
 
--- The same if the first PES packet that is read has this number in its file.
+-- The line of a fault, if the first PES packet that is read has the number `first` in its file.
 abbrev pub counted_from : ℕ → FaultLine → FaultLine
 counted_from first t = record t { first = first }
 
--- The beginning of the line.
+-- The first word of a fault's line: `refused`, `fault` or `usage`.
 abbrev pub kind_text : Kind → List ℕ
 kind_text kind.Refused = codes "refused "
 kind_text kind.Fault = codes "fault "
 kind_text kind.Usage = codes "usage "
 
--- The time of a frame of the day. After a day it starts again; no event of a file names such a
--- frame.
+-- The time of a frame of the day. After a day the time starts again; no event of a file names such
+-- a frame.
 abbrev pub clock_text : ℕ → List ℕ
 clock_text frame = time_text (frame % day)
 
--- A frame of the day.
+-- The text for a frame of the day in a fault's line.
 abbrev pub frame_text : ℕ → List ℕ
 frame_text frame = codes " frame " ++ clock_text frame
 
--- The place, if the first PES packet that is read has this number in its file.
+-- The text for a fault's place. The first PES packet that is read has the number `first` in its
+-- file.
 abbrev pub place_text : ℕ → FaultPlace → List ℕ
 place_text first place.Nowhere = []
 place_text first (place.Pes pes) = codes " pes " ++ decimal (number_in_file first pes)
@@ -49,15 +51,15 @@ place_text first (place.Packet frame packet) =
 place_text first (place.Cell frame row column) =
     frame_text frame ++ codes " row " ++ decimal row ++ codes " column " ++ decimal column
 
--- The number and the name.
+-- The text for a fault's number and name.
 abbrev pub code_text : FaultCodeValue → List ℕ
 code_text code = decimal code.number ++ codes " " ++ code.name
 
--- The line.
+-- The complete line of a fault.
 abbrev pub line_of : FaultLine → List ℕ
 line_of t = kind_text t.kind ++ code_text t.code ++ place_text t.first t.place ++ codes "\n"
 
--- The status that belongs to it.
+-- The exit status for a fault's line.
 abbrev pub status_of : Kind → Status
 status_of kind.Refused = status.Refused
 status_of kind.Fault = status.Fault

@@ -1,5 +1,5 @@
--- The line of each fault: a failed device and want of memory are faults, wrong arguments are wrong
--- usage, and everything else is refused (own).
+-- The line of each fault: a failed device and a lack of memory are `fault`, wrong arguments are
+-- `usage`, and everything else is `refused` (own).
 use Rattle.std.specs.Prelude.{ℕ, Bool, codes, if◌then◌else◌}
 use Rattle.sub_io.specs.FaultCode.{FaultCodeValue, fault_code}
 use Rattle.stl_file.specs.Fault.{is_file_read, normal_code, stl_code}
@@ -25,50 +25,53 @@ use Rattle.sub_request.specs.Fault.{usage_code}
 use Rattle.sub_request.specs.declared.request.UsageFault.{UsageFault}
 use Rattle.sub_request.specs.declared.request.UsageFault.TheVariants as usage
 
--- ---- files
+-- ---- faults of files
 
--- The beginning of the line, for a failure of a device or of memory, or for a refusal.
+-- The kind of a fault's line: `fault` if a device or memory failed, otherwise `refused`.
 abbrev pub kind_by : Bool → Kind
 kind_by fails = if fails then kind.Fault else kind.Refused
 
--- A fault of a pair of files.
+-- The line of a fault of a subtitle file and a PES file.
 abbrev pub check_line : CheckFault → FaultLine
 check_line f = line_as (kind_by (is_failure f)) (check_code f) (place_of f)
 
--- A fault of loading a subtitle file, at a TTI block. A fault of a text also names its place in it.
+-- The line of a fault of loading a subtitle file, at a TTI block. For a fault in a text, the line
+-- also names the position in the text.
 abbrev pub load_line : LoadFaultKind → ℕ → FaultLine
 load_line f block = check_line (check.Subtitles (record { kind = f; block = block }))
 
--- A fault of a subtitle file that is listed, at a TTI block.
+-- The line of a fault of a subtitle file that is listed, at a TTI block.
 abbrev pub stl_line : StlFault → ℕ → FaultLine
 stl_line f block = line_as (kind_by (is_file_read f)) (stl_code f) (place.Block block)
 
--- ---- one packet
+-- ---- faults of one Teletext packet
 
--- The number and name of a fault of a packet (own).
+-- The number and the name of a fault of a Teletext packet (own).
 abbrev pub packet_code : PacketFault → FaultCodeValue
 packet_code packet.BadAddress = fault_code 3 (codes "BadAddress")
 packet_code packet.BadHeader = fault_code 4 (codes "BadHeader")
 
--- A fault of a packet; it has no place.
+-- The line of a fault of a Teletext packet, without a place.
 abbrev pub packet_line : PacketFault → FaultLine
 packet_line f = line_as kind.Refused (packet_code f) place.Nowhere
 
--- ---- arguments
+-- ---- faults of arguments
 
--- A file that can't be opened and want of memory are faults; the others are wrong usage.
+-- The kind of a fault of the arguments: `fault` if a file can't be opened or memory ran out,
+-- otherwise `usage`.
 abbrev pub usage_kind : UsageFault → Kind
 usage_kind usage.Open = kind.Fault
 usage_kind usage.Memory = kind.Fault
 usage_kind _ = kind.Usage
 
--- A fault of the arguments, or of the program itself; it has no place.
+-- The line of a fault of the arguments, or of the program itself, without a place.
 abbrev pub usage_line : UsageFault → FaultLine
 usage_line f = line_as (usage_kind f) (usage_code f) place.Nowhere
 
--- ---- a file that is written
+-- ---- faults of a file that is written
 
--- A failing device and want of memory are faults.
+-- The line of a fault of a command that writes a file. Failed devices and a lack of memory are
+-- `fault`.
 abbrev pub write_line : WriteFault → FaultLine
 write_line (write.Input (input.Read block)) = stl_line stl.Read block
 write_line (write.Input input.Memory) = usage_line usage.Memory

@@ -1,7 +1,7 @@
 -- The text that `--help` prints (own).
 use Rattle.std.specs.Prelude.{ℕ, List, ◌++◌, codes}
 
--- Its lines.
+-- The lines of the text of `--help`.
 unfoldable pub help_text : List ℕ
 help_text =
     codes "usage: subttx COMMAND FILES [options]\n"

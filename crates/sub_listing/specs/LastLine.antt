@@ -1,13 +1,12 @@
--- The output that is not flushed if the source of a listing failed: only the line that reports
--- this.
+-- After the source of a listing failed, the only output that is not yet flushed is the line about
+-- the failure.
 use Rattle.std.specs.Prelude.{◌≡◌, ℕ, Bool, List, Option}
 use Rattle.sub_io.specs.Calls.{PutsByPushes}
 use Rattle.sub_io.specs.Device.{AppendsPrefix}
 use Rattle.sub_listing.specs.FaultLine.{line_of}
 use Rattle.sub_listing.specs.declared.fault_line.FaultLine.{FaultLine}
 
--- These bytes were written, and nothing else was done. If `ok` is false the sink failed, and has a
--- prefix of them.
+-- Only this line was written, if `ok`; otherwise the sink failed and received a prefix of the line.
 pub record PutsLine
     {K : Type 0} (contents : K → Option (List ℕ)) (IsPush : K → List ℕ → Option ℕ → K → Type 0)
     (old : K) (line : List ℕ) (new : K) : Type 0 where
@@ -15,7 +14,7 @@ pub record PutsLine
   pub calls : PutsByPushes IsPush old line ok new
   pub bytes : AppendsPrefix (contents old) (contents new) line
 
--- Everything before the last line was flushed, and since then only this line was written.
+-- Everything before the last line was flushed, and since then only that line was written.
 pub record BuffersLastLineOnly
     {K : Type 0} (contents : K → Option (List ℕ)) (buffered : K → ℕ)
     (IsPush : K → List ℕ → Option ℕ → K → Type 0) (new : K) : Type 0 where
@@ -24,7 +23,7 @@ pub record BuffersLastLineOnly
   pub reported : FaultLine
   pub line : PutsLine contents IsPush before (line_of reported) new
 
--- This is the last line of a listing, and everything before it was flushed.
+-- The text is the last line of a listing, and everything before it was flushed.
 pub record IsAlone (buffered : ℕ) (text : List ℕ) : Type 0 where
   pub settled : buffered ≡ 0
   pub reported : FaultLine

@@ -1,4 +1,4 @@
--- The lines that the program prints. Each ends with one newline.
+-- The lines that the program prints. Each line ends with one newline.
 use Rattle.std.specs.Prelude.{ℕ, ◌+◌, ◌/◌, ◌%◌, ◌==◌, ◌&&◌, nat_le, List, [], ◌∷◌, ◌++◌, codes}
 use Rattle.std.specs.Prelude.{decimal, map, min, length, Bool, if◌then◌else◌, slice_index}
 use Rattle.ttx_packet.specs.Parity.{is_odd, code_of}
@@ -9,36 +9,36 @@ use Rattle.ttx_pes.specs.DataUnit.{UnitValue}
 use Rattle.stl_file.specs.Gsi.{five_digits}
 use Rattle.stl_file.specs.Subtitle.{SubtitleValue}
 
--- The character of a cell's code: codes 20 to 7E as ASCII, any other as a full stop.
+-- The printed character of a cell's code: codes 20 to 7E as ASCII, any other code as a full stop.
 abbrev pub glyph : ℕ → ℕ
 glyph code = if nat_le 0x20 code && nat_le code 0x7E then code else 0x2E
 
--- The character of a text byte: that of its code, or `?` if its parity is even.
+-- The printed character of a text byte: that of its code, or `?` if its parity is even.
 abbrev pub text_glyph : ℕ → ℕ
 text_glyph byte = if is_odd byte then glyph (code_of byte) else 0x3F
 
--- One upper case hexadecimal digit.
+-- An upper case hexadecimal digit, given its value 0 to 15.
 abbrev pub hex_digit : ℕ → ℕ
 hex_digit n = slice_index (codes "0123456789ABCDEF") n
 
--- Two upper case hexadecimal digits.
+-- The two upper case hexadecimal digits of a byte.
 unfoldable pub hex_two : ℕ → List ℕ
 hex_two n = hex_digit (n / 16) ∷ hex_digit (n % 16) ∷ []
 
--- Magazines are shown as 1 to 8: number 0 is magazine 8.
+-- The printed number of a magazine, 1 to 8: number 0 is magazine 8.
 abbrev pub shown_magazine : ℕ → ℕ
 shown_magazine magazine = if magazine == 0 then 8 else magazine
 
--- A packet's magazine, 1 to 8, and its packet number.
+-- The line with a packet's magazine, 1 to 8, and its packet number.
 abbrev pub address_line : ℕ → ℕ → List ℕ
 address_line magazine packet_number = codes "magazine " ++ decimal (shown_magazine magazine)
     ++ codes " packet " ++ decimal packet_number ++ codes "\n"
 
--- The name of a control bit after a space, if the bit is set.
+-- The name of a control bit after a space, if the bit is set; otherwise no text.
 abbrev pub marked : Bool → List ℕ → List ℕ
 marked bit name = if bit then name else []
 
--- The control bits that are set, in rising order, each after a space.
+-- The names of the control bits that are set, in rising order, each after a space.
 abbrev pub control_names : Header → List ℕ
 control_names h = marked (c4 h) (codes " C4") ++ marked (c5 h) (codes " C5")
     ++ marked (c6 h) (codes " C6") ++ marked (c7 h) (codes " C7") ++ marked (c8 h) (codes " C8")
@@ -51,34 +51,35 @@ abbrev pub control_list : Header → List ℕ
 control_list h =
     if length (control_names h) == 0 then codes " none" else control_names h
 
--- The contents of a page header: page number and subcode in hexadecimal, and the control bits.
+-- The line with the contents of a page header: page number and subcode in hexadecimal, and the
+-- control bits.
 abbrev pub header_line : Header → List ℕ
 header_line h = codes "page " ++ hex_two h.page ++ codes " subcode "
     ++ hex_two (h.subcode / 256) ++ hex_two (h.subcode % 256)
     ++ codes " control" ++ control_list h ++ codes "\n"
 
--- Text bytes between bars.
+-- The line with text bytes between bars.
 abbrev pub text_line : List ℕ → List ℕ
 text_line bytes = codes "text |" ++ map text_glyph bytes ++ codes "|\n"
 
--- The number of a PES packet in its file, counted from 0: `index` is its number among those that
--- are read, of which the first has the number `first`. The greatest number that is printed stands
--- for any above it, too.
+-- The number of a PES packet in its file, counted from 0: `index` is its number among the packets
+-- that are read, the first of which has the number `first`. The greatest printed number, 2^64 - 1,
+-- also stands for any greater number.
 unfoldable pub number_in_file : ℕ → ℕ → ℕ
 number_in_file first index = min (first + index) 0xFFFF_FFFF_FFFF_FFFF
 
--- A PES packet: its number in its file, and its PTS.
+-- The line of a PES packet: its number in its file, and its PTS.
 abbrev pub pes_line : ℕ → ℕ → List ℕ
 pes_line number pts = codes "pes " ++ decimal number ++ codes " pts " ++ decimal pts ++ codes "\n"
 
--- A Teletext unit: its number in its PES packet from 0, data_unit_id, the field, line_offset, and
--- the packet's 42 bytes in the bit order of Teletext.
+-- The line of a Teletext unit: its number in its PES packet from 0, data_unit_id, field_parity,
+-- line_offset, and the packet's 42 bytes in the bit order of Teletext.
 abbrev pub unit_line : ℕ → UnitValue → List ℕ
 unit_line number u = codes "unit " ++ decimal number ++ codes " id 0" ++ decimal u.id
     ++ codes " field " ++ decimal u.field ++ codes " line " ++ decimal u.line ++ codes " "
     ++ encode_lower u.packet ++ codes "\n"
 
--- Two decimal digits.
+-- The two decimal digits of a number below 100.
 unfoldable pub two_digits : ℕ → List ℕ
 two_digits n = (0x30 + n / 10) ∷ (0x30 + n % 10) ∷ []
 
@@ -91,8 +92,8 @@ time_text frame = two_digits (frame / 90000) ++ codes ":" ++ two_digits ((frame 
 unfoldable pub text_digits : List ℕ → List ℕ
 text_digits text = if length text == 0 then codes "-" else encode_lower text
 
--- A subtitle: its number SN in five digits, the time codes in and out, the vertical position, the
--- justification code and the text in the file's code.
+-- The line of a subtitle: its number SN in five digits, the time codes in and out, the vertical
+-- position, the justification code and the text in the file's code.
 abbrev pub subtitle_line : SubtitleValue → List ℕ
 subtitle_line s = five_digits s.sn ++ codes " " ++ time_text s.tci ++ codes " " ++ time_text s.tco
     ++ codes " vp " ++ decimal s.vp ++ codes " jc " ++ decimal s.jc

@@ -1,4 +1,4 @@
--- The complete output of the commands, and how they end.
+-- The complete output of a command, and its exit status.
 use Rattle.std.specs.Prelude.{◌≡◌, ◌≢◌, ◌⊎◌, ℕ, ◌+◌, ◌==◌, Bool, true, false, nat_le, List, ◌++◌}
 use Rattle.std.specs.Prelude.{drop, Option, Some, None, option_map, if◌then◌else◌}
 use Rattle.ttx_packet.specs.PacketAddress.{address, address_pair}
@@ -16,70 +16,72 @@ use Rattle.sub_listing.specs.declared.status.Status.{Status}
 use Rattle.sub_listing.specs.declared.status.Status.TheVariants.{Done, Refused, Fault}
 use Rattle.sub_listing.specs.declared.fault_line.FaultLine.{FaultLine}
 
--- A text, and the status if all of it was printed.
+-- The complete output of a command, and the exit status if all of it was printed.
 pub record Listing : Type 0 where
   pub text : List ℕ
   pub status : Status
 
--- A text that is the complete answer.
+-- The output of a successful command.
 abbrev pub done : List ℕ → Listing
 done text = record { text = text; status = Done }
 
--- The line of a fault.
+-- The output of a command that ends with the line of a fault.
 abbrev pub fault_listing : FaultLine → Listing
 fault_listing t = record { text = line_of t; status = status_of t.kind }
 
--- Lines before a listing.
+-- A listing with more lines in front.
 abbrev pub followed : List ℕ → Listing → Listing
 followed text more = record { text = text ++ more.text; status = more.status }
 
--- ---- one packet
+-- ---- the listing of one Teletext packet
 
--- Packet X/0 (EN 300 706, page header): its eight coded bytes, then 32 text bytes.
+-- The listing of a page header, packet X/0 (EN 300 706): its eight coded bytes, then 32 text bytes.
 abbrev pub header_listing : ℕ → List ℕ → Option Header → Listing
 header_listing magazine packet None = fault_listing (packet_line BadHeader)
 header_listing magazine packet (Some h) =
     done (address_line magazine 0 ++ header_line h ++ text_line (drop 10 packet))
 
--- Packets X/1 to X/31 (EN 300 706): the rows 1 to 24 are 40 text bytes, the others are not text.
+-- The listing of a packet X/1 to X/31 (EN 300 706): the rows 1 to 24 have 40 text bytes, the other
+-- packets no text.
 abbrev pub row_listing : ℕ → ℕ → List ℕ → Listing
 row_listing magazine packet_number packet = if nat_le packet_number 24
     then done (address_line magazine packet_number ++ text_line (drop 2 packet))
     else done (address_line magazine packet_number)
 
--- The listing of a packet, given its magazine and packet number.
+-- The listing of a Teletext packet, given its magazine and packet number, if the address can be
+-- decoded.
 abbrev pub addressed_listing : Option (ℕ × ℕ) → List ℕ → Listing
 addressed_listing None packet = fault_listing (packet_line BadAddress)
 addressed_listing (Some a) packet = if a.1 == 0
     then header_listing a.0 packet (header packet)
     else row_listing a.0 a.1 packet
 
--- What `packet` prints for the 42 bytes of a packet.
+-- The output of `packet` for the 42 bytes of a Teletext packet.
 abbrev pub packet_listing : List ℕ → Listing
 packet_listing packet = addressed_listing (option_map address_pair (address packet)) packet
 
--- ---- statuses
+-- ---- exit statuses of a listing
 
--- The status as the number that the system gets.
+-- The exit status as a number.
 abbrev pub exit_code : Status → ℕ
 exit_code Done = 0
 exit_code Refused = 1
 exit_code Fault = 2
 
--- The listing ends because the source failed. It has no end if the sink failed before.
+-- The listing ends with a failure of the source. If the sink failed before, the listing has no end.
 abbrev pub has_failed : Option Status → Bool
 has_failed (Some Fault) = true
 has_failed _ = false
 
--- The listings that are possible for a source, given its bytes before and after and how the listing
--- ends.
+-- A relation that gives the possible listings of a source, from the source's bytes before and after
+-- the listing, and how the listing ends.
 abbrev pub IsListed : Type 1
 IsListed = Option (List ℕ) → Option (List ℕ) → Option Status → Listing → Type 0
 
--- ---- the printed text
+-- ---- the printed text of a listing
 
--- All of the listing was printed, and its status is returned; or the sink failed once, has a prefix
--- of the text, and the status is `Fault`.
+-- All of the listing was printed, and its status is returned; or the sink failed once, received a
+-- prefix of the text, and the status is `Fault`.
 unfoldable pub PrintsOrFails : SinkCall → Listing → Status → Type 0
 PrintsOrFails out listing status =
     ((out.new_count ≡ out.old_count) × Appends out.old out.new listing.text
@@ -87,9 +89,9 @@ PrintsOrFails out listing status =
     ⊎ ((out.new_count ≡ out.old_count + 1) × AppendsPrefix out.old out.new listing.text
     × (status ≡ Fault))
 
--- The outcome of reading a source is listed. If the bytes of the source are known and it did not
--- fail, they decide the outcome; if it was read to the end of the listing or failed, the consumed
--- bytes do, whether they are known or not.
+-- The listing belongs to an outcome of reading a source. If the bytes of the source are known and
+-- the source did not fail, the bytes decide the outcome. If the source was read to the end of the
+-- listing or failed, the consumed bytes decide the outcome, even if they are unknown.
 pub record Lists
     {Outcome : Type 0} (listing_of : Outcome → Listing) (given : List ℕ → Outcome)
     (Takes : Bool → Option (List ℕ) → Outcome → Option (List ℕ) → Type 0)
@@ -100,8 +102,8 @@ pub record Lists
   pub exact : IfKnown known (λ bytes. has_failed ending ≡ false → outcome ≡ given bytes)
   pub taken : ending ≢ None → Takes (has_failed ending) known outcome left
 
--- A source was listed, whether it failed or not, and the listing was printed, or a sink that failed
--- has a prefix of it.
+-- A source was listed, even if it failed. The listing was printed, or the sink failed and received
+-- a prefix of it.
 pub record PrintsListing
     (Lists : IsListed) (source : SourceCall) (out : SinkCall) (status : Status)
     : Type 0 where
@@ -112,8 +114,8 @@ pub record PrintsListing
   pub cut : ending ≡ None → out.new_count ≢ out.old_count
   pub printed : PrintsOrFails out listing status
 
--- One part of a listing was read and its lines were made: each listing from here on comes after
--- them, and there is one; or they end the listing.
+-- One part of the input was read, and `text` has its lines. Either each possible listing of the
+-- rest, of which there is at least one, comes after these lines; or these lines end the listing.
 abbrev pub Gives : IsListed → IsListed
     → Option (List ℕ) → Option (List ℕ) → List ℕ → Option Status → Type 0
 Gives Before After known left text None =
@@ -123,6 +125,6 @@ Gives Before After known left text None =
 Gives Before After known left text (Some status) =
     Before known left (Some status) (record { text = text; status = status })
 
--- A part was not read completely, since the sink had failed: the listing then has no end.
+-- The sink failed before a part was read completely, so the listing has no end.
 abbrev pub IsCut : IsListed → Option (List ℕ) → Option (List ℕ) → Type 0
 IsCut Lists known left = (more : Listing) × Lists known left None more

@@ -1,4 +1,4 @@
--- What `packets` prints for a file of PES packets.
+-- The output of `packets` for a file of PES packets.
 use Rattle.std.specs.Prelude.{ℕ, ◌+◌, List, [], ◌∷◌, ◌++◌, codes, decimal}
 use Rattle.ttx_pes.specs.DataUnit.{UnitValue}
 use Rattle.ttx_pes.specs.Outcome.{PesOutcome, ReadsPackets, ends, fails, gives, outcome_after}
@@ -9,23 +9,23 @@ use Rattle.sub_listing.specs.Lines.{number_in_file, pes_line, unit_line}
 use Rattle.sub_listing.specs.Listing.{IsListed, Lists, Listing, done, followed, fault_listing}
 use Rattle.sub_listing.specs.FaultLine.{counted_from}
 
--- The lines of Teletext units, of which the first has this number.
+-- The lines of Teletext units, the first of which has this number in its PES packet.
 abbrev pub unit_lines : ℕ → List UnitValue → List ℕ
 unit_lines number [] = []
 unit_lines number (u ∷ units) = unit_line number u ++ unit_lines (number + 1) units
 
--- The lines of a PES packet with this number in its file, and of its units.
+-- The lines of a PES packet with this number in its file, and of its Teletext units.
 abbrev pub frame_lines : ℕ → PesValue → List ℕ
 frame_lines number v = pes_line number v.pts ++ unit_lines 0 v.units
 
--- What is printed after `index` PES packets: each of them in turn, and at the end how many were
--- listed. The first that is read has the number `first` in its file.
+-- The output after `index` PES packets: the lines of each further packet, and at the end the number
+-- of listed packets. The first PES packet that is read has the number `first` in its file.
 abbrev pub pes_listing : ℕ → ℕ → PesOutcome → Listing
 pes_listing first index ends = done (decimal index ++ codes " pes\n")
 pes_listing first index (fails f) = fault_listing (counted_from first (check_line (Pes index f)))
 pes_listing first index (gives v more) =
     followed (frame_lines (number_in_file first index) v) (pes_listing first (index + 1) more)
 
--- PES packets are listed, of which the first has this number in its file.
+-- The PES packets of a source are listed, the first with the number `first` in its file.
 abbrev pub ListsPackets : ℕ → IsListed
 ListsPackets first = Lists (pes_listing first 0) (outcome_after 0) ReadsPackets

@@ -1,4 +1,4 @@
--- A device that prints a line for each event. Only contracts of private functions use it.
+-- A device that prints a line for each event. Only contracts of private functions use this file.
 use Rattle.std.specs.Prelude.{◌≡◌, ◌≢◌, ◌||◌, not, ℕ, ◌+◌, min, nat_lt, Bool, true, false, List}
 use Rattle.std.specs.Prelude.{Option}
 use Rattle.std.specs.Io.KnownBytes.{Appends, Keeps}
@@ -6,8 +6,9 @@ use Rattle.sub_io.specs.Device.{AppendsPrefix}
 use Rattle.sub_rules.specs.declared.event.Event.{Event}
 use Rattle.sub_listing.specs.EventLines.{event_line, event_lines, most_counted, refusal, refusals}
 
--- The device: the contents of its sink, if known, and its count of failures; how many faults were
--- counted; whether the sink failed while printing; the number of the first PES packet in its file.
+-- The state of the printer: the contents of its sink, if known, and the sink's count of failures;
+-- the number of faults counted; whether the sink failed while printing; and the number, in its
+-- file, of the first PES packet.
 pub record PrinterValue : Type 0 where
   pub contents : Option (List ℕ)
   pub count : ℕ
@@ -15,7 +16,7 @@ pub record PrinterValue : Type 0 where
   pub failed : Bool
   pub first : ℕ
 
--- The device from its parts.
+-- The state of the printer, from its parts.
 abbrev pub printer_value : Option (List ℕ) → ℕ → ℕ → Bool → ℕ → PrinterValue
 printer_value contents count refused failed first = record {
   contents = contents;
@@ -25,16 +26,17 @@ printer_value contents count refused failed first = record {
   first = first;
 }
 
--- Whether a count of failures can rise by one more.
+-- The count of failures is below 2^64 - 1, so it can rise by one.
 abbrev pub can_fail : ℕ → Bool
 can_fail count = nat_lt count 0xFFFF_FFFF_FFFF_FFFF
 
--- The count after more faults: the greatest number stands for any above it, too.
+-- The number of faults after more faults. The greatest number, 2^64 - 1, also stands for any
+-- greater number.
 unfoldable pub counted : ℕ → ℕ → ℕ
 counted refused more = min (refused + more) most_counted
 
 -- An event was reported to a printer whose sink had not failed. The line was written and a fault
--- counted; or the sink failed once, and has a prefix of the line.
+-- counted; or the sink failed once, and received a prefix of the line.
 pub record PrintsEvent (old : PrinterValue) (event : Event) (new : PrinterValue) : Type 0 where
   pub goes_on : old.failed ≡ false
   pub counts_from : new.first ≡ old.first
@@ -45,8 +47,8 @@ pub record PrintsEvent (old : PrinterValue) (event : Event) (new : PrinterValue)
       new.failed ≡ true → AppendsPrefix old.contents new.contents (event_line old.first event)
   pub cut_count : new.failed ≡ true → new.count ≡ old.count + 1
 
--- Events were reported, one after another, to a printer that had not failed: all their lines were
--- written, or a prefix of them.
+-- Several events were reported to a printer whose sink had not failed: all their lines were
+-- written, or the sink failed and received a prefix of them.
 pub record PrintsEvents (old : PrinterValue) (events : List Event) (new : PrinterValue) : Type 0
   where
     pub counts_from : new.first ≡ old.first
@@ -59,7 +61,7 @@ pub record PrintsEvents (old : PrinterValue) (events : List Event) (new : Printe
         → AppendsPrefix old.contents new.contents (event_lines old.first events)
     pub cut_count : new.failed ≡ true → new.count ≡ old.count + 1
 
--- Flushing keeps what was printed. If it was not possible, the sink failed once.
+-- Flushing the printer keeps the printed lines. If flushing was not possible, the sink failed once.
 pub record StaysPrinted (old new : PrinterValue) : Type 0 where
   pub kept : Keeps old.contents new.contents
   pub refused : new.refused ≡ old.refused
@@ -67,7 +69,7 @@ pub record StaysPrinted (old new : PrinterValue) : Type 0 where
   pub same : new.failed ≡ old.failed → new.count ≡ old.count
   pub risen : new.failed ≢ old.failed → (new.failed ≡ true) × (new.count ≡ old.count + 1)
 
--- It was asked to flush its sink, and did so if `ok`.
+-- The printer was asked to flush its sink, and did so if `ok`.
 pub record FlushesLines (old : PrinterValue) (ok : Bool) (new : PrinterValue) : Type 0 where
   pub stays : StaysPrinted old new
   pub stopped : (new.failed || not (can_fail new.count)) ≡ not ok

@@ -1,4 +1,4 @@
--- What `show` prints for a subtitle file.
+-- The output of `show` for a subtitle file.
 use Rattle.std.specs.Io.KnownBytes.{Consumes}
 use Rattle.std.specs.Prelude.{◌≡◌, ◌⊎◌, ℕ, ◌+◌, ◌<◌, List, codes, decimal, ◌++◌, length, Option}
 use Rattle.std.specs.Prelude.{Bool, true, false, None, Some, ◌-◌, ◌≤◌}
@@ -15,8 +15,9 @@ use Rattle.sub_listing.specs.Faults.{stl_line}
 use Rattle.sub_listing.specs.Lines.{subtitle_line}
 use Rattle.sub_listing.specs.Listing.{IsListed, Lists, Listing, done, followed, fault_listing}
 
--- These subtitles were read from a source, `from` blocks after the GSI block, followed by skipped
--- blocks; or what follows is no file. If the source failed, it failed at this block.
+-- The outcome of reading subtitles after `from` TTI blocks. At the end, only skipped blocks were
+-- left. For a fault of the format, no file continues with these bytes. If the source failed, it
+-- failed at the block of the fault.
 abbrev pub ReadsSubtitles : Bool → ℕ → Option (List ℕ) → Outcome → Option (List ℕ) → Type 0
 ReadsSubtitles failed from known ends left =
     (failed ≡ false) × (to : ℕ) × TakesSkipped from to known left
@@ -28,7 +29,7 @@ ReadsSubtitles failed from known (gives s block more) left =
     (following : Option (List ℕ)) × TakesSubtitle from block known following s
     × ReadsSubtitles failed block following more left
 
--- No GSI block was read: the source failed in it, or no file begins like this.
+-- No GSI block was read: the source failed within the block, or no file begins with these bytes.
 pub record ReadsNoGsi (failed : Bool) (known : Option (List ℕ)) (outcome : Outcome)
     (left : Option (List ℕ)) : Type 0 where
   pub fault : StlFault
@@ -38,37 +39,38 @@ pub record ReadsNoGsi (failed : Bool) (known : Option (List ℕ)) (outcome : Out
       failed ≡ true → (bytes : List ℕ) × (length bytes < gsi_size) × Consumes known left bytes
   pub refused : is_format fault ≡ true → RefusesOpening known left fault
 
--- A GSI block was read, and subtitles after it, or none was.
+-- The outcome of reading a file: a GSI block and the subtitles after it, or no GSI block.
 abbrev pub ReadsFile : Bool → Option (List ℕ) → Outcome → Option (List ℕ) → Type 0
 ReadsFile failed known outcome left =
     ReadsNoGsi failed known outcome left
     ⊎ ((following : Option (List ℕ)) × (gsi : List ℕ) × IsGsi gsi × Consumes known following gsi
     × ReadsSubtitles failed 0 following outcome left)
 
--- What is printed after `count` subtitles: each of them in turn, and at the end their number.
+-- The output after `count` subtitles: the line of each further subtitle, and at the end the number
+-- of subtitles.
 abbrev pub subtitles_listing : ℕ → Outcome → Listing
 subtitles_listing count ends = done (decimal count ++ codes " subtitles\n")
 subtitles_listing count (fails f block) = fault_listing (stl_line f block)
 subtitles_listing count (gives s block more) =
     followed (subtitle_line s) (subtitles_listing (count + 1) more)
 
--- A subtitle file is listed.
+-- The subtitles of a file are listed.
 abbrev pub ListsSubtitles : IsListed
 ListsSubtitles = Lists (subtitles_listing 0) outcome_of ReadsFile
 
--- What is listed after `count` subtitles, by the reader after the GSI block, or if there is none
--- yet.
+-- The rest of a listing after `count` subtitles, given the reader; `None` before the GSI block is
+-- read.
 abbrev pub ListsFrom : Option ReaderValue → ℕ → IsListed
 ListsFrom None count = Lists (subtitles_listing count) outcome_of ReadsFile
 ListsFrom (Some r) count =
     Lists (subtitles_listing count) (outcome_left r) (λ failed. ReadsSubtitles failed r.block)
 
--- The reader is not at the end, and has met no fault.
+-- The reader is not at the end of the file, and has met no fault; or no GSI block was read yet.
 abbrev pub IsReady : Option ReaderValue → ℕ → Type 0
 IsReady None count = count ≡ 0
 IsReady (Some r) count = (r.progress ≡ Reading) × (count ≤ r.block) × (r.block ≤ most_blocks)
 
--- How many blocks it can still read at most.
+-- The maximum number of blocks that the lister can still read.
 abbrev pub blocks_left : Option ReaderValue → ℕ
 blocks_left None = most_blocks + 1
 blocks_left (Some r) = most_blocks - r.block

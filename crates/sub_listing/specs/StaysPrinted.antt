@@ -1,5 +1,5 @@
--- The law of the printer: events stay reported when its lines are flushed. No contract uses these
--- lemmas.
+-- Law of the printer: flushing its lines does not change which events were reported. No contract
+-- uses these lemmas.
 use Rattle.std.proofs.Common.{◌≡◌, ◌∙◌, ap, refl, sym, ℕ, ◌+◌, Bool, true, false}
 use Rattle.std.proofs.lemmas.Bool.{true≢false}
 use Rattle.std.proofs.KnownBytes.{Appends-kept}
@@ -9,7 +9,7 @@ use Rattle.sub_rules.specs.declared.event.Event.{Event}
 use Rattle.sub_listing.specs.EventLines.{event_line}
 use Rattle.sub_listing.specs.Printer.{PrinterValue, PrintsEvent, StaysPrinted}
 
--- A sink that has not failed afterwards had not failed before.
+-- If a printer's sink has not failed after flushing, the sink had not failed before.
 not_before : (b c : PrinterValue) (was : Bool) → b.failed ≡ was → StaysPrinted b c
     → c.failed ≡ false
     → b.failed ≡ false
@@ -17,7 +17,7 @@ not_before b c false is on holds = is
 not_before b c true is on holds =
     absurd (true≢false (sym (on.risen (λ same. true≢false (sym is ∙ sym same ∙ holds))).0 ∙ holds))
 
--- If it failed at the line or at flushing, it has a prefix of the line.
+-- If the sink failed while writing or flushing a line, it received a prefix of the line.
 cut_stays : (a b c : PrinterValue) (e : Event) (was : Bool) → b.failed ≡ was
     → PrintsEvent a e b
     → StaysPrinted b c
@@ -34,7 +34,7 @@ cut_stays a b c e false is one on fails = (
       ∙ ap (λ (n : ℕ). n + 1) (one.put_count is),
 )
 
--- The line of a printed event stays when lines are flushed after it.
+-- The line of a printed event stays printed when lines are flushed after it.
 pub line_stays : (a b c : PrinterValue) (e : Event)
     → PrintsEvent a e b
     → StaysPrinted b c

@@ -1,6 +1,6 @@
 -- The name and version of the program, as `--version` prints them (own).
 use Rattle.std.specs.Prelude.{ℕ, List, codes}
 
--- Its line.
+-- The line that `--version` prints.
 unfoldable pub version_text : List ℕ
 version_text = codes "subttx 3.0.0\n"

@@ -1,4 +1,5 @@
--- The commands that write a file: the contents of the file, and the output.
+-- The commands that write a file, `schedule` and `normal`: the contents of the file, and the
+-- output.
 use Rattle.std.specs.Prelude.{◌≡◌, ◌≢◌, ◌<◌, ℕ, List, [], ◌++◌, codes, decimal, length, Bool, true}
 use Rattle.std.specs.Prelude.{false, Option, Result, Ok, Err, IsOkAnd}
 use Rattle.std.specs.Io.KnownBytes.{Appends, Consumes, Keeps}
@@ -27,53 +28,54 @@ use Rattle.sub_listing.specs.declared.writing.WriteFault.TheVariants as write
 use Rattle.sub_listing.specs.DeviceCall.{SinkCall, SourceCall}
 use Rattle.sub_listing.specs.declared.status.Status.{Status}
 
--- ---- the result of the work, before its line is printed
+-- ---- the result of writing, before its line is printed
 
--- The source of `normal` failed.
+-- The fault means that the source of `normal` failed.
 abbrev pub is_input_read : InputFault → Bool
 is_input_read (input.Read block) = true
 is_input_read input.Memory = false
 
--- The input failed.
+-- The fault means that the input failed.
 abbrev pub is_input_failure : WriteFault → Bool
 is_input_failure (write.Input f) = is_input_read f
 is_input_failure (write.Load f) = load_fault.is_load_read f
 is_input_failure _ = false
 
--- The file failed.
+-- The fault means that the output file failed.
 abbrev pub is_file_failure : WriteFault → Bool
 is_file_failure (write.Normal f) = is_normal_write f
 is_file_failure (write.Plan f) = is_plan_write f
 is_file_failure _ = false
 
--- The output: how many items are in the file, or the fault.
+-- The output of a command that writes a file: the number of items in the file, or the fault.
 abbrev pub work_listing : List ℕ → Result ℕ WriteFault → Listing
 work_listing things (Ok count) = done (codes "written " ++ decimal count ++ things)
 work_listing things (Err f) = fault_listing (write_line f)
 
--- The file before and after, and the result, given the bytes of the input; and the place of a
--- failed read, given the input before and after.
+-- A relation between the bytes of the input before and after, the bytes of the output file before
+-- and after, and the result of a command that writes a file.
 abbrev pub Work : Type 1
 Work = Option (List ℕ) → Option (List ℕ) → Option (List ℕ) → Option (List ℕ)
     → Result ℕ WriteFault → Type 0
 
--- The work of a command that writes a file has this result, the number of items in it or a fault,
--- and its line was printed.
+-- A command that writes a file has this result, the number of items in the file or a fault, and its
+-- line was printed.
 pub record EndsWork
     (input : SourceCall) (file out : SinkCall) (status : Status)
     (things : List ℕ) (HasWorked : Work)
     : Type 0 where
   pub answer : Result ℕ WriteFault
   pub works : HasWorked input.known input.left file.old file.new answer
-  -- The devices fail exactly if the result says so.
+  -- The counts of failures: the input and the file failed if and only if the result says so.
   pub input_count : RisesIf input.old_count (failed is_input_failure answer) input.new_count
   pub file_count : RisesIf file.old_count (failed is_file_failure answer) file.new_count
   pub printed : PrintsOrFails out (work_listing things answer) status
 
 -- ---- `schedule`
 
--- The file has the schedule of a programme, and this is the number of its page transmissions; or a
--- prefix of it, if the file failed; or nothing, if there are no subtitles.
+-- The file received the schedule of a programme, and the result is the number of page
+-- transmissions; or the file failed and received a prefix of the schedule; or the programme has no
+-- subtitles, and nothing was written.
 abbrev pub WritesSchedule :
     ProgrammeValue → OptionsValue → Bool → Option (List ℕ) → Option (List ℕ)
     → Result ℕ PlanFault → Type 0
@@ -86,8 +88,8 @@ WritesSchedule programme o serial old new (Err Write) =
 WritesSchedule programme o serial old new (Err NoSubtitles) =
     Keeps old new × (programme.records ≡ [])
 
--- The schedule of the input's programme. If there is none, nothing is written and the reason is
--- reported, with the block if the source failed.
+-- The file received the schedule of the input's programme. If the input gives no programme, nothing
+-- was written and the fault is reported, with the block if the source failed.
 abbrev pub Schedules : Drawing → OptionsValue → Bool → Work
 Schedules drawing o serial known left old new (Ok count) =
     IfKnown known (λ bytes. IsOkAnd (loaded drawing bytes) (λ programme.
@@ -101,7 +103,7 @@ Schedules drawing o serial known left old new (Err (write.Load f)) =
     × Keeps old new
 Schedules drawing o serial known left old new answer = ⊥
 
--- Want of memory is reported with the last block of a subtitle that the file has.
+-- The line about a lack of memory names the last block of a subtitle of the file.
 abbrev pub PrintsMemory :
     Drawing → Option (List ℕ) → Option (List ℕ) → Option (List ℕ) → Type 0
 PrintsMemory drawing known old new =
@@ -110,20 +112,21 @@ PrintsMemory drawing known old new =
 
 -- ---- `normal`
 
--- One byte more than the longest file has.
+-- The maximum number of bytes to read: one more than the longest file has.
 abbrev pub most_read : ℕ
 most_read = 12800897
 
--- The source failed at a byte of this block, after the consumed bytes; or an allocation was
--- refused, which is needed only for consumed bytes.
+-- The fault of an input that was not read completely. `Read`: the source failed at a byte of this
+-- block, after the consumed bytes. `Memory`: an allocation failed, which is only needed after at
+-- least one byte was consumed.
 abbrev pub ReportsRead : Option (List ℕ) → Option (List ℕ) → InputFault → Type 0
 ReportsRead old new (input.Read block) =
     (bytes : List ℕ) × Consumes old new bytes × (block ≡ block_of_byte (length bytes))
 ReportsRead old new input.Memory =
     (bytes : List ℕ) × Consumes old new bytes × (0 < length bytes)
 
--- The file has the normal form of the input, or a prefix of it if it failed; or nothing, if the
--- input is refused or was not read.
+-- The file received the normal form of the input, or a prefix if the file failed; or nothing, if
+-- the input is rejected or was not read completely.
 abbrev pub Normalizes : Work
 Normalizes known left old new (Ok count) =
     IfKnown known (λ bytes. NormalAnswers bytes old new (Ok count))

@@ -1,4 +1,5 @@
-//! Copies PES packets to a file, each as soon as it has come, and bytes that begin no PES packet.
+//! Copies PES packets to a file, each as soon as it has come, and then the bytes that begin no PES
+//! packet.
 ghost use Rattle.std.specs.Prelude.{◌≡◌, Err, IfOk, OnErr, OnOk, false, length, true};
 ghost use Rattle.std.specs.Io.KnownBytes.{Appends};
 ghost use Rattle.sub_io.specs.Device.{AppendsPrefix, CanFail, CountsIf, failed};
@@ -12,19 +13,19 @@ use std::marker::Model;
 use sub_io::{Flush, put_all};
 use ttx_pes::{PesPackets, REST_BUFFER_SIZE, Received, TakePesPacket, is_gap_marker};
 
-// Room for the longest PES packet.
+// The size in bytes of the longest PES packet.
 const PES_PACKET_CAPACITY: usize = 1656;
 
-/// Which device failed.
+/// The device that failed while copying.
 #[derive(Clone, Copy)]
 pub enum CopyFault {
-    /// The one that gives the PES packets.
+    /// The device with the PES packets failed.
     Read,
-    /// The file.
+    /// The output file failed.
     Write,
 }
 
-/// The bytes of the PES packet that was read last. In contracts its value is a list.
+/// The bytes of the PES packet that was read last. The model is the list of the bytes.
 #[derive(Drop)]
 pub struct TakenPesPacket {
     room: [u8; PES_PACKET_CAPACITY],
@@ -42,7 +43,7 @@ impl Model for TakenPesPacket {
 }
 
 impl TakenPesPacket {
-    /// Returns an empty value.
+    /// Creates an empty buffer for a PES packet.
     pub fn new() -> Self {
         TakenPesPacket {
             room: [0; PES_PACKET_CAPACITY],
@@ -50,7 +51,7 @@ impl TakenPesPacket {
         }
     }
 
-    // Returns the bytes.
+    // Returns the bytes of the PES packet.
     fn bytes(&self) -> &[u8]
         ensures { result.now ≡ self.now }
     {
@@ -60,7 +61,7 @@ impl TakenPesPacket {
 }
 
 impl TakePesPacket for TakenPesPacket {
-    // Whether it is a gap marker.
+    // Whether the PES packet is a gap marker.
     type Answer = bool;
 
     ghost is_take = { λ old pes_packet answer new. (new ≡ pes_packet) ×
@@ -75,7 +76,7 @@ impl TakePesPacket for TakenPesPacket {
     }
 }
 
-// Writes bytes to a file and flushes it.
+// Writes bytes to a file and flushes the file.
 fn put_and_flush<F: Flush>(file: &mut F, bytes: &[u8]) -> Result<(), CopyFault>
     requires { CanFail (F.failure_count file.old) }
     ensures ok { OnOk result (Appends (F.contents file.old) (F.contents file.new) bytes.now) }
@@ -94,12 +95,13 @@ fn put_and_flush<F: Flush>(file: &mut F, bytes: &[u8]) -> Result<(), CopyFault>
     }
 }
 
-/// Copies the next PES packet, if there is one, through `pes_packet`, and flushes the file.
+/// Copies the next PES packet, if there is one, through the buffer `pes_packet`, and flushes the
+/// file.
 ///
 /// # Errors
 ///
-/// Returns `Read` if the device of the PES packets failed; nothing was copied then. Returns `Write`
-/// if the file failed, which has a prefix of the PES packet.
+/// Returns `Read` if the device with the PES packets failed; nothing was copied. Returns `Write` if
+/// the file failed; it received a prefix of the PES packet.
 pub fn copy_next<P: PesPackets, F: Flush>(
     pes_packets: &mut P,
     file: &mut F,
@@ -136,13 +138,13 @@ pub fn copy_next<P: PesPackets, F: Flush>(
     }
 }
 
-/// Copies all remaining bytes after it turned out that they begin no PES packet, and flushes the
-/// file as they come. Reads at most 2^64 - 1 times.
+/// Copies all remaining bytes, which begin no PES packet, and flushes the file as the bytes come.
+/// Reads at most 2^64 - 1 times.
 ///
 /// # Errors
 ///
-/// Returns `Read` if the device of the PES packets failed, `Write` if the file did. A prefix was
-/// copied.
+/// Returns `Read` if the device with the PES packets failed, `Write` if the file did. A prefix of
+/// the bytes was copied.
 pub fn copy_rest<P: PesPackets, F: Flush>(
     pes_packets: &mut P,
     file: &mut F,

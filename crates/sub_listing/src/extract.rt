@@ -1,4 +1,5 @@
-//! `extract TS PES`: writes the PES packets that the packets of a PID of a recording carry.
+//! `extract TS PES`: writes the PES packets that the transport packets with a PID of a recording
+//! carry.
 ghost use Rattle.std.specs.Prelude.{◌≡◌, ◌+◌, ◌<◌, IfErr, OnOk, false, true, if◌then◌else◌};
 ghost use Rattle.sub_io.specs.Device.{CountsIf, failed};
 ghost use Rattle.sub_listing.specs.DeviceCall.{CanFail, CountsFault, read_call, sink_call};
@@ -19,42 +20,43 @@ use sub_io::{Close, Flush, Sink};
 use sub_rules::CheckFault;
 use ttx_pes::{PesFault, PesPackets, Received};
 
-/// What was written.
+/// The counts of a successful `extract`.
 #[derive(Clone, Copy)]
 pub struct Extracted {
-    /// The number of PES packets, gap markers included.
+    /// The number of PES packets written, gap markers included.
     pub pes: u64,
-    /// How many of them are gap markers.
+    /// The number of gap markers written.
     pub gaps: u64,
 }
 
-/// Why what was written is no file of PES packets, or only a part of it.
+/// The reason why `extract` wrote no file of PES packets, or only a part of one.
 #[derive(Clone, Copy)]
 pub enum ExtractFault {
-    /// The device that gives the PES packets failed.
+    /// The device with the PES packets failed.
     Read {
-        /// How many PES packets, gap markers included, came before.
+        /// The number of PES packets written before the failure, gap markers included.
         pes: u64,
     },
-    /// The file failed.
+    /// The output file failed.
     Write,
-    /// There was no PES packet.
+    /// The recording had no PES packet.
     Empty,
-    /// What follows is no PES packet.
+    /// The bytes after the last PES packet begin no PES packet.
     Refused {
-        /// The reason.
+        /// The fault because of which the bytes begin no PES packet.
         fault: PesFault,
-        /// How many PES packets, gap markers included, came before.
+        /// The number of PES packets written before these bytes, gap markers included.
         pes: u64,
     },
 }
 
-/// Writes PES packets one after another, with gap markers if they are those of a PID of a recording
-/// (ISO/IEC 13818-1; `RecordingPesPackets` of `mpeg_ts`), and prints their number, and how many of
-/// them are gap markers; or why what was written is no file of PES packets.
+/// Writes PES packets one after another, with gap markers if the packets come from a recording
+/// (ISO/IEC 13818-1; `RecordingPesPackets` of `mpeg_ts`). Prints the number of PES packets and of
+/// gap markers, or the reason why the output is no file of PES packets.
 ///
-/// Each is flushed as soon as it has come, and the line is printed after the system has stored the
-/// file. Bytes that begin no PES packet are written, too. Returns `Fault` if a device failed.
+/// Each PES packet is flushed as soon as it has come, and the line is printed after the system has
+/// stored the file. Bytes that begin no PES packet are written too. Returns `Fault` if a device
+/// failed.
 pub fn extract_packets<P: PesPackets, F: Close, K: Sink>(
     pes_packets: &mut P,
     file: &mut F,
@@ -76,8 +78,8 @@ pub fn extract_packets<P: PesPackets, F: Close, K: Sink>(
         < P.failure_count pes_packets.new + F.failure_count file.new + K.failure_count out.new }
     ensures buffered { result ≡ Status.Done → F.buffered file.new ≡ 0 }
     ensures stored { result ≡ Status.Done → F.is_stored file.new ≡ true }
-    // Before a device may be asked, which may fail, everything is flushed. So if it failed, nothing
-    // is held back.
+    // Before a read from a device, which may fail, everything is flushed. So if the device failed,
+    // no PES packet is held back.
     ensures followed { F.buffered file.old ≡ 0
         → P.failure_count pes_packets.old < P.failure_count pes_packets.new
         → F.buffered file.new ≡ 0 }
@@ -123,7 +125,7 @@ fn write_pes_packets<P: PesPackets, F: Close>(
     }
 }
 
-// Copies all PES packets, and what follows them.
+// Copies all PES packets, and the bytes after the last one.
 fn copy_pes_packets<P: PesPackets, F: Flush>(
     pes_packets: &mut P,
     file: &mut F,
@@ -176,7 +178,7 @@ fn counted(gaps: u64, is_gap_marker: bool) -> u64
     if is_gap_marker { gaps + 1 } else { gaps }
 }
 
-// Returns the line of a fault.
+// Returns the line of a fault of `extract`.
 fn line_of_extract(fault: ExtractFault) -> FaultLine
     ensures { result ≡ extract_line fault }
 {
@@ -188,7 +190,7 @@ fn line_of_extract(fault: ExtractFault) -> FaultLine
     }
 }
 
-// Returns the line of a fault of the PES packet with this number.
+// Returns the line of a fault at the PES packet with this number.
 fn line_at_pes(fault: PesFault, pes: u64) -> FaultLine
     ensures { result ≡ counted_from pes (check_line (Pes 0 fault)) }
 {

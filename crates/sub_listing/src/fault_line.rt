@@ -1,4 +1,4 @@
-//! The line of a fault, from which the status follows.
+//! The line of a fault, from which the exit status follows.
 ghost use Rattle.std.specs.Prelude.{◌≡◌};
 ghost use Rattle.sub_listing.specs.FaultLine.{status_of, counted_from};
 
@@ -6,32 +6,33 @@ use crate::status::Status;
 use sub_io::FaultCode;
 use sub_rules::FaultPlace;
 
-/// The beginning of the line.
+/// The kind of a fault, which is the first word of its line.
 #[derive(Clone, Copy)]
 pub enum Kind {
-    /// The input is refused.
+    /// `refused`: the input is rejected.
     Refused,
-    /// A device failed, memory ran out, or a file can't be opened.
+    /// `fault`: a device failed, memory ran out, or a file can't be opened.
     Fault,
-    /// The arguments make no request.
+    /// `usage`: the arguments are no request.
     Usage,
 }
 
 /// The contents of the line of a fault.
 #[derive(Drop)]
 pub struct FaultLine {
-    /// The beginning of the line.
+    /// The kind of the fault, which is the first word of the line.
     pub kind: Kind,
-    /// The number and name of the fault.
+    /// The number and the name of the fault.
     pub code: FaultCode,
-    /// The place.
+    /// The place of the fault.
     pub place: FaultPlace,
     /// The number in its file of the first PES packet that is read, counted from 0.
     pub first: u64,
 }
 
 impl FaultLine {
-    /// Returns the line if the first PES packet that is read has this number in its file.
+    /// Returns the line of the fault, if the first PES packet that is read has the number `first`
+    /// in its file.
     pub fn counted_from(self, first: u64) -> FaultLine
         ensures { result ≡ counted_from first self }
     {
@@ -49,7 +50,7 @@ impl FaultLine {
         }
     }
 
-    /// Returns the status that belongs to the line.
+    /// Returns the exit status for the line.
     pub fn status(&self) -> Status
         ensures { result ≡ status_of self.now.kind }
     {

@@ -20,8 +20,8 @@ use sub_request::UsageFault;
 use sub_rules::{CheckFault, FaultPlace};
 use ttx_pes::{FailedAt, PesFault};
 
-/// Returns the line for a fault of a subtitle file that is listed, at a TTI block: a refusal,
-/// unless the source failed.
+/// Returns the line of a fault of a subtitle file that is listed, at a TTI block: `refused`, unless
+/// the source failed.
 pub fn line_of_stl(fault: StlFault, block: u32) -> FaultLine
     ensures { result ≡ stl_line fault block }
 {
@@ -37,8 +37,8 @@ pub fn line_of_stl(fault: StlFault, block: u32) -> FaultLine
     }
 }
 
-/// Returns the line for a fault of a pair of files: a refusal, unless a device failed or memory ran
-/// out.
+/// Returns the line of a fault of a subtitle file and a PES file: `refused`, unless a device failed
+/// or memory ran out.
 pub fn line_of_check(fault: CheckFault) -> FaultLine
     ensures { result ≡ check_line fault }
 {
@@ -72,21 +72,21 @@ pub fn line_of_failed_read(at: FailedAt) -> FaultLine
     line_of_check(fault).counted_from(at.pes)
 }
 
-/// Returns the line for a file of PES packets that failed while it was written.
+/// Returns the line for an output file of PES packets that failed.
 pub fn line_of_file_write() -> FaultLine
     ensures { result ≡ line_as Kind.Fault (pes_code Write) Nowhere }
 {
     nowhere(Kind::Fault, PesFault::Write.code())
 }
 
-/// Returns the line for a fault of a packet.
+/// Returns the line of a fault of a Teletext packet.
 pub fn line_of_packet(fault: PacketFault) -> FaultLine
     ensures { result ≡ packet_line fault }
 {
     nowhere(Kind::Refused, fault.code())
 }
 
-/// Returns the line for a file that is not written.
+/// Returns the line of a fault of a command that writes a file.
 pub fn line_of_write(fault: WriteFault) -> FaultLine
     ensures { result ≡ write_line fault }
 {
@@ -106,7 +106,7 @@ pub fn line_of_write(fault: WriteFault) -> FaultLine
     }
 }
 
-/// Returns the line for a fault of the arguments, or of the program itself.
+/// Returns the line of a fault of the arguments, or of the program itself.
 pub fn line_of_usage(fault: &UsageFault) -> FaultLine
     ensures { result ≡ usage_line fault.now }
 {
@@ -117,7 +117,7 @@ pub fn line_of_usage(fault: &UsageFault) -> FaultLine
     nowhere(kind, fault.code())
 }
 
-// Returns the line for a fault without a place.
+// Returns the line of a fault without a place.
 fn nowhere(kind: Kind, code: FaultCode) -> FaultLine
     ensures { result ≡ line_as kind code Nowhere }
 {

@@ -8,7 +8,7 @@ use crate::printing::print_done;
 use crate::status::Status;
 use sub_io::Sink;
 
-// The script `subttx` prints the same.
+// The text of `--help`. The script `subttx` prints the same text.
 #[rattlefmt::skip]
 const HELP: &[u8] = b"usage: subttx COMMAND FILES [options]
 
@@ -40,7 +40,7 @@ docs/subttx.1 and docs/MANUAL.md.
 Exit status: 0 accepted or done; 1 refused; 2 not answered (usage, device, memory).
 ";
 
-/// Prints how the program is used.
+/// Prints the text of `--help`.
 pub fn print_help<K: Sink>(out: &mut K) -> Status
     requires { CanFail (K.failure_count out.old) }
     ensures printed { PrintsOrFails (sink_call K.contents K.failure_count out.old out.new)

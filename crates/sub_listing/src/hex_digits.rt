@@ -1,13 +1,13 @@
 //! Converts 16 bytes at once to lower case hexadecimal digits, one byte in each lane of a vector.
 //!
-//! A half of a byte is the index of its digit in a table of 16. The digits of the upper and lower
-//! halves are then interleaved.
+//! Each half of a byte is the index of its digit in a table of 16. The digits of the upper and
+//! lower halves are then interleaved.
 ghost use Rattle.std.specs.Prelude.{◌≡◌, ◌/◌, ◌%◌, map, slice_index};
 ghost use Rattle.hex.specs.Hex.{encode_lower, lower_digits};
 
 use std::simd::prelude::*;
 
-/// The digits by value.
+/// The lower case hexadecimal digits, by value.
 const DIGITS: [u8; 16] = *b"0123456789abcdef";
 
 // Returns the first digit of each byte, that of its upper half.
@@ -26,7 +26,7 @@ fn second_digits(bytes: u8x16) -> u8x16
     u8x16::from_array(DIGITS).swizzle_dyn(bytes & u8x16::splat(15))
 }
 
-/// Returns the 32 digits of 16 bytes.
+/// Returns the 32 lower case hexadecimal digits of 16 bytes.
 #[inline(always)]
 pub fn digits_of_block(block: &[u8; 16]) -> [u8; 32]
     ensures { result ≡ encode_lower block.now }

@@ -1,8 +1,8 @@
 //! Makes the lines that the program prints.
 //!
-//! A text is made in memory first and written to a device at once. Each function appends to an
-//! `ArrayVec` with enough room: the constants below say how much, and that it suffices is proved
-//! here.
+//! A line is made in memory first and written to a device at once. Each function appends to an
+//! `ArrayVec`. The constants below give the size of each part of a line, and the proofs show that
+//! it suffices.
 ghost use Rattle.std.specs.Prelude.{◌≡◌, ◌+◌, ◌%◌, ◌≤◌, ◌<◌, ◌++◌, length, decimal};
 ghost use Rattle.arrayvec.specs.ArrayVec.{array_vec_len};
 ghost use Rattle.hex.specs.Hex.{encode_lower};
@@ -21,25 +21,26 @@ use sub_io::FaultCode;
 use sub_rules::{CheckFault, EndRule, Event, FaultPlace};
 use ttx_pes::MOST_PACKETS;
 
-/// Room for a number in decimal.
+/// The maximum number of bytes of a number in decimal.
 pub const NUMBER_CAPACITY: usize = 20;
 
-/// Room for the digits of a subtitle's text.
+/// The maximum number of bytes of a subtitle's text in hexadecimal.
 pub const TEXT_DIGITS_CAPACITY: usize = 2016;
 
-/// Room for the number and the name of a fault: a space between them, and 16 letters.
+/// The maximum number of bytes of a fault's number and name: a space between them, and 16 letters.
 const CODE_CAPACITY: usize = NUMBER_CAPACITY + 17;
 
-/// Room for the place of a fault.
+/// The maximum number of bytes of a fault's place.
 const PLACE_CAPACITY: usize = 80;
 
-/// Room for one line: the longest, `refused 72 Content` with its cell, has at most 117 bytes.
+/// The maximum number of bytes of a line: the longest, `refused 72 Content` with its cell, has 117
+/// bytes.
 pub const LINE_CAPACITY: usize = 128;
 
-/// One line.
+/// A line to print.
 pub type Line = ArrayVec<u8, LINE_CAPACITY>;
 
-/// Appends a text for which there is room.
+/// Appends a text to a line that has room for it.
 pub fn push_text<const N: usize>(line: &mut ArrayVec<u8, N>, text: &[u8])
     requires { array_vec_len line.old + length text.now ≤ N }
     ensures items { line.new.items ≡ line.old.items ++ text.now }
@@ -48,7 +49,7 @@ pub fn push_text<const N: usize>(line: &mut ArrayVec<u8, N>, text: &[u8])
     let _ = line.try_extend_from_slice(text);
 }
 
-/// Appends a number in decimal.
+/// Appends a number in decimal to a line.
 pub fn push_decimal<const N: usize>(line: &mut ArrayVec<u8, N>, number: u64)
     requires { array_vec_len line.old + NUMBER_CAPACITY ≤ N }
     ensures items { line.new.items ≡ line.old.items ++ decimal number }
@@ -58,7 +59,7 @@ pub fn push_decimal<const N: usize>(line: &mut ArrayVec<u8, N>, number: u64)
     push_text(line, digits.format(number).as_bytes());
 }
 
-/// Appends a number in decimal after a word.
+/// Appends a word and a number in decimal to a line.
 pub fn push_number<const N: usize>(line: &mut ArrayVec<u8, N>, word: &[u8], number: u64)
     requires { array_vec_len line.old + length word.now + NUMBER_CAPACITY ≤ N }
     ensures items { line.new.items ≡ line.old.items ++ word.now ++ decimal number }
@@ -69,8 +70,8 @@ pub fn push_number<const N: usize>(line: &mut ArrayVec<u8, N>, word: &[u8], numb
     push_decimal(line, number);
 }
 
-/// Returns the number of a PES packet in its file, if the first one that is read has the number
-/// `first`. The greatest number stands for any above it, too.
+/// Returns the number of a PES packet in its file, if the first PES packet that is read has the
+/// number `first`. The greatest number, 2^64 - 1, also stands for any greater number.
 #[tactic(auto, unfolding(crate::specs::Lines::number_in_file))]
 pub fn number_in_file(first: u64, index: u32) -> u64
     ensures { result ≡ number_in_file first index }
@@ -87,11 +88,11 @@ pub fn push_lower_hex<const N: usize>(line: &mut ArrayVec<u8, N>, bytes: &[u8; 4
     let (blocks, _) = bytes.as_chunks::<16>();
     push_text(line, &digits_of_block(&blocks[0]));
     push_text(line, &digits_of_block(&blocks[1]));
-    // The last ten bytes are at the end of a block that begins six bytes before them.
+    // The last ten bytes are the end of a block of 16 bytes that begins six bytes earlier.
     push_text(line, &digits_of_block(bytes.last_chunk().unwrap())[12..]);
 }
 
-/// Appends two decimal digits.
+/// Appends a number below 100 as two decimal digits.
 #[tactic(auto, unfolding(crate::specs::Lines::two_digits))]
 pub fn push_two_digits<const N: usize>(line: &mut ArrayVec<u8, N>, number: u8)
     requires { array_vec_len line.old + 2 ≤ N }
@@ -135,7 +136,7 @@ pub fn push_text_digits<const N: usize>(line: &mut ArrayVec<u8, N>, text: &[u8])
     push_text(line, digits);
 }
 
-/// Returns the character of a cell's code.
+/// Returns the printed character of a cell's code.
 pub fn glyph(code: u8) -> u8
     ensures { result ≡ glyph code }
 {
@@ -161,8 +162,8 @@ pub fn push_fault_line<const N: usize>(line: &mut ArrayVec<u8, N>, reported: &Fa
     push_text(line, b"\n");
 }
 
-/// Appends the line of an event: of a fault, of a rule that was broken up to a frame, or of trusted
-/// frames. The first PES packet that is read has the number `first` in its file.
+/// Appends the line of an event: of a fault, of a fault that ended, of skipped PES packets, or of
+/// trusted frames. The first PES packet that is read has the number `first` in its file.
 pub fn push_event<const N: usize>(line: &mut ArrayVec<u8, N>, event: Event, first: u64)
     requires { array_vec_len line.old + LINE_CAPACITY ≤ N }
     ensures { line.new.items ≡ line.old.items ++ event_line first event }
@@ -175,7 +176,7 @@ pub fn push_event<const N: usize>(line: &mut ArrayVec<u8, N>, event: Event, firs
     }
 }
 
-// Appends the line of a rule that was broken up to a frame.
+// Appends the line of a fault that ended: the rule was broken up to this frame.
 fn push_ended<const N: usize>(line: &mut ArrayVec<u8, N>, rule: EndRule, frame: u32)
     requires { array_vec_len line.old + LINE_CAPACITY ≤ N }
     ensures { line.new.items ≡ line.old.items ++ ended_line rule frame }
@@ -186,7 +187,7 @@ fn push_ended<const N: usize>(line: &mut ArrayVec<u8, N>, rule: EndRule, frame: 
     push_text(line, b"\n");
 }
 
-// Appends the line of PES packets that were skipped up to the one that the fault names.
+// Appends the line of a run of skipped PES packets, which ended at the packet that the fault names.
 fn push_skipped<const N: usize>(line: &mut ArrayVec<u8, N>, fault: CheckFault, first: u64)
     requires { array_vec_len line.old + LINE_CAPACITY ≤ N }
     ensures { line.new.items ≡ line.old.items ++ skipped_line first fault }
@@ -209,7 +210,7 @@ fn push_trusted<const N: usize>(line: &mut ArrayVec<u8, N>, from: u32, to: u32)
     push_text(line, b"\n");
 }
 
-// Appends the number and the name of a fault.
+// Appends the number and the name of a fault to a line.
 fn push_code<const N: usize>(line: &mut ArrayVec<u8, N>, code: &FaultCode)
     requires { array_vec_len line.old + CODE_CAPACITY ≤ N }
     ensures items { line.new.items ≡ line.old.items ++ code_text code.now }
@@ -220,7 +221,8 @@ fn push_code<const N: usize>(line: &mut ArrayVec<u8, N>, code: &FaultCode)
     push_text(line, code.name().as_bytes());
 }
 
-// Appends the place of a fault, if the first PES packet that is read has this number in its file.
+// Appends the place of a fault to a line. The first PES packet that is read has the number `first`
+// in its file.
 fn push_place<const N: usize>(line: &mut ArrayVec<u8, N>, place: FaultPlace, first: u64)
     requires { array_vec_len line.old + PLACE_CAPACITY ≤ N }
     ensures items { line.new.items ≡ line.old.items ++ place_text first place }
@@ -247,7 +249,7 @@ fn push_place<const N: usize>(line: &mut ArrayVec<u8, N>, place: FaultPlace, fir
     }
 }
 
-// Appends a frame of the day.
+// Appends the text for a frame of the day to a line.
 fn push_frame<const N: usize>(line: &mut ArrayVec<u8, N>, frame: u32)
     requires { array_vec_len line.old + 18 ≤ N }
     ensures items { line.new.items ≡ line.old.items ++ frame_text frame }
@@ -257,12 +259,12 @@ fn push_frame<const N: usize>(line: &mut ArrayVec<u8, N>, frame: u32)
     push_clock(line, frame);
 }
 
-// Appends the time of a frame of the day.
+// Appends the time of a frame of the day to a line.
 fn push_clock<const N: usize>(line: &mut ArrayVec<u8, N>, frame: u32)
     requires { array_vec_len line.old + 11 ≤ N }
     ensures items { line.new.items ≡ line.old.items ++ time_text (frame % day) }
     ensures len { array_vec_len line.new ≡ array_vec_len line.old + 11 }
 {
-    // Each frame of a day has at most one PES packet.
+    // A day has `MOST_PACKETS` frames, one for each PES packet.
     push_time(line, TimeCode::of_frame(frame % MOST_PACKETS));
 }

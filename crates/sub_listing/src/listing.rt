@@ -1,4 +1,4 @@
-//! Lists a file: reads it one part after another, and prints the lines of each.
+//! Lists a file: reads its parts one after another, and prints the lines of each part.
 ghost use Rattle.std.specs.Prelude.{◌≡◌, ℕ, ◌+◌, ◌<◌, ◌≤◌, ◌++◌, [], None, Some, decimal, length};
 ghost use Rattle.std.specs.Prelude.{Bool, List, Option, false, true};
 ghost use Rattle.std.specs.Borrow.{GName};
@@ -17,44 +17,44 @@ use crate::status::Status;
 use arrayvec::ArrayVec;
 use sub_io::Flush;
 
-/// Room for the lines of one PES packet, or of one subtitle.
+/// The maximum number of bytes of the lines of one PES packet, or of one subtitle.
 pub const LINES_CAPACITY: usize = 7168;
 
-/// The lines of one of them.
+/// The lines of one part of a file: a PES packet or a subtitle.
 pub type Text = ArrayVec<u8, LINES_CAPACITY>;
 
-/// Reads an input, a source or PES packets, and makes the lines of its parts.
+/// A lister reads an input, a source or PES packets, and makes the lines of its parts.
 pub trait Lister<I> {
-    /// It is not at the end, and has met no fault.
+    /// The lister is not at the end of the input, and has met no fault.
     ghost ready: { Self → Type 0 };
 
-    /// How many parts it can still give at most.
+    /// The maximum number of parts that the lister can still give.
     ghost pes_packets: { Self → ℕ };
 
-    /// The listings that are possible from here on.
+    /// The listings that are possible from the lister's state on.
     ghost lists: { Self → IsListed };
 
-    /// Its lines can be followed while the source goes on: they are flushed before a read that may
-    /// block.
+    /// A user can follow the lines while the source goes on: the lines are flushed before a read
+    /// that may block.
     ghost is_followed: { Bool };
 
-    // The bytes of such an input that are still to come, if they are known.
+    // The bytes of an input that are still to come, if they are known.
     ghost known: { I → Option (List ℕ) };
 
-    // Those that its device still has.
+    // The bytes that the input's device still has, if they are known.
     ghost left: { I → Option (List ℕ) };
 
-    // How many calls of its device have failed.
+    // The number of calls of the input's device that have failed.
     ghost failure_count: { I → ℕ };
 
-    // The references through which it has its device, the outermost first.
+    // The references through which the input has its device, the outermost first.
     ghost device: { I → List GName };
 
-    /// Makes the lines of the next part. Returns `None` if another may follow, otherwise how the
-    /// listing ends.
+    /// Makes the lines of the next part. Returns `None` if another part may follow, otherwise how
+    /// the listing ends.
     ///
-    /// It may flush the printer before, so that earlier lines are seen before the source has to
-    /// wait. If that fails, the sink has failed, and the new lines are of no use.
+    /// The lister may flush the printer first, so that earlier lines are seen before the source has
+    /// to wait. If flushing fails, the sink has failed, and the new lines are not used.
     fn next<K: Flush>(
         &mut self,
         input: &mut I,
@@ -94,7 +94,8 @@ pub trait Lister<I> {
 
 /// Lists a file, one part after another.
 ///
-/// Lines before a refusal stay. One part is kept at a time, and its lines are written at once.
+/// Lines before a rejection stay. Only one part is in memory at a time, and its lines are written
+/// at once.
 pub fn list<I, L: Lister<I>, K: Flush>(lister: &mut L, input: &mut I, out: &mut K) -> Status
     requires ready { L.ready lister.old }
     requires input { CanFail (L.failure_count input.old) }
@@ -176,7 +177,7 @@ pub fn end_with(text: &mut Text, reported: &FaultLine) -> Option<Status>
     Some(reported.status())
 }
 
-/// Ends a listing with the number of items that were listed.
+/// Ends a listing with the number of listed items.
 pub fn end_at(text: &mut Text, count: u32, things: &[u8]) -> Option<Status>
     requires empty { text.old.items ≡ [] }
     requires few { length things.now ≤ 32 }

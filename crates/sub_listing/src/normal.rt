@@ -19,23 +19,24 @@ use sub_io::{Close, Sink, Source};
 /// after it can change the result.
 const MOST_READ: usize = 12_800_897;
 
-/// The maximum number of bytes of one pull.
+/// The maximum number of bytes of one read from the input.
 const PULL_CAPACITY: usize = 4096;
 
-/// Why the input was not read.
+/// The reason why the input of `normal` was not read completely.
 #[derive(Clone, Copy, Debug, PartialEq, Eq)]
 pub enum InputFault {
-    /// The source failed at a byte of this block, counted from 1; 0 is the GSI block.
+    /// The source failed while a block was read.
     Read {
-        /// The block.
+        /// The number of the block with the byte that could not be read, counted from 1; 0 is the
+        /// GSI block.
         block: u32,
     },
-    /// An allocation was refused.
+    /// An allocation failed.
     Memory,
 }
 
-/// Writes the normal form of a subtitle file (own), and prints how many subtitles it has, or why
-/// there is none.
+/// Writes the normal form of a subtitle file (own), and prints the number of its subtitles, or the
+/// reason why there is no normal form.
 ///
 /// The input is read to its end before anything is written, and the line is printed after the
 /// system has stored the file. Returns `Fault` if a device failed or memory ran out.
@@ -62,7 +63,7 @@ pub fn write_normal<S: Source, F: Close, K: Sink>(
     write(alloc, &NormalWork, b" subtitles\n", input, file, out)
 }
 
-/// The work of `write_normal`.
+/// The work of the command `normal`.
 #[derive(Drop)]
 pub struct NormalWork;
 
@@ -86,7 +87,7 @@ impl Work for NormalWork {
     }
 }
 
-// Writes the normal form of the file that begins with these bytes, and stores it.
+// Writes the normal form of the file that begins with these bytes, and stores the file.
 fn put_normal<F: Close>(bytes: &[u8], file: &mut F) -> Result<u32, NormalFault>
     requires { CanFail (F.failure_count file.old) }
     ensures answer { (s : List ℕ) → bytes.now ≡ take most_read s
@@ -105,12 +106,12 @@ fn put_normal<F: Close>(bytes: &[u8], file: &mut F) -> Result<u32, NormalFault>
 }
 
 /// Reads the input of `normal` to its end, or as far as its bytes can change the result. Works with
-/// any allocator, so that a test can refuse an allocation.
+/// any allocator, so that a test can let an allocation fail.
 ///
 /// # Errors
 ///
-/// Returns `Read` with the block of the byte that was being read, or `Memory` if an allocation was
-/// refused.
+/// Returns `Read` with the block of the byte that could not be read, or `Memory` if an allocation
+/// failed.
 pub fn read_input<A: Allocator + Drop, S: Source>(
     alloc: A,
     input: &mut S,
@@ -141,8 +142,8 @@ pub fn read_input<A: Allocator + Drop, S: Source>(
     Ok(bytes)
 }
 
-// Returns the block of the byte after `len` bytes: 0 up to 1024 of them, and then one more for each
-// 128.
+// Returns the number of the block that contains the byte with the index `len`: 0 for the first 1024
+// bytes, then one more for each 128 bytes.
 fn block_of_byte(len: usize) -> u32
     requires { len < most_read }
     ensures { result ≡ block_of_byte len }

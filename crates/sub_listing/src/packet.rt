@@ -1,4 +1,4 @@
-//! `packet HEX`: shows one packet.
+//! `packet HEX`: shows one Teletext packet.
 ghost use Rattle.std.specs.Prelude.{◌≡◌, ◌+◌, ◌≤◌, [], ◌++◌, IfErr, OnOk, length};
 ghost use Rattle.arrayvec.specs.ArrayVec.{array_vec_len};
 ghost use Rattle.sub_listing.specs.DeviceCall.{CanFail, CountsFault, sink_call};
@@ -16,19 +16,19 @@ use bitflags::Flags;
 use sub_io::{FaultCode, Sink};
 use ttx_packet::{Control, Header, Packet, is_odd};
 
-// Room for the line of an address.
+// The maximum number of bytes of the line of an address.
 const ADDRESS_CAPACITY: usize = 64;
 
-// Room for the control bits that are set.
+// The maximum number of bytes of the names of all control bits.
 const CONTROL_CAPACITY: usize = 40;
 
-// Room for the line of a page header.
+// The maximum number of bytes of the line of a page header.
 const HEADER_CAPACITY: usize = 80;
 
-// Room for the line of 40 text bytes.
+// The maximum number of bytes of the line of 40 text bytes.
 const TEXT_CAPACITY: usize = 48;
 
-// Room for all the output of one packet.
+// The maximum number of bytes of the output for one packet.
 const PACKET_CAPACITY: usize = 256;
 
 const _: () = prove!(ADDRESS_CAPACITY + HEADER_CAPACITY + TEXT_CAPACITY <= PACKET_CAPACITY);
@@ -37,17 +37,18 @@ type Text = ArrayVec<u8, PACKET_CAPACITY>;
 
 const HEX_DIGITS: [u8; 16] = *b"0123456789ABCDEF";
 
-/// Why a packet is not shown.
+/// The reason why a Teletext packet can't be shown.
 #[derive(Clone, Copy)]
 pub enum PacketFault {
     /// One of the two address bytes differs from each Hamming 8/4 code word in two or more bits.
     BadAddress,
-    /// One of the eight coded bytes of a page header does.
+    /// One of the eight coded bytes of a page header differs from each Hamming 8/4 code word in two
+    /// or more bits.
     BadHeader,
 }
 
 impl PacketFault {
-    /// Returns the number and name of the fault in reports (own).
+    /// Returns the number and the name of the fault for reports (own).
     pub fn code(self) -> FaultCode
         ensures { result ≡ packet_code self }
     {
@@ -58,9 +59,10 @@ impl PacketFault {
     }
 }
 
-/// Prints the address of a packet, its header and its text (EN 300 706, packets X/0 to X/31).
+/// Prints the address of a Teletext packet, its header and its text (EN 300 706, packets X/0 to
+/// X/31).
 ///
-/// Refuses a packet whose address or header can't be decoded.
+/// Rejects a packet whose address or header can't be decoded.
 pub fn show_packet<K: Sink>(bytes: &[u8; 42], out: &mut K) -> Status
     requires { CanFail (K.failure_count out.old) }
     ensures printed { PrintsOrFails (sink_call K.contents K.failure_count out.old out.new)
@@ -75,7 +77,7 @@ pub fn show_packet<K: Sink>(bytes: &[u8; 42], out: &mut K) -> Status
     }
 }
 
-// Appends the output of a packet.
+// Appends the output for a Teletext packet.
 fn push_packet(text: &mut Text, packet: &Packet) -> Result<(), PacketFault>
     requires { text.old.items ≡ [] }
     ensures ok { OnOk result (packet_listing packet.now ≡ done text.new.items) }
@@ -98,7 +100,7 @@ fn push_packet(text: &mut Text, packet: &Packet) -> Result<(), PacketFault>
     Ok(())
 }
 
-// Appends a packet's address as a line.
+// Appends the address of a Teletext packet as a line.
 fn push_address(line: &mut Text, magazine: u8, packet_number: u8)
     requires { array_vec_len line.old + ADDRESS_CAPACITY ≤ PACKET_CAPACITY }
     ensures items { line.new.items ≡ line.old.items ++ address_line magazine packet_number }
@@ -137,7 +139,7 @@ fn push_hex(line: &mut Text, byte: u8)
     line.push(HEX_DIGITS[(byte % 16) as usize]);
 }
 
-// Appends the control bits that are set, or ` none`.
+// Appends the names of the control bits that are set, or ` none`.
 fn push_control(line: &mut Text, header: &Header)
     requires { array_vec_len line.old + CONTROL_CAPACITY ≤ PACKET_CAPACITY }
     ensures items { line.new.items ≡ line.old.items ++ control_list header.now }
@@ -163,7 +165,7 @@ fn push_control(line: &mut Text, header: &Header)
     }
 }
 
-// Appends the name of a bit that is set.
+// Appends the name of a control bit if the bit is set.
 fn push_name(names: &mut ArrayVec<u8, CONTROL_CAPACITY>, is_set: bool, name: &[u8])
     requires { array_vec_len names.old + length name.now ≤ CONTROL_CAPACITY }
     ensures items { names.new.items ≡ names.old.items ++ marked is_set name.now }
@@ -182,7 +184,7 @@ fn push_text_line(line: &mut Text, bytes: &[u8])
 {
     push_text(line, b"text |");
     for byte in bytes {
-        // A byte of even parity has no code.
+        // A byte of even parity is printed as `?`, since it has no code.
         line.push(if is_odd(*byte) {
             glyph(*byte % 128)
         } else {

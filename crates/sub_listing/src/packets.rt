@@ -27,10 +27,10 @@ use ttx_pes::{
     Compared, ComparingReader, MOST_UNITS, NumberedPesPackets, PesPackets, Unit, flush_first,
 };
 
-/// Lists the PES packets of a file (EN 300 472), each by its number in the file, and then how many
-/// were listed, or why the file is refused.
+/// Lists the PES packets of a file (EN 300 472), each with its number in the file, and then the
+/// number of listed packets, or the reason why the file is rejected.
 ///
-/// Lines before a refusal stay. Returns `Fault` if a device failed.
+/// Lines before a rejection stay. Returns `Fault` if a device failed.
 pub fn list_packets<P: NumberedPesPackets, K: Flush>(pes_packets: &mut P, out: &mut K) -> Status
     requires pes_packets { CanFail (P.failure_count pes_packets.old) }
     requires out { CanFail (K.failure_count out.old) }
@@ -44,8 +44,8 @@ pub fn list_packets<P: NumberedPesPackets, K: Flush>(pes_packets: &mut P, out: &
     ensures fault { result ≡ Status.Fault
         → P.failure_count pes_packets.old + K.failure_count out.old
         < P.failure_count pes_packets.new + K.failure_count out.new }
-    // Before a device may be asked, which may fail, everything is flushed. So if it failed, only
-    // the line of its failure may be held back.
+    // Before a read from a device, which may fail, everything is flushed. So if the device failed,
+    // at most the line about the failure is held back.
     ensures followed { K.buffered out.old ≡ 0
         → P.failure_count pes_packets.old < P.failure_count pes_packets.new
         → BuffersLastLineOnly K.contents K.buffered K.is_push out.new }
@@ -56,7 +56,7 @@ pub fn list_packets<P: NumberedPesPackets, K: Flush>(pes_packets: &mut P, out: &
     }
 }
 
-/// Makes the lines of PES packets.
+/// A lister that makes the lines of PES packets.
 #[derive(Drop)]
 pub struct PacketLister {
     reader: ComparingReader,
@@ -65,7 +65,7 @@ pub struct PacketLister {
 }
 
 impl PacketLister {
-    /// Returns a lister at the first PES packet to be listed, which has this number in its file.
+    /// Creates a lister for PES packets, the first of which has the number `first` in its file.
     pub fn new(first: u64) -> PacketLister
         ensures start { result.index ≡ 0 }
         ensures first { result.first ≡ first }
@@ -134,7 +134,7 @@ impl<P: PesPackets> Lister<P> for PacketLister {
     }
 }
 
-// Flushes earlier lines if a device may be asked for the next PES packet.
+// Flushes earlier lines if the next PES packet may need a read from a device.
 fn flush_lines<P: PesPackets, K: Flush>(
     pes_packets: &P,
     printer: &mut Printer<'_, K>,
@@ -155,16 +155,16 @@ fn flush_lines<P: PesPackets, K: Flush>(
     flush_first(pes_packets, printer)
 }
 
-// Room for the line of a PES packet.
+// The maximum number of bytes of the line of a PES packet.
 const PES_LINE: usize = 64;
 
-// Room for the line of a Teletext unit.
+// The maximum number of bytes of the line of a Teletext unit.
 const UNIT_LINE: usize = 192;
 
-// A part has room for the lines of a PES packet and of all its units.
+// The lines of a PES packet and of all its Teletext units fit in `LINES_CAPACITY` bytes.
 const _: () = prove!(PES_LINE + MOST_UNITS * UNIT_LINE <= LINES_CAPACITY);
 
-// Appends the lines of a PES packet with this number in its file, and of its Teletext units.
+// Appends the lines of a PES packet, with its number in its file, and of its Teletext units.
 fn push_frame(text: &mut Text, number: u64, reader: &ComparingReader)
     requires { text.old.items ≡ [] }
     ensures { text.new.items ≡ frame_lines number reader.now.frame }

@@ -14,18 +14,19 @@ use stl_rows::LoadFault;
 use sub_io::{Audience, Flush, Live, LiveAudience, Sink, Stopped, put_all};
 use sub_rules::{CheckFault, Event};
 
-/// Prints the line of each event at once, and counts the faults.
+/// A device that prints the line of each event at once, and counts the faults.
 ///
-/// It says stop if its sink failed, which has a prefix of the line then.
+/// The printer stops if its sink failed; the sink then received a prefix of the line.
 #[derive(Drop)]
 pub struct Printer<'a, K> {
     /// The sink of the lines.
     pub out: &'a mut K,
-    /// How many faults were counted; the greatest number stands for any above it, too.
+    /// The number of faults counted; the greatest number, 2^64 - 1, also stands for any greater
+    /// number.
     pub refused: u64,
-    /// The sink failed.
+    /// Whether the sink failed.
     pub failed: bool,
-    /// Lines were written that the sink may hold back.
+    /// Whether lines were written that the sink may still hold back.
     pub pending: bool,
     /// The number in its file of the first PES packet that is read, counted from 0.
     pub first: u64,
@@ -61,11 +62,11 @@ impl<'a, K: Flush> Printer<'a, K> {
 }
 
 impl<'a, K: Sink> Printer<'a, K> {
-    /// Writes lines.
+    /// Writes lines to the sink.
     ///
     /// # Errors
     ///
-    /// Returns `Stopped` if the sink failed, which has a prefix of them.
+    /// Returns `Stopped` if the sink failed; it received a prefix of the lines.
     pub fn put(&mut self, lines: &[u8]) -> Result<(), Stopped>
         requires { CanFail (K.failure_count self.old.out.now) }
         ensures same { self.new.out.ghost_name ≡ self.old.out.ghost_name }
@@ -80,7 +81,8 @@ impl<'a, K: Sink> Printer<'a, K> {
         ensures failed { OnOk result (self.new.failed ≡ self.old.failed) }
         ensures stopped { OnErr result (self.new.failed ≡ true) }
         ensures line { PutsLine K.contents K.is_push self.old.out.now lines.now self.new.out.now }
-        // Otherwise a live list would keep its lines until the sink is full.
+        // The lines count as pending, since otherwise a live listing would hold them back until the
+        // sink's buffer is full.
         ensures has_pending { self.new.pending ≡ true }
     {
         self.pending = true;
@@ -93,7 +95,7 @@ impl<'a, K: Sink> Printer<'a, K> {
         }
     }
 
-    // Writes the line of an event, and counts it if it is a fault.
+    // Writes the line of an event, and counts the event if it is a fault.
     fn print(&mut self, event: Event) -> Result<(), Stopped>
         requires goes_on { self.old.failed ≡ false }
         requires count { CanFail (K.failure_count self.old.out.now) }
@@ -145,11 +147,11 @@ impl<K: Flush> Audience<Event> for Printer<'_, K> {
 
     ghost has_stopped = { λ p. p.failed || not (can_fail (K.failure_count p.out.now)) };
 
-    /// Prints its line.
+    /// Prints the line of an event.
     ///
     /// # Errors
     ///
-    /// Returns `Stopped` if the sink failed, which has a prefix of the line.
+    /// Returns `Stopped` if the sink failed; it received a prefix of the line.
     fn report(&mut self, item: Event) -> Result<(), Stopped> {
         self.print(item)
     }
@@ -167,11 +169,11 @@ impl<K: Flush> Audience<LoadFault> for Printer<'_, K> {
 
     ghost has_stopped = { λ p. p.failed || not (can_fail (K.failure_count p.out.now)) };
 
-    /// Prints its line, as that of an event.
+    /// Prints the line of a fault of the subtitle file.
     ///
     /// # Errors
     ///
-    /// Returns `Stopped` if the sink failed, which has a prefix of the line.
+    /// Returns `Stopped` if the sink failed; it received a prefix of the line.
     fn report(&mut self, item: LoadFault) -> Result<(), Stopped> {
         self.print(Event::Reported(CheckFault::Subtitles(item)))
     }

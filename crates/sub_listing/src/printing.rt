@@ -1,4 +1,4 @@
-//! Prints the last text of a command, and returns its status.
+//! Prints the last text of a command, and returns the exit status.
 ghost use Rattle.std.specs.Prelude.{◌≡◌, ◌≢◌, ◌+◌, List, ℕ};
 ghost use Rattle.sub_listing.specs.DeviceCall.{CanFail, CountsFault, sink_call};
 ghost use Rattle.sub_listing.specs.LastLine.{PutsLine};
@@ -10,9 +10,9 @@ use crate::lines::{Line, push_fault_line};
 use crate::status::Status;
 use sub_io::{Sink, put_all};
 
-/// Prints a text that is the complete answer, and returns `Done`.
+/// Prints a text that is the complete output of a command, and returns `Done`.
 ///
-/// Returns `Fault` if the sink fails, which has a prefix of the text then.
+/// Returns `Fault` if the sink fails; it then received a prefix of the text.
 #[tactic(auto, unfolding(crate::specs::Listing::PrintsOrFails))]
 pub fn print_done<K: Sink>(text: &[u8], out: &mut K) -> Status
     requires { CanFail (K.failure_count out.old) }
@@ -28,9 +28,9 @@ pub fn print_done<K: Sink>(text: &[u8], out: &mut K) -> Status
     }
 }
 
-/// Prints the line of a fault, and returns the status that belongs to it.
+/// Prints the line of a fault, and returns the exit status for the line.
 ///
-/// Returns `Fault` if the sink fails, which has a prefix of the line then.
+/// Returns `Fault` if the sink fails; it then received a prefix of the line.
 #[tactic(auto, unfolding(crate::specs::Listing::PrintsOrFails))]
 pub fn print_fault_line<K: Sink>(reported: &FaultLine, out: &mut K) -> Status
     requires { CanFail (K.failure_count out.old) }

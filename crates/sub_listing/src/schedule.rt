@@ -15,7 +15,7 @@ use sub_io::{Close, Sink, Source};
 use sub_plan::{Options, PlanFault, schedule};
 
 /// Writes the schedule of a subtitle file, one PES packet for each page transmission (EN 300 472),
-/// and prints how many there are, or why there is none.
+/// and prints the number of page transmissions, or the reason why there is no schedule.
 ///
 /// The input is read to its end before anything is written, and the line is printed after the
 /// system has stored the file. Returns `Fault` if a device failed or memory ran out.
@@ -58,18 +58,18 @@ pub fn write_schedule<S: Source, F: Close, K: Sink>(
     write(alloc, &work, b" transmissions\n", input, file, out)
 }
 
-/// The work of `write_schedule`.
+/// The work of the command `schedule`.
 #[derive(Drop)]
 pub struct ScheduleWork<'a> {
-    /// The page, the repeat bound and the PTS of frame 0.
+    /// The options of the schedule: the page, the repeat bound and the PTS of frame 0.
     pub options: &'a Options,
-    /// Whether the headers are those of serial mode.
+    /// Whether the page headers are those of serial mode (C11 is set).
     pub serial: bool,
-    /// The national option of the text.
+    /// The national option of the subtitles' text.
     pub national: National,
-    /// How the text is drawn.
+    /// The layout, which decides how the subtitles' text is drawn.
     pub layout: Layout,
-    /// The part of the subtitle file that is used.
+    /// The scope: the subtitles of the file to use.
     pub scope: Scope,
 }
 
@@ -92,7 +92,7 @@ impl<'a> Work for ScheduleWork<'a> {
     }
 }
 
-// Writes the schedule of a programme, and stores it.
+// Writes the schedule of a programme, and stores the file.
 fn put_schedule<F: Close>(
     programme: &Programme,
     options: &Options,

@@ -1,4 +1,4 @@
-//! `show STL`: lists subtitles.
+//! `show STL`: lists the subtitles of a file.
 ghost use Rattle.std.specs.Prelude.{◌≡◌, ◌+◌, ◌<◌, [], None, false};
 ghost use Rattle.sub_listing.specs.DeviceCall.{CanFail, CountsFault, sink_call, source_call};
 ghost use Rattle.sub_listing.specs.Lines.{subtitle_line};
@@ -13,10 +13,10 @@ use crate::status::Status;
 use stl_file::{StlReader, Subtitle, five_digits_of};
 use sub_io::{Flush, Source};
 
-/// Lists the subtitles of a file (EBU Tech 3264), and then how many there are, or why the file is
-/// refused.
+/// Lists the subtitles of a file (EBU Tech 3264), and then their number, or the reason why the file
+/// is rejected.
 ///
-/// Lines before a refusal stay. Returns `Fault` if a device failed.
+/// Lines before a rejection stay. Returns `Fault` if a device failed.
 pub fn list_subtitles<S: Source, K: Flush>(source: &mut S, out: &mut K) -> Status
     requires source { CanFail (S.failure_count source.old) }
     requires out { CanFail (K.failure_count out.old) }
@@ -32,16 +32,17 @@ pub fn list_subtitles<S: Source, K: Flush>(source: &mut S, out: &mut K) -> Statu
     list(&mut SubtitleLister::new(), source, out)
 }
 
-/// Makes the lines of subtitles.
+/// A lister that makes the lines of subtitles.
 #[derive(Drop)]
 pub struct SubtitleLister {
-    // `None` before the GSI block is read, which is the first part, without a line.
+    // The reader of the file; `None` before the GSI block is read, which is the first part and has
+    // no line.
     reader: Option<StlReader>,
     count: u32,
 }
 
 impl SubtitleLister {
-    /// Returns a lister at the start of a file.
+    /// Creates a lister at the start of a subtitle file.
     pub fn new() -> SubtitleLister
         ensures reader { result.reader ≡ None }
         ensures count { result.count ≡ 0 }

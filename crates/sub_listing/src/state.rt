@@ -1,4 +1,4 @@
-//! Prints the state of a receiver with a screen.
+//! Prints the state of a receiver: its page or its screen.
 ghost use Rattle.std.specs.Prelude.{◌≡◌, IfSome, ◌+◌, ◌*◌, ◌≤◌, ◌<◌, ◌++◌, ◌==◌};
 ghost use Rattle.std.specs.List.{list_all};
 ghost use Rattle.arrayvec.specs.ArrayVec.{array_vec_len};
@@ -17,15 +17,16 @@ use arrayvec::ArrayVec;
 use sub_io::Sink;
 use ttx_page::{Page, Receiver};
 
-// Room for the line of a row: 40 characters, and ten before and after them.
+// The maximum number of bytes of the line of a row: 40 characters, and ten around them.
 const ROW_CAPACITY: usize = 50;
 
-// Room for the lines of 24 rows.
+// The maximum number of bytes of the lines of 24 rows.
 const ROWS_CAPACITY: usize = 1200;
 
 const _: () = prove!(24 * ROW_CAPACITY <= ROWS_CAPACITY);
 
-// Room for these and the two lines before them.
+// The maximum number of bytes of the whole output: the lines of 24 rows, and the two lines before
+// them.
 const STATE_CAPACITY: usize = 1456;
 
 const _: () = prove!(2 * LINE_CAPACITY + ROWS_CAPACITY <= STATE_CAPACITY);
@@ -114,7 +115,7 @@ fn push_row(rows: &mut Rows, row: u8, cells: &[u8; 40])
     push_text(rows, b"|\n");
 }
 
-// Returns whether all cells are spaces.
+// Returns whether all cells of a row are spaces.
 fn is_blank(cells: &[u8; 40]) -> bool
     ensures { result ≡ list_all (λ c. c == space) cells.now }
 {

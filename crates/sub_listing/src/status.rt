@@ -1,20 +1,20 @@
-//! How the program ends.
+//! The exit status of the program.
 ghost use Rattle.std.specs.Prelude.{◌≡◌};
 ghost use Rattle.sub_listing.specs.Listing.{exit_code};
 
-/// The program's exit status.
+/// The exit status of the program.
 #[derive(Clone, Copy, Debug, PartialEq, Eq)]
 pub enum Status {
-    /// Done, or accepted: 0.
+    /// Status 0: the command succeeded, or the input is accepted.
     Done,
-    /// Refused, with the reason on a line: 1.
+    /// Status 1: the input is rejected, and a line gives the reason.
     Refused,
-    /// Arguments that make no request, want of memory, or a device that failed: 2.
+    /// Status 2: the arguments are no request, memory ran out, or a device failed.
     Fault,
 }
 
 impl Status {
-    /// Returns the status as the number that the system gets.
+    /// Returns the exit status as a number.
     pub fn code(self) -> u8
         ensures { result ≡ exit_code self }
     {

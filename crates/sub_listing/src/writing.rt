@@ -1,4 +1,4 @@
-//! Writes a file and prints the line about it.
+//! Writes a file, and prints a line about the result.
 ghost use Rattle.std.specs.Prelude.{◌≡◌, ◌≤◌, OnOk, length, true};
 ghost use Rattle.sub_io.specs.Device.{CountsIf, failed};
 ghost use Rattle.sub_listing.specs.Writing.{EndsWork, is_file_failure, is_input_failure};
@@ -16,10 +16,10 @@ use stl_rows::LoadFault;
 use sub_io::{Close, Sink, Source};
 use sub_plan::PlanFault;
 
-/// Why a file is not written, or only a part of it.
+/// The reason why a command writes no file, or only a part of one.
 #[derive(Clone, Copy)]
 pub enum WriteFault {
-    /// The input of `normal` was not read.
+    /// The input of `normal` was not read completely.
     Input(InputFault),
     /// The input of `schedule` gives no programme.
     Load(LoadFault),
@@ -31,11 +31,11 @@ pub enum WriteFault {
 
 /// The work of a command that writes a file.
 pub trait Work {
-    /// The file and the result, given the input before and after.
+    /// The relation of the input, the output file and the result, each before and after the work.
     ghost works: { Self → writing.Work };
 
-    /// Does the work, and returns how many items were written. The input is read to its end before
-    /// anything is written, and then the file is stored.
+    /// Does the work of a command, and returns the number of items written. The input is read to
+    /// its end before anything is written, and the file is stored at the end.
     fn work<S: Source, F: Close>(
         &self,
         alloc: Global,
@@ -54,8 +54,7 @@ pub trait Work {
         ensures stored { OnOk result (F.is_stored file.new ≡ true) };
 }
 
-/// Does the work of a command, and prints its line: the number of items that were written, or the
-/// fault.
+/// Does the work of a command, and prints its line: the number of items written, or the fault.
 pub fn write<W: Work, S: Source, F: Close, K: Sink>(
     alloc: Global,
     work: &W,

@@ -1,4 +1,4 @@
--- What was copied so far, with one more turn, more_copied, and how it ended: prefix_copied,
+-- `copy_rest`: one more iteration of copying, more_copied, and each return: prefix_copied,
 -- cut_copied, all_copied.
 use Rattle.std.proofs.Common.{arith, rules}
 use Rattle.sub_io.proofs.DeviceLemmas.{AppendsPrefix-whole}

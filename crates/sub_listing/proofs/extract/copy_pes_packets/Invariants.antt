@@ -1,4 +1,4 @@
--- So many PES packets were copied and flushed, and no device has failed.
+-- Loop invariant: the PES packets so far were copied and flushed, and no device has failed.
 use Rattle.std.proofs.Common.{◌≡◌, ◌<◌, ◌≤◌}
 use Rattle.sub_io.specs.Reading.{IfKnown}
 use Rattle.sub_listing.specs.Copying.{HasCopiedPesPackets}

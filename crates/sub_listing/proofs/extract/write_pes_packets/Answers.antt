@@ -1,4 +1,5 @@
--- Storing does not change what was written: all bytes if it is stored, otherwise a prefix.
+-- Storing the file does not change the bytes written to it; if it could not be stored, they count
+-- as a prefix.
 use Rattle.sub_listing.proofs.ExtractingLemmas.{extracted-stored, extracted-lost}
 use Rattle.sub_listing.proofs.extract.write_pes_packets.Goals as goal
 

@@ -1,5 +1,5 @@
--- The lines of one more part, the last ones, and those at which the sink failed: prefix-more,
--- prefix-end, prefix-cut, prefix-stopped; lines that were flushed before: prefix-kept.
+-- `list_to`: the lines of one more part, the last lines, and lines at which the sink failed:
+-- prefix-more, prefix-end, prefix-cut, prefix-stopped; flushed lines stay: prefix-kept.
 use Rattle.std.proofs.Common.{◌∙◌, ◌+◌, ap, arith, if◌then◌else◌, refl, subst, sym, Some, ℕ}
 use Rattle.std.proofs.lemmas.Bool.{true≢false}
 use Rattle.std.specs.Io.KnownBytes.{Appends}
@@ -22,8 +22,6 @@ pes_packets-init g c = record {
   out = refl;
   prefix = prefix-none _ _ _;
 }
-
--- ---- the sink failed when lines were flushed
 
 pub returns-then-printer-clause-out_count : goal.returns-then-printer-clause-out_count
 returns-then-printer-clause-out_count g c =
@@ -74,8 +72,6 @@ returns-then-printer-clause-fault g c = λ _.
     let source = before.source in
     omega (arith, risen, same, out, source)
 
--- ---- the sink failed at the lines of a part
-
 pub returns-in-Err-clause-listing : goal.returns-in-Err-clause-listing
 returns-in-Err-clause-listing g c =
     let before = c.pes_packets.invariant in
@@ -125,8 +121,6 @@ returns-in-Err-clause-fault g c = λ _.
     let put = c.in-Err.ensures.count in
     let source = (returns-in-Err-clause-input_count g c).risen in
     omega (arith, out, put, source)
-
--- ---- the last lines
 
 pub returns-in-Some-clause-listing : goal.returns-in-Some-clause-listing
 returns-in-Some-clause-listing g c =
@@ -181,8 +175,6 @@ returns-in-Some-clause-fault g c = λ is.
     let source = before.source in
     omega (arith, out, put, counted, source)
 
--- ---- one more part
-
 pub pes_packets-preserved : goal.pes_packets-preserved
 pes_packets-preserved g c =
     let before = c.pes_packets.invariant in
@@ -210,8 +202,6 @@ pes_packets-preserved g c =
           (g.K.Sink.contents c.put.new.self.out.now))
           c.as_slice.ensures.value c.in-Ok.ensures.ok);
     }
-
--- ---- the source failed
 
 pub returns-then-printer-clause-followed : goal.returns-then-printer-clause-followed
 returns-then-printer-clause-followed g c = λ is sound risen.

@@ -1,4 +1,5 @@
--- No device has failed, and what was printed is the beginning of each possible listing.
+-- Loop invariant: no device has failed, and the printed lines are the beginning of each listing
+-- that is still possible.
 use Rattle.std.proofs.Common.{◌≡◌, false}
 use Rattle.sub_listing.proofs.ListingLemmas.{IsPrefix}
 use Rattle.sub_listing.proofs.listing.list_to.Given as goal

@@ -1,4 +1,5 @@
--- The first bytes decide it, answers_first, and storing does not change what was written.
+-- The first bytes of a file decide its normal form, answers_first, and storing does not change the
+-- bytes written.
 use Rattle.std.proofs.Common.{Ok, Err}
 use Rattle.std.proofs.KnownBytes.{Appends-kept}
 use Rattle.sub_io.proofs.DeviceLemmas.{AppendsPrefix-whole}

@@ -1,4 +1,5 @@
--- What stays the same when lines are flushed: flush_same, flush_stays, flush_failed.
+-- `flush_lines`: flushing keeps the printed lines, the sink and the device: flush_same,
+-- flush_stays, flush_failed.
 use Rattle.std.proofs.Common.{◌≡◌, ◌∙◌, ℕ, Bool, List, Option, false, refl, true}
 use Rattle.sub_io.proofs.FlushingLemmas.{not_ok}
 use Rattle.sub_listing.proofs.PrinterLemmas.{flush_failed, flush_same, flush_stays}
@@ -10,7 +11,6 @@ abbrev value_of : {K : Type 0} → (K → Option (List ℕ)) → (K → ℕ) →
 value_of contents count p =
     printer_value (contents p.out.now) (count p.out.now) p.refused p.failed p.first
 
--- The state after flushing was requested.
 abbrev IsFlushed : {K : Type 0} → (K → Option (List ℕ)) → (K → ℕ) → (K → ℕ)
     → Printer K → Bool → Printer K → Type 0
 IsFlushed contents count buffered s ok t = (t.out.ghost_name ≡ s.out.ghost_name)

@@ -1,5 +1,5 @@
--- The listing after the first PES packet was found, or if the device failed before: prints_found,
--- prints_failed.
+-- `list_packets`: the listing if the first PES packet was found, prints_found, or if the device
+-- failed before, prints_failed.
 use Rattle.std.proofs.Common.{◌≡◌, ◌+◌, arith}
 use Rattle.sub_listing.specs.DeviceCall.{read_call}
 use Rattle.sub_listing.proofs.FirstPacketLemmas.{prints_failed, prints_found}

@@ -1,4 +1,4 @@
--- The line of one more unit.
+-- `push_frame`: the line of one more Teletext unit.
 use Rattle.std.proofs.Common.{◌≡◌, ◌+◌, ◌<◌, ◌∷◌, ◌++◌, ℕ, List, drop, length, rules, arith, sym}
 use Rattle.std.proofs.Common.{ap, ◌∙◌, append_assoc}
 use Rattle.std.proofs.lemmas.List.{drop_more}

@@ -1,4 +1,4 @@
--- The text is that of the specification, character by character.
+-- The line with the version equals the line of the specification, character by character.
 use Rattle.std.proofs.Common.{refl}
 use Rattle.sub_listing.specs.Version.{version_text}
 use Rattle.sub_listing.proofs.version.print_version.Goals as goal

@@ -1,4 +1,4 @@
--- The bytes that were read are the first ones of the input.
+-- The bytes that `normal` reads are the first bytes of its input.
 use Rattle.std.proofs.Common.{◌∙◌}
 use Rattle.sub_listing.proofs.normal.NormalWorkWork.work.Goals as goal
 
