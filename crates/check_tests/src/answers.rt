@@ -1,4 +1,4 @@
-//! Asserts what the program answers with devices in memory.
+//! Asserts the program's answers, with devices in memory.
 ghost use Rattle.sub_io.specs.Device.{CanFail};
 
 use answer_fixtures::{fills, prints, reports, reports_all};
@@ -10,8 +10,8 @@ fn assert_right(rt: &impl Abort, is_right: bool, arguments: &[&str]) {
     assert!(rt; is_right, "{arguments:?}");
 }
 
-/// Asserts the output of a command for two sources, in two parts, and the status that the last line
-/// implies.
+/// Asserts the output of a command for two sources, as `prefix` and the expected end, and the
+/// status that the last line implies.
 pub fn assert_prints<'a, S: Source, T: Source>(
     rt: &(impl Abort + Alloc<A = Global>),
     arguments: &'a [&'a str],
@@ -28,7 +28,8 @@ pub fn assert_prints<'a, S: Source, T: Source>(
 }
 
 /// Asserts the output of a check with `--all` for two files in memory, in two parts, and the
-/// status; and that without it the first line that is not about trusted frames is printed.
+/// status; and that the check without `--all` prints the first line that is not about trusted
+/// frames.
 pub fn assert_all<'a>(
     rt: &(impl Abort + Alloc<A = Global>),
     arguments: &'a [&'a str],
@@ -41,8 +42,9 @@ pub fn assert_all<'a>(
     assert_right(rt, is_right, arguments);
 }
 
-/// Asserts the output of a command for two files in memory, and the status that it implies. For a
-/// check, also that with `--all` it is the first line that is not about trusted frames.
+/// Asserts the output of a command for two files in memory, and the status that the line implies.
+/// For a check, also that the check with `--all` prints this line as the first that is not about
+/// trusted frames.
 pub fn assert_reports<'a>(
     rt: &(impl Abort + Alloc<A = Global>),
     arguments: &'a [&'a str],
@@ -57,7 +59,7 @@ pub fn assert_reports<'a>(
     );
 }
 
-/// Asserts that each output with less room than a text gets the beginning of it.
+/// Asserts that each output with less room than a text gets the beginning of the text.
 pub fn assert_fills<'a>(
     rt: &(impl Abort + Alloc<A = Global>),
     arguments: &'a [&'a str],

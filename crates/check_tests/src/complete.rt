@@ -11,7 +11,7 @@ use sub_io::MemSink;
 
 const OPEN: &str = "refused 77 Incomplete frame 10:00:00:00\n";
 
-// Asserts the line of a check without the flag, and with it.
+// Asserts the line of a check without `--complete`, and with it.
 fn assert_checks(
     rt: &(impl Abort + Alloc<A = Global>),
     stl: &[u8],
@@ -29,7 +29,8 @@ fn assert_checks(
     );
 }
 
-// Asserts the lines of a check of the schedule of `Hi` with two bytes changed.
+// Asserts the lines of a check of the schedule of `Hi` with two bytes changed, without `--complete`
+// and with it.
 fn assert_checks_changed(
     rt: &(impl Abort + Alloc<A = Global>),
     changes: [(usize, u8); 2],
@@ -49,11 +50,13 @@ fn assert_checks_changed(
 fn refuses_a_page_that_is_open_at_a_frames_end(rt: HostRuntime) {
     let content = "refused 72 Content frame 10:00:00:00 row 22 column 17\n";
     let at_the_end = "refused 77 Incomplete frame 10:00:02:00\n";
-    // unchanged; the first closing header becomes a stuffing unit, and the second
+    // The schedule is unchanged; then the first closing header becomes a stuffing unit, and then
+    // the second one.
     assert_checks_changed(&rt, [(138, 0x03), (138, 0x03)], ACCEPTED, ACCEPTED);
     assert_checks_changed(&rt, [(138, 0xFF), (138, 0xFF)], ACCEPTED, OPEN);
     assert_checks_changed(&rt, [(276, 0xFF), (276, 0xFF)], ACCEPTED, at_the_end);
-    // the first, and the second 0B of row 22 becomes 49
+    // The first closing header becomes a stuffing unit, and the second start box (0B) of row 22
+    // becomes the code 49.
     assert_checks_changed(&rt, [(138, 0xFF), (115, 0x92)], content, content);
 }
 
@@ -68,8 +71,8 @@ fn reports_an_open_page_before_an_early_end_and_a_gap_before_it(rt: HostRuntime)
     assert_reports(&rt, &arguments, &file_of_hi(), &schedule_of_hi(), gap);
 }
 
-// Asserts the lines of a check of `Hi` with these packets at 10:00:00:00, and others two seconds
-// later.
+// Asserts the lines of a check of `Hi` with the packets `first` at 10:00:00:00, and `last` two
+// seconds later, without `--complete` and with it.
 fn assert_checks_two(
     rt: &(impl Abort + Alloc<A = Global>),
     first: &[[u8; 42]],
@@ -85,7 +88,7 @@ fn assert_checks_two(
 
 #[test]
 fn counts_a_header_that_ends_the_page_alone(rt: HostRuntime) {
-    // a header of page 100 after the row, in parallel mode and in serial mode
+    // A header of page 100 follows the row, in parallel mode and in serial mode.
     let sent = [HEADER, ROW, OTHER_HEADER];
     assert_checks_two(&rt, &sent, &[HEADER, CLOSING], ACCEPTED, OPEN);
     let (header, other) = (in_serial_mode(&HEADER), in_serial_mode(&OTHER_HEADER));
@@ -96,7 +99,7 @@ fn counts_a_header_that_ends_the_page_alone(rt: HostRuntime) {
         ACCEPTED,
         ACCEPTED,
     );
-    // a header of the page after the closing one
+    // A header of the page follows the closing header.
     let again = [HEADER, ROW, CLOSING, HEADER, ROW];
     let three = "accepted 51 frames 3 transmissions\n";
     assert_checks_two(&rt, &again, &[HEADER, CLOSING], three, OPEN);

@@ -5,7 +5,7 @@ use fixtures::{HEAD, HI, TEN, block, file_of_five, file_of_two, head, put, sched
 use std::alloc::Global;
 use std::process::Abort;
 
-/// The faults of five subtitles.
+/// The lines for the faults of the file of five subtitles.
 pub const OF_FIVE: &str = "refused 57 Overlap block 2\n\
     refused 50 Character block 2 at 3\n\
     refused 50 Character block 3 at 3\n\
@@ -21,7 +21,7 @@ fn reports_every_fault_of_five_subtitles(rt: HostRuntime) {
     assert_all(&rt, &CHECK, &cut_file, &pes, OF_FIVE, cut);
 }
 
-// Asserts the faults of a subtitle file of three blocks.
+// Asserts the lines of `check --all` for a subtitle file of three blocks.
 fn assert_tells_three(
     rt: &(impl Abort + Alloc<A = Global>),
     first: &[u8; 128],
@@ -49,7 +49,7 @@ fn reads_on_after_a_subtitle_that_is_refused(rt: HostRuntime) {
         refused 18 Justify block 2\n\
         refused 50 Character block 3 at 3\n\
         3 faults\n");
-    // The first block of a subtitle that ends where it begins, its last block, and one with another
+    // The first block of a subtitle whose TCO is its TCI, its last block, and a block with another
     // SN.
     let mut open = head(TEN, TEN, 22);
     open[3] = 0;

@@ -11,7 +11,7 @@ use std::alloc::Global;
 use std::process::Abort;
 use sub_io::MemSink;
 
-/// Asserts the output of a check of a subtitle file and these bytes, with these options.
+/// Asserts the output of `check --all` for a subtitle file and a PES file, with these options.
 pub fn assert_reported_of<'x>(
     rt: &(impl Abort + Alloc<A = Global>),
     stl: &[u8],
@@ -27,7 +27,8 @@ pub fn assert_reported_of<'x>(
     assert_all(rt, arguments, stl, pes, "", lines);
 }
 
-/// Asserts the output of a check of the subtitle file of `Hi` and these bytes, with these options.
+/// Asserts the output of `check --all` for the subtitle file of `Hi` and a PES file, with these
+/// options.
 pub fn assert_reported<'x>(
     rt: &(impl Abort + Alloc<A = Global>),
     pes: &[u8],
@@ -85,14 +86,15 @@ fn reports_all_of_a_schedule_by_other_options(rt: HostRuntime) {
         1 faults\n");
 }
 
-// The `H` of the row as a byte of even parity, as `h`, and C4 of the first header clear.
+// Changes of the schedule: the `H` of the row becomes a byte of even parity, or an `h`, or C4 of
+// the first header is cleared.
 const EVEN: (usize, u8) = (117, 0x12);
 
 const OTHER: (usize, u8) = (117, 0x16);
 
 const NO_ERASE: (usize, u8) = (55, 0xA8);
 
-// The schedule with two bytes changed.
+// Returns the schedule of `Hi` with two bytes changed.
 fn changed(rt: &impl Abort, first: (usize, u8), second: (usize, u8)) -> [u8; 368]
     ensures { length result ≡ 368 }
 {
@@ -109,14 +111,14 @@ fn reports_all_of_a_schedule_with_an_even_byte(rt: HostRuntime) {
     let lines = "refused 68 Parity frame 10:00:00:00 packet 1\n\
         trusted frames 10:00:02:00 10:00:02:00\n1 faults\n";
     assert_reported(&rt, &even, &[], lines);
-    // The header after it is two seconds later: until then the letter may be missing.
+    // The next header comes two seconds later, and until then the letter may be missing on screens.
     let listen = ["subttx", "listen", "a", "--at", "10:00:01:24"];
     let shown = "heard yes\nopen no\nrow 22 |                ... i..                 |\n";
     assert_reports(&rt, &listen, &even, &[], shown);
 }
 
-// The bytes that are cut off may have been sent in the last frame that was read; at the end of a
-// file there are none. 74 is reported only if all bytes are read.
+// The bytes that are cut off may have been sent in the last frame that was read, so it is not
+// trusted; if no bytes are left, it is. Fault 74 is reported only if all bytes are read.
 #[rattlefmt::skip]
 #[test]
 fn doubts_the_last_frame_where_bytes_are_left(rt: HostRuntime) {
@@ -161,7 +163,8 @@ fn reports_all_of_a_schedule_with_bytes_changed(rt: HostRuntime) {
         1 faults\n");
 }
 
-// The third PES packet is of a frame before the second: a header that came later counts for it.
+// The third PES packet has an earlier frame than the second, whose header still counts for the
+// repeat bound.
 #[test]
 fn goes_on_after_frames_that_do_not_rise(rt: HostRuntime) {
     let lines = "trusted frames 10:00:00:00 10:00:01:24\nrefused 62 Order pes 2\n1 faults\n";

@@ -1,4 +1,4 @@
-//! `check --keeping`: headers that repeat the page may keep it, with C4, erase page, clear.
+//! `check --keeping`: headers that repeat the page may keep its text, with C4, erase page, clear.
 use crate::answers::assert_reports;
 use crate::scope::{HO, at};
 use crate::within::assert_row;
@@ -21,14 +21,14 @@ fn assert_line(rt: &(impl Abort + Alloc<A = Global>), stl: &[u8], row: &[&[&str]
     assert_reports(rt, &arguments[..4 + len], stl, pes.written(), row[2][0]);
 }
 
-// Asserts it for each of these rows.
+// Asserts the line of a check for each row of a table.
 fn assert_lines(rt: &(impl Abort + Alloc<A = Global>), stl: &[u8], rows: &[[&[&str]; 3]]) {
     for row in rows.iter() {
         assert_line(rt, stl, row);
     }
 }
 
-// Asserts the lines that are printed with `--all` for each of these rows.
+// Asserts the lines that `check --all` prints for each row of a table.
 fn assert_lists(rt: &(impl Abort + Alloc<A = Global>), stl: &[u8], rows: &[[&[&str]; 3]]) {
     for row in rows.iter() {
         assert_row(rt, stl, row);
@@ -39,7 +39,7 @@ const THREE: &str = "accepted 51 frames 3 transmissions\n";
 
 const FOUR: &str = "accepted 51 frames 4 transmissions\n";
 
-// The refusal if C4 has to be set.
+// The refusal of a header with C4 clear.
 const CONTROL: &str = "refused 67 Control frame 10:00:01:00 packet 0\n";
 
 #[rattlefmt::skip]
@@ -58,7 +58,7 @@ fn accepts_repeats_that_keep(rt: HostRuntime) {
     assert_lines(&rt, &file_of_hi(), &REPEATS);
 }
 
-// Transmissions in which a row with text is not sent again.
+// Transmissions in which a row with text is not sent again after a repeat.
 #[rattlefmt::skip]
 const LEFT_OUT: [[&[&str]; 3]; 6] = [
     [&["0:hrc", "25:kc", "50:hc"], &["--keeping"], &[
@@ -90,7 +90,7 @@ const LEFT_OUT_LISTED: [[&[&str]; 3]; 3] = [
         ended 72 Content frame 10:00:01:24\n\
         trusted frames 10:00:02:00 10:00:02:00\n\
         1 faults\n"]],
-    // only a header with C4 set removes a row
+    // Only a header with C4 set removes a row from the page.
     [&["0:hrc", "25:krc", "50:kc", "51:hc"], &["--keeping"], &[
         "trusted frames 10:00:00:00 10:00:01:24\n\
         refused 72 Content frame 10:00:02:00 row 22 column 16\n\
@@ -104,7 +104,7 @@ fn lists_where_the_page_is_not_sent_again(rt: HostRuntime) {
     assert_lists(&rt, &file_of_hi(), &LEFT_OUT_LISTED);
 }
 
-// Transmissions that change when they are sent again.
+// Transmissions whose rows change when they are sent again.
 #[rattlefmt::skip]
 const CHANGED: [[&[&str]; 3]; 5] = [
     [&["0:hrc", "25:koc", "50:hc"], &["--keeping"], &[
@@ -141,7 +141,7 @@ fn lists_where_the_page_changes_without_being_erased(rt: HostRuntime) {
     assert_lists(&rt, &file_of_hi(), &CHANGED);
 }
 
-// Other control bits and subcodes.
+// Transmissions with other control bits and subcodes in their headers.
 #[rattlefmt::skip]
 const HEADERS: [[&[&str]; 3]; 4] = [
     [&["0:hrc", "25:xrc", "50:hc"], &["--keeping"], &[CONTROL]],
@@ -152,7 +152,7 @@ const HEADERS: [[&[&str]; 3]; 4] = [
 
 #[rattlefmt::skip]
 const HEADERS_LISTED: [[&[&str]; 3]; 3] = [
-    // the header before may be right or wrong
+    // A repeat is compared with the header before it, even if that header was refused.
     [&["0:hrc", "25:Krc", "30:Krc", "50:hc"], &["--keeping"], &[
         "trusted frames 10:00:00:00 10:00:00:24\n\
         refused 67 Control frame 10:00:01:00 packet 0\n\
@@ -163,7 +163,7 @@ const HEADERS_LISTED: [[&[&str]; 3]; 3] = [
         refused 67 Control frame 10:00:01:00 packet 0\n\
         trusted frames 10:00:02:00 10:00:02:00\n\
         1 faults\n"]],
-    // no frame is trusted before a header that erases the page
+    // No frame is trusted before a header that erases the page.
     [&["0:krc", "50:hc"], &["--keeping", "--every", "49"], &[
         "refused 73 Gap frame 10:00:01:24\n\
         ended 73 Gap frame 10:00:01:24\n\
@@ -177,7 +177,7 @@ fn requires_of_a_repeat_its_control_bits_and_its_subcode(rt: HostRuntime) {
     assert_lists(&rt, &file_of_hi(), &HEADERS_LISTED);
 }
 
-// Repeats while the page is open, or after rows of another page.
+// Repeats that come while the page is open, or after rows of another page.
 #[rattlefmt::skip]
 const OPEN: [[&[&str]; 3]; 6] = [
     [&["0:hr", "1:krc", "50:hc"], &["--keeping", "--complete", "--within", "2"], &[
@@ -202,7 +202,7 @@ const BLANK: [[&[&str]; 3]; 2] = [
     [&["0:hrc", "50:hc", "51:ksc"], &["--keeping"], &["accepted 52 frames 3 transmissions\n"]],
 ];
 
-// Repeats before the subtitle comes.
+// Repeats before the subtitle begins.
 #[rattlefmt::skip]
 const BEFORE: [[&[&str]; 3]; 1] = [
     [&["0:kc", "10:krc", "50:hc"], &["--keeping"], &[THREE]],
@@ -214,18 +214,18 @@ fn accepts_repeats_of_a_blank_page(rt: HostRuntime) {
     assert_lines(&rt, &file_of(&at(10, 50, &HI)), &BEFORE);
 }
 
-// The text `Hi` on a row, and again two rows below it.
+// The text `Hi` on a row, and the same text two rows below.
 const HI_TWICE: [u8; 16] = [
     0x0D, 0x0B, 0x0B, 0x48, 0x69, 0x0A, 0x0A, 0x8A, 0x8A, 0x0D, 0x0B, 0x0B, 0x48, 0x69, 0x0A, 0x0A,
 ];
 
-// Returns its block on rows 20 and 22 at these frames after 10:00:00:00.
+// Returns the block of `HI_TWICE` on rows 20 and 22, from and to these frames after 10:00:00:00.
 fn twice_at(from: u32, to: u32) -> [u8; 128] {
     let fields = head(TEN.saturating_add(from), TEN.saturating_add(to), 20);
     block(&fields, &HI_TWICE)
 }
 
-// Transmissions of both rows.
+// Transmissions of a subtitle with `Hi` on two rows.
 #[rattlefmt::skip]
 const TWO_ROWS: [[&[&str]; 3]; 2] = [
     [&["0:hRrc", "25:krRc", "50:hc"], &["--keeping"], &[THREE]],
@@ -249,7 +249,7 @@ fn requires_each_row_of_the_page_again(rt: HostRuntime) {
     assert_lists(&rt, &stl, &ONE_ROW);
 }
 
-// Two subtitles, the second one with `Ho`.
+// Transmissions of two subtitles, of which the second has the text `Ho`.
 #[rattlefmt::skip]
 const OTHER_TEXT: [[&[&str]; 3]; 2] = [
     [&["0:hrc", "50:hoc", "75:koc", "100:hc"], &["--keeping"], &[
@@ -258,14 +258,14 @@ const OTHER_TEXT: [[&[&str]; 3]; 2] = [
         "refused 69 RowChanged frame 10:00:02:00 packet 1\n"]],
 ];
 
-// With `Hi` on another row.
+// A transmission in which the second subtitle, `Hi`, is on another row.
 #[rattlefmt::skip]
 const OTHER_ROW: [[&[&str]; 3]; 1] = [
     [&["0:hrc", "50:kRc", "100:hc"], &["--keeping"], &[
         "refused 72 Content frame 10:00:02:00 row 22 column 16\n"]],
 ];
 
-// With `Hi` on one row more.
+// A transmission in which the second subtitle has `Hi` on one more row.
 #[rattlefmt::skip]
 const MORE_ROWS: [[&[&str]; 3]; 1] = [
     [&["0:hrc", "50:kRrc", "100:hc"], &["--keeping"], &["accepted 101 frames 3 transmissions\n"]],

@@ -1,6 +1,7 @@
-//! Tests of the answers of `check`, with devices in memory. Nothing here is part of the product.
+//! Tests of the answers of `check`, with devices in memory. Nothing in this crate is part of the
+//! product.
 //!
-//! They are a crate of their own, since the tests of a crate are proved by one job.
+//! These tests are a separate crate, since the tests of a crate are proved by one job.
 #![tactic(auto)]
 
 #[cfg(test)]

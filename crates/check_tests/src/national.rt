@@ -1,39 +1,41 @@
-//! `check` with each national option: each header of the page must have its bits C12 to C14.
+//! `check` with each national option: each header of the page must have the option's bits C12 to
+//! C14.
 use crate::answers::assert_reports;
 use answer_fixtures::ACCEPTED;
 use fixtures::{file_of_hi, schedule_of_hi};
 use std::alloc::Global;
 use std::process::Abort;
 
-// The texts of the options.
+// The names of the national options on the command line.
 const WORDS: [&str; 7] = [
     "english", "german", "swedish", "italian", "french", "spanish", "czech",
 ];
 
-// Byte 9 of a header with the bits of each, in the bit order of a PES packet.
+// Byte 9 of a header for each national option, in the bit order of a PES packet.
 const LAST_BYTES: [u8; 7] = [0xA8, 0x0B, 0x26, 0x85, 0x92, 0x31, 0x1C];
 
-// The byte with C12, C13 and C14 set, which names no option.
+// Byte 9 of a header with C12, C13 and C14 set, which is no national option.
 const RESERVED: u8 = 0xBF;
 
 const FIRST_REFUSED: &str = "refused 67 Control frame 10:00:00:00 packet 0\n";
 
 const SECOND_REFUSED: &str = "refused 67 Control frame 10:00:02:00 packet 0\n";
 
-// Returns the transmission of `Hi` with these bytes 9 in its two headers of the page.
+// Returns the transmission of `Hi` with these values of byte 9 in its two headers of the page.
 fn sent_with(first: u8, second: u8) -> [u8; 368] {
     let mut file = schedule_of_hi();
     (file[59], file[243]) = (first, second);
     file
 }
 
-// Asserts the line of a check of `Hi` with an option.
+// Asserts the line of a check of `Hi` with a national option.
 fn assert_checks(rt: &(impl Abort + Alloc<A = Global>), word: &str, pes: &[u8], want: &str) {
     let arguments = ["subttx", "check", "a", "b", "--option", word];
     assert_reports(rt, &arguments, &file_of_hi(), pes, want);
 }
 
-// Asserts it for the transmissions of all options, with the option whose byte 9 this is.
+// Asserts the lines of checks with the national option `word`, whose byte 9 is `own`, for the
+// transmissions of all national options.
 fn assert_asks_for(rt: &(impl Abort + Alloc<A = Global>), word: &str, own: u8) {
     for byte in LAST_BYTES {
         let is_own = byte == own;

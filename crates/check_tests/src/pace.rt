@@ -3,7 +3,7 @@ use crate::within::assert_row;
 use answer_fixtures::ACCEPTED;
 use fixtures::file_of_hi;
 
-// Transmissions with the required distance.
+// Transmissions checked with `--pace`.
 #[rattlefmt::skip]
 const PACED: [[&[&str]; 3]; 11] = [
     [&["0:hrc", "25:hrc", "50:hc"], &["--pace", "25"], &["accepted 51 frames 3 transmissions\n"]],
@@ -16,7 +16,7 @@ const PACED: [[&[&str]; 3]; 11] = [
         ended 79 Silent frame 10:00:01:24\n\
         trusted frames 10:00:02:00 10:00:02:00\n\
         2 faults\n"]],
-    // PES packets are counted, not page headers
+    // The distance between PES packets counts, not between page headers.
     [&["0:hrc", "25:", "50:hc"], &["--pace", "25"], &[ACCEPTED]],
     [&["0:hrc", "25:rc", "50:hc"], &["--pace", "24", "--every", "50"], &[
         "trusted frames 10:00:00:00 10:00:00:23\n\
@@ -48,7 +48,7 @@ const PACED: [[&[&str]; 3]; 11] = [
         ended 79 Silent frame 10:00:01:24\n\
         trusted frames 10:00:02:00 10:00:02:00\n\
         1 faults\n"]],
-    // a repeat bound and a distance of a day
+    // A repeat bound and a maximum distance of a day are allowed.
     [&["0:hrc", "50:hc"], &["--every", "2160000"], &[ACCEPTED]],
     [&["0:hrc", "50:hc"], &["--every", "2160000", "--pace", "2160000"], &[ACCEPTED]],
 ];

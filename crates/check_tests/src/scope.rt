@@ -6,13 +6,13 @@ use std::alloc::Global;
 use std::process::Abort;
 use sub_io::MemSink;
 
-/// `Hi` with another last letter.
+/// The text `Ho` with double height, in a box.
 pub const HO: [u8; 7] = [0x0D, 0x0B, 0x0B, 0x48, 0x6F, 0x0A, 0x0A];
 
-/// `Hi` with a letter that level 1 does not have.
+/// A text with a character that level 1 does not have.
 pub const BAD: [u8; 7] = [0x0D, 0x0B, 0x0B, 0x48, 0xE6, 0x0A, 0x0A];
 
-/// Returns the block of a text at these frames after 10:00:00:00.
+/// Returns the block of a text with TCI and TCO at these frames after 10:00:00:00.
 pub fn at(from: u32, to: u32, text: &[u8; 7]) -> [u8; 128] {
     block(
         &head(TEN.saturating_add(from), TEN.saturating_add(to), 22),
@@ -20,7 +20,7 @@ pub fn at(from: u32, to: u32, text: &[u8; 7]) -> [u8; 128] {
     )
 }
 
-/// Returns the file of three blocks.
+/// Returns a subtitle file of three blocks.
 pub fn file_of_blocks(first: &[u8; 128], second: &[u8; 128], third: &[u8; 128]) -> [u8; 1408] {
     let mut file = [0; 1408];
     put(&mut file, 0, &file_of_two(first, second));
@@ -33,7 +33,7 @@ pub fn file_with_bad() -> [u8; 1408] {
     file_of_blocks(&at(0, 50, &HI), &at(50, 100, &BAD), &at(120, 150, &HI))
 }
 
-// Asserts the output with options for a transmission that is spelled.
+// Asserts the output of `check --all` with options for a transmission in the short notation.
 fn assert_reported(
     rt: &(impl Abort + Alloc<A = Global>),
     options: &[&str; 4],
@@ -50,10 +50,10 @@ fn assert_reported(
     assert_reports(rt, &arguments, stl, pes.written(), want);
 }
 
-// The day.
+// The option for subtitles from the beginning of the day on.
 const FROM: [&str; 2] = ["--from", "00:00:00:00"];
 
-// Asserts the output with `--to`.
+// Asserts the output of `check --all` with `--to`.
 fn assert_to(
     rt: &(impl Abort + Alloc<A = Global>),
     to: &str,
@@ -64,7 +64,7 @@ fn assert_to(
     assert_reported(rt, &[FROM[0], FROM[1], "--to", to], stl, sent, want);
 }
 
-// Asserts the output with `--from`.
+// Asserts the output of `check --all` with `--from`.
 fn assert_from(
     rt: &(impl Abort + Alloc<A = Global>),
     from: &str,
@@ -141,7 +141,7 @@ fn judges_the_subtitles_between_two_times(rt: HostRuntime) {
     assert_reports(&rt, &twice, &hi, &schedule_of_hi(), "usage 0 Words\n");
 }
 
-// Asserts the output for `Hi` in a file with this display standard, without the flag and with it.
+// Asserts the output for `Hi` in a file with this display standard, without `--open` and with it.
 fn assert_takes(rt: &(impl Abort + Alloc<A = Global>), display: u8, plain: &str, open: &str) {
     let mut file = file_of_hi();
     file[11] = display;

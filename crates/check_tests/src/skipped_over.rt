@@ -4,8 +4,8 @@ use fixtures::{FIRST, every_second, put};
 use std::alloc::Global;
 use std::process::Abort;
 
-// Asserts the lines for the schedule of `Hi`, sent each second, with two bytes changed, and the
-// bytes after each.
+// Asserts the lines for the schedule of `Hi`, sent each second, with two bytes changed, and with
+// `more` bytes after each PES packet.
 fn assert_reported_changed(
     rt: &(impl Abort + Alloc<A = Global>),
     first: (usize, u8),
@@ -24,7 +24,7 @@ fn assert_reported_changed(
 #[rattlefmt::skip]
 #[test]
 fn trusts_nothing_around_a_pes_packet_that_is_skipped(rt: HostRuntime) {
-    // the data_identifier of the second, and of the last
+    // The data_identifier is wrong in the second PES packet, and in the last.
     assert_reported_changed(&rt, (229, 0x20), (229, 0x20), 0,
         "refused 37 DataId pes 1\n\
         trusted frames 10:00:02:00 10:00:02:00\n\
@@ -34,7 +34,7 @@ fn trusts_nothing_around_a_pes_packet_that_is_skipped(rt: HostRuntime) {
         refused 37 DataId pes 2\n\
         refused 74 Late frame 10:00:01:00\n\
         2 faults\n");
-    // the length of a data unit of the first, and of the first two
+    // The length of a data unit is wrong in the first PES packet, and in the first two.
     assert_reported_changed(&rt, (47, 0x2D), (47, 0x2D), 0,
         "refused 38 UnitLength pes 0\n\
         refused 63 Early frame 10:00:01:00\n\
@@ -58,7 +58,7 @@ fn reports_what_ends_reading_after_pes_packets_that_are_skipped(rt: HostRuntime)
         2 faults\n");
 }
 
-// The bytes from 6 on of a gap marker.
+// The bytes of a gap marker from byte 6 on.
 const FILL: [u8; 178] = [0xFF; 178];
 
 #[test]
@@ -71,7 +71,8 @@ fn skips_a_gap_marker_of_lost_packets(rt: HostRuntime) {
     assert_reported(&rt, &pes, &[], lines);
 }
 
-// Ten PES packets with the same fault, none of which is read: no other number is reported.
+// Ten PES packets with the same fault, none of which can be read, are reported by the first and the
+// last one.
 #[test]
 fn reports_many_pes_packets_with_one_number_once(rt: HostRuntime) {
     let mut pes = [0; 1840];

@@ -1,5 +1,5 @@
-//! `check --all` if a device fails, or never ends: what was found before is reported, and the fault
-//! last, if the output takes it.
+//! `check --all` if a device fails, or never ends: everything found before is reported, and the
+//! failure last, if the output takes its line.
 use crate::answers::{assert_fills, assert_prints};
 use crate::asserting::assert_same_in;
 use crate::every_fault::OF_FIVE;
@@ -10,10 +10,11 @@ use std::process::Abort;
 use sub_answer::Status;
 use sub_io::{FailAt, MemSink, MemSource, Sink};
 
-// The arguments of a check of another page than the one that is sent.
+// The arguments of a check of page 100, which is not sent.
 const PAGE_100: [&str; 7] = ["subttx", "check", "--all", "a", "b", "--page", "100"];
 
-// The lines for the schedule of `Hi` then: at its first PES packet, at its second, and last.
+// The lines for the schedule of `Hi` checked for page 100: at its first PES packet, at its second,
+// and at the end.
 const AT_FIRST: &[u8] = b"refused 71 NoFirstHeader frame 10:00:00:00\n\
     refused 72 Content frame 10:00:00:00 row 22 column 16\n";
 
@@ -26,7 +27,7 @@ const ALL: &[u8] = b"refused 71 NoFirstHeader frame 10:00:00:00\n\
     ended 72 Content frame 10:00:01:24\n\
     2 faults\n";
 
-// All faults of five subtitles.
+// All lines for the file of five subtitles.
 const ALL_OF_FIVE: &[u8] = b"refused 57 Overlap block 2\n\
     refused 50 Character block 2 at 3\n\
     refused 50 Character block 3 at 3\n\
@@ -41,9 +42,9 @@ fn fills_an_output_that_has_less_room(rt: HostRuntime) {
     assert_fills(&rt, &CHECK_ALL, (&file_of_five(), &pes), &[], ALL_OF_FIVE);
 }
 
-// Asserts how many lines an output has that fails at a call, and that it is not used afterwards;
-// and how often the PES source was called: it gives a PES packet a call, and last the end. Each
-// call of the output is a line, except the one that flushes the lines.
+// Asserts how many lines an output has that fails at a call, and that the output is not used
+// afterwards; and how often the PES source was called: each call gives a PES packet, and the last
+// call finds the end. Each call of the output is a line, except the one that flushes the lines.
 fn assert_stops(rt: &(impl Abort + Alloc<A = Global>), call: u64, count: usize, pulls: u64) {
     let (stl, pes) = (file_of_hi(), schedule_of_hi());
     let inner = MemSource::new(&stl);
@@ -77,7 +78,7 @@ fn reads_no_more_once_an_output_failed(rt: HostRuntime) {
     assert_stops(&rt, 0, 0, 1);
     assert_stops(&rt, 1, 1, 1);
     assert_stops(&rt, 2, 2, 2);
-    // The source gives both PES packets at once, and is asked for the end.
+    // The source gives both PES packets at once, and is called once more for the end.
     assert_stops(&rt, 3, 3, 2);
     assert_stops(&rt, 4, 3, 3);
 }
@@ -107,8 +108,8 @@ fn ends_on_a_source_without_end_where_the_output_is_full(rt: HostRuntime) {
     assert_same_in(&rt, &pes.pulls, &4, &lines);
 }
 
-// Asserts the lines for a PES source that gives a byte a pull and fails at one of these, or at
-// none.
+// Asserts the lines for a PES source that gives one byte per pull and fails in turn at each pull of
+// a range.
 fn assert_fails(
     rt: &(impl Abort + Alloc<A = Global>),
     calls: (u64, u64),
@@ -125,15 +126,15 @@ fn assert_fails(
 
 #[test]
 fn reports_what_was_found_before_a_pes_source_failed(rt: HostRuntime) {
-    // 368 pulls give a byte each, and one the end.
+    // The source gives one byte in each of 368 pulls, and then its end.
     assert_fails(&rt, (0, 184), b"", b"fault 41 Read pes 0\n");
     assert_fails(&rt, (184, 368), AT_FIRST, b"fault 41 Read pes 1\n");
     assert_fails(&rt, (368, 369), AT_BOTH, b"fault 41 Read pes 2\n");
     assert_fails(&rt, (369, 370), AT_BOTH, b"2 faults\n");
 }
 
-// Asserts how a failure of the source of five subtitles at a call is reported, after so many lines.
-// A call gives the GSI block, or a block, and the last one the end.
+// Asserts the lines if the source of five subtitles fails at a call: `count` lines, and the line of
+// the failure. Each call gives the GSI block, or a block, and the last call finds the end.
 fn assert_fails_at(rt: &(impl Abort + Alloc<A = Global>), call: u64, count: usize, line: &[u8]) {
     let (stl, pes) = (file_of_five(), schedule_of_hi());
     let mut source = FailAt::new(MemSource::new(&stl), call);

@@ -12,7 +12,8 @@ use sub_io::{FailAt, MemSink, MemSource};
 // The arguments of a check with a repeat bound of a second.
 const EVERY_25: [&str; 7] = ["subttx", "check", "--all", "a", "b", "--every", "25"];
 
-// The lines for the schedule of `Hi` then: at its second PES packet, and all.
+// The lines for the schedule of `Hi` with a repeat bound of a second: at its second PES packet, and
+// all lines.
 const AT_BOTH: &str = "trusted frames 10:00:00:00 10:00:00:24\n\
     refused 73 Gap frame 10:00:01:00\n\
     ended 73 Gap frame 10:00:01:24\n";
@@ -23,7 +24,7 @@ const ALL: &str = "trusted frames 10:00:00:00 10:00:00:24\n\
     trusted frames 10:00:02:00 10:00:02:00\n\
     1 faults\n";
 
-// A byte of even parity in the first row: the first header after it is a second later.
+// The first row has a byte of even parity, and the next header comes a second later.
 #[rattlefmt::skip]
 #[test]
 fn trusts_from_the_first_header_on(rt: HostRuntime) {
@@ -35,8 +36,9 @@ fn trusts_from_the_first_header_on(rt: HostRuntime) {
         1 faults\n");
 }
 
-// In the second PES packet a packet 26 comes before a row with a byte of even parity: the frames
-// before are trusted up to the row, which receivers depend on.
+// In the second PES packet a packet 26 comes before a row with a byte of even parity. The frames
+// before are trusted up to the row, since receivers depend on the row's parity but not on packet
+// 26.
 #[rattlefmt::skip]
 #[test]
 fn reports_what_is_trusted_directly_before_what_ended_it(rt: HostRuntime) {
@@ -57,7 +59,7 @@ fn reports_what_is_trusted_directly_before_what_ended_it(rt: HostRuntime) {
 }
 
 // Asserts the lines, with these arguments, for the schedule of `Hi` if its source fails at a call.
-// A call gives a PES packet.
+// Each call gives a PES packet.
 fn assert_fails<'a>(
     rt: &(impl Abort + Alloc<A = Global>),
     arguments: &'a [&'a str],

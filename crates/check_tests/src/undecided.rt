@@ -1,4 +1,4 @@
-//! `check --all` with a refused subtitle: what is sent at other times is checked.
+//! `check --all` with a refused subtitle: all frames at other times are checked.
 use crate::answers::assert_all;
 use crate::scope::{BAD, HO, at, file_of_blocks, file_with_bad};
 use fixtures::{HI, block, file_of, file_of_two, head, push_spelled, put};
@@ -6,16 +6,17 @@ use std::alloc::Global;
 use std::process::Abort;
 use sub_io::MemSink;
 
-// Options that are the defaults.
+// An option with its default value, which changes nothing.
 const PLAIN: [&str; 2] = ["--every", "250"];
 
-// Complete pages.
+// The options for complete pages.
 const COMPLETE: [&str; 2] = ["--every=250", "--complete"];
 
-// A transmission of `Hi`, of `Ho` instead of what can't be drawn, and of `Hi` after a pause.
+// A transmission of `Hi`, of `Ho` instead of a subtitle that can't be drawn, and of `Hi` after a
+// pause.
 const ALL_SENT: [&str; 5] = ["0:hrc", "50:hoc", "100:hc", "120:hrc", "150:hc"];
 
-// Asserts the output of `check --all` with options for a transmission that is spelled.
+// Asserts the output of `check --all` with options for a transmission in the short notation.
 fn assert_all_faults(
     rt: &(impl Abort + Alloc<A = Global>),
     options: [&str; 2],
@@ -30,7 +31,7 @@ fn assert_all_faults(
     assert_all(rt, &arguments, stl, pes.written(), "", want);
 }
 
-// Returns the file of four blocks.
+// Returns a subtitle file of four blocks.
 fn file_of_more(
     first: &[u8; 128],
     second: &[u8; 128],

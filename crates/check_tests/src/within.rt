@@ -7,8 +7,8 @@ use std::alloc::Global;
 use std::process::Abort;
 use sub_io::MemSink;
 
-/// Asserts the output for a subtitle file and a transmission, by a row of a table: its PES packets,
-/// the options of the check, and the lines that it prints with `--all`.
+/// Asserts the output for a subtitle file and a transmission, by a row of a table: the PES packets,
+/// the options of the check, and the lines that `check --all` prints.
 pub fn assert_row(rt: &(impl Abort + Alloc<A = Global>), stl: &[u8], row: &[&[&str]; 3]) {
     let mut buffer = [0; 920];
     let mut pes = MemSink::new(&mut buffer);
@@ -17,7 +17,7 @@ pub fn assert_row(rt: &(impl Abort + Alloc<A = Global>), stl: &[u8], row: &[&[&s
     assert_reported_of(rt, stl, pes.written(), row[1], row[2][0]);
 }
 
-// Pages that are sent late, with the frames within which they have to be right.
+// Transmissions with late pages, and the number of frames within which pages have to become right.
 #[rattlefmt::skip]
 const LATE: [[&[&str]; 3]; 22] = [
     [&["0:h", "1:rc", "50:hc"], &[], &[
@@ -45,7 +45,7 @@ const LATE: [[&[&str]; 3]; 22] = [
         ended 72 Content frame 10:00:00:02\n\
         trusted frames 10:00:02:00 10:00:02:00\n\
         1 faults\n"]],
-    // the page without the subtitle comes a frame late
+    // The page without the subtitle comes a frame late.
     [&["0:hrc", "51:hc"], &[], &[
         "trusted frames 10:00:00:00 10:00:01:24\n\
         refused 72 Content frame 10:00:02:00 row 22 column 16\n\
@@ -53,7 +53,7 @@ const LATE: [[&[&str]; 3]; 22] = [
         trusted frames 10:00:02:01 10:00:02:01\n\
         1 faults\n"]],
     [&["0:hrc", "51:hc"], &["--within", "1"], &["accepted 52 frames 2 transmissions\n"]],
-    // a code that is due in no frame, and one that is due a frame later
+    // A code that is due in no frame, and a code that is due a frame later.
     [&["0:hoc", "1:hrc", "50:hc"], &["--within", "3"], &[
         "refused 72 Content frame 10:00:00:00 row 22 column 20\n\
         ended 72 Content frame 10:00:00:00\n\
@@ -64,7 +64,7 @@ const LATE: [[&[&str]; 3]; 22] = [
         ended 72 Content frame 09:59:59:24\n\
         trusted frames 10:00:02:00 10:00:02:00\n\
         1 faults\n"]],
-    // the page without the subtitle is sent, and the one with it again
+    // The page without the subtitle is sent, and then the page with the subtitle again.
     [&["0:hrc", "50:hc", "51:hrc", "52:hc"], &["--within", "1"], &[
         "trusted frames 10:00:00:00 10:00:02:00\n\
         refused 72 Content frame 10:00:02:01 row 22 column 16\n\
@@ -79,7 +79,7 @@ const LATE: [[&[&str]; 3]; 22] = [
         ended 72 Content frame 10:00:02:01\n\
         trusted frames 10:00:02:02 10:00:02:02\n\
         2 faults\n"]],
-    // right in the first frame except for its closing header
+    // The page is right in the first frame except for its closing header.
     [&["0:hr", "1:h", "2:rc", "50:hc"], &["--within", "1"], &[
         "accepted 51 frames 3 transmissions\n"]],
     [&["0:hr", "1:h", "2:rc", "50:hc"], &["--within", "1", "--complete"], &[
@@ -95,13 +95,13 @@ const LATE: [[&[&str]; 3]; 22] = [
         trusted frames 10:00:02:00 10:00:02:00\n\
         1 faults\n"]],
     [&["0:hr", "1:c", "50:hc"], &["--within", "1", "--complete"], &[ACCEPTED]],
-    // the subtitle is never shown
+    // The subtitle is never shown.
     [&["0:hc", "50:hc"], &["--within", "50"], &[
         "refused 72 Content frame 10:00:01:24 row 22 column 16\n\
         ended 72 Content frame 10:00:01:24\n\
         trusted frames 10:00:02:00 10:00:02:00\n\
         1 faults\n"]],
-    // the end of the last frame is not finished
+    // The page is not right at the end of the last frame.
     [&["0:hrc", "50:"], &["--within", "1"], &[
         "trusted frames 10:00:00:00 10:00:01:24\n\
         refused 74 Late frame 10:00:02:00\n\
@@ -110,7 +110,7 @@ const LATE: [[&[&str]; 3]; 22] = [
         "trusted frames 10:00:00:00 10:00:01:24\n\
         refused 74 Late frame 10:00:02:00\n\
         1 faults\n"]],
-    // no header of the page at all
+    // No header of the page is sent at all.
     [&["0:hrc", "50:hc"], &["--page", "100", "--every", "3", "--within", "1"], &[
         "refused 71 NoFirstHeader frame 10:00:00:00\n\
         refused 72 Content frame 10:00:00:01 row 22 column 16\n\
@@ -148,7 +148,7 @@ const SENDINGS: [[&[&str]; 3]; 17] = [
     [&["0:hrc", "50:hc"], &["--origin", "8589934591", "--within", "1"], &[ACCEPTED]],
     [&["0-:hrc", "50:hc"], &["--within", "1"], &[ACCEPTED]],
     [&["0:c", "0+:hrc", "50:hc"], &["--within", "1"], &[ACCEPTED]],
-    // a header at the end of each frame erases the page
+    // A header at the end of each frame erases the page.
     [&["0:hrc", "0+:h", "1:hrc", "1+:h", "50:hc"], &["--within", "1"], &[
         "refused 72 Content frame 10:00:00:01 row 22 column 16\n\
         ended 72 Content frame 10:00:01:24\n\
@@ -158,7 +158,7 @@ const SENDINGS: [[&[&str]; 3]; 17] = [
         "accepted 51 frames 3 transmissions\n"]],
     [&["0:h", "1:", "1+:hrc", "50:hc"], &["--within", "1"], &[
         "accepted 51 frames 3 transmissions\n"]],
-    // a wrong row that is corrected in its frame, and one with a byte of even parity
+    // A wrong row that is corrected in its frame, and a row with a byte of even parity.
     [&["0:hrc", "1:hoc", "1+:hrc", "50:hc"], &["--within", "1"], &[
         "accepted 51 frames 4 transmissions\n"]],
     [&["0:hrc", "1:hoc", "1+:hec", "2:hrc", "50:hc"], &["--within", "1"], &[
@@ -166,7 +166,7 @@ const SENDINGS: [[&[&str]; 3]; 17] = [
         refused 68 Parity frame 10:00:00:01 packet 4\n\
         trusted frames 10:00:00:02 10:00:02:00\n\
         1 faults\n"]],
-    // gaps are reported as without `--within`
+    // Gaps between headers are reported as without `--within`.
     [&["0:hrc", "50:hc"], &["--every", "49"], &[
         "trusted frames 10:00:00:00 10:00:01:23\n\
         refused 73 Gap frame 10:00:01:24\n\
@@ -208,7 +208,8 @@ const LONG: [[&[&str]; 3]; 2] = [
         1 faults\n"]],
 ];
 
-// The same with one of two frames: at the end of one of these its page has to be right.
+// Transmissions of `Hi` and a second subtitle, `Ho`, of two frames: the page has to be right at the
+// end of one of these frames.
 #[rattlefmt::skip]
 const SHORT: [[&[&str]; 3]; 2] = [
     [&["0:hrc", "51:hoc", "53:hc"], &["--within", "3"], &["accepted 54 frames 3 transmissions\n"]],
@@ -220,7 +221,7 @@ const SHORT: [[&[&str]; 3]; 2] = [
         1 faults\n"]],
 ];
 
-// Returns the subtitle file of `Hi`, directly followed by `Ho` up to a frame.
+// Returns the subtitle file of `Hi`, directly followed by `Ho` with the TCO `tco`.
 fn file_of_ho(tco: u32) -> [u8; 1280] {
     let mut text = HI;
     text[4] = 0x6F;
@@ -240,7 +241,7 @@ fn shows_each_subtitle_once(rt: HostRuntime) {
     }
 }
 
-// Asserts the output for a transmission with one byte changed, and the last ones cut off.
+// Asserts the output for a transmission with one byte changed, and the last bytes cut off.
 fn assert_changed(
     rt: &(impl Abort + Alloc<A = Global>),
     (place, value, cut): (usize, u8, usize),
@@ -265,13 +266,13 @@ fn reports_what_is_broken_within_frames(rt: HostRuntime) {
         ended 77 Incomplete frame 10:00:01:24\n\
         trusted frames 10:00:02:00 10:00:02:00\n\
         1 faults\n"]]);
-    // a byte of even parity in the second PES packet of a frame
+    // The second PES packet of a frame has a byte of even parity.
     let two: &[&str] = &["0:h", "0+:rc", "1:hrc", "50:hc"];
     assert_changed(&rt, (255, 0x12, 0), &[two, &["--within", "1"], &[
         "refused 68 Parity frame 10:00:00:00 packet 1\n\
         trusted frames 10:00:00:01 10:00:02:00\n\
         1 faults\n"]]);
-    // the data identifier of a PES packet between two of one frame
+    // A PES packet between two PES packets of one frame has a wrong data_identifier.
     let three: &[&str] = &["0:hrc", "25:h", "25:c", "25+:rc", "50:hc"];
     assert_changed(&rt, (413, 0x20, 0), &[three, &["--within", "1"], &[
         "trusted frames 10:00:00:00 10:00:00:24\n\

@@ -1,7 +1,7 @@
 //! Asserts that a value is the expected one.
 //!
-//! A call of these is proved in a quarter of the time that the macro takes in its place. Each crate
-//! of tests has its own, since a library may contain nothing that can end the process.
+//! A call of these functions is proved in a quarter of the time that the macro takes. Each crate of
+//! tests has its own copy, since a library may contain nothing that can end the process.
 
 use std::fmt::Debug;
 use std::process::Abort;
@@ -11,7 +11,7 @@ pub fn assert_same<T: PartialEq + Debug>(rt: &impl Abort, got: &T, wanted: &T) {
     assert_eq!(rt; got, wanted);
 }
 
-/// Asserts that two values are the same, in one of many cases.
+/// Asserts that two values are the same in test case `case`.
 pub fn assert_same_in<T: PartialEq + Debug>(
     rt: &impl Abort,
     got: &T,

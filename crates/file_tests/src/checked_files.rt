@@ -9,7 +9,7 @@ use std::process::Abort;
 use sub_files::{CheckedFile, SecondLook};
 use sub_io::{Close, Failed, IntoFile, Sink};
 
-// Finds so many bytes.
+// A check of a closed file that finds as many bytes as its number says.
 #[derive(Clone, Copy)]
 struct Finding(u64);
 
@@ -52,7 +52,7 @@ fn assert_stores<K: Close>(
     assert_pushes(rt, sink, b"!", Err(Failed), failures + 1);
 }
 
-// Asserts the result of storing six bytes if so many are found after the file was closed.
+// Asserts the result of storing six bytes if `found` bytes are found after the file was closed.
 fn assert_finds(rt: &impl Abort, found: u64, answer: Result<(), Failed>, failures: u64) {
     let mut buffer = [0; 8];
     let mut file = CheckedFile::new(MemoryFile::Created(&mut buffer, 0), Finding(found));

@@ -1,5 +1,5 @@
-//! Recordings and files of PES packets of which a read fails in the middle: which PES packet of the
-//! file is reported then, and what was printed and written before.
+//! Recordings and PES files of which a read fails in the middle: which PES packet of the file is
+//! reported, and which output was printed and written before.
 use crate::asserting::assert_same_in;
 use crate::pes_ranges::FIRST_LINES;
 use crate::recorded::{
@@ -17,7 +17,7 @@ const FAILED_1: &str = "fault 41 Read pes 1\n";
 
 const FAILED_3: &str = "fault 41 Read pes 3\n";
 
-// Asserts the output if a read fails after these bytes. A file is written into the room.
+// Asserts the output if a read fails after the given bytes. A file is written into `buffer`.
 fn assert_fails_in<'a>(
     rt: &(impl Abort + Alloc<A = Global>),
     arguments: &'a [&'a str],
@@ -39,7 +39,7 @@ fn assert_fails_in<'a>(
     );
 }
 
-// The same if no file is written.
+// Asserts the output of a command that writes no file if a read fails after the given bytes.
 fn assert_fails<'a>(
     rt: &(impl Abort + Alloc<A = Global>),
     arguments: &'a [&'a str],
@@ -108,11 +108,11 @@ fn reports_it_before_the_range_and_in_it(rt: HostRuntime) {
     let cut: [&[u8]; 6] = [&BEGINS_0, &FIRST, &NULL, &FILL, &BEGINS_1, &SECOND[..100]];
     assert_ranges_fail(&rt, "1-", &cut, FAILED_1);
     assert_ranges_fail(&rt, "5-9", &cut, FAILED_1);
-    // A gap marker is counted.
+    // A gap marker counts as a PES packet.
     let lost: [&[u8]; 5] = [&BEGINS_0, &FIRST, &BEGINS_2, &SECOND, &NULL];
     assert_ranges_fail(&rt, "3-", &lost, FAILED_3);
     assert_ranges_fail(&rt, "4-", &lost, FAILED_3);
-    // Earlier reports come before it, and nothing is read after the range.
+    // Faults before the failure are reported first, and nothing is read after the range.
     let arguments = ["subttx", "check", "a", "b", "--pid", "257"];
     assert_fails(&rt, &arguments, &lost, LOST);
     let arguments = ["subttx", "check", "a", "b", "--pid", "257", "--pes", "0-0"];
@@ -132,7 +132,8 @@ fn reports_it_of_a_range_of_a_file_of_pes_packets(rt: HostRuntime) {
     }
 }
 
-// Asserts what is written of a recording of which a read fails after these bytes.
+// Asserts the bytes that are extracted from a recording of which a read fails after the given
+// bytes.
 fn assert_extracts(
     rt: &(impl Abort + Alloc<A = Global>),
     pes_packets: &[&[u8]],

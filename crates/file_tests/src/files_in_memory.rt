@@ -1,4 +1,4 @@
-//! A device in memory that opens files: its files are a list.
+//! A file system in memory: a list of files.
 ghost use Rattle.std.specs.Prelude.{None};
 
 use std::fs::{Metadata, OpenFile};
@@ -9,24 +9,24 @@ use sub_io::{FromRead, IntoFile};
 /// The name of the entry for the file to which standard output goes.
 pub const STANDARD_OUTPUT: &str = "standard output";
 
-/// An entry of the list.
+/// A name in the file system, and its file.
 #[derive(Clone, Copy)]
 pub struct Entry<'a> {
-    /// The name.
+    /// The name of the file.
     pub name: &'a str,
-    /// The result of a lookup.
+    /// The result of looking up the name.
     pub found: Found,
     /// The contents of the file; `None` if it can't be opened.
     pub bytes: Option<&'a [u8]>,
-    /// Whether a read fails after them, at the end of the file.
+    /// Whether a read fails at the end of the contents.
     pub fails: bool,
 }
 
-/// Files by their names, room for one that is created, and the calls that were made.
+/// Files by their names, a buffer for one file that is created, and the calls so far.
 #[derive(Drop)]
 pub struct FilesInMemory<'a> {
     entries: &'a [Entry<'a>],
-    // `None` once a file is created.
+    // The buffer of a file that can be created; `None` once a file is created.
     buffer: Option<&'a mut [u8]>,
     calls: [u8; 10],
     len: usize,
@@ -37,12 +37,13 @@ pub struct FilesInMemory<'a> {
 pub enum MemoryFile<'a> {
     /// The bytes that are still to be read, and whether a read fails after them.
     Opened(&'a [u8], bool),
-    /// The room, and how many bytes were written into it.
+    /// The buffer of a created file, and how many bytes were written into it.
     Created(&'a mut [u8], usize),
 }
 
 impl<'a> FilesInMemory<'a> {
-    /// Returns these files; `buffer` is that of a file that is created. If it is empty none can be.
+    /// Returns a file system with these files; `buffer` is for a file that is created. If it is
+    /// empty no file can be created.
     pub fn new(entries: &'a [Entry<'a>], buffer: &'a mut [u8]) -> Self {
         FilesInMemory {
             entries,
@@ -52,9 +53,8 @@ impl<'a> FilesInMemory<'a> {
         }
     }
 
-    /// Returns the calls that were made, two bytes for each: `l`, `p`, `o` or `c` for a lookup, a
-    /// lookup of standard output, an open or a create, and the number of the file in the list, or
-    /// `?`.
+    /// Returns the calls so far, two bytes for each: `l`, `p`, `o` or `c` for a lookup, a lookup of
+    /// standard output, an open or a create, and the number of the file in the list, or `?`.
     pub fn calls(&self) -> &[u8] {
         &self.calls[..self.len.min(10)]
     }

@@ -1,7 +1,8 @@
 //! Tests of the program's answers for recordings and ranges of PES packets, of the functions for
-//! PES packets, and of the files that a request opens. Nothing here is part of the product.
+//! PES packets, and of the files that a request opens. Nothing in this crate is part of the
+//! product.
 //!
-//! They are a crate of their own, since the tests of a crate are proved by one job.
+//! These tests are a separate crate, since the tests of a crate are proved by one job.
 #![tactic(auto)]
 
 #[cfg(test)]

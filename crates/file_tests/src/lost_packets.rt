@@ -7,16 +7,17 @@ use std::alloc::Global;
 use std::process::Abort;
 use sub_io::{MemSink, MemSource};
 
-// What is done with the fifteen packets, which are counted from 1; 0 is none of them.
+// Which of fifteen transport packets, counted from 1, are changed in the recording; 0 means none.
 #[derive(Clone, Copy)]
 struct Sent {
-    // This one is left out.
+    // The number of the transport packet that is left out.
     left_out: usize,
-    // This one comes twice.
+    // The number of the transport packet that is sent twice.
     twice: usize,
-    // After this one a jump is announced, and all later counters are 5 higher.
+    // The number of the transport packet after which a jump is announced; all later counters are 5
+    // higher.
     jump: usize,
-    // The last one.
+    // The number of the last transport packet.
     last: usize,
 }
 
@@ -27,15 +28,16 @@ const ALL: Sent = Sent {
     last: 15,
 };
 
-// Returns a subtitle of 23 lines from row 1 on: its page transmission is a PES packet of seven
-// payloads.
+// Returns a subtitle file with one subtitle of 23 lines from row 1 on, whose page transmission is a
+// PES packet of seven payloads.
 fn file_of_23_rows() -> [u8; 1152] {
     let text = b"A\x8AA\x8AA\x8AA\x8AA\x8AA\x8AA\x8AA\x8AA\x8AA\x8AA\x8AA\x8A\
         A\x8AA\x8AA\x8AA\x8AA\x8AA\x8AA\x8AA\x8AA\x8AA\x8AA";
     file_of(&block(&head(TEN, TEN + 50, 1), text))
 }
 
-// Puts its schedule, three PES packets, as packets of 184 bytes of payload each.
+// Puts the schedule `pes`, three PES packets, into a recording as transport packets with 184 bytes
+// of payload each.
 fn put_packets(rt: &impl Abort, pes: &[u8], sent: Sent, recording: &mut MemSink) {
     assert!(rt; pes.len() == 2760);
     let (payloads, _) = pes.as_chunks::<184>();
@@ -65,7 +67,7 @@ fn put_packets(rt: &impl Abort, pes: &[u8], sent: Sent, recording: &mut MemSink)
     }
 }
 
-// Asserts the output of a check of the packets.
+// Asserts the output of a check of the transport packets.
 fn assert_checks(rt: &(impl Abort + Alloc<A = Global>), sent: Sent, want: &str) {
     let stl = file_of_23_rows();
     let mut buffer = [0; 2760];
@@ -108,7 +110,8 @@ fn refuses_where_one_is_missing(rt: HostRuntime) {
         let early = "refused 63 Early frame 10:00:01:00\n";
         assert_checks(&rt, Sent { left_out, ..ALL }, early);
     }
-    // A jump is announced within a PES packet.
+    // A jump that is announced within a PES packet loses the packet; a recording that ends within a
+    // PES packet does not report it.
     assert_checks(&rt, Sent { jump: 10, ..ALL }, LOST);
     let late = "refused 74 Late frame 10:00:00:00\n";
     assert_checks(&rt, Sent { last: 10, ..ALL }, late);

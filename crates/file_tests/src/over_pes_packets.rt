@@ -1,4 +1,5 @@
-//! The functions for PES packets: their results for a PES file, and for what a recording carries.
+//! The functions for PES packets: their results for a PES file, and for the PES packets of a
+//! recording.
 ghost use Rattle.sub_io.specs.Device.{CanFail};
 
 use crate::asserting::assert_same;
@@ -37,13 +38,13 @@ fn recording_of_hi() -> [u8; 376] {
     recording
 }
 
-// Returns what that PID carries.
+// Returns the PES packets that a PID of a recording carries.
 fn carried(recording: &[u8], pid: Pid) -> RecordingPesPackets<MemSource<'_>> {
     RecordingPesPackets::new(MemSource::new(recording), pid, PacketSize::Plain)
 }
 
-// Returns the options of a check, and the PID. Nothing is owned yet if one of them is invalid: a
-// test is proved sooner that way.
+// Returns the options of a check, and a PID. If one of them is invalid, nothing has been allocated
+// yet, so the test is proved sooner.
 fn given() -> Result<(Options, Pid), Fail> {
     Ok((every(250)?, Pid::new(0x101).ok_or("a PID")?))
 }

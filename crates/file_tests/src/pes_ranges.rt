@@ -1,4 +1,5 @@
-//! Ranges of PES packets, of recordings and of files of them: their numbers are those in the file.
+//! Ranges of PES packets, of recordings and of PES files: the numbers of PES packets are those in
+//! the file.
 use crate::recorded::{
     BEGINS_0, BEGINS_1, BEGINS_2, EARLY, EMPTY, FILL, LATE, LOST, MARK_HEAD, NULL, assert_prints,
 };
@@ -17,14 +18,14 @@ pub const FIRST_LINES: &str = "pes 0 pts 3240000000\n\
     unit 2 id 03 field 1 line 9 1515eaeaea2fea5e1515\
     2020202020202020202020202020202020202020202020202020202020202020\n";
 
-// The output for the second one, after its number.
+// The output of `packets` for the second PES packet of the schedule of `Hi`, after its number.
 const SECOND_LINES: &str = "pts 3240180000\n\
     unit 0 id 03 field 1 line 7 1515d0d015d015d00215\
     2020202020202020202020202020202020202020202020202020202020202020\n\
     unit 1 id 03 field 1 line 8 1515eaeaea2fea5e1515\
     2020202020202020202020202020202020202020202020202020202020202020\n";
 
-// Asserts that these parts are printed one after another.
+// Asserts that four parts are printed one after another.
 fn assert_lists<'a>(
     rt: &(impl Abort + Alloc<A = Global>),
     arguments: &'a [&'a str],
@@ -52,7 +53,7 @@ fn lists_pes_packets_by_their_numbers_in_the_file(rt: HostRuntime) {
     let arguments = ["subttx", "packets", "b", "--pid", "257", "--pes", "2-"];
     let parts = ["", "pes 2 ", SECOND_LINES, "1 pes\n"];
     assert_lists(&rt, &arguments, &lost, parts);
-    // It stops at a gap marker, and so does `listen`.
+    // `packets` stops at a gap marker, and so does `listen`.
     let arguments = ["subttx", "packets", "b", "--pid", "257"];
     let parts = [FIRST_LINES, "", "", LOST];
     assert_lists(&rt, &arguments, &lost, parts);
@@ -80,7 +81,7 @@ fn lists_pes_packets_by_their_numbers_in_the_file(rt: HostRuntime) {
     assert_prints(&rt, &arguments, &lost, LOST);
 }
 
-// Asserts the output of a check of this range of a file of PES packets.
+// Asserts the output of a check of a range of a PES file.
 fn assert_checks_range<'a>(
     rt: &(impl Abort + Alloc<A = Global>),
     range: &'a str,

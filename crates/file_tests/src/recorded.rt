@@ -1,4 +1,4 @@
-//! Parts of the recordings of tests, and assertions about answers for them.
+//! Parts of the recordings of tests, and assertions about answers for recordings.
 use crate::asserting::assert_same_in;
 use crate::files_in_memory::{Entry, FilesInMemory};
 use answer_fixtures::status_of;
@@ -11,44 +11,44 @@ use sub_io::{BufferedSink, MemSink, Sink, put_all};
 use sub_request::Request;
 use sub_words::ParseWords;
 
-/// Bytes 0 to 3 of packets of PID 101 (hexadecimal) that begin a PES packet: the one with counter
-/// 0.
+/// Bytes 0 to 3 of a transport packet of PID 101 (hexadecimal) that begins a PES packet, with
+/// continuity counter 0.
 pub const BEGINS_0: [u8; 4] = [0x47, 0x41, 0x01, 0x10];
 
-/// With counter 1.
+/// Bytes 0 to 3 of a transport packet that begins a PES packet, with continuity counter 1.
 pub const BEGINS_1: [u8; 4] = [0x47, 0x41, 0x01, 0x11];
 
-/// With counter 2.
+/// Bytes 0 to 3 of a transport packet that begins a PES packet, with continuity counter 2.
 pub const BEGINS_2: [u8; 4] = [0x47, 0x41, 0x01, 0x12];
 
-/// A null packet.
+/// The first bytes of a null packet.
 pub const NULL: [u8; 4] = [0x47, 0x1F, 0xFF, 0x10];
 
-/// Bytes that fill one.
+/// The payload of a null packet.
 pub const FILL: [u8; 184] = [0xFF; 184];
 
-/// A packet of the PID without a payload that announces a jump of the counter.
+/// A transport packet of PID 101 without a payload that announces a jump of the counter.
 pub const JUMP: [u8; 6] = [0x47, 0x01, 0x01, 0x20, 0xB7, 0x80];
 
-/// The bytes that fill it.
+/// The bytes that fill the transport packet `JUMP`.
 pub const JUMP_FILL: [u8; 182] = [0xFF; 182];
 
-/// The first bytes of a gap marker; `FILL` has more of its others than it needs.
+/// The first bytes of a gap marker, which is filled with bytes of `FILL`.
 pub const MARK_HEAD: [u8; 6] = [0x00, 0x00, 0x01, 0xBD, 0x00, 0xB2];
 
-/// The line if packets are missing after the first PES packet.
+/// The line if PES packets are missing after the first one.
 pub const LOST: &str = "refused 45 Lost pes 1\n";
 
 /// The line if the first PES packet of the schedule of `Hi` is not read.
 pub const EARLY: &str = "refused 63 Early frame 10:00:02:00\n";
 
-/// The line if the second one is not.
+/// The line if the second PES packet of the schedule of `Hi` is not read.
 pub const LATE: &str = "refused 74 Late frame 10:00:00:00\n";
 
-/// The line if there is none.
+/// The line if the file has no PES packet.
 pub const EMPTY: &str = "refused 60 Empty\n";
 
-/// Puts byte strings one after another, as far as there is room.
+/// Puts byte strings into a sink one after another, as far as the sink has room.
 pub fn put_pes_packets(sink: &mut MemSink<'_>, pes_packets: &[&[u8]]) {
     for pes_packet in pes_packets {
         if sink.failures() == 0 {
@@ -57,7 +57,7 @@ pub fn put_pes_packets(sink: &mut MemSink<'_>, pes_packets: &[&[u8]]) {
     }
 }
 
-/// Returns the file `a`, which is read completely.
+/// Returns the entry of the file `a`, the subtitle file, which is read completely.
 pub fn subtitle_file(bytes: &[u8]) -> Entry<'_> {
     Entry {
         name: "a",
@@ -67,7 +67,8 @@ pub fn subtitle_file(bytes: &[u8]) -> Entry<'_> {
     }
 }
 
-/// Returns the file `b`, which ends after these bytes, or fails there.
+/// Returns the entry of the file `b`, whose contents end after these bytes, or of which a read
+/// fails after them.
 pub fn recording(bytes: &[u8], fails: bool) -> Entry<'_> {
     Entry {
         name: "b",
@@ -77,7 +78,7 @@ pub fn recording(bytes: &[u8], fails: bool) -> Entry<'_> {
     }
 }
 
-// The file `c`, which can be written.
+// The entry of the file `c`, which can be written.
 const WRITTEN: Entry = Entry {
     name: "c",
     found: Found::Nothing,
@@ -86,7 +87,7 @@ const WRITTEN: Entry = Entry {
 };
 
 /// Asserts the output of a command for a subtitle file and a recording, and the status that the
-/// last line implies. A file `c` is written into the room.
+/// last line implies. A file `c` is written into `buffer`.
 pub fn assert_answers<'a, 'f>(
     rt: &(impl Abort + Alloc<A = Global>),
     arguments: &'a [&'a str],
@@ -110,7 +111,7 @@ pub fn assert_answers<'a, 'f>(
     assert_same_in(rt, &text.get(len), &Some(&0), &arguments);
 }
 
-/// Asserts the output of a command for the subtitle file `Hi` and a file that consists of these
+/// Asserts the output of a command for the subtitle file of `Hi` and a file that consists of these
 /// byte strings.
 pub fn assert_prints<'a>(
     rt: &(impl Abort + Alloc<A = Global>),

@@ -5,7 +5,7 @@ use std::process::Abort;
 use sub_request::Request;
 use sub_words::ParseWords;
 
-// Asserts the line of arguments that are refused.
+// Asserts the line for refused arguments.
 fn assert_refuses<'a>(rt: &(impl Abort + Alloc<A = Global>), arguments: &'a [&'a str], want: &str) {
     assert_reports(rt, arguments, &[], &[], want);
 }
@@ -35,7 +35,7 @@ const NO_WORDS: [&[&str]; 65] = [
     &["subttx", "help", "Packet"],
     &["subttx", "help", "help"],
     &["subttx", "--help", "-h"],
-    // status 0 of a check is a verdict: none of its arguments requests help
+    // Status 0 of a check is a verdict, so no argument of a check requests help.
     &["subttx", "check", "a.stl", "b.pes", "-h"],
     &["subttx", "check", "a.stl", "b.pes", "--help"],
     &["subttx", "check", "a.stl", "b.pes", "--page", "-h"],
@@ -61,7 +61,7 @@ const NO_WORDS: [&[&str]; 65] = [
     &["subttx", "listen", "--at", "10:00:00:10"],
     &["subttx", "listen", "b.pes", "--at", "10:00:00:10", "--every", "25"],
     &["subttx", "--page", "888", "check", "a.stl", "b.pes"],
-    // a flag has no value, is given once, and belongs to some commands
+    // A flag has no value, is given at most once, and belongs to some commands only.
     &["subttx", "check", "a", "b", "--complete=yes"],
     &["subttx", "check", "a", "b", "--complete", "--complete"],
     &["subttx", "listen", "a", "--at", "10:00:00:10", "--complete=yes"],
@@ -75,14 +75,14 @@ const NO_WORDS: [&[&str]; 65] = [
     &["subttx", "check", "a", "b", "--keeping", "--keeping"],
     &["subttx", "schedule", "a", "b", "--keeping"],
     &["subttx", "listen", "a", "--at", "10:00:00:10", "--keeping"],
-    // `--within` is given once, with a value, to a check or a receiver
+    // The option `--within` is given at most once, with a value, to a check or a receiver.
     &["subttx", "check", "a", "b", "--within"],
     &["subttx", "check", "a", "b", "--within", "1", "--within", "2"],
     &["subttx", "listen", "a", "--at", "10:00:00:10", "--within=1", "--within=1"],
     &["subttx", "schedule", "a", "b", "--within", "1"],
     &["subttx", "packets", "a", "--within", "1"],
-    // transport packets and ranges belong to commands that read PES packets, each given once, with
-    // a value
+    // The options for transport packets and ranges belong to commands that read PES packets; each
+    // is given at most once, with a value.
     &["subttx", "packets", "a", "--pid"],
     &["subttx", "packets", "a", "--pes"],
     &["subttx", "check", "a", "b", "--pid", "1", "--pid", "1"],
@@ -93,7 +93,7 @@ const NO_WORDS: [&[&str]; 65] = [
     &["subttx", "schedule", "a", "b", "--pid", "257"],
     &["subttx", "schedule", "a", "b", "--packet-size", "188"],
     &["subttx", "schedule", "a", "b", "--pes", "0-1"],
-    // the whole of a PID is extracted, which is required, and from one recording
+    // `extract` requires a PID, writes all its PES packets, and reads one recording.
     &["subttx", "extract", "a", "b"],
     &["subttx", "extract", "a", "--pid", "257"],
     &["subttx", "extract", "a", "b", "c", "--pid", "257"],
@@ -113,13 +113,13 @@ fn refuses_digits_that_are_no_packet(rt: HostRuntime) {
     let digits = [
         "",
         "15",
-        // 83 digits
+        // A packet of 83 digits.
         "1515d0d015d015d00215202020202020202020202020202020202020202020202020202020202020202",
-        // 85 digits
+        // A packet of 85 digits.
         "1515d0d015d015d0021520202020202020202020202020202020202020202020202020202020202020200",
-        // 86 digits
+        // A packet of 86 digits.
         "1515d0d015d015d00215202020202020202020202020202020202020202020202020202020202020202020",
-        // 84, one of which is no digit
+        // Packets of 84 characters, one of which is no digit.
         "1515d0d015d015d0021520202020202020202020202020202020202020202020202020202020202020 0",
         "g515d0d015d015d002152020202020202020202020202020202020202020202020202020202020202020",
     ];
@@ -128,10 +128,11 @@ fn refuses_digits_that_are_no_packet(rt: HostRuntime) {
     }
 }
 
-// The arguments of a schedule, in the order in which their faults are reported, and the line.
+// The arguments of a schedule, in the order in which their faults are reported, and the expected
+// line.
 #[rattlefmt::skip]
 const SCHEDULES: [[&str; 5]; 18] = [
-    // page, every, origin, option, line
+    // The columns: page, every, origin, option, line.
     ["8FF", "0", "x", "polish", "usage 1 BadPage\n"],
     ["088", "250", "0", "english", "usage 1 BadPage\n"],
     ["", "250", "0", "english", "usage 1 BadPage\n"],
@@ -152,8 +153,8 @@ const SCHEDULES: [[&str; 5]; 18] = [
     ["888", "1", "0", "", "usage 83 BadOption\n"],
 ];
 
-// Asserts the line of a schedule with these arguments, and of a check with the options before the
-// files.
+// Asserts the line of a schedule with these arguments, and of a check with the same options before
+// the files.
 #[rattlefmt::skip]
 fn assert_refuses_row(rt: &(impl Abort + Alloc<A = Global>), row: &[&str; 5]) {
     let arguments = [
@@ -174,7 +175,7 @@ fn reports_the_first_fault_of_a_schedule(rt: HostRuntime) {
     for row in &SCHEDULES {
         assert_refuses_row(&rt, row);
     }
-    // A check may name the same file twice.
+    // A schedule refuses to write the file that it reads; a check may name the same file twice.
     let options = [
         "subttx", "schedule", "a", "a", "--page", "8FF", "--every", "0", "--origin", "x",
         "--option", "polish",
@@ -191,7 +192,7 @@ fn reports_the_first_fault_of_a_schedule(rt: HostRuntime) {
 // The arguments of a check and of a receiver, one of which is `--within`, and the lines of both.
 #[rattlefmt::skip]
 const WITHINS: [[&str; 6]; 14] = [
-    // option, within, origin, time, line of the check, line of the receiver
+    // The columns: option, within, origin, time, line of the check, line of the receiver.
     ["polish", "x", "x", "x", "usage 81 Origin\n", "usage 81 Origin\n"],
     ["polish", "51", "0", "x", "usage 83 BadOption\n", "usage 85 Within\n"],
     ["english", "51", "0", "x", "usage 85 Within\n", "usage 85 Within\n"],
@@ -208,7 +209,7 @@ const WITHINS: [[&str; 6]; 14] = [
     ["polish", "0000000050", "0", "x", "usage 83 BadOption\n", "usage 6 BadTime\n"],
 ];
 
-// Asserts both lines of a row.
+// Asserts the lines of a check and of a receiver for a row of `WITHINS`.
 #[rattlefmt::skip]
 fn assert_refuses_within(rt: &(impl Abort + Alloc<A = Global>), row: &[&str; 6]) {
     let arguments = [
@@ -229,10 +230,11 @@ fn refuses_frames_that_are_not_allowed(rt: HostRuntime) {
     }
 }
 
-// The options for PES packets, in the order in which their faults are reported, and the line.
+// The options for PES packets, in the order in which their faults are reported, and the expected
+// line.
 #[rattlefmt::skip]
 const PES_PACKETS: [[&str; 4]; 20] = [
-    // PID, packet size, range, line
+    // The columns: PID, packet size, range, line.
     ["8191", "190", "2-1", "usage 86 Pid\n"],
     ["8191", "188", "0-1", "usage 86 Pid\n"],
     ["x", "188", "0-1", "usage 86 Pid\n"],
@@ -255,7 +257,7 @@ const PES_PACKETS: [[&str; 4]; 20] = [
     ["257", "188", "0-+1", "usage 88 Range\n"],
 ];
 
-// Asserts the line of each command that reads PES packets.
+// Asserts the line of each command that reads PES packets, for a row of `PES_PACKETS`.
 #[rattlefmt::skip]
 fn assert_refuses_pes(rt: &(impl Abort + Alloc<A = Global>), row: &[&str; 4]) {
     let arguments = [
@@ -280,10 +282,10 @@ fn refuses_pes_packets_that_can_not_be_meant(rt: HostRuntime) {
     }
 }
 
-// The PES packets and the maximum distance of a check, and the line.
+// The range of PES packets and the maximum distance of a check, and the expected line.
 #[rattlefmt::skip]
 const PACES: [[&str; 3]; 7] = [
-    // range, pace, line
+    // The columns: range, pace, line.
     ["2-1", "0", "usage 88 Range\n"],
     ["0-1", "0", "usage 92 Pace\n"],
     ["0-1", "2160001", "usage 92 Pace\n"],
@@ -319,7 +321,7 @@ fn reports_faults_of_other_arguments_before_those_of_pes_packets(rt: HostRuntime
     assert_refuses(&rt, &option, "usage 83 BadOption\n");
     let origin = ["subttx", "listen", "a", "--at", "x", "--packet-size", "x", "--origin", "x"];
     assert_refuses(&rt, &origin, "usage 81 Origin\n");
-    // The packet size and the range are also read without a PID.
+    // The packet size and the range are also checked without a PID.
     let sized = ["subttx", "check", "a", "b", "--packet-size", "190"];
     assert_refuses(&rt, &sized, "usage 87 PacketSize\n");
     assert_refuses(&rt, &["subttx", "packets", "a", "--pes", "1"], "usage 88 Range\n");
@@ -328,10 +330,11 @@ fn reports_faults_of_other_arguments_before_those_of_pes_packets(rt: HostRuntime
     assert_refuses(&rt, &same, "usage 86 Pid\n");
 }
 
-// The arguments of a receiver in the order in which their faults are reported, and the line.
+// The arguments of a receiver in the order in which their faults are reported, and the expected
+// line.
 #[rattlefmt::skip]
 const RECEIVERS: [[&str; 8]; 14] = [
-    // page, origin, time, skipped packets, flips, lost packets, receiver, line
+    // The columns: page, origin, time, skipped packets, flips, lost packets, receiver, line.
     ["8FF", "x", "x", "x", "x", "x", "x", "usage 1 BadPage\n"],
     ["888", "8589934592", "x", "x", "x", "x", "x", "usage 81 Origin\n"],
     ["888", "0", "24:00:00:00", "x", "x", "x", "x", "usage 6 BadTime\n"],
@@ -348,7 +351,7 @@ const RECEIVERS: [[&str; 8]; 14] = [
     ["888", "0", "10:00:00:10", "0", "0:41:8", "1,2", "all", "usage 9 BadReceiver\n"],
 ];
 
-// Asserts the line of `listen` with these arguments.
+// Asserts the line of `listen` for a row of `RECEIVERS`.
 #[rattlefmt::skip]
 fn assert_refuses_receiver(rt: &(impl Abort + Alloc<A = Global>), row: &[&str; 8]) {
     let arguments = [
@@ -378,7 +381,7 @@ fn assert_checks_dashes<'a>(rt: &(impl Abort + Alloc<A = Global>), arguments: &'
     }
 }
 
-// How `clap` handles arguments that begin with a dash, and repeated options.
+// `clap` decides how arguments that begin with a dash, and repeated options, are read.
 #[rattlefmt::skip]
 #[test]
 fn refuses_dashes_as_clap_does(rt: HostRuntime) {

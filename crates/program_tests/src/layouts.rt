@@ -1,5 +1,5 @@
-//! Layouts: what `schedule` sends for a text that a layout draws, and that `check` accepts it; what
-//! it refuses, and texts that are no layout.
+//! Layouts: the rows that `schedule` sends for a text drawn by a layout, and that `check` accepts
+//! them; texts that are refused, and texts that name no layout.
 ghost use Rattle.sub_io.specs.Device.{CanFail};
 
 use crate::answers::assert_reports;
@@ -11,8 +11,8 @@ use sub_answer::Status;
 use sub_io::{MemSink, MemSource};
 use ttx_packet::unham;
 
-// A text; VP and JC; the layout, empty for none; and then what is sent, for each row its number,
-// the column of its first cell and its cells, or the line that is printed.
+// Each case has a text; VP and JC; the layout, empty for the default; and the expected rows
+// (number, column of the first cell, cells) or the line that is printed.
 #[rattlefmt::skip]
 const CASES: [&[&[u8]]; 18] = [
     &[b"Hi", b"\x16\x02", b"", b"\x16\x11\x0B\x0BHi\x0A\x0A"],
@@ -38,7 +38,7 @@ const CASES: [&[&[u8]]; 18] = [
     &[b"\x0A", b"\x16\x02", b"strip=0A"],
 ];
 
-// Returns the file of one subtitle with a text, at this VP and JC.
+// Returns a subtitle file with one subtitle with a text, at this VP and JC.
 fn file_with(rt: &impl Abort, text: &[u8], place: &[u8]) -> [u8; 1152] {
     assert!(rt; text.len() <= 112 && place.len() == 2);
     let mut head = HEAD;
@@ -46,7 +46,8 @@ fn file_with(rt: &impl Abort, text: &[u8], place: &[u8]) -> [u8; 1152] {
     file_of(&block(&head, text))
 }
 
-// Returns a byte of the Teletext packet of a data unit of the first PES packet, bit 1 lowest.
+// Returns byte `place` of the Teletext packet of a data unit of the first PES packet; bit 1 is the
+// lowest bit.
 fn byte_at(rt: &impl Abort, pes: &[u8], unit: usize, place: usize) -> u8 {
     assert!(rt; unit < 100 && place < 42);
     let at = 50 + 46 * unit + place;
@@ -54,7 +55,7 @@ fn byte_at(rt: &impl Abort, pes: &[u8], unit: usize, place: usize) -> u8 {
     pes[at].reverse_bits()
 }
 
-// Returns the number of the row of a data unit, 0 for a header.
+// Returns the packet number of a data unit: the row, or 0 for a header.
 fn row_of(rt: &impl Abort, pes: &[u8], unit: usize) -> u8 {
     let low = unham(byte_at(rt, pes, unit, 0)).expect(rt, "a magazine");
     let high = unham(byte_at(rt, pes, unit, 1)).expect(rt, "a row");
@@ -79,7 +80,7 @@ fn assert_sends(rt: &impl Abort, case: usize, pes: &[u8], unit: usize, row: &[u8
     }
 }
 
-// Writes the schedule of a file, and asserts that it is written.
+// Writes the schedule of a file, and asserts that the command succeeds.
 fn assert_schedules<'a>(
     rt: &(impl Abort + Alloc<A = Global>),
     arguments: &'a [&'a str],
@@ -95,7 +96,7 @@ fn assert_schedules<'a>(
     assert!(rt; status == Status::Done, "{arguments:?}");
 }
 
-// Asserts the schedule of a file and its check with these options.
+// Asserts the schedule of a file, and the check of this schedule, with these options.
 fn assert_answers<'a>(
     rt: &(impl Abort + Alloc<A = Global>),
     number: usize,
@@ -123,7 +124,7 @@ fn assert_answers<'a>(
     );
 }
 
-// Asserts the schedule and the check of a case.
+// Asserts the schedule and the check for a case of `CASES`.
 fn assert_case(rt: &(impl Abort + Alloc<A = Global>), number: usize, case: &[&[u8]]) {
     assert!(rt; case.len() >= 3);
     let stl = file_with(rt, case[0], case[1]);
@@ -148,7 +149,7 @@ fn draws_texts_by_layouts(rt: HostRuntime) {
     }
 }
 
-// Asserts the schedule and the check of a text in German, without the bytes 0A.
+// Asserts the schedule and the check of a text in German, with a layout that strips the bytes 0A.
 fn assert_german(rt: &(impl Abort + Alloc<A = Global>), text: &[u8], row: &[u8]) {
     let stl = file_with(rt, text, &[22, 2]);
     let schedule = [
@@ -167,8 +168,8 @@ fn a_stripped_byte_parts_a_pair(rt: HostRuntime) {
     assert_german(&rt, b"a\x0A\xC8a", b"\x16\x11\x0B\x0Ba\x7B\x0A\x0A");
 }
 
-// A line, and the arguments of a check or a schedule for which it is printed: the text is no
-// layout, or an earlier fault is reported.
+// The expected line, and the arguments of a check or a schedule: the layout's text names no layout,
+// or an earlier fault is reported.
 const REFUSED: [&[&str]; 5] = [
     &[
         "usage 89 Layout\n",

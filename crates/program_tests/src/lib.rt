@@ -1,7 +1,7 @@
-//! Tests of the program's other answers, with devices in memory. Nothing here is part of the
-//! product.
+//! Tests of the program's answers to all commands but `check`, with devices in memory. Nothing in
+//! this crate is part of the product.
 //!
-//! They are a crate of their own, since the tests of a crate are proved by one job.
+//! These tests are a separate crate, since the tests of a crate are proved by one job.
 #![tactic(auto)]
 
 #[cfg(test)]

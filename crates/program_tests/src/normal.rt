@@ -7,15 +7,16 @@ use std::process::Abort;
 use sub_answer::Status;
 use sub_io::{FailAt, MemSink, MemSource, Sink};
 
-/// Its arguments.
+/// The arguments of `normal`.
 pub const NORMAL: [&str; 4] = ["subttx", "normal", "a", "b"];
 
-// Asserts the line if a byte of the file of a comment, user data and a subtitle has this value.
+// Asserts the line if one byte of a file with a comment, user data and a subtitle has another
+// value.
 fn assert_refuses(rt: &(impl Abort + Alloc<A = Global>), place: usize, value: u8, line: &[u8]) {
     let mut input = commented();
     assert!(rt; place < 1536);
     input[place] = value;
-    // The output file has no room, so nothing is written.
+    // The output file has no room, so the test fails if anything is written.
     assert_prints_of(rt, &NORMAL, &input, &[], line);
 }
 
@@ -67,7 +68,7 @@ fn assert_answers(
     assert!(rt; is_right && is_done == (written > 0));
 }
 
-// Asserts the line and how many bytes are written for each length of the file from one to another.
+// Asserts the line and how many bytes are written for each length of the file in a range.
 fn assert_answers_cuts(
     rt: &(impl Abort + Alloc<A = Global>),
     lengths: (usize, usize),
@@ -97,7 +98,7 @@ fn answers_files_of_each_length(rt: HostRuntime) {
 
 #[test]
 fn refuses_too_many_blocks(rt: HostRuntime) {
-    // of a file: comments without end
+    // The source gives a subtitle file of comments without end.
     let mut long = Endless {
         rest: &gsi(),
         again: &[1; 128],
@@ -107,7 +108,7 @@ fn refuses_too_many_blocks(rt: HostRuntime) {
     assert_prints(&rt, &NORMAL, &mut long, &mut none, &[], line);
 }
 
-// Asserts the line if the byte with this number can't be read, for a file that is refused.
+// Asserts the line if byte `byte` can't be read, for a file that would be refused.
 fn assert_fails(rt: &(impl Abort + Alloc<A = Global>), byte: u64, line: &[u8]) {
     let mut input = commented();
     input[3] = b'x';

@@ -8,8 +8,8 @@ use sub_io::MemSource;
 use sub_request::Flip;
 use sub_words::parse_list;
 
-// Asserts whether this much memory suffices to read an input, and that otherwise its want is
-// reported.
+// Asserts whether this much memory suffices to read an input, and that otherwise the refused
+// allocation is reported.
 fn assert_reads(
     rt: &(impl Abort + Alloc<A = Global>),
     input: &[u8],
@@ -26,8 +26,8 @@ fn assert_reads(
 
 #[test]
 fn reports_each_growth_that_is_refused(rt: HostRuntime) -> Result<(), Fail> {
-    // It is read in parts into a vector whose room doubles: 131,072 and then 262,144 bytes at the
-    // end.
+    // The input is read in parts into a vector whose capacity doubles: 131,072 and then 262,144
+    // bytes at the end.
     let input = vec![in rt.alloc(); 0x20; 153_600]?;
     assert_reads(&rt, input.as_slice(), 0, false)?;
     assert_reads(&rt, input.as_slice(), 60_000, false)?;

@@ -1,4 +1,5 @@
-//! `schedule`: what is written and printed for subtitle files, and that `check` accepts it.
+//! `schedule`: the bytes that are written and the lines that are printed for subtitle files, and
+//! that `check` accepts the schedule.
 ghost use Rattle.sub_io.specs.Device.{CanFail};
 
 use crate::answers::assert_reports;
@@ -13,7 +14,7 @@ use std::test::Fail;
 use sub_answer::Status;
 use sub_io::{MemSink, MemSource, Sink};
 
-// Asserts the length of the schedule for these arguments, the line, and the line of a check with
+// Asserts the length of the schedule for these arguments, its line, and the line of a check with
 // this repeat bound.
 fn assert_schedules<'a>(
     rt: &(impl Abort + Alloc<A = Global>),
@@ -92,7 +93,7 @@ fn schedules_texts_of_no_row_to_all_rows(rt: HostRuntime) {
     assert_schedules_text(&rt, 1, all, 1472);
 }
 
-// Returns a file of `Hi` and another subtitle in the two seconds after it.
+// Returns a file of `Hi` and another subtitle in the two seconds after `Hi`.
 fn hi_and(rt: &impl Abort, text: &[u8]) -> [u8; 1280] {
     assert!(rt; text.len() <= 112);
     file_of_two(
@@ -156,10 +157,10 @@ fn refuses_times(rt: HostRuntime) {
     let before = block(&head(TEN - 90_000, TEN + 100, 22), &HI);
     let out_of_order = "refused 56 OutOfOrder block 2\n";
     assert_refuses(&rt, &file_of_two(&hi, &before), out_of_order);
-    // The order is reported before the text.
+    // A subtitle that is out of order is reported before its text.
     let early = block(&head(TEN - 90_000, TEN - 50, 22), &[0x0E]);
     assert_refuses(&rt, &file_of_two(&hi, &early), out_of_order);
-    // The text is reported before a later block.
+    // A refused text is reported before a fault of a later block.
     let control = block(&HEAD, &[0x0E]);
     let refused = "refused 51 Control block 1 at 0\n";
     assert_refuses(&rt, &file_of_two(&control, &early), refused);
@@ -175,7 +176,8 @@ fn refuses_texts(rt: HostRuntime) {
     assert_refuses(&rt, &file_of_two(&low, &hi), "refused 19 Row block 1\n");
 }
 
-// Schedules `Hi` with an option, and asserts byte 9 of its headers of the page, as it is carried.
+// Schedules `Hi` with a national option, and asserts byte 9 of the page's headers, as carried in
+// the PES packet.
 fn assert_schedules_by(rt: &(impl Abort + Alloc<A = Global>), option: &str, byte: u8) {
     let hi = file_of_hi();
     let mut buffer = [0; 400];

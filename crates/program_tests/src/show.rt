@@ -7,13 +7,13 @@ use sub_io::{FailAt, MemSource};
 
 const SHOW: [&str; 3] = ["subttx", "show", "a"];
 
-// Asserts the output for a file, also to each output with less room.
+// Asserts the output of `show` for a file, also to each output with less room.
 fn assert_shows(rt: &(impl Abort + Alloc<A = Global>), file: &[u8], text: &[u8]) {
     assert_prints_of(rt, &SHOW, file, &[], text);
     assert_fills(rt, &SHOW, (file, &[]), &[], text);
 }
 
-// Asserts the output for the first bytes of a file.
+// Asserts the output of `show` for the first `len` bytes of a file.
 fn assert_shows_cut(rt: &(impl Abort + Alloc<A = Global>), len: usize, text: &[u8]) {
     let file = file_of_hi();
     assert!(rt; len <= 1152);

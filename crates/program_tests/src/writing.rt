@@ -1,4 +1,5 @@
-//! `normal` and `schedule`: what is written if a device fails, and all of it if none does.
+//! `normal` and `schedule`: the bytes that are written if a device fails, and all bytes if no
+//! device fails.
 ghost use Rattle.sub_io.specs.Device.{CanFail};
 
 use crate::answers::assert_fills;
@@ -47,7 +48,7 @@ fn assert_cuts<'a>(
     );
 }
 
-// Asserts that a file is not used after the call with this number, which fails.
+// Asserts that a file is not used after call `call`, which fails.
 fn assert_stops<'a>(
     rt: &(impl Abort + Alloc<A = Global>),
     arguments: &'a [&'a str],
@@ -61,7 +62,7 @@ fn assert_stops<'a>(
     assert!(rt; file.late_calls == 0, "{arguments:?}, call {call}");
 }
 
-// Asserts that a file is complete, and the line, also to an output with less room.
+// Asserts that the written file is complete, and the line, also to an output with less room.
 fn assert_writes_all<'a>(
     rt: &(impl Abort + Alloc<A = Global>),
     arguments: &'a [&'a str],
@@ -76,8 +77,8 @@ fn assert_writes_all<'a>(
     assert_fills(rt, arguments, (input, &[]), written, line);
 }
 
-// Asserts what is written and printed if the file has less room, if one of its three calls fails,
-// and if none does.
+// Asserts which bytes are written and which line is printed if the file has less room, if one of
+// its three calls fails, and if no call fails.
 fn assert_devices<'a>(
     rt: &(impl Abort + Alloc<A = Global>),
     arguments: &'a [&'a str],
@@ -97,14 +98,14 @@ fn assert_devices<'a>(
 
 #[test]
 fn normal_writes_a_prefix_where_a_device_fails(rt: HostRuntime) {
-    // The calls: the GSI block, a push of the subtitle, and the store.
+    // The calls of the file: the GSI block, a push of the subtitle, and the store.
     let (line, fault) = (b"written 1 subtitles\n", b"fault 29 Write\n");
     assert_devices(&rt, &NORMAL, &commented(), &normal_form(), line, fault);
 }
 
 #[test]
 fn schedule_writes_a_prefix_where_a_device_fails(rt: HostRuntime) {
-    // The calls: two pushes of the file and its store.
+    // The calls of the file: two pushes and its store.
     let (line, fault) = (b"written 2 transmissions\n", b"fault 42 Write\n");
     assert_devices(
         &rt,

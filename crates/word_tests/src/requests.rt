@@ -25,7 +25,7 @@ fn reads_the_arguments_of_files(rt: HostRuntime) {
     }
 }
 
-// Arguments that request help: a word for it, alone or together with a command.
+// Arguments that request help: a word for help, alone or together with a command.
 #[rattlefmt::skip]
 const HELPS: [&[&str]; 9] = [
     &["subttx", "--help"],
@@ -202,7 +202,7 @@ fn reads_what_of_a_subtitle_file_is_taken(rt: HostRuntime) {
     assert_same(&rt, &scope_of(rt.alloc(), &part), &Some((true, 1, 900_001)));
 }
 
-// Returns the `within` of a request's options.
+// Returns the value of `within` in a request's options.
 fn allowed(request: &Request<'_>) -> Option<u64> {
     match request {
         Request::Check { options, .. } => Some(options.within()),
@@ -211,7 +211,7 @@ fn allowed(request: &Request<'_>) -> Option<u64> {
     }
 }
 
-// Asserts it for arguments.
+// Asserts the value of `within` that arguments request.
 fn assert_allows<'a>(rt: &(impl Abort + Alloc<A = Global>), arguments: &'a [&'a str], frames: u64) {
     match Request::parse(rt.alloc(), arguments) {
         Ok(request) => assert_same(rt, &allowed(&request), &Some(frames)),
@@ -231,7 +231,8 @@ fn reads_the_frames_that_are_allowed(rt: HostRuntime) {
     assert_allows(&rt, &["subttx", "listen", "a", "--within", "1", "--at", at], 1);
 }
 
-// Returns the repeat bound and the maximum distance of a check.
+// Returns the repeat bound and the maximum distance of PES packets that a check requests, in
+// frames.
 fn bounds(request: &Request<'_>) -> Option<(u64, Option<u64>)> {
     match request {
         Request::Check { options, .. } => Some((options.every(), options.pace())),
@@ -239,7 +240,7 @@ fn bounds(request: &Request<'_>) -> Option<(u64, Option<u64>)> {
     }
 }
 
-// Asserts them for arguments.
+// Asserts the repeat bound and the maximum distance of PES packets that arguments request.
 fn assert_bounds<'a>(
     rt: &(impl Abort + Alloc<A = Global>),
     arguments: &'a [&'a str],
@@ -260,7 +261,7 @@ fn reads_a_pace(rt: HostRuntime) {
     assert_bounds(&rt, &day, (2_160_000, Some(2_160_000)));
 }
 
-// Returns whether repeats may keep the page of a check.
+// Returns whether repeats may keep the page in a requested check.
 fn keeps(request: &Request<'_>) -> Option<bool> {
     match request {
         Request::Check { options, .. } => Some(options.may_keep()),
@@ -268,7 +269,7 @@ fn keeps(request: &Request<'_>) -> Option<bool> {
     }
 }
 
-// Asserts it for arguments.
+// Asserts whether repeats may keep the page, as arguments request.
 fn assert_keeps<'a>(rt: &(impl Abort + Alloc<A = Global>), arguments: &'a [&'a str], want: bool) {
     match Request::parse(rt.alloc(), arguments) {
         Ok(request) => assert_same(rt, &keeps(&request), &Some(want)),
@@ -311,8 +312,8 @@ fn assert_listens<'a>(
     }
 }
 
-// Asserts the request of `listen`: the page, the PTS of frame 0, the last frame, and the first
-// packet.
+// Asserts the request of `listen`: the page, the PTS of frame 0, the last frame, and the number of
+// skipped packets.
 fn assert_file_calls(rt: &impl Abort, listening: &Listening, want: &Options, at: u32, skip: u64) {
     assert!(rt; listening.options.page() == want.page());
     assert!(rt; listening.options.origin() == want.origin());
@@ -367,7 +368,7 @@ fn names_what_is_read_and_what_is_written(rt: HostRuntime) {
     }
 }
 
-// Returns the PES packets that a request reads.
+// Returns the selection of PES packets that a request reads.
 fn read_by<'r, 'a>(request: &'r Request<'a>) -> Option<&'r PesSelection<'a>> {
     match request {
         Request::Packets { pes } => Some(pes),
@@ -397,7 +398,7 @@ fn assert_reads<'a>(
     }
 }
 
-// Returns the transport packets of a PID.
+// Returns the transport stream that consists of the packets of a PID.
 fn stream_of(number: u16, packet_size: PacketSize) -> Option<TransportStream> {
     match Pid::new(number) {
         Some(pid) => Some(TransportStream { pid, packet_size }),
@@ -412,7 +413,7 @@ fn reads_which_pes_packets_are_read(rt: HostRuntime) {
     assert_reads(&rt, &["subttx", "packets", "b"], &None, &all);
     assert_reads(&rt, &["subttx", "check", "a", "b"], &None, &all);
     assert_reads(&rt, &["subttx", "listen", "b", "--at", "10:00:00:10"], &None, &all);
-    // from the second on, and from one to another
+    // The range of PES packets is from the second one on, or from one to another.
     let behind = PesPacketRange::new(2, None);
     assert_reads(&rt, &["subttx", "packets", "b", "--pes", "2-"], &None, &behind);
     let some = PesPacketRange::new(0, Some(1));
@@ -441,7 +442,7 @@ fn reads_of_which_transport_packets(rt: HostRuntime) {
         "subttx", "listen", "b", "--pid", "8190", "--packet-size", "204", "--pes", "7-", "--at", at,
     ];
     assert_reads(&rt, &given, &corrected, &PesPacketRange::new(7, None));
-    // The packet size alone has no effect.
+    // The packet size has no effect without a PID.
     assert_reads(&rt, &["subttx", "packets", "b", "--packet-size", "192"], &None, &all);
 }
 
