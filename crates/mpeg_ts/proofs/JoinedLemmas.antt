@@ -45,7 +45,7 @@ pub joined-ended : (v : JoiningValue) (wrong : Bool) (goods : List GoodPacket)
 joined-ended v wrong [] e = rw e refl
 joined-ended v wrong (g ∷ more) e = rw e refl
 
--- The output of good packets is that of their parts, for each progress of the part before them.
+-- The output of good packets is the output of their parts, for each state of the part before them.
 pub record Claims (wrong : Bool) (goods : List GoodPacket) : Type 0 where
   pub headless :
       (v : JoiningValue) (part : Part)
@@ -63,13 +63,10 @@ pub record Claims (wrong : Bool) (goods : List GoodPacket) : Type 0 where
       → joined (record v { part = Complete }) wrong goods
       ≡ output v.given (following excess wrong goods)
 
--- The output of an open part whose bytes contain f, followed by the output of more good packets.
 abbrev pub settled_gives : Found → JoiningValue → Bool → List GoodPacket → List ℕ
 settled_gives f v wrong more =
     (settled_as f v).pending ++ joined (delivered (settled_as f v)) wrong more
 
--- The output of an open part with these bytes, after a gap or not, followed by the output of more
--- good packets.
 abbrev pub given_open : Bool → JoiningValue → List ℕ → Bool → List GoodPacket → List ℕ
 given_open gap v bytes wrong more =
     settled_gives (found_in bytes) (with_gap gap (record v { part = Open; bytes = bytes })) wrong

@@ -222,8 +222,6 @@ pending_first : (f : Found) (v : JoiningValue) (wrong : Bool) (more : List GoodP
     ++ joined (delivered (settled_as f (record v { pending = [] }))) wrong more)
 pending_first f v wrong more = grind (arith, nat_tests, append_assoc, joined)
 
--- If data was lost before a part, the output is the same whether the gap marker was returned before
--- the part or comes with it.
 begun_first : (b : Bool) (v : JoiningValue) (p : List ℕ) (wrong : Bool) (more : List GoodPacket)
     → (begun true b (remembering (delivered (record v { given = given.Packet })) p)
     (payload p)).pending
@@ -288,8 +286,6 @@ after_wrong_broken : (v : JoiningValue) (s : PacketHistory) (o : Option (List �
     (good_after (record s { has_wrong = true }) all).packets
 after_wrong_broken v s o all h1 h2 h3 = grind (arith, nat_tests, begin_broken)
 
--- The output of the events is the output of the good packets among them, for this state and this
--- history.
 abbrev pub Agrees : JoiningValue → PacketHistory → List Note → Type 0
 Agrees v s all =
     later_output (delivered v) all

@@ -32,8 +32,6 @@ output g (Gap ∷ more) = gap_marker_where (gave_packet g) ++ output (last_outpu
 output g (Pes bytes ∷ more) = bytes ++ output given.Packet more
 output g (Other bytes ∷ more) = bytes
 
--- After a PES packet, the bytes of outcomes with gap markers are those that are returned step by
--- step.
 gap_markers : (all : List PartOutcome)
     → (with_gap_markers true false all ≡ output given.Packet all)
     × (with_gap_markers true true all ≡ gap_marker ++ output given.GapMarker all)

@@ -109,7 +109,6 @@ later_end : (j : JoiningValue) → later_output j [] ≡ []
 unfolding later_output
 later_end j = refl
 
--- After a part that has ended the stream, no output follows.
 pub later_ended : (j : JoiningValue) (all : List Note)
     → has_ended j.part ≡ true
     → later_output j all ≡ []
@@ -576,8 +575,6 @@ pub borrowed_within : (borrowed all : List ℕ) (count : ℕ)
     → count ≤ length all
 borrowed_within borrowed all count h1 h2 = grind (arith, nat_tests, length-take)
 
--- Skipping lent bytes does not change the output still to come, if the bytes after them yield the
--- same output.
 pub borrowed_skipped : {D : Type 0} (IsPull : D → ℕ → Option ℕ → D → Type 0) (borrowed : D → List ℕ)
     (remaining : D → Option (List ℕ)) (v w : StreamValue) (before after : D) (next : List ℕ)
     (count : ℕ)

@@ -193,7 +193,7 @@ later_output v (note ∷ more) =
     if has_ended v.part then []
     else (after_note v note).pending ++ later_output (delivered (after_note v note)) more
 
--- ---- the representation in the program
+-- ---- the representation of ready items in the program
 
 -- The items that are ready: a gap marker, or none.
 abbrev pub gap_marker_alone : Bool → PendingItem

@@ -22,7 +22,7 @@ pub record OutputsOn (old new : StreamValue) (before after : Option (List ℕ)) 
   pub given : List ℕ
   pub takes : TakesPrefix (output_of old) (λ more. given ++ output_of new more) before after
 
--- ---- laws of calls
+-- ---- laws of consecutive calls
 
 -- The output of consecutive calls is the output of all calls together.
 abbrev pub LawOfCalls : Type 0

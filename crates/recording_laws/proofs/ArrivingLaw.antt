@@ -1,5 +1,5 @@
--- If at most 14 carriers in a row are missing, `law_of_reading` determines which PES packets
--- arrive: `law_of_losses`, `law_of_neighbours`.
+-- If at most 14 transport packets with payload in a row are missing, `law_of_reading` determines
+-- which PES packets arrive: `law_of_losses`, `law_of_neighbours`.
 use Rattle.std.proofs.Common.{◌≡◌, ℕ, inl, inr, Bool, true, false, ◌||◌, List, [], ◌∷◌, ◌++◌}
 use Rattle.std.proofs.Common.{length, refl, sym, ap, ◌∙◌}
 use Rattle.std.specs.List.{concat}
@@ -28,8 +28,8 @@ concat-alone : (marked : Bool) → concat (gap_markers_where marked) ≡ gap_mar
 concat-alone true = append-nil (gap_marker_where true)
 concat-alone false = refl
 
--- If few carriers are missing in a row, the PES packets that are read are those that arrive, in
--- order.
+-- If fewer than 15 transport packets with payload in a row are missing, the PES packets that are
+-- read are exactly those that arrive, in order.
 reads-lead : (previous : Previous) (sent : List (SentPes Fated)) (pes_packets : List (List ℕ))
     → Reads true previous sent pes_packets
     → Leads (has_previous previous) (is_gap previous) sent (concat pes_packets)
@@ -55,8 +55,6 @@ reads-lead previous (s ∷ more) pes_packets reads = elim reads [
       (reads-lead (After here.1 s (length s.others) false) more here.2 here.6)
 ]
 
--- If few carriers are missing in a row, what the recording carries are results for the PES packets
--- sent.
 given-few : (number distance : ℕ) (m : Multiplex Fated) (recording : List ℕ)
     → IsLossy number distance m recording
     → Gives true Nothing m.sent (carried number distance recording)

@@ -54,18 +54,15 @@ pes_packet-as b x h six long = record {
   long = long ∙ h.long;
 }
 
--- The part begins like the PES packet s, up to its PTS.
 pub record IsPrefix (part : Part) (s : SentPes Fated) : Type 0 where
   pub begins : part.begins ≡ true
   pub long : 14 ≤ length (part_bytes part)
   pub same : up_to_pts (part_bytes part) ≡ up_to_pts s.bytes
   pub is_pes_packet : IsPesPacket s.bytes
 
--- The bytes that the part may yield as a PES packet.
 abbrev pub given_bytes : Part → SentPes Fated → List ℕ
 given_bytes part s = take (length s.bytes) (part_bytes part)
 
--- The part has more bytes than its PES packet.
 abbrev pub is_longer : Part → SentPes Fated → Bool
 is_longer part s = nat_lt (length s.bytes) (length (part_bytes part))
 
@@ -77,7 +74,6 @@ prefix-size part s h =
     ap size_at (same-six (part_bytes part) s.bytes h.long (omega (arith, long)) h.same)
     ∙ pes_packet-size s.bytes h.is_pes_packet
 
--- If a part that begins like a PES packet is at least as long, it yields a PES packet.
 outcome-prefix : (cut_off : Bool) (part : Part) (s : SentPes Fated)
     → IsPrefix part s
     → nat_le (length s.bytes) (length (part_bytes part)) ≡ true
@@ -89,7 +85,6 @@ outcome-prefix cut_off part s h enough =
     let long = h.long in grind (arith, nat_tests) in
     rw (h.begins, six, size, enough)
 
--- If a part that begins like a PES packet is shorter, it is incomplete.
 outcome-short : (cut_off : Bool) (part : Part) (s : SentPes Fated)
     → IsPrefix part s
     → nat_le (length s.bytes) (length (part_bytes part)) ≡ false
@@ -134,8 +129,6 @@ given-pes_packet part s h enough =
     (same-six (given_bytes part s) s.bytes (omega (arith, size, same)) (omega (arith, size)) is.1)
     is.0
 
--- A closed part yields a PES packet that begins like s, up to its PTS, and equals s if the part has
--- the bytes of s only.
 pub record ClosesGiven (part : Part) (given gap : Bool) (s : SentPes Fated) : Type 0 where
   pub pes_packet : List ℕ
   pub longer : Bool
@@ -146,7 +139,6 @@ pub record ClosesGiven (part : Part) (given gap : Bool) (s : SentPes Fated) : Ty
       Closes part given gap (gap_marker_where (given && (gap || part.after_break)) ++ pes_packet)
       true longer
 
--- A closed part yields a PES packet that begins like s, or nothing, which is a gap.
 pub closes-prefix : (part : Part) (given gap : Bool) (s : SentPes Fated)
     → IsPrefix part s
     → ClosesGiven part given gap s ⊎ Closes part given gap [] given true

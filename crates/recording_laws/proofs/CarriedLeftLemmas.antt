@@ -1,5 +1,5 @@
--- What a recording carries if carriers are missing is determined by the good packets of the
--- recorded units. Main lemma: carried-left.
+-- What a recording with losses carries is determined by the usable transport packets that are
+-- recorded. Main lemma: carried-left.
 use Rattle.std.proofs.Common.{◌≡◌, ℕ, ◌+◌, ◌%◌, ◌≤◌, ◌⊎◌, inl, inr, Bool, true, false, ◌||◌, ◌==◌}
 use Rattle.std.proofs.Common.{List, [], ◌∷◌, ◌++◌, length, length-append, map, None, refl, ap, ◌∙◌}
 use Rattle.std.proofs.Common.{subst, arith, append_assoc, slice_index}
@@ -33,7 +33,8 @@ none-left : (fs : List Fated)
 none-left [] none = refl
 none-left (f ∷ fs) none = absurd (cc)
 
--- A unit that was damaged still is a unit of a recording.
+-- A damaged transport packet keeps its sync byte and its size, so a reader still finds it in the
+-- recording.
 spoiled-unit : (distance number : ℕ) (unit other : List ℕ)
     → IsRecordedUnit distance unit
     → IsSpoiled distance number unit other
@@ -50,7 +51,6 @@ left-unit : (distance number : ℕ) (unit : List ℕ) (fate : Fate) (sent left :
 left-unit distance number unit fate sent left h1 h2 h3 h4 h5 =
     grind (arith, nat_tests, spoiled-unit)
 
--- The recorded units are consecutive units of a recording.
 left-units : (distance number : ℕ) (fs : List Fated)
     → AreRecordedUnits distance (map (λ (f : Fated). f.unit) fs)
     → AllByRecursion (λ (f : Fated). IsFate distance number f.unit f.fate) fs
@@ -85,7 +85,6 @@ notes-left distance number [] = grind (arith, nat_tests)
 notes-left distance number (f ∷ fs) =
     grind (arith, nat_tests, flat_map-append, noted, heard_left, (notes-left distance number fs))
 
--- What became of the carriers of a PES packet, whether it arrives or not.
 pub record IsLeftPes (distance number : ℕ) (s : SentPes Fated) : Type 0 where
   pub is_pes_packet : IsPesPacket s.bytes
   pub first : IsLeftCarrier distance number true s.first
@@ -232,7 +231,8 @@ module _ (distance number : ℕ) where
   counter-number : (a : ℕ) → a % 16 ≡ (15 + a % 16 + 1 + 0) % 16
   counter-number a = omega arith
 
-  -- Without announced jumps, the counters of all carriers rise by one from carrier to carrier.
+  -- Without announced jumps, the continuity counters of the transport packets with payload rise by
+  -- one from packet to packet.
   all-rising : (cs : List (Carrier Fated))
       → AllByRecursion (IsSomeLeft distance number) cs
       → AreInSequence (sent_packet distance) number cs
@@ -266,7 +266,6 @@ module _ (distance number : ℕ) (m : Multiplex Fated) (recording : List ℕ) wh
       all-rising distance number (carriers_of m.sent)
       (all-carriers-left distance number m.sent (all-pes h)) h.is_multiplex.linked
 
-  -- The recorded units form a recording.
   left-recording : AreLosses number distance m recording
       → IsRecording distance (units_left (items_of_multiplex m)) recording
   left-recording h = record {
@@ -280,7 +279,6 @@ module _ (distance number : ℕ) (m : Multiplex Fated) (recording : List ℕ) wh
         omega arith;
   }
 
-  -- What the recording carries is determined by the good packets of the carriers that are recorded.
   pub carried-left : AreLosses number distance m recording
       → carried number distance recording
       ≡ with_gap_markers false false

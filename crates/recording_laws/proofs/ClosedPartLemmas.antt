@@ -1,5 +1,5 @@
--- The result of a closed part, whatever parts follow it. Main lemmas: closes-pes_packet,
--- closes-broken.
+-- The result of the transport packets of one PES packet (a part), whatever follows them. Main
+-- lemmas: closes-pes_packet, closes-broken.
 use Rattle.std.proofs.Common.{◌≡◌, ℕ, ◌<◌, ◌≤◌, inl, inr, Bool, true, false, not, ◌&&◌, ◌||◌, List}
 use Rattle.std.proofs.Common.{[], ◌∷◌, ◌++◌, length, length-append, take, Ok, refl, sym, ap, ◌∙◌}
 use Rattle.std.proofs.Common.{arith, append_assoc, nat_le}
@@ -27,7 +27,7 @@ pub record EndsMarked (given : Bool) (prefix bytes : List ℕ) : Type 0 where
   pub bytes_are : bytes ≡ prefix ++ gap_marker_where is_marked
 
 -- A closed part yields the bytes `prefix`, whatever parts follow; `given'` and `gap'` describe the
--- state after it.
+-- state after the part.
 pub record Closes (part : Part) (given gap : Bool) (prefix : List ℕ) (given' gap' : Bool)
     : Type 0 where
   pub next :
@@ -46,8 +46,6 @@ unfolding with_gap_markers outcomes
 gap_marker-following gap true = elim (cases_Bool gap) [ inl e ↦ rw e | inr e ↦ rw e ]
 gap_marker-following gap false = elim (cases_Bool gap) [ inl e ↦ rw e | inr e ↦ rw e ]
 
--- A part that yields a PES packet yields it after a gap marker if a gap came before; a gap follows
--- if the part has more bytes.
 pub closes-pes_packet : (part : Part) (given gap : Bool) (bytes : List ℕ) (longer : Bool)
     → ((cut_off : Bool) → outcome cut_off part ≡ Pes bytes ∷ gap_where longer)
     → Closes part given gap (gap_marker_where (given && (gap || part.after_break)) ++ bytes) true
@@ -80,11 +78,9 @@ closes-pes_packet part given gap bytes longer gives = record {
         ∙ sym (append_assoc (gap_marker_where (given && (gap || part.after_break))) bytes
         (with_gap_markers true longer (outcomes wrong_after more)))
 
--- The part is incomplete, wherever in the recording it is.
 pub record IsBroken (part : Part) : Type 0 where
   pub outcome_is : (cut_off : Bool) → outcome cut_off part ≡ gap_where (not cut_off)
 
--- An incomplete part yields a gap, unless it is the last part.
 pub closes-broken : (part : Part) (given gap : Bool)
     → IsBroken part
     → Closes part given gap [] given true
@@ -120,12 +116,10 @@ closes-broken part given gap h = record {
         ∙ ap (λ (b : Bool). gap_marker_where (given && b))
         (elim (cases_Bool (gap || part.after_break)) [ inl e ↦ rw e | inr e ↦ rw e ]))
 
--- A part that begins no PES packet is incomplete.
 pub broken-unbegun : (part : Part) → part.begins ≡ false → IsBroken part
 unfolding outcome
 broken-unbegun part h1 = grind (arith, nat_tests)
 
--- A part that has only the first bytes of a PES packet is incomplete.
 pub broken-short : (part : Part) (missing bytes : List ℕ)
     → part_bytes part ++ missing ≡ bytes
     → 0 < length missing

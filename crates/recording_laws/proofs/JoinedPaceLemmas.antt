@@ -84,8 +84,6 @@ module _ (pace within : ℕ) where
       go false near =
           near-init pace (numbers sent) s.frame (subst (AreNear pace) (numbers-push sent s) near)
 
-  -- If the frames after joining PES packets are at most pace apart, these PES packets are at most
-  -- `pace` apart, also from the last frame before them.
   after-near : (last : ℕ) (sent frames : Transmission)
       → EndsWith sent last
       → AreNear pace (numbers (joined_after within sent frames))

@@ -1,4 +1,4 @@
--- When bytes are those of the PES packets that arrive.
+-- The condition that bytes are those of the PES packets that arrive from a recording with losses.
 use Rattle.std.proofs.lemmas.Bool.Decides.{nat_tests}
 use Rattle.std.proofs.Common.{arith, ◌≡◌, ℕ, Bool, true, false, ◌&&◌, ◌||◌, List, [], ◌∷◌, ◌++◌}
 use Rattle.std.proofs.Common.{append_assoc}

@@ -1,5 +1,5 @@
--- The events of the recorded units of a carrier, and the good packet of the carrier if it is
--- recorded. Main lemmas: good-first, good-second.
+-- If a transport packet with payload is recorded, or its repeat, one of the two becomes a good
+-- packet. Main lemmas: good-first, good-second.
 use Rattle.std.proofs.Common.{◌≡◌, ℕ, Bool, true, false, ◌||◌, List, [], ◌∷◌, ◌++◌, Option, Some}
 use Rattle.std.proofs.Common.{None, sym, ap, ◌∙◌, arith, append_assoc}
 use Rattle.std.specs.List.{AllByRecursion, flat_map}
@@ -19,7 +19,7 @@ use Rattle.recording_laws.proofs.CarrierLemmas.{is_repeat-again}
 use Rattle.recording_laws.proofs.CarrierLemmas.{history_after_irrelevant}
 use Rattle.recording_laws.proofs.RecordingLemmas.{noted}
 
--- The history since a good packet, without announced jumps and skipped bytes.
+-- The history of a PID since a good packet, if no jump was announced and no bytes were skipped.
 abbrev pub history_after_loss : Option (List ℕ) → Bool → Bool → PacketHistory
 history_after_loss good again wrong = record {
   good = good;
@@ -39,11 +39,9 @@ pub or-true : (a : Bool) → (a || true) ≡ true
 or-true a = grind (arith, nat_tests)
 
 module _ (distance number : ℕ) where
-  -- The events of the recorded bytes of a unit.
   abbrev pub heard_left : Fated → List Note
   heard_left f = flat_map (λ u. noted number (packet_in distance u)) (recorded_of f.unit f.fate)
 
-  -- What may have become of a unit that announces no jump.
   pub record IsLeft (f : Fated) : Type 0 where
     pub recorded : IsRecordedUnit distance f.unit
     pub fate : IsFate distance number f.unit f.fate
@@ -131,7 +129,6 @@ module _ (distance number : ℕ) where
   copy_of None p = p
   copy_of (Some f) p = sent_packet distance f
 
-  -- A carrier, and what may have become of its units.
   pub record IsLeftCarrier (first : Bool) (c : Carrier Fated) : Type 0 where
     pub is_carrier : IsCarrier (sent_packet distance) number first c
     pub packet : IsLeft c.packet
@@ -149,7 +146,7 @@ module _ (distance number : ℕ) where
       → any_wrong (a ++ (b ++ c)) ≡ ((any_wrong a || any_wrong b) || any_wrong c)
   wrong-of_three a b c = grind (arith, nat_tests, list_any-append, or-assoc)
 
-  -- If the packet of a carrier is recorded, it becomes a good packet.
+  -- If a transport packet with payload is recorded, it becomes a good packet.
   pub good-first : (good : Option (List ℕ)) (again wrong first : Bool) (c : Carrier Fated)
       (ns : List Note)
       → IsLeftCarrier first c
@@ -173,8 +170,6 @@ module _ (distance number : ℕ) where
         wrong-of_three,
       )
 
-  -- If the packet of a carrier is not recorded, its repeat and the items after the repeat determine
-  -- the good packet.
   pub good-no_first : (good : Option (List ℕ)) (again wrong first : Bool) (c : Carrier Fated)
       (ns : List Note)
       → IsLeftCarrier first c
@@ -186,8 +181,7 @@ module _ (distance number : ℕ) where
   good-no_first good again wrong first c ns h1 h2 =
       grind (arith, nat_tests, heard-carrier, good-lost, good-quiets-left, or-assoc)
 
-  -- If the repeat of a carrier's packet is recorded and the packet itself is not, the repeat
-  -- becomes a good packet.
+  -- If only the repeat of a transport packet is recorded, the repeat becomes a good packet.
   pub good-second : (good : Option (List ℕ)) (again wrong : Bool) (p : List ℕ) (o : Option Fated)
       (after : List Fated) (ns : List Note)
       → AllByRecursion (λ f. IsRepetition number p (sent_packet distance f)) (option_to_list o)

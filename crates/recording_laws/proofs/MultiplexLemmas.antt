@@ -54,7 +54,6 @@ module _ {A : Type 0} (packet_of : A → List ℕ) (number : ℕ) where
       (outcomes false
       (parts_from part (goods packet_of number (history_after_carrier packet_of number c) more)))
 
-  -- The other carriers of a PES packet complete the part that its first carrier began.
   fills-part : (given : Bool) (part : Part) (c : Carrier A) (others rest : List (Carrier A))
       (bytes then : List ℕ)
       → IsPesPacket bytes
@@ -99,8 +98,6 @@ module _ {A : Type 0} (packet_of : A → List ℕ) (number : ℕ) where
       within =
           rw (each.0.begins, next-follows packet_of number c d next.0 each.0.begins)
 
-  -- A complete part and the PES packets after it are carried one after another, without a gap
-  -- marker.
   whole-then : (given : Bool) (part : Part) (c : Carrier A) (sent : List (SentPes A))
       (bytes : List ℕ)
       → IsCompletePart part bytes
@@ -136,7 +133,7 @@ module _ {A : Type 0} (packet_of : A → List ℕ) (number : ℕ) where
           goods packet_of number (history_after_carrier packet_of number s.first)
           (s.others ++ carriers_of more)
 
-  -- A complete recording carries the bytes of all its PES packets, one after another.
+  -- A complete recording carries the bytes of all PES packets that were sent, one after another.
   carried-all : (jump : Bool) (sent : List (SentPes A))
       → AllByRecursion (IsSentPes packet_of number) sent
       → AreInSequence packet_of number (carriers_of sent)

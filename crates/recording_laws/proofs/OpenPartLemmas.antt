@@ -1,5 +1,5 @@
--- Reading the rest of a PES packet if any number of packets is missing, from any state, by
--- induction over what is still to come. Main lemmas: headless-within, open-within.
+-- Reading the rest of a PES packet if any number of transport packets is missing, from any state,
+-- by induction over the packets still to come. Main lemmas: headless-within, open-within.
 use Rattle.std.proofs.Common.{◌≡◌, ℕ, ◌+◌, ◌%◌, ◌≤◌, ◌⊎◌, inl, inr, Bool, true, false, ◌&&◌, ◌||◌}
 use Rattle.std.proofs.Common.{List, [], ◌∷◌, ◌++◌, length, length-append, refl, sym, ap, ◌∙◌, subst}
 use Rattle.std.proofs.Common.{arith, append_assoc, not, nat_lt, map}
@@ -50,7 +50,7 @@ abbrev pub gapped : Bool → Previous
 gapped true = Marked
 gapped false = Nothing
 
--- The bytes carry results for the PES packets sent, after the state `previous`.
+-- The bytes are the joined results of reading the PES packets sent, after the state `previous`.
 pub record Gives (few : Bool) (previous : Previous) (sent : List (SentPes Fated)) (bytes : List ℕ)
     : Type 0 where
   pub pes_packets : List (List ℕ)
@@ -58,8 +58,8 @@ pub record Gives (few : Bool) (previous : Previous) (sent : List (SentPes Fated)
   pub joined : bytes ≡ concat pes_packets
   pub reads : Reads few previous sent pes_packets
 
--- The first result, with or without a gap marker before it, is that of the PES packet s whose first
--- packet began the open part.
+-- The bytes are the joined results of reading, and the first result is that of the PES packet s,
+-- with or without a gap marker before it.
 pub record GivesOne (few marked : Bool) (s : SentPes Fated) (between : ℕ) (skipped : Bool)
     (sent : List (SentPes Fated)) (bytes : List ℕ) : Type 0 where
   pub pes_packet : List ℕ
@@ -71,7 +71,7 @@ pub record GivesOne (few marked : Bool) (s : SentPes Fated) (between : ℕ) (ski
   pub joined : bytes ≡ gap_marker_where marked ++ (pes_packet ++ concat rest)
   pub reads : Reads few (After pes_packet s between skipped) sent rest
 
--- The open part yields a result for the PES packet s, or s has no result.
+-- Either the first result is that of the PES packet s, or s has no result.
 abbrev pub Opens : Bool → Bool → Bool → SentPes Fated → ℕ → Bool → List (SentPes Fated) → List ℕ
     → Type 0
 Opens few given marked s between skipped sent bytes =
@@ -235,7 +235,6 @@ module _ (distance number : ℕ) (wrong_after few : Bool) where
   carried_from part given gap goods =
       with_gap_markers given gap (outcomes wrong_after (parts_from part goods))
 
-  -- The open part has all payloads of its PES packet s up to the carriers that are still to come.
   pub record IsUnbroken (part : Part) (s : SentPes Fated) (between : ℕ) (skipped : Bool) (n : ℕ)
       (wrong : Bool) (cs : List (Carrier Fated)) : Type 0 where
     pub unskipped : skipped ≡ false
@@ -249,29 +248,26 @@ module _ (distance number : ℕ) (wrong_after few : Bool) where
         × (is_wrong_after s ≡ any_wrong (units_after (last_carrier last cs)))
         × (wrong ≡ any_wrong (units_after last))
 
-  -- The open part is incomplete; or it is complete, and the first carrier of the next PES packet is
-  -- missing.
   abbrev pub IsLost : Part → SentPes Fated → Bool → Type 0
   IsLost part s skipped =
       (IsBroken part × (arrives s ≡ false))
       ⊎ (IsCompletePart part s.bytes × (arrives s ≡ true) × (skipped ≡ true))
 
-  -- The state of an open part: it has all payloads so far; or carriers are missing; or at least 16
-  -- carriers were missing. `between` counts the carriers from its first packet to that of the next
-  -- PES packet, including those still to come.
+  -- The state of a PES packet that is being reassembled: all its transport packets so far were
+  -- read; or some are missing; or at least 16 were missing, so that the counter may continue all
+  -- the same.
   abbrev pub IsGoing : Part → SentPes Fated → ℕ → Bool → ℕ → Bool → List (Carrier Fated) → Type 0
   IsGoing part s between skipped n wrong cs =
       IsUnbroken part s between skipped n wrong cs
       ⊎ (((1 ≤ n) × (n + length cs ≤ between) × (few ≡ true → IsLost part s skipped))
       ⊎ ((16 + length cs ≤ between) × (few ≡ false)))
 
-  -- The open part begins like its PES packet.
   pub record IsFirst (part : Part) (s : SentPes Fated) : Type 0 where
     pub begins : part.begins ≡ true
     pub is_pes_packet : IsPesPacket s.bytes
     pub prefix : few ≡ false → IsPrefix part s
 
-  -- As long as carriers of its PES packet are still to come, an open part is incomplete.
+  -- A PES packet stays incomplete as long as some of its transport packets are still to come.
   broken-here : (part : Part) (s : SentPes Fated) (between : ℕ) (skipped : Bool) (n : ℕ)
       (wrong : Bool) (c : Carrier Fated) (cs : List (Carrier Fated))
       → IsPesPacket s.bytes
@@ -367,7 +363,8 @@ module _ (distance number : ℕ) (wrong_after few : Bool) where
       few ≡ true
       → (n ≡ 0) × (wrong ≡ false) × (any_wrong (units_before c) ≡ false) × (is_recorded c ≡ true)
 
-  -- If a packet continues the counter and begins no PES packet, it belongs to the open part.
+  -- A transport packet that continues the counter and begins no PES packet is joined to the PES
+  -- packet before it.
   going-follows : (part : Part) (s : SentPes Fated) (between : ℕ) (skipped : Bool) (n : ℕ)
       (wrong wrong_since : Bool) (c : Carrier Fated) (cs : List (Carrier Fated)) (g : GoodPacket)
       → IsGoing part s between skipped n wrong (c ∷ cs)
@@ -411,7 +408,6 @@ module _ (distance number : ℕ) (wrong_after few : Bool) where
   going-follows part s between skipped n wrong wrong_since c cs g (inr (inr far)) same on still is =
       let many = far.0 in inr (inr (omega (arith, many), far.1))
 
-  -- When the next PES packet begins, the result of the open part fits the PES packet sent.
   pub going-fits : (part : Part) (given gap : Bool) (s : SentPes Fated) (between : ℕ)
       (skipped : Bool) (n : ℕ) (wrong : Bool) (pes_packet : List ℕ) (longer breaks : Bool)
       → (part_bytes part ≡ s.bytes → pes_packet ≡ s.bytes)
@@ -432,7 +428,6 @@ module _ (distance number : ℕ) (wrong_after few : Bool) where
       none =
       let many = far.0 in inl (omega (arith, many))
 
-  -- A part that begins like its PES packet still does after another packet is joined to it.
   prefix-with : (part : Part) (s : SentPes Fated) (g : GoodPacket)
       → IsPrefix part s
       → IsPrefix (with_packet part g) s
@@ -463,19 +458,17 @@ module _ (distance number : ℕ) (wrong_after few : Bool) where
     prefix = λ e. prefix-with part s g (h.prefix e);
   }
 
-  -- The open part yields a PES packet; if few carriers are missing, it yields the one that was
-  -- sent.
   pub record ClosesAs (part : Part) (given gap : Bool) (s : SentPes Fated) : Type 0 where
     pub is : ClosesGiven part given gap s
     pub exact : few ≡ true → (arrives s ≡ true) × (is.pes_packet ≡ s.bytes) × (is.longer ≡ false)
 
-  -- The open part yields a PES packet, or nothing.
   abbrev pub Closing : Part → Bool → Bool → SentPes Fated → Type 0
   Closing part given gap s =
       ClosesAs part given gap s
       ⊎ (Closes part given gap [] given true × (few ≡ true → arrives s ≡ false))
 
-  -- If few carriers are missing, the open part is complete exactly if its PES packet arrives.
+  -- If fewer than 15 transport packets with payload in a row are missing, a PES packet is complete
+  -- exactly if all its transport packets arrive.
   abbrev pub Ends : Part → SentPes Fated → Type 0
   Ends part s =
       few ≡ true
@@ -529,7 +522,6 @@ module _ (distance number : ℕ) (wrong_after few : Bool) where
       lost-ends part s skipped some.2 is
   going-ends part s between skipped n wrong first (inr (inr far)) is = absurd (cc (is, far.1))
 
-  -- What follows a part that begins no PES packet are results for the PES packets still to come.
   abbrev pub OnwardHeadless : List (SentPes Fated) → Type 0
   OnwardHeadless sent =
       (part : Part) (given gap following : Bool) (n : ℕ) (wrong : Bool) (goods : List GoodPacket)
@@ -537,8 +529,6 @@ module _ (distance number : ℕ) (wrong_after few : Bool) where
       → Traced distance number few following n wrong (carriers_of sent) goods
       → Gives few (gapped given) sent (carried_from part given gap goods)
 
-  -- What follows a part that begins a PES packet are a result for it, if any, and results for the
-  -- PES packets still to come.
   abbrev pub OnwardOpen : List (SentPes Fated) → Type 0
   OnwardOpen sent =
       (part : Part) (given gap : Bool) (s : SentPes Fated) (between : ℕ) (skipped : Bool) (n : ℕ)
@@ -609,7 +599,6 @@ module _ (distance number : ℕ) (wrong_after few : Bool) where
   cut-lost part s between skipped n wrong c cs g is left heard cut (inr (inr far)) e =
       absurd (cc (e, far.1))
 
-  -- The rest of a PES packet, after a part that begins no PES packet.
   pub headless-within : (more : List (SentPes Fated)) (part : Part) (given gap following : Bool)
       (n : ℕ) (wrong : Bool) (cs : List (Carrier Fated)) (goods : List GoodPacket)
       → Onward more
@@ -644,8 +633,6 @@ module _ (distance number : ℕ) (wrong_after few : Bool) where
         ]
       ]
 
-  -- If a packet closes an open part and begins no PES packet, the part yields a gap or its PES
-  -- packet.
   open-cut : (more : List (SentPes Fated)) (part : Part) (given gap : Bool) (s : SentPes Fated)
       (between : ℕ) (skipped : Bool) (g : GoodPacket) (later : List GoodPacket)
       → IsFirst part s
@@ -684,7 +671,6 @@ module _ (distance number : ℕ) (wrong_after few : Bool) where
             )
       ]
 
-  -- The rest of a PES packet, after a part that begins a PES packet.
   pub open-within : (more : List (SentPes Fated)) (part : Part) (given gap : Bool)
       (s : SentPes Fated) (between : ℕ) (skipped : Bool) (n : ℕ) (wrong : Bool)
       (cs : List (Carrier Fated)) (goods : List GoodPacket)

@@ -60,7 +60,6 @@ rising-last t (u ∷ more) rising =
     omega (arith, rest, rising-first t u more rising)
 
 module _ (pace : ℕ) (s t : SentFrame) (more : Transmission) (rising : IsRising (s ∷ t ∷ more)) where
-  -- The frame `pace` after the first frame is not covered unless the second frame comes by then.
   uncovered : (j : ℕ)
       → s.frame + pace < t.frame
       → j < length (s ∷ t ∷ more)

@@ -1,4 +1,4 @@
--- The result of a complete part is its PES packet. Main lemma: outcome-whole.
+-- A complete part yields its PES packet. Main lemma: outcome-whole.
 use Rattle.std.proofs.Common.{◌≡◌, ℕ, ◌≤◌, inl, inr, Bool, true, false, List, [], ◌∷◌, ◌++◌, length}
 use Rattle.std.proofs.Common.{append_assoc, take, arith, Ok}
 use Rattle.std.proofs.lemmas.Bool.{cases_Bool}

@@ -1,6 +1,6 @@
 -- What is read of the PES packets that were sent, whatever was lost: `law_of_reading`, by induction
 -- over the PES packets sent. The laws of losses, of neighbours and of the maximum distance follow;
--- the last of these is in this file: `law_of_pace`.
+-- the law of the maximum distance is in this file: `law_of_pace`.
 use Rattle.std.proofs.Common.{◌≡◌, ℕ, ◌+◌, inl, inr, Bool, true, false, ◌&&◌, ◌||◌, List, [], ◌∷◌}
 use Rattle.std.proofs.Common.{◌++◌, length, None, refl, sym, ap, ◌∙◌, subst, arith, nat_lt, ◌≤◌}
 use Rattle.std.specs.List.{AllByRecursion, flat_map}
@@ -78,7 +78,6 @@ gap_marker-following-gone longer break wrong here skipped following n h1 h2 h3 =
     (arith, nat_tests)
 
 module _ (distance number : ℕ) (wrong_after few : Bool) where
-  -- The part that the first packet of a PES packet begins, begins like that PES packet.
   prefix-first : (s : SentPes Fated) (g : GoodPacket)
       → IsLeftPes distance number s
       → HoldsPts distance s
@@ -355,8 +354,6 @@ module _ (distance number : ℕ) (wrong_after few : Bool) where
   abbrev AllHold : List (SentPes Fated) → Type 0
   AllHold sent = few ≡ false → AllByRecursion (HoldsPts distance) sent
 
-  -- From any state of reading, the PES packets still to come have results (by induction over these
-  -- PES packets).
   onward : (sent : List (SentPes Fated))
       → AllByRecursion (IsLeftPes distance number) sent
       → AllHold sent
@@ -390,7 +387,6 @@ module _ (distance number : ℕ) (wrong_after few : Bool) where
   ungiven a b (Pes bytes ∷ os) = refl
   ungiven a b (Other bytes ∷ os) = refl
 
-  -- The first good packet of a recording may be taken to follow a part without a PES packet.
   from-no_part : (n : ℕ) (wrong : Bool) (cs : List (Carrier Fated)) (goods : List GoodPacket)
       → Traced distance number few false n wrong cs goods
       → from_goods goods ≡ carried_from distance number wrong_after few no_part false false goods
@@ -419,8 +415,9 @@ module _ (distance number : ℕ) (wrong_after few : Bool) where
       subst (Gives few Nothing sent) (sym (from-no_part 0 wrong (carriers_of sent) goods traced))
       ((onward sent each holds).headless no_part false false false 0 wrong goods refl traced)
 
--- What a recording carries are results for its PES packets, if few carriers in a row are missing,
--- or if the first transport packet of each PES packet contains its PTS.
+-- Each PES packet that a recording carries, other than a gap marker, begins like a PES packet that
+-- was sent, in the same order, if fewer than 15 transport packets with payload in a row are
+-- missing, or if the first transport packet of each PES packet contains its PTS.
 pub law_of_reading : (number distance : ℕ) (few : Bool) (m : Multiplex Fated) (recording : List ℕ)
     → AreLosses number distance m recording
     → (few ≡ true → are_few_lost 0 (carriers_of m.sent) ≡ true)

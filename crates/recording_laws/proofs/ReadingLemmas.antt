@@ -1,6 +1,6 @@
--- The results for the PES packets that were sent, if any number of packets is missing. PES packets
--- that are read within the maximum distance, without a gap marker among them, were sent one after
--- another. Main lemma: read-run.
+-- The results of reading the PES packets that were sent, if any number of transport packets is
+-- missing. PES packets that are read within the maximum distance, without a gap marker among them,
+-- were sent one after another. Main lemma: read-run.
 use Rattle.std.proofs.Common.{◌≡◌, ℕ, ◌+◌, ◌<◌, ◌≤◌, ◌⊎◌, inl, inr, Bool, true, false, List, []}
 use Rattle.std.proofs.Common.{◌∷◌, ◌++◌, length, refl, sym, ap, ◌∙◌, subst, arith, ◌&&◌, ◌||◌}
 use Rattle.std.specs.Bool.{⊤}
@@ -16,14 +16,13 @@ use Rattle.recording_laws.proofs.PesPacketLemmas.{not-empty}
 use Rattle.recording_laws.proofs.PesPacketLemmas.{sent_bytes, tails}
 
 -- The state before a result: no result yet; a result with a gap after it; or a result x that begins
--- like the PES packet s, with `between` carriers from the first carrier of s to the next PES
--- packet, and possibly PES packets without a result between them (`skipped`).
+-- like the PES packet s, with `between` transport packets with payload from the first of s to the
+-- next PES packet, and possibly PES packets without a result between them (`skipped`).
 pub data Previous : Type 0 where
   Nothing : Previous
   Marked : Previous
   After : List ℕ → SentPes Fated → ℕ → Bool → Previous
 
--- The state after a PES packet without a result.
 abbrev pub skip : Previous → SentPes Fated → Previous
 skip Nothing t = Nothing
 skip Marked t = Marked
@@ -31,7 +30,7 @@ skip (After x s between skipped) t = After x s (between + length (carriers_of_pe
 
 -- A gap marker may be missing before the next result only in three cases: no result came before;
 -- the result before is as it was sent, and no PES packet without a result follows it; or 16 or more
--- carriers are between them.
+-- transport packets with payload are between them.
 abbrev pub Fits : Previous → Bool → Type 0
 Fits Nothing marked = ⊤
 Fits Marked marked = marked ≡ true
@@ -53,8 +52,9 @@ IsGapMarkerExact few previous s marked =
     few ≡ true → marked ≡
     (has_previous previous && (is_gap previous || any_wrong (units_before s.first)))
 
--- The results for PES packets, in order; each result begins like its PES packet. If few carriers
--- are missing in a row, the results are the PES packets that arrive, each as it was sent.
+-- The results of reading PES packets, in order; each result begins like its PES packet. If fewer
+-- than 15 transport packets with payload in a row are missing, the results are the PES packets that
+-- arrive, each as it was sent.
 abbrev pub Reads : Bool → Previous → List (SentPes Fated) → List (List ℕ) → Type 0
 Reads few previous [] pes_packets =
     (marked : Bool) × (pes_packets ≡ gap_markers_where marked) × (marked ≡ true → has_previous
@@ -116,7 +116,7 @@ module _ (few : Bool) (IsFar : List (SentPes Fated) → Type 0)
     more)
   where
     -- A result x other than a gap marker begins like one of the PES packets sent, and equals that
-    -- packet if few carriers are missing.
+    -- packet if fewer than 15 transport packets with payload in a row are missing.
     pub record Located
         (x : List ℕ) (tail : List (List ℕ)) (sent : List (SentPes Fated))
         : Type 0 where
@@ -226,7 +226,8 @@ module _ (frame_of : List ℕ → ℕ) (pace : ℕ) where
     sent_are : sent_bytes more ≡ run ++ (next ∷ later)
     prefix : up_to_pts next ≡ up_to_pts last
 
-  -- PES packets that are 16 or more carriers apart do not keep the maximum distance.
+  -- PES packets that begin 16 or more transport packets with payload apart do not keep the maximum
+  -- distance.
   too-far : (x y a b : List ℕ) (between : ℕ)
       → up_to_pts x ≡ up_to_pts a
       → up_to_pts y ≡ up_to_pts b
@@ -345,8 +346,6 @@ module _ (frame_of : List ℕ → ℕ) (pace : ℕ) where
       → Follows x s skipped (t ∷ more) run last
   follows-later x s skipped t more run last h = absurd (cc h.unskipped)
 
-  -- Results that follow one another without a gap marker and within the maximum distance were sent
-  -- one after another.
   follows : (x : List ℕ) (s : SentPes Fated) (between : ℕ) (skipped : Bool)
       (more : List (SentPes Fated)) (rest run : List (List ℕ)) (last : List ℕ)
       (following : List (List ℕ))
@@ -388,8 +387,8 @@ module _ (frame_of : List ℕ → ℕ) (pace : ℕ) where
     pub sent_are : sent_bytes sent ≡ earlier ++ (run ++ (next ∷ later))
     pub prefix : up_to_pts next ≡ up_to_pts last
 
-  -- Results without a gap marker among them, within the maximum distance, were sent one after
-  -- another.
+  -- PES packets that are read within the maximum distance, without a gap marker among them, were
+  -- sent one after another.
   pub read-run : (previous : Previous) (sent : List (SentPes Fated)) (before run : List (List ℕ))
       (last : List ℕ) (following : List (List ℕ))
       → Reads false previous sent (before ++ (run ++ (last ∷ following)))
@@ -446,8 +445,6 @@ gap_marker-first x s between (t ∷ more) pes_packets y tail reads e = elim read
       ∙ sym here.3 ∙ e))
 ]
 
--- If few carriers are missing, a result that follows a PES packet without a gap marker was sent
--- directly after it.
 pub sent-next : (x : List ℕ) (s : SentPes Fated) (between : ℕ) (sent : List (SentPes Fated))
     (pes_packets run following : List (List ℕ))
     → Reads true (After x s between false) sent pes_packets

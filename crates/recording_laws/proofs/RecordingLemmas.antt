@@ -14,7 +14,7 @@ use Rattle.mpeg_ts.specs.PacketsInStep.{read_bytes}
 use Rattle.mpeg_ts.specs.TransportPacket.{packet_size, sync_byte, pid}
 use Rattle.recording_laws.specs.Multiplex.{AreRecordedUnits, IsRecordedUnit, IsRecording, packet_in}
 
--- The events of one transport packet: one event if it has the PID, and otherwise none.
+-- The events of one transport packet: one event if the packet has the PID, and otherwise none.
 abbrev pub noted : ℕ → List ℕ → List Note
 noted number p = if pid p == number then note_of p ∷ [] else []
 

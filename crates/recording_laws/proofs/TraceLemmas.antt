@@ -1,6 +1,6 @@
--- If any number of carriers is missing, each good packet is a copy of a carrier's packet, and the
--- next good packet continues it only if the number of missing carriers between them is a multiple
--- of 16. Main lemma: traced.
+-- If any number of transport packets is missing, each good packet is a copy of a packet that was
+-- sent, and the next good packet continues it only if the number of packets missing between them is
+-- a multiple of 16. Main lemma: traced.
 use Rattle.std.proofs.Common.{◌<◌, nat_lt, ◌≡◌, ℕ, ◌+◌, ◌%◌, ◌⊎◌, inl, inr, Bool, true, false, ◌||◌}
 use Rattle.std.proofs.Common.{List, [], ◌∷◌, ◌++◌, Option, Some, None, refl, sym, ap, arith, ◌∙◌}
 use Rattle.std.proofs.Common.{subst}
@@ -28,8 +28,8 @@ use Rattle.recording_laws.proofs.LeftNoteLemmas.{good-no_first, good-no_second, 
 use Rattle.recording_laws.proofs.LeftNoteLemmas.{good-second, heard-carrier, heard-kept, heard_left}
 use Rattle.recording_laws.proofs.LeftNoteLemmas.{history_after_loss}
 
--- If the second of two good packets continues the counter of the first, the number of missing
--- carriers between them is a multiple of 16.
+-- If a good packet continues the counter of the good packet before it, the number of transport
+-- packets with payload that are missing between them is a multiple of 16.
 gone-between : (i n a b : ℕ)
     → a ≡ i % 16
     → b ≡ (i + 1 + n) % 16
@@ -45,7 +45,6 @@ link-far : (i n : ℕ) (g h : List ℕ) (wrong : Bool)
 link-far i n g h wrong h1 h2 h3 = grind (arith, nat_tests, gone-between)
 
 module _ (distance number : ℕ) (few : Bool) where
-  -- A carrier adds no good packet.
   pub record Stays (good : Option (List ℕ)) (c : Carrier Fated) (goods : GoodPackets)
       (ns : List Note) : Type 0 where
     pub again : Bool
@@ -53,7 +52,6 @@ module _ (distance number : ℕ) (few : Bool) where
     pub gone : few ≡ true → is_recorded c ≡ false
     pub goods_are : goods ≡ good_after (history_after_loss good again wrong_since) ns
 
-  -- A carrier adds a copy of its packet as a good packet.
   pub record Comes (good : Option (List ℕ)) (wrong : Bool) (c : Carrier Fated)
       (goods : GoodPackets) (ns : List Note) : Type 0 where
     pub copy : List ℕ
@@ -74,8 +72,8 @@ module _ (distance number : ℕ) (few : Bool) where
   abbrev pub Steps : Option (List ℕ) → Bool → Carrier Fated → GoodPackets → List Note → Type 0
   Steps good wrong c goods ns = Stays good c goods ns ⊎ Comes good wrong c goods ns
 
-  -- If few carriers are missing, the packet of the carrier is not taken for a repeat of the good
-  -- packet before it.
+  -- If fewer than 15 transport packets with payload in a row are missing, the next packet is never
+  -- taken for a repeat of the last good packet.
   abbrev pub IsFresh : Option (List ℕ) → Carrier Fated → Type 0
   IsFresh good c =
       few ≡ true
@@ -228,8 +226,8 @@ module _ (distance number : ℕ) (few : Bool) where
       copy : IsCopy p (copy_of distance number c.again p)
       copy = copy-again distance number p c.again none h.again h.is_carrier.again
 
-  -- The link of a good packet to the good packet before it, given how many carriers are missing
-  -- between them and whether a unit was damaged.
+  -- The link of a good packet to the good packet before it, given how many transport packets with
+  -- payload are missing between them, and whether a packet was damaged.
   pub record IsLinked (n : ℕ) (wrong : Bool) (c : Carrier Fated) (g : GoodPacket) : Type 0 where
     pub cut : is_unlinked g.link ≡ is_break g.link
     pub far : is_break g.link ≡ false → n % 16 ≡ 0
@@ -237,8 +235,6 @@ module _ (distance number : ℕ) (few : Bool) where
         few ≡ true
         → (n < 15) × (is_break g.link ≡ ((wrong || any_wrong (units_before c)) || nat_lt 0 n))
 
-  -- The good packet is a copy of the packet of this carrier, with or without a good packet before
-  -- it.
   pub record IsHeard (following : Bool) (n : ℕ) (wrong : Bool) (c : Carrier Fated) (g : GoodPacket)
       : Type 0 where
     pub copy : IsCopy (sent_packet distance c.packet) g.packet
@@ -246,8 +242,9 @@ module _ (distance number : ℕ) (few : Bool) where
     pub first : following ≡ false → is_unlinked g.link ≡ true
     pub linked : following ≡ true → IsLinked n wrong c g
 
-  -- The good packets come from the carriers, given how many carriers are missing since the good
-  -- packet before, if any, and whether a unit was damaged since then.
+  -- The good packets of a recording come from the transport packets with payload that were sent,
+  -- given how many of these are missing since the last good packet, and whether a packet was
+  -- damaged since then.
   abbrev pub Traced : Bool → ℕ → Bool → List (Carrier Fated) → List GoodPacket → Type 0
   Traced following n wrong [] goods = goods ≡ []
   Traced following n wrong (c ∷ cs) goods =

@@ -65,7 +65,7 @@ IsFate distance number unit Kept = ⊤
 IsFate distance number unit LeftOut = ⊤
 IsFate distance number unit (MadeWrong other) = IsSpoiled distance number unit other
 
--- ---- which carriers are recorded
+-- ---- the carriers that are recorded
 
 -- One of the units is recorded as it was sent.
 abbrev pub any_kept : List Fated → Bool
@@ -114,7 +114,7 @@ last_carrier c (d ∷ more) = last_carrier d more
 abbrev pub is_wrong_after : SentPes Fated → Bool
 is_wrong_after s = any_wrong (units_after (last_carrier s.first s.others))
 
--- ---- what the recording carries
+-- ---- the PES packets that a recording carries
 
 -- The bytes of the PES packets that arrive, each as it was sent, in order, with gap markers.
 -- `given`: a PES packet arrived before these; `gap`: something is missing after that packet. One

@@ -72,7 +72,7 @@ pub record PutsByPushes
   pub taken : List ℕ
   pub pushes : PushesInOrder IsPush old bytes taken ok new
 
--- ---- devices that wrap another
+-- ---- the calls of devices that wrap another device
 
 -- A call of a device with one failing call: the failing call is not forwarded to the inner device,
 -- and every other call is forwarded unchanged.

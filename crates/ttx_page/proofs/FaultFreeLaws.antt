@@ -55,7 +55,6 @@ at_packet keeps w row column packet old new named erases step =
     let blanks = cell-blank row column named in grind (arith, nat_tests)
 
 module _ (keeps : Bool) (w : PageIdValue) (row column code : ℕ) where
-  -- Each packet of the row in the long span has odd parity, and the code at the column.
   abbrev AreTargets : List (List ℕ) → Type 0
   AreTargets packets =
       (packet : List ℕ)
@@ -63,7 +62,6 @@ module _ (keeps : Bool) (w : PageIdValue) (row column code : ℕ) where
       → kind w packet ≡ Row row
       → HasOddText packet × (code_of (text_byte packet column) ≡ code)
 
-  -- Either the packets started a new text, or the cell was a space and the page was not open.
   abbrev IsFreshCell : State → List (List ℕ) → Type 0
   IsFreshCell start packets =
       (holds_beginning keeps (kind w) packets ≡ true)
@@ -72,11 +70,9 @@ module _ (keeps : Bool) (w : PageIdValue) (row column code : ℕ) where
   abbrev test : List ℕ → Bool
   test p = is_row row (kind w p)
 
-  -- The state of a receiver that keeps its page after these packets.
   record Holds (start : State) (packets : List (List ℕ)) (now : State) : Type 0 where
     is_open : (holds_header (kind w) packets || not start.is_open) ≡ true
         → now.is_open ≡ is_open_after (kind w) packets
-    -- The cell has the code, or it is a space and the long span has no packet of the row.
     cell_is : IsFreshCell start packets
         → AreTargets packets
         → (cell now.page row column ≡ code)
@@ -187,7 +183,6 @@ module _ (keeps : Bool) (w : PageIdValue) (row column code : ℕ) where
           ];
         }
 
-  -- The state after a run, by induction over the packets that are still to be received.
   run : (start : State) (packets sent : List (List ℕ)) (old new : State)
       → IsCell row column
       → AllByRecursion (λ packet. IsFalse keeps → ErasesPage w packet) sent

@@ -55,8 +55,6 @@ ones_compared a b n p q l =
     ∙ ap (count_by (λ x. x)) (sym (take_all n ms (omega (arith, size))))
     ∙ tests_counted a b n (omega (arith, p)) (p ∙ sym q)
 
--- The number of differing columns up to a place inside a block is the number before the block plus
--- the number in the first part of the block.
 pub columns_in_chunk : (xs ys : List ℕ) (a n k : ℕ)
     → k ≤ n
     → columns_differing (a + k) xs ys
@@ -99,7 +97,6 @@ pub mask_of_block : (xs ys : List ℕ) (a : ℕ)
     ≡ mask_l (map (λ x. x) (chunk a 16 (zip2 differ xs ys)))
 mask_of_block xs ys a same room = ap mask_l (tests_of_block xs ys a same room ∙ sym (map-id _))
 
--- If a test for a column is the first true test, the column is the first in which the rows differ.
 pub column_of_test : (xs ys : List ℕ) (column : ℕ)
     → length xs ≡ 40
     → length ys ≡ 40

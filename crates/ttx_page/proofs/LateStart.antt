@@ -26,7 +26,6 @@ pub codes_of_same : (w : PageIdValue) (packets : List (List ℕ))
 codes_of_same w packets same i d l j e m row column one two below = grind (arith, nat_tests)
 
 module _ (w : PageIdValue) (before heard : List (List ℕ)) where
-  -- If all packets of a list send a text, so do the later packets that were received.
   pub sends-later : (keeps : Bool) (text : ℕ → ℕ → ℕ)
       → SendsText keeps w (before ++ heard) text
       → SendsText keeps w heard text
@@ -47,20 +46,19 @@ module _ (w : PageIdValue) (before heard : List (List ℕ)) where
       → span (kind w) (before ++ heard) ≡ span (kind w) heard
   span-later holds = grind (arith, nat_tests, after-append)
 
-  -- If the packets received contain a header of the page, they show the same codes as all packets.
+  -- If the packets received since a late start contain a header of the page, they show the same
+  -- codes as all packets sent.
   pub shown-later : holds_header (kind w) heard ≡ true
       → (row column : ℕ)
       → shown w (before ++ heard) row column ≡ shown w heard row column
   shown-later holds row column = grind (arith, nat_tests, unwrap_or, after-append)
 
-  -- If the packets received contain a header of the page, their span is ended exactly if the span
-  -- of all packets is.
   pub unended-later : holds_header (kind w) heard ≡ true
       → is_unended (kind w) (before ++ heard) ≡ is_unended (kind w) heard
   unended-later holds = grind (arith, nat_tests, after-append)
 
-  -- If the page is open after the packets received, it is open after all packets, and both lists
-  -- have the same span.
+  -- If the page is open after the packets received since a late start, it is open after all packets
+  -- sent, and both lists have the same span.
   pub open-later : is_open_after (kind w) heard ≡ true
       → (is_open_after (kind w) (before ++ heard) ≡ true)
       × (span (kind w) (before ++ heard) ≡ span (kind w) heard)

@@ -31,7 +31,6 @@ use Rattle.ttx_page.proofs.NoiseSteps.{kind_of_item, row_from_test}
 use Rattle.ttx_page.proofs.RepeatLaws.{law_of_forgetting, law_of_repeats}
 use Rattle.ttx_page.proofs.TextSpan.{beginning-none_keeps, text_span-none_keeps}
 
--- If all packets of a row have the same codes, each has the codes of the first packet of the row.
 pub first_code : (w : PageIdValue) (spanned : List (List ℕ)) (row column : ℕ) (packet : List ℕ)
     → All (λ first. All (HasSameCodes w first) spanned) spanned
     → Contains spanned packet
@@ -55,7 +54,7 @@ first_code w spanned row column packet same within is below = go (find test span
         grind (arith, nat_tests, none_pass, test, list_any_at)
     go (Some first) e = search (rules, find_is, test, All-contains, row_from_test)
 
--- Each packet of a row in the span has the codes that are shown.
+-- In sound packets, each packet of a row in the span has the codes that are shown.
 pub shown_is : (w : PageIdValue) (sent : List (List ℕ)) (row column : ℕ) (packet : List ℕ)
     → IsSound w sent
     → Contains (span (kind w) sent) packet
@@ -65,7 +64,7 @@ pub shown_is : (w : PageIdValue) (sent : List (List ℕ)) (row column : ℕ) (pa
 shown_is w sent row column packet sound within is below =
     first_code w (span (kind w) sent) row column packet sound.same within is below
 
--- Sound packets send the text that they show, if repeats must not keep earlier text.
+-- Sound packets (`IsSound`) send the text that they show, if repeats must not keep earlier text.
 pub sends_shown : (w : PageIdValue) (sent : List (List ℕ))
     → IsSound w sent
     → SendsText false w sent (shown w sent)

@@ -73,7 +73,6 @@ excused_as Dropping P Q row column gives excused = grind (arith, nat_tests)
 abbrev pub Loses : List ℕ → Option (List ℕ) → ℕ → ℕ → Type 0
 Loses sent arrival row column = LosesByte sent arrival column
 
--- A dropped row has a byte of even parity.
 even_byte_of : (packet : List ℕ)
     → is_some (first_even_byte packet) ≡ true
     → (column : ℕ) × (column < 40) × (is_odd (text_byte packet column) ≡ false)
@@ -96,7 +95,7 @@ dropped_loses : (w : PageIdValue) (sent got : List ℕ) (row column : ℕ)
     → ExcusedBy Dropping (Loses sent (Some got)) row column
 dropped_loses w sent got row column odd drop = grind (arith, nat_tests, even_byte_of)
 
--- A cell takes the code that was sent; or the packet loses the cell's byte, and the cell keeps its
+-- A cell takes the code that was sent; or, if the packet loses the cell's byte, the cell keeps its
 -- code or becomes a space.
 abbrev TakesCode :
     ReceiverClass → ℕ → ℕ → List ℕ → Option (List ℕ) → State → State → Type 0
@@ -115,7 +114,7 @@ record AtItem
   is_open : new.is_open
       ≡ (is_this_page (kind w sent) || (old.is_open && not (ends_page (kind w sent))))
   -- A header that starts a new text blanks the cell. In a receiver that starts from a blank page,
-  -- each header of the page does.
+  -- each header of the page blanks the cell.
   erased : (begins_text keeps (kind w sent) || (anew && is_this_page (kind w sent))) ≡ true
       → cell new.page row column ≡ space
   -- At a header of the page that does not start a new text, the cell keeps its code or becomes a
@@ -200,11 +199,12 @@ both_left x y e = grind (arith, nat_tests)
 pub both_right : (x y : Bool) → (x && y) ≡ true → y ≡ true
 both_right x y e = grind (arith, nat_tests)
 
--- The lemmas of this module are about one cell of the page, the code that the cell should show, and
+-- The lemmas of this module are about one cell of the page: the code that the cell should show, and
 -- what excuses a space instead.
 module _ (keeps anew : Bool) (class : ReceiverClass) (w : PageIdValue) (row column code : ℕ)
     (Excuse : Type 0) where
-  -- Each packet of the row in the long span has odd parity, and the code at the column.
+  -- Each packet of the cell's row in the long span has odd parity, and the cell's code at the
+  -- cell's column.
   abbrev pub AreTargets : List Item → Type 0
   AreTargets items =
       (item : Item)
@@ -212,7 +212,7 @@ module _ (keeps anew : Bool) (class : ReceiverClass) (w : PageIdValue) (row colu
       → kind w item.0 ≡ Row row
       → HasOddText item.0 × (code_of (text_byte item.0 column) ≡ code)
 
-  -- Each packet of the row in the span that loses the cell's byte is an excuse.
+  -- A packet of the cell's row in the span that loses the cell's byte excuses a space in the cell.
   abbrev pub GiveExcuses : List Item → Type 0
   GiveExcuses items =
       (item : Item)
@@ -221,7 +221,6 @@ module _ (keeps anew : Bool) (class : ReceiverClass) (w : PageIdValue) (row colu
       → ExcusedBy class (Loses item.0 item.1) row column
       → Excuse
 
-  -- The page was not open, and the cell was a space.
   abbrev pub WasBlank : State → Type 0
   WasBlank start = (start.is_open ≡ false) × (cell start.page row column ≡ space)
 
@@ -232,7 +231,7 @@ module _ (keeps anew : Bool) (class : ReceiverClass) (w : PageIdValue) (row colu
       (anew ≡ true)
       ⊎ ((holds_beginning keeps (kind_of_item w) items ≡ true) ⊎ WasBlank start)
 
-  -- The state of a receiver after these received or lost packets.
+  -- The state of a receiver, and of one cell of its page, after packets that were received or lost.
   pub record Becomes (start : State) (items : List Item) (now : State) : Type 0 where
     pub heard : now.heard ≡ (holds_header (kind_of_item w) items || start.heard)
     pub is_open : (holds_header (kind_of_item w) items || not start.is_open) ≡ true
@@ -271,8 +270,6 @@ module _ (keeps anew : Bool) (class : ReceiverClass) (w : PageIdValue) (row colu
     abbrev old_text : List Item
     old_text = text_span keeps K items
 
-    -- If all packets have the cell's code, so do those before the last packet, unless the last
-    -- packet starts a new text.
     targets_before : begins_text keeps (kind w sent) ≡ false
         → AreTargets (items ++ item ∷ [])
         → AreTargets items
@@ -301,8 +298,6 @@ module _ (keeps anew : Bool) (class : ReceiverClass) (w : PageIdValue) (row colu
         let k : K item ≡ Row row = is in
         (rw (in_text, k, up) last_text, rw (in_span, k, up) last_span)
 
-    -- If the earlier code of the cell no longer matters after all packets, it did not matter before
-    -- the last packet either, unless the last packet starts a new text.
     fresh_before : begins_text keeps (kind w sent) ≡ false
         → IsFreshCell start (items ++ item ∷ [])
         → IsFreshCell start items
@@ -442,7 +437,8 @@ module _ (keeps anew : Bool) (class : ReceiverClass) (w : PageIdValue) (row colu
     cell_is = λ holds. grind arith;
   }
 
-  -- The state after a run, by induction over the packets that are still to be received or lost.
+  -- The state of a receiver after a run, by induction over the packets still to be received or
+  -- lost.
   pub over : (start : State) (items : List Item) (sent : List (List ℕ)) (arrived : List Bool)
       (got : List (List ℕ)) (old new : State)
       → IsCell row column

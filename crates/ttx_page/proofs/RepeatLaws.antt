@@ -37,7 +37,7 @@ length-arrivals_of (false ∷ ms) got = ap suc (length-arrivals_of ms got)
 length-arrivals_of (true ∷ ms) [] = ap suc (length-arrivals_of ms [])
 length-arrivals_of (true ∷ ms) (g ∷ gs) = ap suc (length-arrivals_of ms gs)
 
--- Pairs each packet that was sent with the bytes received for it.
+-- Pairs each packet that was sent with the bytes received for it, or `None` if it was lost.
 module _ (class : ReceiverClass) (w : PageIdValue) (sent : List (List ℕ)) (arrived : List Bool)
     (got : List (List ℕ)) (may : AllZip LosesNoHeader sent arrived)
     (near : AllZip AreNear (items_where_true arrived sent) got) where

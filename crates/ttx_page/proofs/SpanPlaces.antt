@@ -29,7 +29,6 @@ module _ {A : Type 0} (kind_of : A → PacketKind) where
       let more = take_while-cons (λ y. not (ends_page (kind_of y))) x xs in
       grind (arith, nat_tests)
 
-  -- The last header of the page is at place h of the list.
   abbrev IsLast : List A → ℕ → Type 0
   IsLast xs h =
       (h < length xs)

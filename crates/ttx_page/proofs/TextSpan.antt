@@ -22,7 +22,8 @@ pub begins_at_each : (k : PacketKind) → begins_text false k ≡ is_this_page k
 begins_at_each k = grind (arith, nat_tests)
 
 module _ {A : Type 0} (kind_of : A → PacketKind) where
-  -- Whether the page is open after the items, given whether it is open before them (`is_open`).
+  -- Whether the page is open after the items, given whether the page is open before them
+  -- (`is_open`).
   abbrev open_from : Bool → List A → Bool
   open_from is_open [] = is_open
   open_from is_open (x ∷ xs) =

@@ -50,8 +50,8 @@ module _ (keeps : Bool) (w : PageIdValue) (before heard : List (List ℕ)) (pack
       subst (λ (ps : List (List ℕ)). Contains ps q) (sym later.1)
       (Contains-append_right later.0 spanned q within)
 
-  -- If a row has a packet in the long span, one more packet does not change which packet of the row
-  -- is the first.
+  -- If a row has a packet in the long span, a further packet does not change which packet of the
+  -- row is the first in the span.
   first_stays : (row : ℕ) (q : List ℕ)
       → begins_text keeps (kind w packet) ≡ false
       → Contains all_spanned q
@@ -109,7 +109,6 @@ module _ (keeps : Bool) (w : PageIdValue) (before heard : List (List ℕ)) (pack
         go false true true e p q = was p
         go false false t e p q = was p
 
-    -- One more packet does not change the codes that the packets received have in the text.
     codes_stay : begins_text keeps (kind w packet) ≡ false
         → All (HasCodes w (kept keeps w (all ++ packet ∷ []))) spanned
     codes_stay no_begin k d l row column is below =
@@ -181,8 +180,8 @@ module _ (keeps : Bool) (w : PageIdValue) (before heard : List (List ℕ)) (pack
           (codes_stay no_begin) (codes_here up no_begin));
     }
 
--- If each of `more` may follow the packets before it, the packets received and `more` together send
--- the text that is kept of all packets.
+-- If each packet of `more` may follow the packets before it, the packets received and `more`
+-- together send the text that is kept of all packets.
 pub sends-joined : (keeps : Bool) (w : PageIdValue) (before heard more : List (List ℕ))
     → SendsText keeps w heard (kept keeps w (before ++ heard))
     → ((k : ℕ)

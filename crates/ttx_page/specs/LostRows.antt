@@ -60,7 +60,7 @@ LawOfLostRows =
     → HearsBy class w old got new
     → EndsAs w sent (ExcusedBy class (IsHitOrLost w sent (arrivals_of arrived got))) new
 
--- ---- without loss
+-- ---- the law of noise as a special case
 
 -- If every packet arrives, the packets received and the cells hit are those of the law of noise.
 pub record LosesNothing (w : PageIdValue) (sent : List (List ℕ)) (arrived : List Bool)

@@ -44,7 +44,7 @@ is_unended kind_of items =
 abbrev pub is_open_after : {A : Type 0} → (A → PacketKind) → List A → Bool
 is_open_after kind_of items = holds_header kind_of items && is_unended kind_of items
 
--- ---- if repeats may keep earlier text
+-- ---- the long span of a page whose repeats may keep earlier text
 
 -- Some item of the list is a header that starts a new text.
 abbrev pub holds_beginning : {A : Type 0} → Bool → (A → PacketKind) → List A → Bool

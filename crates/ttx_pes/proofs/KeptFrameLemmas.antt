@@ -41,14 +41,14 @@ value_kept body v short whole some fit e =
     value_of_packet v (six_of n ++ body)
     (body_sound n body v (omega arith) (omega arith) (omega arith) fit e)
 
--- The list has the length of a PES packet's bytes from byte 6 on.
+-- The list has the length of a PES packet without its first six bytes.
 pub record IsBody (body : List ℕ) : Type 0 where
   pub short : length body + 6 ≤ 1656
   pub whole : (length body + 6) % 184 ≡ 0
   pub long : 184 ≤ length body + 6
   pub fit : AreBytes body
 
--- The facts are true of the PES packet with these bytes from byte 6 on.
+-- The facts are true of the PES packet whose bytes from byte 6 on are `body`.
 pub record IsKnown (body : List ℕ) (h : BufferedPacketValue) : Type 0 where
   pub value : value_at body ≡ Ok (buffered_frame (drop 39 body) h)
   pub known : IsInBuffer (drop 39 body) h

@@ -16,7 +16,7 @@ use Rattle.ttx_pes.specs.Reading.{value_at}
 use Rattle.ttx_pes.proofs.DataUnitLemmas.{AreBytes-drop, list_of_bytes, units_sound, units_complete}
 use Rattle.sub_io.proofs.ReadingLemmas.{step_gave, Ok-injective, given_as}
 
--- Six bytes from which a size can be read match the grammar.
+-- If a size can be read from six bytes, they match the first six bytes of a packet of the grammar.
 pub head_sound : (b : List ℕ) (size : ℕ) → length b ≡ 6 → AreBytes b → size_at b ≡ Ok size
     → (n : ℕ) × (1 ≤ n) × (n ≤ 9) × (size ≡ 184 * n)
     × (b ≡ 0 ∷ 0 ∷ 1 ∷ 189 ∷ bytes_high_first 2 (184 * n - 6))
@@ -32,7 +32,7 @@ head_sound b size len fit e =
     let is-low : get_or b 5 0 ≡ (184 * (size / 184) - 6) % 256 = omega arith in
     (size / 184, omega arith, omega arith, omega arith, parts ∙ cc)
 
--- From the first six bytes of a packet of the grammar, its size can be read.
+-- The size of a packet of the grammar can be read from its first six bytes.
 pub head_complete : (n : ℕ)
     → 1 ≤ n
     → n ≤ 9
@@ -78,7 +78,7 @@ parted b le = grind (arith, nat_tests, drop-drop 31 8 b, drop_more, take-append-
 abbrev pub value_with : ℕ → List UnitValue → PesValue
 value_with t us = record { pts = t; units = us }
 
--- Bytes from byte 6 on that can be read are those of a packet of the grammar.
+-- If a value can be read from bytes, they are the bytes of a packet of the grammar from byte 6 on.
 pub body_sound : (n : ℕ) (b : List ℕ) (v : PesValue)
     → 1 ≤ n
     → n ≤ 9
@@ -144,7 +144,7 @@ header_complete : (v : PesValue) (p : List ℕ) (h : IsValidPesPacket v p)
 unfolding pts_at body_of
 header_complete v p h = grind (arith, nat_tests, get_or_at, given_as)
 
--- From the bytes of a packet of the grammar from byte 6 on, its value can be read.
+-- The value of a packet of the grammar can be read from its bytes from byte 6 on.
 pub body_complete : (v : PesValue) (p : List ℕ) (h : IsValidPesPacket v p)
     → (value_at (body_of v p h) ≡ Ok v) × (length (body_of v p h) ≡ 184 * h.n - 6)
 unfolding body_of

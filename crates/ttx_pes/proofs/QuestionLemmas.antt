@@ -20,12 +20,12 @@ use Rattle.ttx_pes.specs.Reading.{teletext_at, unit_at, units_at, value_at}
 use Rattle.ttx_pes.specs.Refusal.{reported_fault, unit_faults}
 use Rattle.ttx_pes.proofs.LineOrderLemmas.{last_place-push}
 
--- The fault of the first test that fails, where the first test of the list has number i.
+-- The fault of the first test that the bytes b fail, where the first test of the list has number i.
 abbrev pub first_wrong : List ℕ → ℕ → List Bool → Option PesFault
 first_wrong b i [] = None
 first_wrong b i (t ∷ ts) = cond (not t) (Some (reported_fault b i)) (first_wrong b (i + 1) ts)
 
--- All tests before number i hold.
+-- All tests of the list before test number i hold.
 abbrev pub HoldBelow : List Bool → ℕ → Type 0
 HoldBelow ts i = (j : ℕ) → j < i → get_or ts j true ≡ true
 

@@ -214,7 +214,6 @@ module _ (b : List ℕ) (fit : AreBytes b) (q n : ℕ) (lo : 1 ≤ n) (hi : n �
             ∙ buffered j less
       ])
 
-  -- Some packet of the grammar agrees with the bytes in all checks before number q.
   agreeing : (v : PesValue) × (p : List ℕ) × IsValidPesPacket v p × AgreeBefore q b p
   agreeing =
       let read = read_if_held made made_buffered in
