@@ -9,42 +9,44 @@ use sub_io::{Failed, FaultCode};
 /// A fault of reading a subtitle file. The codes are 10 to 27, in the order of the variants.
 #[derive(Clone, Copy, Debug, PartialEq, Eq)]
 pub enum StlFault {
-    /// Code 10: the file ends within the GSI block or within a TTI block.
+    /// Fault code 10: the file ends within the GSI block or within a TTI block.
     Truncated,
-    /// Code 11: DFC is neither `STL25.01` nor `STL30.01`.
+    /// Fault code 11: DFC is neither `STL25.01` nor `STL30.01`.
     Format,
-    /// Code 12: DFC is `STL30.01`; 30 frames per second are not supported (own).
+    /// Fault code 12: DFC is `STL30.01`; 30 frames per second are not supported (own).
     Rate,
-    /// Code 13: DSC is not `1` or `2`, Teletext of level 1 or 2. If open subtitles are accepted,
-    /// `0` and a space are allowed too.
+    /// Fault code 13: DSC is not `1` or `2`, Teletext of level 1 or 2. If open subtitles are
+    /// accepted, `0` and a space are allowed too.
     Display,
-    /// Code 14: CCT is not `00`, the Latin table.
+    /// Fault code 14: CCT is not `00`, the Latin table.
     Alphabet,
-    /// Code 15: EBN of a TTI block is F0 to FD, which is reserved.
+    /// Fault code 15: EBN of a TTI block is F0 to FD, which is reserved.
     Extension,
-    /// Code 16: CS of a subtitle's first block is not 0; cumulative sets are not supported (own).
+    /// Fault code 16: CS of a subtitle's first block is not 0; cumulative sets are not supported
+    /// (own).
     Cumulative,
-    /// Code 17: CF of a TTI block is neither 0, subtitle, nor 1, comment.
+    /// Fault code 17: CF of a TTI block is neither 0, subtitle, nor 1, comment.
     CommentFlag,
-    /// Code 18: JC of a subtitle's first block is greater than 3.
+    /// Fault code 18: JC of a subtitle's first block is greater than 3.
     Justify,
-    /// Code 19: VP of a subtitle's first block is not 1 to 23.
+    /// Fault code 19: VP of a subtitle's first block is not 1 to 23.
     Row,
-    /// Code 20: TCI or TCO of a subtitle's first block is no time code at 25 frames per second.
+    /// Fault code 20: TCI or TCO of a subtitle's first block is no time code at 25 frames per
+    /// second.
     Time,
-    /// Code 21: TCI of a subtitle's first block is not before its TCO.
+    /// Fault code 21: TCI of a subtitle's first block is not before its TCO.
     EmptyTime,
-    /// Code 22: SGN or SN of a later block differs from that of the subtitle's first block.
+    /// Fault code 22: SGN or SN of a later block differs from that of the subtitle's first block.
     Sequence,
-    /// Code 23: a subtitle has more than nine blocks (own).
+    /// Fault code 23: a subtitle has more than nine blocks (own).
     TooLong,
-    /// Code 24: the file ends within a subtitle, before a block with EBN FF.
+    /// Fault code 24: the file ends within a subtitle, before a block with EBN FF.
     Unfinished,
-    /// Code 25: the file continues after 99,999 TTI blocks.
+    /// Fault code 25: the file continues after 99,999 TTI blocks.
     TooManyBlocks,
-    /// Code 26: the source failed.
+    /// Fault code 26: the source failed.
     Read,
-    /// Code 27: the reader was called again after a fault.
+    /// Fault code 27: the reader was called again after a fault.
     Ended,
 }
 
@@ -104,14 +106,14 @@ impl From<Failed> for StlFault {
 /// An error of writing a normal form.
 #[derive(Clone, Copy, Debug, PartialEq, Eq)]
 pub enum NormalFault {
-    /// Codes 10 to 25: the subtitle file was rejected, and nothing was written.
+    /// Fault codes 10 to 25: the subtitle file was rejected, and nothing was written.
     Refused {
         /// The first fault of the subtitle file.
         fault: StlFault,
         /// The number of the TTI block with the fault, counted from 1; 0 for the GSI block.
         block: u32,
     },
-    /// Code 29: the sink failed, and a prefix of the normal form was written.
+    /// Fault code 29: the sink failed, and a prefix of the normal form was written.
     Write,
 }
 

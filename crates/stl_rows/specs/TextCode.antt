@@ -39,18 +39,18 @@ is_diacritical byte = is_within 0xC0 0xCF byte
 -- Tech 3264 and the Latin G0 set of EN 300 706 agree.
 unfoldable pub is_common : ℕ → Bool
 is_common byte =
-    -- Spacing attributes: alpha colours, flash, steady, end box, start box, normal height, double
+    -- Bytes 01 to 0D: alpha colours, flash, steady, end box, start box, normal height, double
     -- height.
     is_within 0x01 0x0D byte
-    -- Spacing attributes: black background, new background.
+    -- Bytes 1C and 1D: black background, new background.
     || is_within 0x1C 0x1D byte
-    -- Characters: space, exclamation mark, quotation mark.
+    -- Bytes 20 to 22: space, exclamation mark, quotation mark.
     || is_within 0x20 0x22 byte
-    -- Characters: percent sign to full stop, solidus, digits, colon to question mark.
+    -- Bytes 25 to 3F: percent sign to full stop, solidus, digits, colon to question mark.
     || is_within 0x25 0x3F byte
-    -- Characters: capital letters.
+    -- Bytes 41 to 5A: capital letters.
     || is_within 0x41 0x5A byte
-    -- Characters: small letters.
+    -- Bytes 61 to 7A: small letters.
     || is_within 0x61 0x7A byte
 
 -- ---- the text codes of single bytes and pairs

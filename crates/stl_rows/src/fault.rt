@@ -8,17 +8,17 @@ use sub_io::FaultCode;
 /// A fault in the text of a subtitle. The order of the variants is the order of reports.
 #[derive(Clone, Copy, Debug, PartialEq, Eq)]
 pub enum RowFaultKind {
-    /// Code 50: a byte without a cell in the national option's character set.
+    /// Fault code 50: a byte without a cell in the national option's character set.
     Character,
-    /// Code 51: an unsupported control code, 00 to 1F or 80 to 9F.
+    /// Fault code 51: an unsupported control code, 00 to 1F or 80 to 9F.
     Control,
-    /// Code 52: a prepared line of more than 40 cells.
+    /// Fault code 52: a prepared line of more than 40 cells.
     RowTooLong,
-    /// Code 53: a line that isn't empty, below row 23.
+    /// Fault code 53: a line that isn't empty, below row 23.
     PastBottom,
-    /// Code 54: a line with double height in row 23.
+    /// Fault code 54: a line with double height in row 23.
     DoubleRow,
-    /// Code 55: a line that isn't empty, directly under a line with double height.
+    /// Fault code 55: a line that isn't empty, directly under a line with double height.
     Hidden,
 }
 
@@ -53,15 +53,15 @@ pub struct RowFault {
 /// A fault of a subtitle file. The order of the variants is the order of reports for one block.
 #[derive(Clone, Copy, Debug, PartialEq, Eq)]
 pub enum LoadFaultKind {
-    /// Codes 10 to 26: the file is invalid or not supported, or could not be read.
+    /// Fault codes 10 to 26: the file is invalid or not supported, or could not be read.
     File(StlFault),
-    /// Code 56: the TCI of a subtitle is before the TCI of the previous subtitle.
+    /// Fault code 56: the TCI of a subtitle is before the TCI of the previous subtitle.
     OutOfOrder,
-    /// Code 57: the TCI of a subtitle is before the TCO of the previous subtitle.
+    /// Fault code 57: the TCI of a subtitle is before the TCO of the previous subtitle.
     Overlap,
-    /// Codes 50 to 55: the subtitle cannot be drawn.
+    /// Fault codes 50 to 55: the subtitle cannot be drawn.
     Row(RowFault),
-    /// Code 58: the memory for the subtitle could not be allocated.
+    /// Fault code 58: the memory for the subtitle could not be allocated.
     Memory,
 }
 

@@ -11,31 +11,31 @@ use stl_file::Scope;
 /// A spacing attribute that a layout may add to a line (EN 300 706, spacing attributes).
 #[derive(Clone, Copy, Debug, PartialEq, Eq)]
 pub(crate) enum Attribute {
-    /// Code 01: alpha red.
+    /// Spacing attribute 01: alpha red.
     AlphaRed = 1,
-    /// Code 02: alpha green.
+    /// Spacing attribute 02: alpha green.
     AlphaGreen = 2,
-    /// Code 03: alpha yellow.
+    /// Spacing attribute 03: alpha yellow.
     AlphaYellow = 3,
-    /// Code 04: alpha blue.
+    /// Spacing attribute 04: alpha blue.
     AlphaBlue = 4,
-    /// Code 05: alpha magenta.
+    /// Spacing attribute 05: alpha magenta.
     AlphaMagenta = 5,
-    /// Code 06: alpha cyan.
+    /// Spacing attribute 06: alpha cyan.
     AlphaCyan = 6,
-    /// Code 07: alpha white.
+    /// Spacing attribute 07: alpha white.
     AlphaWhite = 7,
-    /// Code 08: flash.
+    /// Spacing attribute 08: flash.
     Flash = 8,
-    /// Code 09: steady.
+    /// Spacing attribute 09: steady.
     Steady = 9,
-    /// Code 0A: end box.
+    /// Spacing attribute 0A: end box.
     EndBox = 10,
-    /// Code 0B: start box.
+    /// Spacing attribute 0B: start box.
     StartBox = 11,
-    /// Code 0C: normal height.
+    /// Spacing attribute 0C: normal height.
     NormalHeight = 12,
-    /// Code 0D: double height.
+    /// Spacing attribute 0D: double height.
     DoubleHeight = 13,
 }
 
@@ -75,40 +75,40 @@ impl Attribute {
 /// empty place.
 #[derive(Clone, Copy, Debug)]
 pub(crate) struct LayoutItems {
-    /// `strip`: whether each byte 00 to 1F of a text is dropped, so has no cell.
+    /// Layout item `strip`: whether each byte 00 to 1F of a text is dropped, so has no cell.
     pub(crate) strip: [bool; 32],
-    /// `before`, up to its `*`: codes to add before a line's own leading codes.
+    /// Layout item `before`, up to its `*`: codes to add before a line's own leading codes.
     pub(crate) ahead: [Option<Attribute>; 6],
-    /// `before`, after its `*`: codes to add after a line's own leading codes.
+    /// Layout item `before`, after its `*`: codes to add after a line's own leading codes.
     pub(crate) following: [Option<Attribute>; 6],
-    /// `after`: codes to add at the end of a line.
+    /// Layout item `after`: codes to add at the end of a line.
     pub(crate) after: [Option<Attribute>; 4],
-    /// `fit`: whether only as many codes of `after` are added as there is room for.
+    /// Layout item `fit`: whether only as many codes of `after` are added as there is room for.
     pub(crate) fit: bool,
-    /// `white`: whether a line without a colour among its leading codes gets 07 (alpha white) after
-    /// them.
+    /// Layout item `white`: whether a line without a colour among its leading codes gets 07 (alpha
+    /// white) after them.
     pub(crate) white: bool,
-    /// `trim`: whether spaces at both ends of a line are removed.
+    /// Layout item `trim`: whether spaces at both ends of a line are removed.
     pub(crate) trim: bool,
-    /// `text`: whether the codes at both ends of a line do not count for its column.
+    /// Layout item `text`: whether the codes at both ends of a line do not count for its column.
     pub(crate) text: bool,
-    /// `up`: whether half a column is rounded up.
+    /// Layout item `up`: whether half a column is rounded up.
     pub(crate) up: bool,
-    /// `left`: the number of free columns to the left of a left-aligned line.
+    /// Layout item `left`: the number of free columns to the left of a left-aligned line.
     pub(crate) left: u8,
-    /// `right`: the number of free columns to the right of a right-aligned line.
+    /// Layout item `right`: the number of free columns to the right of a right-aligned line.
     pub(crate) right: u8,
-    /// `free`: the JC to use for a subtitle with JC 0.
+    /// Layout item `free`: the JC to use for a subtitle with JC 0.
     pub(crate) free: u8,
-    /// `double`: whether lines are two rows apart.
+    /// Layout item `double`: whether lines are two rows apart.
     pub(crate) double: bool,
-    /// `pack`: whether empty lines take no row.
+    /// Layout item `pack`: whether empty lines take no row.
     pub(crate) pack: bool,
-    /// `last`: whether VP is the row of the last line.
+    /// Layout item `last`: whether VP is the row of the last line.
     pub(crate) last: bool,
-    /// `row`: the number of rows that all lines are moved down; 0 if they are moved up.
+    /// Layout item `row`: the number of rows that all lines are moved down; 0 if they are moved up.
     pub(crate) lower: u8,
-    /// `row`: the number of rows that all lines are moved up; 0 if they are moved down.
+    /// Layout item `row`: the number of rows that all lines are moved up; 0 if they are moved down.
     pub(crate) higher: u8,
 }
 

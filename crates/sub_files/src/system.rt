@@ -26,7 +26,7 @@ const STANDARD_OUTPUT: &str = "/proc/self/fd/1";
 #[derive(Drop)]
 pub struct SystemFiles<'a, R> {
     rt: &'a R,
-    // The room for the names of open files.
+    // The memory in which the names of open files are stored.
     names: Option<&'a mut [u8]>,
 }
 

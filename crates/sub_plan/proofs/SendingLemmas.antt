@@ -187,8 +187,6 @@ module _ (w : PageIdValue) (national : National) (serial : Bool) (page : Rows) (
       → is_unended (kind w) (before ++ sending w national serial page) ≡ false
   ended_after before = search (rules, after_sending, list_any-append, closer, closes, or-true)
 
-  -- ---- cut short
-
   pub rows_cut : (n : ℕ)
       → AreRowsOfOnePage w (span (kind w) (take n (sending w national serial page)))
   unfolding sending
@@ -198,8 +196,6 @@ module _ (w : PageIdValue) (national : National) (serial : Bool) (page : Rows) (
     shape = shape;
     rows = rw (cut_span m) (All-take (IsRowOf w page) m rows (sent_rows_are w page));
   }
-
-  -- ---- each packet of it
 
   each_packet : (P : List ℕ → Type 0) → P (opener w national serial) → P (closer w serial)
       → ((row : ℕ) → 1 ≤ row → row ≤ 24 → P (row_of w page row))

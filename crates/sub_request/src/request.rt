@@ -16,64 +16,64 @@ use thiserror::Error;
 /// The descriptions below are for readers; the program prints the lines of `say`.
 #[derive(Debug, Drop, Error)]
 pub enum UsageFault {
-    /// Code 0: the arguments are not those of a command.
+    /// Fault code 0: the arguments are not those of a command.
     #[error("the words are not those of a command")]
     Words,
-    /// Code 2: HEX is not 84 hexadecimal digits.
+    /// Fault code 2: HEX is not 84 hexadecimal digits.
     #[error("the packet is not 84 hexadecimal digits")]
     BadHex,
-    /// Code 7: the file to be written has the name of the input.
+    /// Fault code 7: the file to be written has the name of the input.
     #[error("the input and the output have the same name")]
     SameFile,
-    /// Code 1: the page is not a digit 1 to 8 and two hexadecimal digits, or is a page FF.
+    /// Fault code 1: the page is not a digit 1 to 8 and two hexadecimal digits, or is a page FF.
     #[error("the page is not 100 to 8FE")]
     BadPage,
-    /// Code 80: the repeat bound is not 1 to 2,160,000 frames.
+    /// Fault code 80: the repeat bound is not 1 to 2,160,000 frames.
     #[error("the repeat bound is not 1 to 2160000 frames")]
     Every,
-    /// Code 81: the PTS of frame 0 is not below 2^33.
+    /// Fault code 81: the PTS of frame 0 is not below 2^33.
     #[error("the PTS of frame 0 does not have 33 bits")]
     Origin,
-    /// Code 83: the national option is no name that `National::parse` accepts.
+    /// Fault code 83: the national option is no name that `National::parse` accepts.
     #[error("there is no such national option")]
     BadOption,
-    /// Code 85: `--within` is not 0 to 50 frames.
+    /// Fault code 85: `--within` is not 0 to 50 frames.
     #[error("the page is not allowed 0 to 50 frames")]
     Within,
-    /// Code 86: the PID is not 0 to 8190.
+    /// Fault code 86: the PID is not 0 to 8190.
     #[error("the PID is not 0 to 8190")]
     Pid,
-    /// Code 87: the distance of transport packets is not 188, 192 or 204 bytes.
+    /// Fault code 87: the distance of transport packets is not 188, 192 or 204 bytes.
     #[error("the packet size is not 188, 192 or 204")]
     PacketSize,
-    /// Code 88: the PES packets are not `I-J` or `I-`, or the last comes before the first.
+    /// Fault code 88: the PES packets are not `I-J` or `I-`, or the last comes before the first.
     #[error("the PES packets are not I-J or I-")]
     Range,
-    /// Code 89: the layout is no text that `Layout::parse` accepts.
+    /// Fault code 89: the layout is no text that `Layout::parse` accepts.
     #[error("there is no such layout")]
     BadLayout,
-    /// Code 92: the maximum distance of PES packets is not 1 to 2,160,000 frames.
+    /// Fault code 92: the maximum distance of PES packets is not 1 to 2,160,000 frames.
     #[error("the pace is not 1 to 2160000 frames")]
     Pace,
-    /// Code 6: the time is not `HH:MM:SS:FF` of a day.
+    /// Fault code 6: the time is not `HH:MM:SS:FF` of a day.
     #[error("the time is not HH:MM:SS:FF of a day")]
     BadTime,
-    /// Code 8: the number of packets to skip is not one to ten digits.
+    /// Fault code 8: the number of packets to skip is not one to ten digits.
     #[error("the packets to be skipped are no number")]
     BadSkip,
-    /// Code 5: the flips are not 1 to 64 places `P:B:K`, or two flips are in the same byte.
+    /// Fault code 5: the flips are not 1 to 64 places `P:B:K`, or two flips are in the same byte.
     #[error("the flips are not 1 to 64 places")]
     BadFlip,
-    /// Code 84: the lost packets are not 1 to 64 numbers, or two numbers are equal.
+    /// Fault code 84: the lost packets are not 1 to 64 numbers, or two numbers are equal.
     #[error("the lost packets are not 1 to 64 numbers")]
     BadLose,
-    /// Code 9: the receiver is none of blank, keep, drop and anew.
+    /// Fault code 9: the receiver is none of blank, keep, drop and anew.
     #[error("the receiver is none of blank, keep, drop and anew")]
     BadReceiver,
-    /// Code 91: memory could not be allocated.
+    /// Fault code 91: memory could not be allocated.
     #[error("memory ran out")]
     Memory,
-    /// Code 90: a file can't be opened or created. `Request::parse` never returns this fault.
+    /// Fault code 90: a file can't be opened or created. `Request::parse` never returns this fault.
     #[error("a file can't be opened")]
     Open,
 }

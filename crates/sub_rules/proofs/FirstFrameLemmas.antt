@@ -16,8 +16,6 @@ module _ (g : Criteria) (xs ys : Transmission) (n : ℕ)
     (numbers : map (λ (s : SentFrame). s.frame) xs ≡ map (λ (s : SentFrame). s.frame) ys)
     (first : take n xs ≡ take n ys)
   where
-    -- ---- numbers
-
     pub frame_at-same : (k : ℕ) → frame_at xs k ≡ frame_at ys k
     frame_at-same k = rw numbers refl
 
@@ -38,8 +36,6 @@ module _ (g : Criteria) (xs ys : Transmission) (n : ℕ)
 
     end_same : (i f : ℕ) → end_before xs i f ≡ end_before ys i f
     end_same i f = rw (latest-same i, frame_at-same (i - 1)) refl
-
-    -- ---- packets
 
     frames_same : (k : ℕ) → k ≤ n → take k xs ≡ take k ys
     frames_same k l = sym (take-take k n xs l) ∙ ap (take k) first ∙ take-take k n ys l
@@ -117,8 +113,6 @@ module _ (g : Criteria) (xs ys : Transmission) (n : ℕ)
         → events_at_end g xs i k f ≡ events_at_end g ys i k f
     events_at_end-same i k f l m =
         rw (active_faults_before-same i f l, end_same i f, active_faults_at-same k f m) refl
-
-    -- ---- steps
 
     pub steps_at_end-same : (i k f : ℕ) → i ≤ n → k ≤ n
         → steps_at_end g xs i k f ≡ steps_at_end g ys i k f

@@ -49,8 +49,6 @@ module _ (g : Criteria) (u : Option Unread) (done more : Transmission) where
   unfolding gap_length
   gap_length-prefix i h1 = grind (arith, nat_tests, frame_at-prefix, latest-prefix)
 
-  -- ---- the number of frames within which the page must be right
-
   unfinished_same : (n f : ℕ) → n ≤ length done → is_unfinished g all n f ≡ is_unfinished h done n f
   unfolding is_incomplete
   unfinished_same n f l = rw (take-append-le n done more l) refl
@@ -100,8 +98,6 @@ module _ (g : Criteria) (u : Option Unread) (done more : Transmission) where
       → is_late g all n f ≡ is_late h done n f
   unfolding is_late
   is_late-prefix n f some l = rw (unfinished_since-prefix n f l, frame_at-prefix 0 some) refl
-
-  -- ---- the active faults
 
   is_silent-prefix : (n f : ℕ) → n ≤ length done → is_silent g all n f ≡ is_silent h done n f
   unfolding is_silent
@@ -166,8 +162,6 @@ module _ (g : Criteria) (u : Option Unread) (done more : Transmission) where
         first_header_events-prefix i l,
         events_at_end-prefix i (suc i) (frame_at done i) some (omega arith) (omega arith),
       ) refl
-
-  -- ---- the steps of a frame
 
   pub steps_at_end-prefix : (i n f : ℕ) → 0 < length done → i ≤ length done → n ≤ length done
       → steps_at_end g all i n f ≡ steps_at_end h done i n f

@@ -88,8 +88,8 @@ unfoldable pub wrong_after : Bool → PageIdValue → List (List ℕ) → Rows �
 wrong_after keeps page packets due =
     first_cell (λ row column. not (is_right keeps page packets due row column))
 
--- The first cell that is not right at the end of frame f, after n frames of the list. If the due
--- page is unknown, any cell may have any code.
+-- The first cell that is not right at the end of frame f, after n frames of the transmission. If
+-- the due page is unknown, any cell may have any code.
 abbrev pub wrong_cell : Criteria → Transmission → ℕ → ℕ → Option (ℕ × ℕ)
 wrong_cell g frames n f =
     if g.undecided f
@@ -101,24 +101,25 @@ abbrev pub covers : Criteria → ℕ → SentFrame → Bool
 covers g f s = holds_header (kind g.watched.page) s.packets && nat_lt f (s.frame + g.every)
 
 -- The last `every` frames up to f have no header of the page: they begin at the first frame of the
--- list or later, and no header of the page in the first n frames of the list is in or after them.
+-- transmission or later, and no header of the page in the first n frames of the transmission is in
+-- or after them.
 unfoldable pub is_gap : Criteria → Transmission → ℕ → ℕ → Bool
 is_gap g frames n f =
     nat_le (frame_at frames 0 + g.every) (f + 1) && not (list_any (covers g f) (take n frames))
 
--- Complete pages are required, and the page is open after the first n frames of the list.
+-- Complete pages are required, and the page is open after the first n frames of the transmission.
 unfoldable pub is_incomplete : Criteria → Transmission → ℕ → Bool
 is_incomplete g frames n =
     g.watched.complete && is_open_after (kind g.watched.page) (packets_before frames n)
 
 -- ---- the number of frames within which the page must be right
 
--- At the end of frame f, after n frames of the list, the page is unfinished: a cell is not right,
--- or complete pages are required and the page is open.
+-- At the end of frame f, after n frames of the transmission, the page is unfinished: a cell is not
+-- right, or complete pages are required and the page is open.
 abbrev pub is_unfinished : Criteria → Transmission → ℕ → ℕ → Bool
 is_unfinished g frames n f = is_some (wrong_cell g frames n f) || is_incomplete g frames n
 
--- The greatest frame number among the first n frames of the list.
+-- The greatest frame number among the first n frames of the transmission.
 unfoldable pub latest : Transmission → ℕ → ℕ
 latest frames zero = 0
 latest frames (suc n) = max (latest frames n) (frame_at frames n)
@@ -135,8 +136,8 @@ unfoldable pub is_silent : Criteria → Transmission → ℕ → ℕ → Bool
 is_silent g frames zero f = is_some g.pace
 is_silent g frames (suc n) f = silent_for g.pace (latest frames (suc n)) f
 
--- The number of frames of the day after all of the first i frames of the list and before frame i of
--- the list.
+-- The number of frames of the day after all of the first i frames of the transmission and before
+-- frame i of the transmission.
 unfoldable pub gap_length : Transmission → ℕ → ℕ
 gap_length frames zero = 0
 gap_length frames (suc i) = frame_at frames (suc i) - (latest frames (suc i) + 1)
@@ -157,7 +158,7 @@ first_unfinished_in_gap g frames n first_unfinished (suc k) =
     (is_unfinished g frames n f) f
 
 -- The first frame of the current run of frame ends with an unfinished page, at the end of frame n -
--- 1 of the list; `None` before the first frame.
+-- 1 of the transmission; `None` before the first frame.
 unfoldable pub first_unfinished_in_frames : Criteria → Transmission → ℕ → Option ℕ
 first_unfinished_in_frames g frames zero = None
 first_unfinished_in_frames g frames (suc i) =
@@ -166,20 +167,20 @@ first_unfinished_in_frames g frames (suc i) =
     (is_unfinished g frames (suc i) (frame_at frames i)) (frame_at frames i)
 
 -- The first frame of the current run of frame ends with an unfinished page, at the end of frame f,
--- after n frames of the list; `None` if the page is finished there.
+-- after n frames of the transmission; `None` if the page is finished there.
 unfoldable pub unfinished_since : Criteria → Transmission → ℕ → ℕ → Option ℕ
 unfinished_since g frames n f =
     first_unfinished_in_gap g frames n (first_unfinished_in_frames g frames n) (f - latest frames n)
 
 -- The first frame of the current run of frame ends with an unfinished page, at the end before that
--- of frame f, with n frames of the list up to there.
+-- of frame f, with n frames of the transmission up to there.
 unfoldable pub first_unfinished_before : Criteria → Transmission → ℕ → ℕ → Option ℕ
 first_unfinished_before g frames zero f = None
 first_unfinished_before g frames (suc i) f = unfinished_since g frames (suc i) (f - 1)
 
 -- The next frame is the TCO of a subtitle whose page was never finished: the subtitle began at or
 -- after the first unfinished end of the run. A subtitle that began before the first frame of the
--- list counts too, if the run begins at that frame.
+-- transmission counts too, if the run begins at that frame.
 abbrev pub is_missed : Option ℕ → ℕ → ℕ → Bool
 is_missed None first first_unfinished = false
 is_missed (Some tci) first first_unfinished = nat_le first_unfinished tci ||
@@ -193,8 +194,8 @@ is_overdue g first None f = false
 is_overdue g first (Some first_unfinished) f =
     nat_le (first_unfinished + g.within) f || is_missed (g.ending (f + 1)) first first_unfinished
 
--- At the end of frame f, after n frames of the list, an unfinished page is a fault. If `within` is
--- 0, each unfinished end is a fault, otherwise only overdue ones.
+-- At the end of frame f, after n frames of the transmission, an unfinished page is a fault. If
+-- `within` is 0, each unfinished end is a fault, otherwise only overdue ones.
 unfoldable pub is_late : Criteria → Transmission → ℕ → ℕ → Bool
 is_late g frames n f =
     g.within == 0 || is_overdue g (frame_at frames 0) (unfinished_since g frames n f) f
@@ -229,8 +230,8 @@ abbrev pub undecided_within : Criteria → Transmission → ℕ → Bool
 undecided_within g frames f = was_undecided g.undecided (frame_at frames 0) f g.within
 
 -- The first cell with a code that was not due at frame f or at one of the `within` frames before f,
--- after n frames of the list. `None` if the due page is unknown at one of these frames, since any
--- code may have been due.
+-- after n frames of the transmission. `None` if the due page is unknown at one of these frames,
+-- since any code may have been due.
 abbrev pub unexpected_cell : Criteria → Transmission → ℕ → ℕ → Option (ℕ × ℕ)
 unexpected_cell g frames n f =
     if undecided_within g frames f
@@ -240,14 +241,14 @@ unexpected_cell g frames n f =
     (frame_at frames 0)
     f g.within
 
--- The first cell with a fault at the end of frame f, after n frames of the list. If the page must
--- be right by now, each cell must be right; otherwise each cell must have a space or a code that
--- was due at frame f or at one of the `within` frames before f.
+-- The first cell with a fault at the end of frame f, after n frames of the transmission. If the
+-- page must be right by now, each cell must be right; otherwise each cell must have a space or a
+-- code that was due at frame f or at one of the `within` frames before f.
 abbrev pub broken_cell : Criteria → Transmission → ℕ → ℕ → Option (ℕ × ℕ)
 broken_cell g frames n f =
     if is_late g frames n f then wrong_cell g frames n f else unexpected_cell g frames n f
 
--- The active faults at the end of frame f, after n frames of the list.
+-- The active faults at the end of frame f, after n frames of the transmission.
 unfoldable pub active_faults_at : Criteria → Transmission → ℕ → ℕ → ActiveFaults
 active_faults_at g frames n f = record {
   content = broken_cell g frames n f;
@@ -286,8 +287,9 @@ end_events old before new f =
 
 -- ---- the order of the ends of frames
 
--- The frame whose end comes before the end of frame f, after i frames of the list: the frame of the
--- day before f, if that frame has no PES packet, otherwise the frame of the last PES packet.
+-- The frame whose end comes before the end of frame f, after i frames of the transmission: the
+-- frame of the day before f, if that frame has no PES packet, otherwise the frame of the last PES
+-- packet.
 abbrev pub end_before : Transmission → ℕ → ℕ → ℕ
 end_before frames i f =
     if nat_lt (latest frames i + 1) f then f - 1 else frame_at frames (i - 1)
@@ -298,8 +300,8 @@ active_faults_before g frames zero f = no_active_faults
 active_faults_before g frames (suc i) f = active_faults_at g frames (suc i)
     (end_before frames (suc i) f)
 
--- The events at the end of frame f, with n frames of the list up to this end, and i up to the
--- previous end.
+-- The events at the end of frame f, with n frames of the transmission up to this end, and i up to
+-- the previous end.
 abbrev pub events_at_end : Criteria → Transmission → ℕ → ℕ → ℕ → List Event
 events_at_end g frames i n f =
     end_events (active_faults_before g frames i f) (end_before frames i f)
@@ -312,8 +314,8 @@ abbrev pub is_early : Option ℕ → ℕ → Bool
 is_early None frame = false
 is_early (Some first_in) frame = nat_lt first_in frame
 
--- The events for the number of frame i of the list: the first frame must not be after the first
--- TCI, and each other frame must be after the previous one.
+-- The events for the number of frame i of the transmission: the first frame must not be after the
+-- first TCI, and each other frame must be after the previous one.
 unfoldable pub order_events : Criteria → Transmission → ℕ → List Event
 order_events g frames zero =
     if is_early g.first_in (frame_at frames 0)
@@ -399,8 +401,8 @@ abbrev pub rest_events : Criteria → Transmission → Option Unread → List Ev
 rest_events g frames (Some unread) = Reported (unread_fault (length frames) (Some unread)) ∷ []
 rest_events g frames None = late_events g frames
 
--- All events after the last frame of the list. For an empty list, the event says why there are no
--- frames.
+-- All events after the last frame of the transmission. For an empty list, the event says why there
+-- are no frames.
 unfoldable pub closing_events : Criteria → Transmission → ℕ → List Event
 closing_events g frames zero = Reported (unread_fault 0 g.unread) ∷ []
 closing_events g frames (suc n) =

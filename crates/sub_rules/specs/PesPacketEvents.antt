@@ -46,7 +46,7 @@ steps_before g first_unfinished = if goes_back g then GoesBack first_unfinished 
 -- The steps at the end of a frame. If `within` is not 0, the first steps say since which frame the
 -- page is unfinished, and whether that is a fault; then come the events.
 --
---   i   how many frames of the list were sent by the end of the frame before
+--   i   how many frames of the transmission were sent by the end of the frame before
 --   n   how many were sent by this end
 --   f   the frame of the day
 abbrev pub steps_at_end : Criteria → Transmission → ℕ → ℕ → ℕ → List CheckStep
@@ -58,7 +58,7 @@ steps_at_end g frames i n f =
     ++ map Emits (events_at_end g frames i n f)
 
 -- The steps at the ends of n frames of the day without a PES packet, which follow the first i
--- frames of the list.
+-- frames of the transmission.
 unfoldable pub steps_of_gap : Criteria → Transmission → ℕ → ℕ → List CheckStep
 steps_of_gap g frames i zero = []
 steps_of_gap g frames i (suc n) =
@@ -66,8 +66,8 @@ steps_of_gap g frames i (suc n) =
 
 -- ---- the events of one PES packet
 
--- The steps before the packets of frame i of the list: the events for its number, and the ends of
--- the frames of the day before it.
+-- The steps before the packets of frame i of the transmission: the events for its number, and the
+-- ends of the frames of the day before it.
 abbrev pub steps_of_arrival : Criteria → Transmission → ℕ → List CheckStep
 steps_of_arrival g frames i =
     map Emits (order_events g frames i)
@@ -75,14 +75,14 @@ steps_of_arrival g frames i =
     ++ Begins (frame_at frames i)
     ∷ steps_before g (first_unfinished_before g frames i (frame_at frames i))
 
--- The steps for the packets of frame i of the list.
+-- The steps for the packets of frame i of the transmission.
 abbrev pub steps_of_packets : Criteria → Transmission → ℕ → List CheckStep
 steps_of_packets g frames i =
     map Emits
     (packet_events g.watched (frame_at frames i) (packets_before frames i)
     (packets_of_frame frames i) (length (packets_of_frame frames i)))
 
--- The steps at the end of frame i of the list.
+-- The steps at the end of frame i of the transmission.
 abbrev pub steps_of_ending : Criteria → Transmission → ℕ → List CheckStep
 steps_of_ending g frames i =
     map Emits (first_header_events g frames i)

@@ -237,7 +237,7 @@ fn pes_row(pes: u32, fault: PesFault) -> FaultRow
     }
 }
 
-// Returns the row of a fault for which no PES packet is skipped.
+// Returns the row, in the table of faults, of a fault for which no PES packet is skipped.
 fn coded_row(code: FaultCode, place: FaultPlace, invalidates: bool) -> FaultRow
     ensures { result ≡ coded_row code place invalidates }
 {

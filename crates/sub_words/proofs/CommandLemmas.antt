@@ -1,5 +1,5 @@
 -- The contract of clap, applied to the program's own commands. Main lemmas: command_in-parsed,
--- refusals-parsed and IsFaultOfCommand-refused; asked_for-met. The last is about the request.
+-- refusals-parsed and IsFaultOfCommand-refused; asked_for-met.
 use Rattle.std.proofs.Common.{◌≡◌, ◌≢◌, ◌∙◌, true, false, List, [], Option, Some, None, Ok, Err}
 use Rattle.std.proofs.Common.{Bool, ◌||◌}
 use Rattle.std.proofs.Common.{refl, ap, subst, sym, inl, inr, arith, drop, get_or, ◌+◌, ◌≤◌}

@@ -1,5 +1,5 @@
--- Loop invariant of the first pass: the counts so far plus the counts of the remaining subtitles
--- are the counts of all subtitles.
+-- Loop invariant of `judge`: the counts so far plus the counts of the remaining subtitles are the
+-- counts of all subtitles.
 use Rattle.std.proofs.Common.{◌≡◌, ◌≤◌, ◌-◌}
 use Rattle.stl_file.specs.NormalCounts.{normal_counts}
 use Rattle.stl_file.specs.NormalForm.{subtitles_of}

@@ -1,4 +1,4 @@
--- Loop invariant of the second pass: writing the remaining subtitles completes the blocks of all
+-- Loop invariant of `put_subtitles`: writing the remaining subtitles completes the blocks of all
 -- subtitles.
 use Rattle.std.proofs.Common.{◌≡◌, ◌≤◌, ◌-◌, List, ℕ, Option, Result, true, is_ok}
 use Rattle.std.specs.List.{concat}

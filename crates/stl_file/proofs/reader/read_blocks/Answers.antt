@@ -1,4 +1,4 @@
--- Each return of the loop over TTI blocks, and the step to the next block.
+-- `read_blocks`: each return of the loop over TTI blocks, and each step to the next block.
 use Rattle.std.proofs.Common.{rules, refl, arith}
 use Rattle.std.proofs.lemmas.Bool.Decides.{nat_tests}
 use Rattle.std.proofs.lemmas.Bool.{ne_eqb}

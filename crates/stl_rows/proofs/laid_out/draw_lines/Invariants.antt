@@ -1,4 +1,5 @@
--- Loop invariant: drawing the remaining lines on the current page gives the result for all lines.
+-- Loop invariant of `draw_lines`: drawing the remaining lines on the current page gives the result
+-- for all lines.
 use Rattle.std.proofs.Common.{◌≡◌, ◌+◌, ◌*◌, ◌≤◌, length}
 use Rattle.ttx_page.specs.Page.{blank}
 use Rattle.stl_rows.specs.LineByLayout.{HoldCodes, cut_lines, drawn_from, prepared_cut}

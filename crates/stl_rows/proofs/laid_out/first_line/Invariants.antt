@@ -1,4 +1,4 @@
--- Loop invariant: the cells so far contain no new line.
+-- Loop invariant of `first_line`: the cells so far contain no new line.
 use Rattle.std.proofs.Common.{◌≡◌, ◌-◌, ◌≤◌, length, drop, take}
 use Rattle.stl_rows.specs.LineByLayout.{cut_lines}
 use Rattle.stl_rows.specs.LineByLine.{onto}

@@ -1,4 +1,5 @@
--- Loop invariant: the last depth of the remaining lines is the last depth of all lines.
+-- Loop invariant of `last_depth`: the last depth of the remaining lines is the last depth of all
+-- lines.
 use Rattle.std.proofs.Common.{◌≡◌, ◌+◌, ◌*◌, ◌≤◌, length}
 use Rattle.stl_rows.specs.DrawnPage.{last_depth, pitch}
 use Rattle.stl_rows.specs.LineByLayout.{prepared_cut}

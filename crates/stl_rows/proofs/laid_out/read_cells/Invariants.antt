@@ -1,5 +1,5 @@
--- Loop invariant: the cells so far, followed by the cells of the rest of the text, are all cells of
--- the text.
+-- Loop invariant of `read_cells`: the cells so far, followed by the cells of the rest of the text,
+-- are all cells of the text.
 use Rattle.std.proofs.Common.{◌≡◌, ◌-◌, ◌≤◌, ◌++◌, length, drop}
 use Rattle.stl_rows.specs.LineByLayout.{flat_codes}
 use Rattle.stl_rows.specs.TextCode.{refused_codes, text_codes}

@@ -1,4 +1,4 @@
--- `codes_of_text`: parsing one more pair of digits: codes_filled-step, codes_filled-odd,
+-- `codes_of_text` parses one pair of digits after another: codes_filled-step, codes_filled-odd,
 -- codes_filled-end.
 use Rattle.std.proofs.Common.{arith, Some}
 use Rattle.std.proofs.lemmas.Bool.Decides.{nat_tests}

@@ -1,5 +1,5 @@
--- Loop invariant: parsing the rest of the text into the empty places gives the result for the whole
--- text.
+-- Loop invariant of `codes_of_text`: parsing the rest of the text into the empty places gives the
+-- result for the whole text.
 use Rattle.std.proofs.Common.{◌≡◌, ◌-◌, ◌≤◌, length, drop}
 use Rattle.stl_rows.specs.LayoutText.{codes_filled, codes_of_text}
 use Rattle.stl_rows.proofs.layout_text.codes_of_text.Given as goal

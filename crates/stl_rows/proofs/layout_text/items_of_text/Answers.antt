@@ -1,4 +1,4 @@
--- `items_of_text`: parsing one more item, as items_set-more.
+-- `items_of_text` parses one item after another: items_set-more.
 use Rattle.std.proofs.Common.{arith}
 use Rattle.std.proofs.lemmas.Bool.Decides.{nat_tests}
 use Rattle.std.proofs.lemmas.List.{length-set}

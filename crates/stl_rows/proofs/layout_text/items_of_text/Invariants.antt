@@ -1,5 +1,5 @@
--- Loop invariant: parsing the rest of the text, with the items so far, gives the result for the
--- whole text.
+-- Loop invariant of `items_of_text`: parsing the rest of the text, with the items so far, gives the
+-- result for the whole text.
 use Rattle.std.proofs.Common.{◌≡◌, ◌==◌, false, length, replicate}
 use Rattle.std.specs.List.{slice_split}
 use Rattle.std.specs.Str.{IsUtf8}

@@ -1,5 +1,5 @@
--- Loop invariant: parsing the rest of the text, with the bytes so far, gives the result for the
--- whole text.
+-- Loop invariant of `stripped_of_text`: parsing the rest of the text, with the bytes so far, gives
+-- the result for the whole text.
 use Rattle.std.proofs.Common.{◌≡◌, ◌-◌, ◌≤◌, false, length, drop, replicate}
 use Rattle.stl_rows.specs.LayoutText.{stripped_with}
 use Rattle.stl_rows.proofs.layout_text.stripped_of_text.Given as goal

@@ -1,5 +1,5 @@
--- Loop invariant: the characters so far do not match, so the result depends only on the other
--- characters.
+-- Loop invariant of `cell_in`: the characters so far do not match, so the result depends only on
+-- the other characters.
 use Rattle.std.proofs.Common.{◌≡◌, drop}
 use Rattle.stl_rows.specs.SubSets.{cell_in}
 use Rattle.stl_rows.proofs.national.cell_in.Given as goal

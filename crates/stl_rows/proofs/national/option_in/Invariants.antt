@@ -1,5 +1,5 @@
--- Loop invariant: the rows so far do not have the name, so the result depends only on the other
--- rows.
+-- Loop invariant of `option_in`: the rows so far do not have the name, so the result depends only
+-- on the other rows.
 use Rattle.std.proofs.Common.{◌≡◌, drop, find}
 use Rattle.std.specs.Str.{bytes_eq}
 use Rattle.stl_rows.specs.declared.sub_sets.SubSet.{SubSet}

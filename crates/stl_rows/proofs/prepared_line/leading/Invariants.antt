@@ -1,4 +1,4 @@
--- Loop invariant: all cells so far are in the range of codes.
+-- Loop invariant of `leading`: all cells so far are in the range of codes.
 use Rattle.std.proofs.Common.{◌≡◌, ◌+◌, ◌-◌, ◌≤◌, length, drop}
 use Rattle.stl_rows.specs.PreparedLine.{leading}
 use Rattle.stl_rows.proofs.prepared_line.leading.Given as goal

@@ -1,5 +1,5 @@
--- Loop invariant: the codes added so far, followed by the remaining ones, are all codes of the
--- list.
+-- Loop invariant of `push_codes`: the codes added so far, followed by the remaining ones, are all
+-- codes of the list.
 use Rattle.std.proofs.Common.{◌≡◌, ◌+◌, ◌≤◌, ◌++◌, length, drop}
 use Rattle.stl_rows.specs.Layout.{codes_of_places}
 use Rattle.stl_rows.proofs.prepared_line.push_codes.Given as goal

@@ -1,4 +1,4 @@
--- Loop invariant: all cells from `left` on are in the range of codes.
+-- Loop invariant of `trailing`: all cells from `left` on are in the range of codes.
 use Rattle.std.proofs.Common.{◌≡◌, ◌≤◌, true, length, drop}
 use Rattle.std.specs.List.{list_all}
 use Rattle.stl_rows.specs.TextCode.{is_within}

@@ -1,4 +1,5 @@
--- Loop invariant: the first fault of the remaining text codes is the first fault of the whole text.
+-- Loop invariant of `fault_of_text`: the first fault of the remaining text codes is the first fault
+-- of the whole text.
 use Rattle.std.proofs.Common.{◌≡◌, ◌+◌, ◌-◌, ◌≤◌, None, false, length, drop}
 use Rattle.stl_rows.specs.LineByLine.{empty_line, reported}
 use Rattle.stl_rows.specs.TextCode.{text_codes}

@@ -1,4 +1,5 @@
--- Loop invariant: the PES packets so far were copied and flushed, and no device has failed.
+-- Loop invariant of `copy_pes_packets`: the PES packets so far were copied and flushed, and no
+-- device has failed.
 use Rattle.std.proofs.Common.{◌≡◌, ◌<◌, ◌≤◌}
 use Rattle.sub_io.specs.Reading.{IfKnown}
 use Rattle.sub_listing.specs.Copying.{HasCopiedPesPackets}

@@ -1,4 +1,4 @@
--- Loop invariant: the characters of all earlier text bytes were appended.
+-- Loop invariant of `push_text_line`: the characters of all earlier text bytes were appended.
 use Rattle.std.proofs.Common.{◌≡◌, ◌++◌, ◌+◌, map, take}
 use Rattle.arrayvec.specs.ArrayVec.{array_vec_len}
 use Rattle.sub_listing.specs.Lines.{text_glyph}

@@ -1,4 +1,4 @@
--- Loop invariant: the characters of all earlier cells of the row were appended.
+-- Loop invariant of `push_row`: the characters of all earlier cells of the row were appended.
 use Rattle.std.proofs.Common.{◌≡◌, ◌++◌, ◌+◌, map, take}
 use Rattle.arrayvec.specs.ArrayVec.{array_vec_len}
 use Rattle.sub_listing.specs.Lines.{glyph}

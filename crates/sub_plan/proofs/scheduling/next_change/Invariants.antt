@@ -1,4 +1,4 @@
--- Loop invariant: the expected page has not changed up to the current cue.
+-- Loop invariant of `next_change`: the expected page has not changed up to the current cue.
 use Rattle.std.proofs.Common.{◌≡◌, ℕ, ◌-◌, ◌<◌, ◌≤◌}
 use Rattle.sub_plan.specs.Schedule.{due_in}
 use Rattle.sub_plan.proofs.scheduling.next_change.Given as goal

@@ -1,5 +1,5 @@
--- Loop invariant, at each base: the page transmissions before the base are written, and the
--- expected page at the base is drawn.
+-- Loop invariant of `send_all`, at each base: the page transmissions before the base are written,
+-- and the expected page at the base is drawn.
 use Rattle.std.proofs.Common.{◌≡◌, ◌-◌, ◌<◌, ◌≤◌}
 use Rattle.sub_plan.specs.Laws.{IsBase}
 use Rattle.sub_plan.specs.Schedule.{due_in, sending_at, sendings, sendings_from}

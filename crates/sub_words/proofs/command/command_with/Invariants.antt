@@ -1,4 +1,5 @@
--- Loop invariant: the command so far, with the remaining rules, is the whole command.
+-- Loop invariant of `command_with`: the command so far, with the remaining rules, is the whole
+-- command.
 use Rattle.std.proofs.Common.{◌≡◌, drop, false, map}
 use Rattle.std.specs.List.{fold}
 use Rattle.clap.specs.Words.{app_of, with_rule}

@@ -1,4 +1,5 @@
--- Loop invariant: no command so far has the name, so the result depends only on the other commands.
+-- Loop invariant of `is_command`: no command so far has the name, so the result depends only on the
+-- other commands.
 use Rattle.std.proofs.Common.{◌≡◌, drop}
 use Rattle.std.specs.List.{list_any}
 use Rattle.std.specs.Str.{bytes_eq}

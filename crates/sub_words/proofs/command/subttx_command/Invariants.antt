@@ -1,4 +1,5 @@
--- Loop invariant: the program so far, with the remaining commands, is the whole program.
+-- Loop invariant of `subttx_command`: the program so far, with the remaining commands, is the whole
+-- program.
 use Rattle.std.proofs.Common.{◌≡◌, drop, map}
 use Rattle.std.specs.List.{fold}
 use Rattle.clap.specs.Words.{app_of}
