@@ -1,5 +1,5 @@
--- The answer of `check --all`, given what was reported to a printer, and its counts. Main lemmas:
--- answers_cut, answers_end, counts.
+-- The answer of `check --all` follows from the events that were reported to a printer, and each
+-- source fails at most once. Main lemmas: answers_cut, answers_end, counts.
 use Rattle.std.proofs.Common.{◌≡◌, ◌≢◌, ◌∙◌, ap, refl, sym, subst, arith, inl, inr, ℕ, ◌+◌, ◌==◌}
 use Rattle.std.proofs.Common.{List, [], ◌++◌, Bool, true, false, Option, Some, None, Result, Ok}
 use Rattle.std.proofs.Common.{Err, min, ◌∷◌}

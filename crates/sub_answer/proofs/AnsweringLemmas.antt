@@ -1,5 +1,5 @@
--- The answer of a check from the contract of `check_files`: as_answered; if the files are accepted,
--- `done-exactly`.
+-- The answer of a check follows from the contract of `check_files` (as_answered), and its status is
+-- Done exactly if the files are accepted (`done-exactly`).
 use Rattle.std.proofs.lemmas.Bool.Decides.{nat_tests}
 use Rattle.std.proofs.Common.{◌≡◌, ◌≢◌, ◌↔◌, ℕ, List, Some, Result, Ok, Err, true, false}
 use Rattle.std.proofs.Common.{ap, arith, refl, sym, subst, Bool}

@@ -1,5 +1,5 @@
--- What the status of a check says about both files, from the listing that belongs to it. Main
--- lemmas: status-reported, exactly-accepted, exactly-accepted_by.
+-- The status of a check, which belongs to the printed lines, agrees with the bytes of both files.
+-- Main lemmas: status-reported, exactly-accepted, exactly-accepted_by.
 use Rattle.std.proofs.Common.{◌≡◌, ◌≢◌, ◌↔◌, ◌∙◌, ap, arith, refl, sym, ℕ, List, Bool, true}
 use Rattle.std.proofs.Common.{false, Result, Ok, Err}
 use Rattle.std.specs.Prelude.{IsFalse, IsOk}

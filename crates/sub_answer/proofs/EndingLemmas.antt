@@ -1,5 +1,5 @@
--- How a run ends, with weaker properties of devices: ends_weaker; which bytes were written and
--- flushed before a source failed: written_before, followed_before.
+-- The end of a run still holds with weaker properties of its devices (ends_weaker); all bytes were
+-- written and flushed before a source failed (written_before, followed_before).
 use Rattle.std.proofs.lemmas.Bool.Decides.{nat_tests}
 use Rattle.std.proofs.Common.{arith}
 use Rattle.std.proofs.Common.{◌≡◌, ◌∙◌, ap, refl, subst, ℕ, List, [], ◌∷◌, ◌++◌}

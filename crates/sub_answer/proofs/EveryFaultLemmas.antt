@@ -1,5 +1,5 @@
--- The events of a subtitle file, and of a PES file after it, reported to a printer, and the
--- answer. Main lemmas: after_error, after_faults, after_unhanded, after_judged.
+-- The events of a subtitle file, and those of a PES file after it, are reported to a printer, and
+-- decide the answer. Main lemmas: after_error, after_faults, after_unhanded, after_judged.
 use Rattle.std.proofs.lemmas.Bool.Decides.{nat_tests}
 use Rattle.std.proofs.Common.{◌≡◌, ◌∙◌, ap, refl, sym, subst, arith, inl, inr, ℕ, ◌<◌, ◌≤◌}
 use Rattle.std.proofs.Common.{List, [], ◌∷◌, take, length, Bool, true, false, Option}

@@ -1,5 +1,5 @@
--- The reports if the source of the PES file failed, and what is not reported. Main lemmas:
--- reports_none, cut_reads, last_line.
+-- If the source of the PES file failed, its failure is reported last, after the events of the PES
+-- packets before. Main lemmas: reports_none, cut_reads, last_line.
 use Rattle.std.proofs.lemmas.Bool.Decides.{nat_tests}
 use Rattle.std.proofs.Common.{◌≡◌, refl, sym, subst, arith, ℕ, ◌<◌}
 use Rattle.std.proofs.Common.{List, [], Bool, true, Option}

@@ -1,4 +1,4 @@
--- The files opened for a request are those that its names request: fits.
+-- The files that were opened for a request are those that its file names request: fits.
 use Rattle.std.proofs.lemmas.Bool.Decides.{nat_tests}
 use Rattle.std.proofs.Common.{◌≡◌, ℕ, Bool, List, Some, arith, subst, sym}
 use Rattle.sub_request.specs.declared.files.FileNames.{FileNames}

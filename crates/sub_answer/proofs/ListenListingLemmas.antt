@@ -1,4 +1,4 @@
--- The line of a fault of a run, and its output.
+-- The output of `listen` follows from the run of its receiver, or from the fault of the run.
 use Rattle.std.proofs.lemmas.Bool.Decides.{nat_tests}
 use Rattle.std.specs.Prelude.{IfOk}
 use Rattle.std.proofs.Common.{◌≡◌, ◌∙◌, ℕ, ◌+◌, List, arith, refl, subst, sym, Bool, Option}

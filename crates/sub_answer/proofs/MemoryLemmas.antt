@@ -1,4 +1,5 @@
--- What the status of `check` says about files in memory: law_of_files_in_memory.
+-- If a check was answered with files in memory, its status is Done exactly if their bytes are
+-- accepted: law_of_files_in_memory.
 use Rattle.std.proofs.lemmas.Bool.Decides.{nat_tests}
 use Rattle.std.proofs.Common.{arith}
 use Rattle.std.proofs.Common.{◌≡◌, ◌≢◌, ◌↔◌, ◌∙◌, ap, sym, subst, ℕ, true, false, List}

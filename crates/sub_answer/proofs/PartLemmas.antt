@@ -1,5 +1,6 @@
--- A part of a source, for each way in which it can be selected. Main lemmas: all_of_source,
--- file_of_source, stream_of_source, all_of_pes_packets, range_of_pes_packets.
+-- A part of a source has the bytes of the selected PES packets, for each way in which the part can
+-- be selected. Main lemmas: all_of_source, file_of_source, stream_of_source, all_of_pes_packets,
+-- range_of_pes_packets.
 use Rattle.std.proofs.lemmas.Bool.Decides.{nat_tests}
 use Rattle.std.proofs.Common.{◌≡◌, ◌∙◌, ap, arith, ℕ, List, Option, Some, None, true, false}
 use Rattle.std.specs.Prelude.{◌⊎◌, option_map}

@@ -1,5 +1,5 @@
--- The events of a PES file reported to a printer, and the answer. Main lemmas: after_pes,
--- all_answers.
+-- The events of a PES file are reported to a printer, and decide the answer. Main lemmas:
+-- after_pes, all_answers.
 use Rattle.std.proofs.Common.{◌≡◌, ◌∙◌, ap, refl, sym, subst, arith, ℕ, ◌+◌, ◌≤◌}
 use Rattle.std.proofs.Common.{zero, suc, List, take, length, Bool, true, false, Option}
 use Rattle.std.proofs.Common.{Some, None, Result, Ok, Err, ◌-◌}

@@ -1,5 +1,5 @@
--- The output for a recording: complete, printed-done; cut off by the sink, printed-cut; and with
--- the line of a fault at its end, printed-reported.
+-- The output of `survey` is complete (printed-done), cut off by the sink (printed-cut), or ends in
+-- the line of a fault (printed-reported).
 use Rattle.std.proofs.Common.{◌≡◌, ◌≢◌, ℕ, ◌+◌, List, ◌++◌, Option, refl, ◌∙◌, ap, arith, inl, inr}
 use Rattle.std.proofs.KnownBytes.{Appends-trans}
 use Rattle.mpeg_ts.specs.declared.survey_options.SurveyOptions.{SurveyOptions}

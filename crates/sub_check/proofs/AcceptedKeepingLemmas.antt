@@ -1,6 +1,6 @@
--- For `law_of_accepted_keeping` and `law_of_accepted_none_keeps`: whether repeats may keep the page
--- does not change what both files mean, `mean-keeps`, and a transmission that is good with the one
--- setting is good with the other, `good-keeps`.
+-- Whether repeats may keep the page does not change the contents of both files (`mean-keeps`), and
+-- a transmission that is good with one setting is good with the other (`good-keeps`). Used for
+-- `law_of_accepted_keeping` and `law_of_accepted_none_keeps`.
 use Rattle.std.proofs.Common.{ℕ, Bool, true, List, sym, subst}
 use Rattle.stl_file.specs.Subtitle.{SubtitleValue}
 use Rattle.stl_rows.specs.Programme.{ProgrammeValue}

@@ -1,5 +1,5 @@
--- For `law_of_accepted_within_more`: the contents of both files do not change with a greater
--- `within`.
+-- The contents of both files do not change with a greater `within`. Used for
+-- `law_of_accepted_within_more`.
 use Rattle.std.proofs.Common.{◌≡◌, false, refl, Result, Ok, Err, IsOk}
 use Rattle.sub_io.specs.Device.{failed}
 use Rattle.sub_rules.specs.Fault.{is_failure}

@@ -1,7 +1,6 @@
--- The events for the whole file decide the answers of `check`, `answered`, `accepted_none`,
--- `refused_first`, and of `check_all`, `checked_first`, `reports_events`. If no subtitle was
--- refused:
--- `reports_known`.
+-- The events for the whole file decide the answers of `check` (`answered`, `accepted_none`,
+-- `refused_first`) and of `check_all` (`checked_first`, `reports_events`). If no subtitle was
+-- refused, the events are those for the programme (`reports_known`).
 use Rattle.std.proofs.Common.{◌≡◌, ℕ, List, Option, Some, None}
 use Rattle.std.proofs.Common.{Result, Ok, Err, IfOk, false, refl}
 use Rattle.std.proofs.Common.{subst}

@@ -1,6 +1,7 @@
--- The answers for both files, for `check_files`: `files_accepted`, `files_refused`, and with any
--- options `files_accepted_by`, `files_refused_by`. They are accepted exactly if the subtitle file
--- gives a programme and the PES file has a good transmission of it: `as_accepted`, `of_accepted`.
+-- The answer of `check_files` agrees with the bytes of both files (`files_accepted`,
+-- `files_refused`, and with any options `files_accepted_by`, `files_refused_by`). The files are
+-- accepted exactly if the subtitle file gives a programme and the PES file has a good transmission
+-- of this programme (`as_accepted`, `of_accepted`).
 use Rattle.std.proofs.lemmas.Bool.Decides.{nat_tests}
 use Rattle.std.proofs.Common.{◌≡◌, ℕ, List, Result, Ok, Err, false, sym, ap, ◌∙◌, subst, arith}
 use Rattle.std.specs.Prelude.{IsTrue}

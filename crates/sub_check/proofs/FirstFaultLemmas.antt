@@ -1,5 +1,5 @@
--- The fault that the audience of `check` kept decides the answer: `nothing_kept`, `fault_kept`,
--- `read_failed`, `fails_at_packet`.
+-- The fault that the audience of `check` stored decides the answer (`nothing_kept`, `fault_kept`,
+-- `read_failed`, `fails_at_packet`).
 use Rattle.std.proofs.lemmas.Bool.Decides.{nat_tests}
 use Rattle.std.proofs.Common.{◌≡◌, ◌≤◌, ℕ, zero, suc, List, Option, Some, None, Result, Ok, Err}
 use Rattle.std.proofs.Common.{true, false, is_some, refl, sym, ◌∙◌, subst, arith, length, take}

@@ -1,5 +1,6 @@
--- An audience that keeps the first fault of a rule keeps the first fault among the events,
--- `kept_is`; if that is a wrong cell, receivers show the kept code there: `different_of_first`.
+-- An audience that stores the first fault of a rule stores the first fault among the events
+-- (`kept_is`); if this fault is a wrong cell, receivers show the kept code in the cell
+-- (`different_of_first`).
 use Rattle.std.proofs.lemmas.Bool.Decides.{nat_tests}
 use Rattle.std.proofs.Common.{◌≡◌, ℕ, List, [], ◌∷◌, length, Option, Some, None, Result, Err, refl}
 use Rattle.std.proofs.Common.{sym, subst, arith, All, true}

@@ -1,5 +1,5 @@
--- The frames and events of a PES file up to its first skipped PES packet, compared with those of
--- reading on: main lemmas: `read_to_the_end`, `first_of_taken`, `all_are_sent`.
+-- The frames and events of a PES file up to its first skipped PES packet are a beginning of those
+-- of the whole file. Main lemmas: `read_to_the_end`, `first_of_taken`, `all_are_sent`.
 use Rattle.std.proofs.Common.{◌≡◌, ℕ, suc, ◌≤◌, List, [], ◌∷◌, ◌++◌, length, take, drop, Option}
 use Rattle.std.proofs.Common.{Some, None, refl, sym, ap, ◌∙◌}
 use Rattle.std.proofs.lemmas.List.{length-take-le, take-append-drop}

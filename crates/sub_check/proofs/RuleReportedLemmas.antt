@@ -1,5 +1,5 @@
--- Each fault that is reported of a PES file is one of a rule: among all its PES packets,
--- `first_of_rule`, and among the first ones, `prefix_of_rule`.
+-- Each fault that is reported for a PES file is a broken rule, among all its PES packets
+-- (`first_of_rule`) and among the first ones (`prefix_of_rule`).
 use Rattle.std.proofs.lemmas.Bool.Decides.{nat_tests}
 use Rattle.std.proofs.Common.{◌≡◌, ℕ, zero, suc, Bool, true, false, not, List, [], ◌∷◌, length}
 use Rattle.std.proofs.Common.{subst, take, map, Option, Some, None, refl, sym, ap, ◌∙◌, arith}

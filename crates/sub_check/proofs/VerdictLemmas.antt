@@ -1,6 +1,6 @@
--- The events for the whole file decide what is accepted and which promises it keeps: with any
--- options, `checked_by`; and if each header has to erase the page, which has to be right at the end
--- of each frame, `checked_at_once`.
+-- The events for the whole file decide whether the file is accepted and which promises its
+-- transmission keeps: with any options (`checked_by`), and if each header has to erase the page,
+-- which has to be right at the end of each frame (`checked_at_once`).
 use Rattle.std.proofs.lemmas.Bool.Decides.{nat_tests}
 use Rattle.std.proofs.lemmas.Slice.Zip.{AllZip-long}
 use Rattle.std.proofs.Common.{◌≡◌, ◌≢◌, ◌↔◌, ℕ, ◌≤◌, List, [], Bool, All, Some, None}

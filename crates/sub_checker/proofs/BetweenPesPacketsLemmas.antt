@@ -1,7 +1,8 @@
--- The state between two PES packets: `BetweenPesPackets-closed`, `BetweenPesPackets-open`,
--- `pending_none`, `pending_some`. Whether a packet continues the last frame: `goes_on_is`. The
--- steps of a packet of another frame: `arrived`, `next_is`. The state after a packet: `more_keeps`,
--- `next_keeps`.
+-- Between two PES packets the checker's state agrees with the frames sent
+-- (`BetweenPesPackets-closed`, `BetweenPesPackets-open`, `pending_none`, `pending_some`). The
+-- checker decides correctly whether a PES packet continues the last frame (`goes_on_is`), takes the
+-- right steps (`arrived`, `next_is`), and has the right state afterwards (`more_keeps`,
+-- `next_keeps`).
 use Rattle.std.proofs.lemmas.Bool.Decides.{nat_tests}
 use Rattle.std.proofs.Common.{◌≡◌, ℕ, suc, ◌+◌, ◌-◌, ◌<◌, ◌==◌, Bool, ◌&&◌}
 use Rattle.std.proofs.Common.{true, false, List, [], ◌∷◌, ◌++◌, length, refl, sym, ap}

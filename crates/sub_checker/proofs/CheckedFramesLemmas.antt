@@ -1,6 +1,6 @@
--- Reaching a frame of the list. The first frame: `arrives_first`. The frames of the day before a
--- later one: `gap_steps`, `gap_pending`, `gap_ended`. The later one itself: `arrives_next`. More
--- frames of the list change nothing: `AfterEnd-prefix`.
+-- The checker's state agrees with the frames when it reaches the first frame (`arrives_first`),
+-- each frame of the day before a later one (`gap_steps`, `gap_pending`, `gap_ended`), and a later
+-- frame (`arrives_next`). More frames after these change nothing (`AfterEnd-prefix`).
 use Rattle.std.proofs.lemmas.Bool.Decides.{nat_tests}
 use Rattle.std.proofs.Common.{◌≡◌, ℕ, zero, suc, ◌+◌, ◌-◌, ◌<◌, ◌≤◌, Bool, false, nat_le, cond}
 use Rattle.std.proofs.Common.{List, [], ◌∷◌, ◌++◌, length, map, Option, None, refl, sym, ap, ◌∙◌}

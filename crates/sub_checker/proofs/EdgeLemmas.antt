@@ -1,4 +1,4 @@
--- The due page from one change to the next.
+-- The due page, and the checker's facts about it, stay the same until the next page change.
 use Rattle.std.proofs.lemmas.Bool.Decides.{nat_tests}
 use Rattle.std.proofs.Common.{Option, Some, None, ◌≡◌, ℕ, zero, suc, ◌+◌, ◌-◌, ◌<◌, ◌≤◌, Bool, true}
 use Rattle.std.proofs.Common.{List, refl, ap, ◌∙◌, arith}

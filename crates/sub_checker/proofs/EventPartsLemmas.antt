@@ -1,4 +1,5 @@
--- Events that are reported in two parts: `reported_two`.
+-- If the first part of a list of events and then the second part are reported, the whole list is
+-- (`reported_two`).
 use Rattle.std.proofs.Common.{◌≡◌, List, ◌++◌, sym, subst}
 use Rattle.sub_io.proofs.ReportingLemmas.{Reports-trans}
 use Rattle.sub_io.specs.Reporting.{Reports}

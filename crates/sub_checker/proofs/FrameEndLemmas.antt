@@ -1,6 +1,7 @@
--- The end of a frame, from the state of the checker: its faults and steps, `steps_are`,
--- `active_faults_are_at`, `first_unfinished_are`; since which frame the page has been wrong,
--- `gap_on`, `frame_on`; ends without faults, `fault_free_once`, `fault_free_within`.
+-- The faults and steps that the checker computes at the end of a frame are those of the rules
+-- (`steps_are`, `active_faults_are_at`, `first_unfinished_are`); so is the frame from which on the
+-- page has been wrong (`gap_on`, `frame_on`). Ends without faults have their own lemmas
+-- (`fault_free_once`, `fault_free_within`).
 use Rattle.std.proofs.lemmas.Bool.Decides.{nat_tests}
 use Rattle.std.proofs.Common.{◌≡◌, ℕ, zero, suc, ◌+◌, ◌-◌, ◌<◌, ◌≤◌, Bool, false, ◌||◌}
 use Rattle.std.proofs.Common.{cond, List, [], ◌∷◌, ◌++◌, map, Option, Some, None, refl, sym}

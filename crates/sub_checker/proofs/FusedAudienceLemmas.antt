@@ -1,5 +1,5 @@
--- Which events reached a guarded device, `unfused`, also if the device could not be flushed:
--- `flush_stopped`.
+-- Every event that is reported to a guarded device reaches the device until it stops the check
+-- (`unfused`), also if the device could not be flushed (`flush_stopped`).
 use Rattle.std.proofs.Common.{◌≡◌, ◌∙◌, Bool, true, false, List, [], ◌∷◌, refl, sym, subst}
 use Rattle.std.proofs.lemmas.Bool.{true≢false}
 use Rattle.sub_io.proofs.ReportingLemmas.{Reports-none, Reports-trans, ReportsPrefix-first}

@@ -1,5 +1,5 @@
--- The events after the last PES packet, from the state: `closing_are`, `relays_equal`,
--- `closes_are`, `reports_closing`, `closing_parts`.
+-- The events after the last PES packet, computed from the checker's state, are those of the rules
+-- (`closing_are`, `relays_equal`, `closes_are`, `reports_closing`, `closing_parts`).
 use Rattle.std.proofs.lemmas.Bool.Decides.{nat_tests}
 use Rattle.std.proofs.Common.{◌≡◌, ℕ, zero, suc, ◌<◌, Bool, true, false, ◌&&◌, ◌||◌, not}
 use Rattle.std.proofs.Common.{cond, is_some, List, [], ◌∷◌, ◌++◌, length, Option, Some, None, refl}

@@ -1,4 +1,5 @@
--- More packets of the last frame: their steps, `more_are`, and the state after them, `opens_more`.
+-- If a PES packet has more packets of the last frame, the checker takes the right steps
+-- (`more_are`) and has the right state afterwards (`opens_more`).
 use Rattle.std.proofs.lemmas.Bool.Decides.{nat_tests}
 use Rattle.std.proofs.Common.{◌≡◌, ℕ, suc, ◌+◌, ◌-◌, ◌<◌, Bool, ◌&&◌, ◌||◌, nat_le}
 use Rattle.std.proofs.Common.{nat_lt, List, [], ◌∷◌, ◌++◌, length, map, take, refl, sym, ap, ◌∙◌}

@@ -1,5 +1,5 @@
--- How the packets of the last frame follow from the PES packet that was read: `again_is` if it
--- repeats them, `last_is` otherwise.
+-- After a PES packet was read, its packets are those of the last frame if it repeats the PES packet
+-- before (`again_is`), and otherwise become those of the last frame (`last_is`).
 use Rattle.std.proofs.Common.{◌≡◌, ◌∙◌, ℕ, Bool, true, false, List, Ok, Option, Result, Some, sym}
 use Rattle.std.proofs.Common.{ap, refl}
 use Rattle.std.proofs.lemmas.Bool.{true≢false}

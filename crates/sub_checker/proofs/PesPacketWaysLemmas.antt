@@ -1,5 +1,5 @@
--- What each exit of the loop over PES packets shows about the whole file: `step`, `reported_stop`,
--- `reported_before`, `reported_whole`.
+-- Each exit of the loop over PES packets shows that the events reported are those of the whole
+-- file, or a prefix (`step`, `reported_stop`, `reported_before`, `reported_whole`).
 use Rattle.std.proofs.lemmas.Bool.Decides.{nat_tests}
 use Rattle.std.proofs.Common.{◌≡◌, ℕ, ◌+◌, ◌≤◌, Bool, true, false, List, [], ◌∷◌, ◌++◌, length}
 use Rattle.std.proofs.Common.{take, Option, Some, None, Ok, Result, Err, refl, sym, ap, subst, ◌∙◌}

@@ -1,5 +1,6 @@
--- Reading a PES file one PES packet at a time: `reads_on_none`, `reads_on_sent`,
--- `reads_on_skipped`; the consumed bytes if the source fails: `packets_taken`.
+-- A PES file is read one PES packet at a time: at its start, after a valid packet and after a
+-- skipped one (`reads_on_none`, `reads_on_sent`, `reads_on_skipped`). If the source fails, the PES
+-- packets before the failure were consumed (`packets_taken`).
 use Rattle.std.proofs.lemmas.Bool.Decides.{nat_tests}
 use Rattle.std.proofs.Common.{◌≡◌, ℕ, ◌+◌, ◌≤◌, List, [], ◌∷◌, ◌++◌, length, Option, Some, refl}
 use Rattle.std.proofs.Common.{sym, ap, subst, ◌∙◌, append_assoc, arith, length-append, Result, Err}

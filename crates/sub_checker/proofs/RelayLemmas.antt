@@ -1,5 +1,5 @@
--- The events that are relayed for a list of events, `relays_all`, and for steps in parts,
--- `relays-trans`.
+-- A reporter that relays a list of events one by one relays them all (`relays_all`), and steps may
+-- be relayed in parts (`relays-trans`).
 use Rattle.std.proofs.lemmas.Bool.Decides.{nat_tests}
 use Rattle.std.proofs.Common.{arith}
 use Rattle.std.proofs.Common.{◌≡◌, List, [], ◌∷◌, ◌++◌, Bool, true, false, map}

@@ -1,5 +1,5 @@
--- Relaying steps in parts, `relays_two`; no steps, `relays_nothing`; steps without events,
--- `relays_step` and the like; events, `relays_reported`.
+-- A reporter relays steps in parts (`relays_two`), no steps (`relays_nothing`), steps without
+-- events (`relays_step` and the like), and events (`relays_reported`).
 use Rattle.std.proofs.Common.{◌≡◌, List, [], ◌∷◌, ◌++◌, Bool, true, false, cond, map}
 use Rattle.std.proofs.Common.{refl, sym, subst}
 use Rattle.sub_io.specs.Reporting.{Reports}

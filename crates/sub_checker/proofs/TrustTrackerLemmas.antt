@@ -1,5 +1,5 @@
--- The tracker computes the trusted frames: the events of steps are the ones that the rules define,
--- `reported_is`; lists of steps can be joined, `reported_by-append`, `tracker_after-append`.
+-- The trusted frames that the tracker reports for each step are those that the rules define
+-- (`reported_is`); lists of steps can be joined (`reported_by-append`, `tracker_after-append`).
 use Rattle.std.proofs.lemmas.Bool.Decides.{nat_tests}
 use Rattle.std.proofs.Common.{◌≡◌, arith, List, [], ◌∷◌, ◌++◌, refl, sym, ap, ◌∙◌}
 use Rattle.std.proofs.Common.{append_assoc, is_some, not, true}

@@ -1,6 +1,6 @@
--- The frames at which the due page is unknown: nothing changes between two page changes,
--- `undecided_same`; from which frame on it is known, `known_none`, `known_not`, `known_last`,
--- `known_never`.
+-- Whether the due page is known does not change between two page changes (`undecided_same`), and
+-- the checker computes from which frame on it is known (`known_none`, `known_not`, `known_last`,
+-- `known_never`).
 use Rattle.std.proofs.lemmas.Bool.Decides.{nat_tests}
 use Rattle.std.proofs.Common.{◌≡◌, ℕ, zero, suc, ◌+◌, ◌-◌, ◌<◌, ◌≤◌, ◌⊎◌, Bool, true, false, ◌&&◌}
 use Rattle.std.proofs.Common.{List, [], ◌∷◌, Option, Some, None, refl, sym, ap, ◌∙◌, arith}

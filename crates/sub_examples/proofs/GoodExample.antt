@@ -1,4 +1,4 @@
--- A good transmission: it has no events.
+-- The example of a good transmission has no events, so it is good.
 use Rattle.std.proofs.Common.{arith, refl}
 use Rattle.std.specs.Int.RustNames.{count_ones}
 use lib.Count.{ones_in}

@@ -1,5 +1,6 @@
--- A transmission is not robust, shown with a receiver that computes: `refuted`. If it has only one
--- fault that a receiver depends on, that rule is needed: `needed`.
+-- A transmission is not robust if one receiver, whose states are computed, is not served
+-- (`refuted`). If the transmission has only one fault that a receiver depends on, the rule for this
+-- fault is needed (`needed`).
 use Rattle.std.proofs.lemmas.Bool.Decides.{nat_tests, Decides-and, Decides-like, Decides-ltb}
 use Rattle.std.proofs.lemmas.List.Elements.{recursion_from_All}
 use Rattle.std.proofs.lemmas.List.Kept.{AllPairs-cons}

@@ -1,4 +1,4 @@
--- A refused transmission with a clean stretch, shown by the tests of reports.
+-- The refused transmission has a clean stretch, by the tests of reports.
 use Rattle.std.proofs.lemmas.Bool.Decides.{nat_tests}
 use Rattle.std.proofs.Common.{ℕ, inl, inr, List, [], ◌∷◌, None, false, refl, arith}
 use Rattle.std.specs.Int.RustNames.{count_ones}

@@ -1,5 +1,5 @@
--- For `law_of_plain_acceptance`: both files contain a programme, `programme_of`; a transmission is
--- good by the options exactly if it is good.
+-- Both files contain a programme (`programme_of`), and its transmission is good by the options
+-- exactly if it is good. Used for `law_of_plain_acceptance`.
 use Rattle.std.proofs.Common.{◌≡◌, ℕ, Bool, List, [], ◌∷◌, sym, subst}
 use Rattle.std.specs.Prelude.{All, IsFalse}
 use Rattle.std.specs.List.{AllZip}

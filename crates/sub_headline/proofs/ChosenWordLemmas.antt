@@ -1,5 +1,5 @@
--- For `law_of_chosen_arguments`: the rows of arguments for `check STL PES` with choices,
--- `rows_say`, give the request, `check_is`.
+-- The rows of arguments for `check STL PES` with choices (`rows_say`) give the request
+-- (`check_is`). Used for `law_of_chosen_arguments`.
 use Rattle.std.proofs.Common.{◌≡◌, ◌∙◌, Bool, true, false, List, [], ◌∷◌, ◌++◌, Option, Some}
 use Rattle.std.proofs.Common.{ℕ, None, Ok, Err, refl, sym, ap, arith, codes, drop, ◌^◌, ◌-◌}
 use Rattle.std.proofs.Common.{inl, inr, subst, append_assoc, append-nil}

@@ -1,6 +1,6 @@
--- For `law_of_headline`: with the default layout an English subtitle is drawn as its English page,
--- `drawn_is`, so the due page is the English one, `due_is`; and it is drawn if its text can be
--- drawn completely, `ok_of_complete`.
+-- With the default layout an English subtitle is drawn as its English page (`drawn_is`), so the due
+-- page is the English page (`due_is`); and it is drawn if its text can be drawn completely
+-- (`ok_of_complete`). Used for `law_of_headline`.
 use Rattle.std.proofs.lemmas.Bool.Decides.{nat_tests}
 use Rattle.std.proofs.lemmas.List.Elements.{All-cons, All-head, All-nil, All-tail}
 use Rattle.std.proofs.Common.{◌≡◌, ◌≢◌, ◌⊎◌, ◌∙◌, ℕ, ◌+◌, ◌≤◌, Bool, true, false, List, [], ◌∷◌}

@@ -1,5 +1,5 @@
--- For `law_of_headline`. A run of `check` on files in memory that does not end with code 2 ends
--- with 0 exactly if the bytes are accepted, `code_reports`.
+-- A run of `check` on files in memory that does not end with code 2 ends with 0 exactly if the
+-- bytes are accepted (`code_reports`). Used for `law_of_headline`.
 use Rattle.std.proofs.Common.{◌≡◌, ◌≢◌, ◌↔◌, ◌⊎◌, ◌∙◌, ℕ, List, [], ◌∷◌, Option, Some, None, Ok}
 use Rattle.std.proofs.Common.{Result}
 use Rattle.std.proofs.Common.{Bool, ap, arith, codes, refl, subst, sym}

@@ -1,5 +1,5 @@
--- For `law_of_chosen_arguments`: the words of choices after `check STL PES` put their values into
--- the rows of arguments, `held_by`.
+-- The words of choices after `check STL PES` put their values into the rows of arguments
+-- (`held_by`). Used for `law_of_chosen_arguments`.
 use Rattle.std.proofs.Common.{◌≡◌, ◌∙◌, ℕ, Bool, true, false, List, [], ◌∷◌, Option, Some}
 use Rattle.std.proofs.Common.{None, refl, sym, ap, arith, codes, drop, subst}
 use Rattle.std.proofs.lemmas.Bool.Decides.{nat_tests}

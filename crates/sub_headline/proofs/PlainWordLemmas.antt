@@ -1,6 +1,6 @@
--- For `law_of_plain_arguments`. A word that is no option is a value, `plain_other`; so two such
--- words are the two files, `rows_are`, and request a check with the default options,
--- `requested_are`.
+-- A word that is no option is a value (`plain_other`); so two such words are the two files
+-- (`rows_are`), and request a check with the default options (`requested_are`). Used for
+-- `law_of_plain_arguments`.
 use Rattle.std.proofs.Common.{◌≡◌, ◌∙◌, ℕ, Bool, false, List, [], ◌∷◌, Option, Some, None}
 use Rattle.std.proofs.Common.{Ok, Result, refl, sym, ap, arith, codes, inl, inr}
 use Rattle.std.proofs.lemmas.Bool.Decides.{nat_tests}

@@ -1,6 +1,6 @@
--- For `law_of_chosen_arguments`: the values that the rows of arguments have for an argument, by its
--- id, after it is used again, `set_same` and `set_other`, and after defaults are added,
--- `defaulted`.
+-- The values that the rows of arguments have for an argument, by its id, after it is used again
+-- (`set_same`, `set_other`), and after defaults are added (`defaulted`). Used for
+-- `law_of_chosen_arguments`.
 use Rattle.std.proofs.Common.{◌≡◌, ◌∙◌, Bool, true, false, List, [], ◌∷◌, ◌++◌, Option, Some}
 use Rattle.std.proofs.Common.{None, refl, sym, ap, drop}
 use Rattle.std.proofs.lemmas.Slice.Eq.{bytes_eq-Decides}

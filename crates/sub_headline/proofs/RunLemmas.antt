@@ -1,4 +1,5 @@
--- For `law_of_headline`: a run that does not end with code 2 answered its request, `answered`.
+-- A run that does not end with code 2 answered its request (`answered`). Used for
+-- `law_of_headline`.
 use Rattle.std.proofs.lemmas.Bool.Decides.{nat_tests}
 use Rattle.std.proofs.Common.{◌≡◌, ◌≢◌, ◌⊎◌, ◌∙◌, ℕ, List, [], Option, Result, ap, arith, inl, inr}
 use Rattle.clap.specs.Words.{Text}

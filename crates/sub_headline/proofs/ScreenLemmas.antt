@@ -1,5 +1,5 @@
--- The characters on an English page: law_of_english_characters; if the headline holds, the screens
--- of every receiver: screens_of.
+-- The cells of an English page show the characters of its text: law_of_english_characters. If the
+-- headline holds, so do the screens of every receiver: screens_of.
 use Rattle.std.proofs.lemmas.Bool.Decides.{nat_tests}
 use Rattle.std.proofs.Common.{arith}
 use Rattle.std.proofs.Common.{◌≡◌, ◌⊎◌, ◌∙◌, ℕ, Bool, List, Some, None, ap, inl, inr}

@@ -1,5 +1,5 @@
--- For `law_of_headline`: the subtitles of a subtitle file are those that are read by place,
--- `subtitles_are`.
+-- The subtitles of a subtitle file are those that are read by place (`subtitles_are`). Used for
+-- `law_of_headline`.
 use Rattle.std.proofs.lemmas.Bool.Decides.{nat_tests}
 use Rattle.std.proofs.Common.{◌≡◌, ◌∙◌, ℕ, ◌+◌, ◌<◌, Bool, true, false, List, []}
 use Rattle.std.proofs.Common.{◌∷◌, ◌++◌, refl, sym, ap, arith, subst, take, drop, map}

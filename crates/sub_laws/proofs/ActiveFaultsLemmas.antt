@@ -1,8 +1,8 @@
--- For reports and trusted frames. The active faults at an end: the first wrong cell, `first_wrong`,
--- `none_wrong`; whether the repeat bound is exceeded, `gap_decided`; whether the page is open,
--- `incomplete_decided`; whether the due page is known, `known_back`, `always_known`,
--- `unexpected_is`; whether any fault is active, `fault_free_parts`; and rule by rule,
--- `active_faults_exact`.
+-- The active faults at the end of a frame are exactly the broken rules: the first wrong cell
+-- (`first_wrong`, `none_wrong`), an exceeded repeat bound (`gap_decided`), an open page
+-- (`incomplete_decided`), an unknown due page (`known_back`, `always_known`, `unexpected_is`);
+-- whether any fault is active (`fault_free_parts`), and rule by rule (`active_faults_exact`). Used
+-- for reports and trusted frames.
 use Rattle.std.proofs.Common.{◌≡◌, ◌↔◌, ℕ, zero, suc, ◌+◌, ◌-◌, ◌<◌, ◌≤◌, Bool, true, false, []}
 use Rattle.std.proofs.Common.{length, take, Option, Some, None, refl, sym, subst, arith, not, ◌||◌}
 use Rattle.std.proofs.Common.{◌&&◌, ◌==◌, ◌∙◌, ap, get_or, is_some, option_map, inl, inr, ◌⊎◌}

@@ -1,5 +1,5 @@
--- For reports and trusted frames. The tests decide the rules for a packet, `rule_decided`, and all
--- of them together, `clean_decided`.
+-- The tests of the checker decide each rule for a packet (`rule_decided`), and all rules together
+-- (`clean_decided`). Used for reports and trusted frames.
 use Rattle.std.proofs.Common.{◌≡◌, ℕ, zero, suc, ◌<◌, ◌≤◌, inl, inr, Bool, true, false, not}
 use Rattle.std.proofs.Common.{◌&&◌, List, [], ◌∷◌, Option, Some, None, option_map, refl, sym, ◌∙◌}
 use Rattle.std.proofs.Common.{◌↔◌, arith, length, get_or, subst, is_some, take, All, IsTrue, ◌++◌}

@@ -1,5 +1,6 @@
--- The packets since the text began are a clean span if each packet may follow: `clean_cuts`,
--- `last_clean`. For reports and trusted frames.
+-- If each packet may follow those before it, the packets since the text began are a clean span
+-- (`clean_cuts`), and the last packet of a clean span may follow those before it (`last_clean`).
+-- Used for reports and trusted frames.
 use Rattle.std.proofs.lemmas.Bool.Decides.{nat_tests}
 use Rattle.std.proofs.Common.{◌≡◌, ℕ, zero, suc, ◌<◌, inl, inr, Bool, true, false, not, ◌&&◌, cond}
 use Rattle.std.proofs.Common.{List, [], ◌∷◌, ◌++◌, length, take, slice_index_or, All, refl, sym, ap}

@@ -1,6 +1,6 @@
--- For `check`. If content is refused, a cell is wrong that every receiver has,
--- `different_everywhere`; and if no repeat may keep the page, every receiver shows the wrong code:
--- `wrong_everywhere`.
+-- If a transmission is refused for its content, every receiver has the wrong cell that is reported
+-- (`different_everywhere`); if no repeat may keep the page, every receiver shows its wrong code
+-- (`wrong_everywhere`). Used for `check`.
 use Rattle.std.proofs.lemmas.Bool.Decides.{nat_tests}
 use Rattle.std.proofs.Common.{List, [], subst, ◌≡◌, ℕ, ◌-◌, ◌<◌, ◌≤◌, inl, inr, Bool, true}
 use Rattle.std.proofs.Common.{false, Option, Some, None, length, take, drop, refl, sym, ap}

@@ -1,7 +1,7 @@
--- For the headline, delays, schedules and trusted frames. Receivers that may forget the page, in a
--- stretch of repeats: `law_of_repeated_stretch`. If no repeat may keep the page and no frame may be
--- late, the same holds for receivers that keep it: `recovers_at_once`, `shown_at_once`,
--- `law_of_trust_without_delay`.
+-- Receivers that may forget the page recover in a stretch of repeats (`law_of_repeated_stretch`).
+-- If no repeat may keep the page and no frame may be late, receivers that keep the page recover,
+-- too (`recovers_at_once`, `shown_at_once`, `law_of_trust_without_delay`). Used for the headline,
+-- delays, schedules and trusted frames.
 use Rattle.std.proofs.lemmas.Bool.Decides.{nat_tests}
 use Rattle.std.proofs.Common.{◌≡◌, ℕ, ◌≤◌, inl, inr, Bool, true, false, List}
 use Rattle.std.proofs.Common.{Option, option_map, unwrap_or, ap, sym, ◌∙◌, subst, arith}

@@ -1,7 +1,7 @@
--- For `law_of_nothing_reported_repeats` and `law_of_trusted_repeats`. A code that was due in a cell
--- within some frames: `was_due_at`, `due_was`; the first cell with another code: `none_unexpected`,
--- `unexpected_none`, `unexpected_found`; the subtitle whose TCO is a frame: `ending_is`,
--- `ending_at`.
+-- The checker's search decides whether a code was due in a cell within the last frames
+-- (`was_due_at`, `due_was`), which cell is the first with another code (`none_unexpected`,
+-- `unexpected_none`, `unexpected_found`), and which subtitle ends at a frame (`ending_is`,
+-- `ending_at`). Used for `law_of_nothing_reported_repeats` and `law_of_trusted_repeats`.
 use Rattle.std.proofs.lemmas.Bool.Decides.{nat_tests}
 use Rattle.std.proofs.Common.{◌≡◌, ◌≢◌, ℕ, zero, suc, ◌+◌, ◌-◌, ◌<◌, ◌≤◌, ◌⊎◌, inl, inr, Bool, true}
 use Rattle.std.proofs.Common.{false, not, ◌&&◌, ◌==◌, nat_le, List, Contains, get_or}

@@ -1,5 +1,5 @@
--- For `law_of_nothing_reported`. The events in the steps of PES packets: if each packet is sent
--- they are the events of the frames. Main lemma: `pes_packets_emitted`.
+-- If each PES packet of a file is sent, the events in the steps of the PES packets are the events
+-- of the frames. Main lemma: `pes_packets_emitted`. Used for `law_of_nothing_reported`.
 use Rattle.std.proofs.lemmas.Bool.Decides.{nat_tests}
 use Rattle.std.proofs.Common.{◌≡◌, ℕ, zero, suc, ◌+◌, ◌<◌, ◌≤◌, List}
 use Rattle.std.proofs.Common.{[], ◌∷◌, ◌++◌, length, map, refl, sym, ap, ap₂, ◌∙◌, subst, arith}

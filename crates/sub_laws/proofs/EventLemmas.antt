@@ -1,5 +1,5 @@
--- For reports. There are no events exactly if all requirements are met, and the first event is a
--- fault: `all_reported`.
+-- A transmission has no events exactly if it meets all requirements, and otherwise its first event
+-- is a fault (`all_reported`). Used for reports.
 use Rattle.std.proofs.Common.{◌≡◌, ℕ, zero, suc, ◌+◌, ◌-◌, ◌<◌, ◌≤◌, ◌⊎◌, inl, inr, Bool, true}
 use Rattle.std.proofs.Common.{false, not, List, [], ◌∷◌, length, Option, Some, None, refl, ◌↔◌, sym}
 use Rattle.std.proofs.Common.{ap, subst, arith, append_assoc, if◌then◌else◌, ◌∙◌, ◌||◌}

@@ -1,6 +1,7 @@
--- For `law_of_nothing_reported_repeats` and `law_of_trusted_repeats`. A frame is finished exactly
--- if its end is not unfinished, `finished_of`, `of_finished`; since which frame the ends are
--- unfinished, `first_unfinished_is`, `no_first_unfinished`, `first_unfinished_no`, `late_is`.
+-- A frame is finished exactly if the test for unfinished ends fails (`finished_of`, `of_finished`),
+-- and the checker computes the first frame of a run of unfinished ends (`first_unfinished_is`,
+-- `no_first_unfinished`, `first_unfinished_no`, `late_is`). Used for
+-- `law_of_nothing_reported_repeats` and `law_of_trusted_repeats`.
 use Rattle.std.proofs.lemmas.Bool.Decides.{nat_tests}
 use Rattle.std.proofs.Common.{◌≡◌, ℕ, ◌+◌, ◌-◌, ◌<◌, ◌≤◌, Bool}
 use Rattle.std.proofs.Common.{false, not, ◌==◌, Option, None}

@@ -1,5 +1,5 @@
--- For `check`. If a wrong cell is the first fault of a PES file, it is also the first fault of the
--- frames before the first skipped PES packet. Main lemma: `content_first`.
+-- If a wrong cell is the first fault of a PES file, it is also the first fault of the frames before
+-- the first skipped PES packet. Main lemma: `content_first`. Used for `check`.
 use Rattle.std.proofs.lemmas.Bool.Decides.{nat_tests}
 use Rattle.std.proofs.Common.{◌≡◌, ℕ, suc, ◌⊎◌, inl, inr, List, [], ◌∷◌, ◌++◌, length, Option, Some}
 use Rattle.std.proofs.Common.{None, refl, sym, ap, ◌∙◌, arith, append_assoc}

@@ -1,6 +1,7 @@
--- For reports and trusted frames. The first event of a list with something searched for: `Finds`.
--- For joined lists, `Finds-append`; for growing lists, `found_so_far`; among the events of a
--- packet, `packet_found`, and of an end, `end_found`.
+-- Defines what the first event shows that a search finds in a list (`Finds`), for joined lists
+-- (`Finds-append`), for growing lists (`found_so_far`), among the events of a packet
+-- (`packet_found`), and among those at the end of a frame (`end_found`). Used for reports and
+-- trusted frames.
 use Rattle.std.proofs.lemmas.Bool.Decides.{nat_tests}
 use Rattle.std.proofs.Common.{◌≡◌, ℕ, zero, suc, ◌<◌, Bool, true, List, [], ◌∷◌, ◌++◌, map, filter}
 use Rattle.std.proofs.Common.{Option, Some, None, refl, arith, flat_map, get_or}

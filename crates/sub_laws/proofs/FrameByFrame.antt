@@ -1,4 +1,5 @@
--- For reports and trusted frames. The requirements of a transmission, frame by frame of the list.
+-- The requirements of a transmission, one frame of the list at a time. Used for reports and trusted
+-- frames.
 use Rattle.std.proofs.Common.{◌≡◌, ℕ, ◌+◌, ◌-◌, ◌<◌, ◌≤◌, ◌⊎◌, length, Some, None, IsFalse}
 use Rattle.sub_rules.specs.Events.{is_pending, no_active_faults, active_faults_at}
 use Rattle.sub_rules.specs.FrameRules.{Criteria, HasHeader, end_frame, frame_at, packets_of_frame}

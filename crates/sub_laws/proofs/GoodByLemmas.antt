@@ -1,6 +1,7 @@
--- For delays, schedules and reports. A transmission that is good by options keeps its promises,
--- `law_of_good_repeats`. If `within` is 0 and no repeat may keep the page, that means `Good`,
--- `law_of_no_delay`. A schedule is good by any options, `law_of_plan_repeats`.
+-- A transmission that is good by the options keeps its promises (`law_of_good_repeats`). If
+-- `within` is 0 and no repeat may keep the page, it is good exactly if it is good by the options
+-- (`law_of_no_delay`). A schedule is good by any options (`law_of_plan_repeats`). Used for delays,
+-- schedules and reports.
 use Rattle.std.proofs.lemmas.Bool.Decides.{nat_tests}
 use Rattle.std.proofs.Common.{◌≡◌, ℕ, ◌-◌, ◌<◌, ◌≤◌, inl, inr, Bool, true, false}
 use Rattle.std.proofs.Common.{length, get_or, option_map, IsTrue, ap, subst, arith}

@@ -1,6 +1,6 @@
--- For delays, schedules, reports and trusted frames. Properties of each packet of a transmission,
--- and the headers in frames of the list and of the day: `each_packet`, `any_passes`, `any_sent`,
--- `sent_any`.
+-- A property of all packets of a transmission holds for each packet (`each_packet`), and headers in
+-- frames of the list are headers in frames of the day (`any_passes`, `any_sent`, `sent_any`). Used
+-- for delays, schedules, reports and trusted frames.
 use Rattle.std.proofs.Common.{◌≡◌, ℕ, zero, suc, ◌+◌, ◌-◌, ◌<◌, inl, inr, Bool, true, cond, ◌&&◌}
 use Rattle.std.proofs.Common.{nat_le, nat_lt, List, [], ◌∷◌, ◌++◌, length, get_or, All, refl, ap}
 use Rattle.std.proofs.Common.{arith, ◌⊎◌, ◌≤◌}

@@ -1,4 +1,5 @@
--- For `check`. Rising frames are not merged, whatever `within` is: `joined-rising`.
+-- If frames rise, PES packets are never merged, whatever `within` is (`joined-rising`). Used for
+-- `check`.
 use Rattle.std.proofs.lemmas.Bool.Decides.{nat_tests}
 use Rattle.std.proofs.Common.{◌≡◌, ℕ, zero, suc, ◌-◌, ◌<◌, ◌==◌, ◌&&◌, Bool, false, not}
 use Rattle.std.proofs.Common.{[], ◌∷◌, ◌++◌, length, refl, sym, ap, ◌∙◌, subst, arith, append_assoc}

@@ -1,5 +1,6 @@
--- What a transmission is compared with if only a part of a subtitle file is requested,
--- `judged_parts`; and that nothing else of refused subtitles matters, `law_of_judged_alike`.
+-- If only a part of a subtitle file is requested, a transmission is compared with the same
+-- subtitles as without the other blocks (`judged_parts`). The texts and times of refused subtitles
+-- do not matter otherwise (`law_of_judged_alike`).
 use Rattle.std.proofs.Math.Path.{fun_ext}
 use Rattle.std.proofs.Common.{◌≡◌, ℕ, Bool, false, true, ◌&&◌, ◌++◌, Option, Some, None}
 use Rattle.std.proofs.Common.{option_map, refl, sym, ap, ◌∙◌}

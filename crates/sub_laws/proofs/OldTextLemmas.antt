@@ -1,5 +1,5 @@
--- If no header erases the page, the kept code of a cell stays, `kept-stays`; so a header that
--- erases it is sent if text ends or changes: `law_of_old_text`.
+-- If no header erases the page, the kept code of each cell stays (`kept-stays`); so a header that
+-- erases the page is sent if text ends or changes (`law_of_old_text`).
 use Rattle.std.proofs.Common.{◌≡◌, ◌≢◌, ℕ, ◌+◌, ◌-◌, ◌<◌, ◌≤◌, inl, inr, Bool, true, false, cond}
 use Rattle.std.proofs.Common.{List, [], ◌∷◌, ◌++◌, find, Option, Some, None}
 use Rattle.std.proofs.Common.{option_map, unwrap_or, refl, sym, ap, ◌∙◌, subst, arith, append_assoc}

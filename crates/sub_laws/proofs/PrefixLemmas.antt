@@ -1,5 +1,5 @@
--- For delays, schedules, reports and trusted frames. The lists of packets with which a transmission
--- begins, and the place of a frame.
+-- Properties of all beginnings of a transmission's list of packets, and the place of a frame in the
+-- list. Used for delays, schedules, reports and trusted frames.
 use Rattle.std.proofs.lemmas.Bool.Decides.{nat_tests}
 use Rattle.std.proofs.Common.{◌≡◌, ℕ, zero, suc, ◌+◌, ◌-◌, ◌<◌, ◌≤◌, ◌⊎◌, inl, inr, ◌&&◌, nat_le}
 use Rattle.std.proofs.Common.{cond, List, [], ◌∷◌, ◌++◌, length, take, get_or, refl, sym, ap, ap₂}

@@ -1,7 +1,7 @@
--- For `law_of_nothing_reported_repeats` and trusted frames. The text of frames that may be late,
--- and that they are finished in time, from the requirements at their ends: `codes`, `again`,
--- `subtitle`. So a stretch without reports that a receiver depends on is sufficient:
--- `law_of_unreported_repeats`.
+-- If the requirements at the ends of frames are met, the text of these frames was due, even if
+-- frames may be late, and the frames are finished in time (`codes`, `again`, `subtitle`). So a
+-- stretch without reports that a receiver depends on is sufficient (`law_of_unreported_repeats`).
+-- Used for `law_of_nothing_reported_repeats` and trusted frames.
 use Rattle.std.proofs.lemmas.Bool.Decides.{nat_tests}
 use Rattle.std.proofs.Common.{◌≡◌, ℕ, ◌+◌, ◌-◌, ◌<◌, ◌≤◌, inr, Bool, true, false, ◌&&◌}
 use Rattle.std.proofs.Common.{◌||◌, ◌==◌, nat_le, nat_lt, None, Option, Some, get_or, length, refl}

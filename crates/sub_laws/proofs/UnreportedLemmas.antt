@@ -1,6 +1,7 @@
--- For `law_of_all_trusted` and `law_of_nothing_reported`. PES packets have no events exactly if
--- each is sent and their frames have none, `pes_packets_unreported`; the same for faults,
--- `pes_packets_unrefused`. For steps: `first_none`, `each_sent`.
+-- PES packets have no events exactly if each is sent and their frames have no events
+-- (`pes_packets_unreported`), and no faults exactly if each is sent and their frames have no faults
+-- (`pes_packets_unrefused`). Steps report no fault exactly if their events are no faults
+-- (`first_none`, `each_sent`). Used for `law_of_all_trusted` and `law_of_nothing_reported`.
 use Rattle.std.proofs.lemmas.Bool.Decides.{nat_tests}
 use Rattle.std.proofs.Common.{◌≡◌, ◌↔◌, ℕ, suc, Bool, true, false, not, ◌||◌, List, [], ◌∷◌, ◌++◌}
 use Rattle.std.proofs.Common.{length}

@@ -1,5 +1,6 @@
--- The packets that arrive of joined lists and are used, and the first packet that is listed as lost
--- but must not be: for `hear_units`, `first_lost_header` and the exits of `listen`.
+-- The packets of joined lists that reach the receiver are those of each list, and the first packet
+-- that is listed as lost but must not be is found packet by packet. Used for `hear_units`,
+-- `first_lost_header` and the exits of `listen`.
 use Rattle.std.proofs.Common.{◌≡◌, ℕ, ◌+◌, ◌<◌, ◌&&◌, true, false, not, List, [], ◌∷◌, ◌++◌, length}
 use Rattle.std.proofs.Common.{get_or, drop, Option, Some, None, option_map, refl, sym, ap, ◌∙◌}
 use Rattle.std.proofs.Common.{arith}

@@ -1,7 +1,7 @@
--- One more packet if repeats may keep the page: the last header, `last_header-push` and
--- `last_header-append`; whether a row came since that header, `has_row-push`; the first packet of a
--- row since the text began, `first_of_row-push`. Each code other than a space came in a row:
--- `row_of_code`.
+-- If repeats may keep the page, one more packet changes the last header of the page as
+-- `last_header-push` and `last_header-append` say, the rows received since that header as
+-- `has_row-push` says, and the first packet of each row since the text began as `first_of_row-push`
+-- says. Each code other than a space came in a row (`row_of_code`).
 use Rattle.std.proofs.Common.{◌≡◌, ℕ, Bool, true, false, not, ◌&&◌, ◌||◌, ◌==◌, cond, List, [], ◌∷◌}
 use Rattle.std.proofs.Common.{◌++◌, Some, None, find, option_map, unwrap_or, refl, ap}
 use Rattle.std.proofs.Common.{arith}

@@ -1,5 +1,6 @@
--- The properties of the kept page agree with the packets: `wrong_heard`, `unexpected_heard`,
--- `incomplete_heard`.
+-- The properties of the page that a listener stores agree with the packets received: its wrong and
+-- unexpected cells, and whether it is incomplete (`wrong_heard`, `unexpected_heard`,
+-- `incomplete_heard`).
 use Rattle.std.proofs.lemmas.Bool.Decides.{nat_tests}
 use Rattle.std.proofs.Common.{◌≡◌, ℕ, ◌&&◌, List, Bool, arith, ap, refl}
 use Rattle.ttx_page.specs.Page.{Rows}

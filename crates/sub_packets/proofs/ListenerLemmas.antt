@@ -1,5 +1,5 @@
--- The state after one more packet: `knows_begins`, `knows_repeat`, `knows_still`, `knows_again`,
--- `knows_row`.
+-- The listener's state agrees with the packets received after one more packet, for each kind of
+-- packet (`knows_begins`, `knows_repeat`, `knows_still`, `knows_again`, `knows_row`).
 use Rattle.std.proofs.Common.{◌≡◌, ℕ, ◌-◌, ◌≤◌, Bool, true, false, not, ◌&&◌, ◌||◌, List, [], ◌∷◌}
 use Rattle.std.proofs.Common.{◌++◌, Option, Some, None, option_map, length, get_or, set}
 use Rattle.std.proofs.Common.{replicate, refl, sym, ap, arith, get_or-set_other}

@@ -1,5 +1,6 @@
--- The events of the packets of a frame, after a packet that need not be examined,
--- packets_reported-skipped, and if no rule is broken, packets_reported-none.
+-- A packet that need not be examined adds no event to those of its frame
+-- (packets_reported-skipped), and packets that break no rule have no events
+-- (packets_reported-none).
 use Rattle.std.proofs.lemmas.Bool.Decides.{nat_tests}
 use Rattle.std.proofs.Common.{◌≡◌, ℕ, zero, suc, ◌+◌, List, [], ◌++◌, map, take}
 use Rattle.std.proofs.Common.{◌∙◌, append-nil, arith, get_or, refl}

@@ -1,4 +1,4 @@
--- The rules for a single packet: which bits each kind of packet adds to the set of broken rules.
+-- Shows which bits each kind of packet adds to the set of broken rules.
 use Rattle.std.proofs.lemmas.Bool.Decides.{nat_tests}
 use Rattle.std.proofs.lemmas.Bool.Decides.{same_from_decides}
 use Rattle.std.proofs.Common.{◌≡◌, ℕ, Bool, true, false, not, ◌&&◌, ◌==◌, cond}

@@ -1,5 +1,5 @@
--- Sets of rules: if the set is empty, no rule passes the test, `no_rules`; the events of the first
--- remaining rule, `reported_next`.
+-- If a set of rules is empty, no rule passes its test (`no_rules`); otherwise its events begin with
+-- those of the first remaining rule (`reported_next`).
 use Rattle.std.proofs.Common.{◌≡◌, ℕ, suc, ◌+◌, ◌*◌, ◌/◌, ◌%◌, ◌<◌, Bool, true, false, ◌==◌}
 use Rattle.std.proofs.Common.{List, [], ◌∷◌, ◌++◌, length, get_or, drop, map, refl, ◌∙◌, ap}
 use Rattle.std.proofs.Common.{arith, cond, drop-cons}

@@ -1,5 +1,5 @@
--- Packets that are sent again break the same rules, and the state stays the same:
--- `law_of_sent_again`, `heard_again`, `kept_last`.
+-- Packets that are sent again break the same rules, and the listener's state stays the same
+-- (`law_of_sent_again`, `heard_again`, `kept_last`).
 use Rattle.std.proofs.lemmas.Bool.Decides.{nat_tests}
 use Rattle.std.proofs.Common.{◌≡◌, ℕ, zero, suc, ◌<◌, Bool, true, not, ◌&&◌, ◌||◌, cond, List, []}
 use Rattle.std.proofs.Common.{◌∷◌}

@@ -1,5 +1,5 @@
--- Packets that need not be examined break no rule and leave the state as it is: `skipped_packet`,
--- `skipped_header`.
+-- Packets that need not be examined break no rule and leave the listener's state as it is
+-- (`skipped_packet`, `skipped_header`).
 use Rattle.std.proofs.Common.{◌≡◌, ◌≢◌, ℕ, ◌&&◌, ◌==◌, Bool, true, false, List}
 use Rattle.std.proofs.Common.{Option, Some, None, cond, drop, refl, sym, ◌∙◌, arith}
 use Rattle.std.proofs.Common.{nat_le}

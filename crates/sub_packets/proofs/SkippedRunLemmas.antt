@@ -1,5 +1,5 @@
--- A run of packets that need not be examined leaves everything as it is: `skipped_run`,
--- `no_headers_skipped`, `no_beginning_skipped`.
+-- A run of packets that need not be examined changes neither the listener's state nor its counts
+-- (`skipped_run`, `no_headers_skipped`, `no_beginning_skipped`).
 use Rattle.std.proofs.lemmas.Bool.Decides.{nat_tests}
 use Rattle.std.proofs.lemmas.Bool.{cases_lt}
 use Rattle.std.proofs.lemmas.List.{take_more}

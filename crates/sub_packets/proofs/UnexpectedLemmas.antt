@@ -1,5 +1,6 @@
--- Frames with the same due page, `due_same`; codes that were due within the last frames,
--- `left_first`, `left_more` and `left_all`; the first cell that is left, `unexpected_is`.
+-- The due page stays the same between two page changes (`due_same`), so all codes that were due
+-- within the last frames can be removed from the page (`left_first`, `left_more`, `left_all`), and
+-- the first cell that is left is the first unexpected cell (`unexpected_is`).
 use Rattle.std.proofs.lemmas.Bool.Decides.{nat_tests}
 use Rattle.std.proofs.lemmas.List.{get_or-replicate}
 use Rattle.std.proofs.Common.{◌≡◌, ℕ, zero, suc, ◌+◌, ◌-◌, ◌<◌, ◌≤◌}

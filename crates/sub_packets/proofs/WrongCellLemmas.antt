@@ -1,5 +1,6 @@
--- The stored page is that of the packets, `shown_is`; the first wrong cell: `wrong_is`, and if
--- repeats may keep the page, `wrong_keeping`.
+-- The page that a listener stores is the one that the packets show (`shown_is`), so its first wrong
+-- cell is the first wrong cell by the rules (`wrong_is`; if repeats may keep the page,
+-- `wrong_keeping`).
 use Rattle.std.proofs.lemmas.Bool.Decides.{nat_tests}
 use Rattle.std.proofs.Common.{◌≡◌, ℕ, ◌+◌, ◌-◌, ◌<◌, ◌≤◌, ◌⊎◌, ◌||◌, ◌==◌, Bool, true, false, not}
 use Rattle.std.proofs.Common.{List, [], Option, None, Some, MatchOption, option_map, unwrap_or}

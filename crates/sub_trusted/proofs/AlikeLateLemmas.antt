@@ -1,6 +1,7 @@
--- For `law_of_trusted_alike`. Two sets of criteria that agree whenever the first knows the due
--- page: if it knew it at the last frames, an end is late for both or for neither, `late_same`, and
--- if no fault is active for the first none is for the second, `equal_fault_free`.
+-- If two sets of criteria agree whenever the first set knows the due page, and it knew the due page
+-- at the last frames, an end is late for both sets or for neither (`late_same`), and if no fault is
+-- active for the first set, no fault is active for the second (`equal_fault_free`). Used for
+-- `law_of_trusted_alike`.
 use Rattle.std.proofs.lemmas.Bool.Decides.{nat_tests}
 use Rattle.std.proofs.Common.{◌≡◌, ℕ, ◌+◌, ◌-◌, ◌≤◌, inl, inr, Bool, true, false}
 use Rattle.std.proofs.Common.{◌&&◌, ◌||◌, ◌==◌, nat_le, Option, Some, None, length, refl, sym, ap}

@@ -1,6 +1,6 @@
--- For `law_of_trusted_alike`. A programme with other subtitles agrees at the frames at which these
--- are not due, `equal_with`; so frames that are trusted without them are trusted with them:
--- `law_of_trusted_alike`.
+-- A programme with additional subtitles has the same due page at the frames at which these
+-- subtitles are not due (`equal_with`); so frames that are trusted without the additional subtitles
+-- are trusted with them (`law_of_trusted_alike`).
 use Rattle.std.proofs.lemmas.Bool.Decides.{nat_tests}
 use Rattle.std.proofs.Common.{◌≡◌, ℕ, ◌+◌, inl, inr, Bool, false}
 use Rattle.std.proofs.Common.{List, [], ◌∷◌, find, Option, option_map}

@@ -1,5 +1,6 @@
--- For `law_of_all_trusted`. The steps at the end of a frame within a stretch that can stay,
--- `ending_leads`, and at the end of the file, `closing_reported`.
+-- The steps at the end of a frame within a stretch that can stay (`ending_leads`), and at the end
+-- of the file (`closing_reported`), report the stretch as trusted or keep it pending. Used for
+-- `law_of_all_trusted`.
 use Rattle.std.proofs.lemmas.Bool.Decides.{nat_tests}
 use Rattle.std.proofs.Common.{◌≡◌, ℕ, suc, ◌+◌, ◌-◌, ◌<◌, ◌≤◌, inl, inr, Bool, true, false}
 use Rattle.std.proofs.Common.{◌||◌, List, [], ◌∷◌, ◌++◌, length, map, Option, Some, None, is_some}

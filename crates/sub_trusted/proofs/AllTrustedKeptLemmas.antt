@@ -1,6 +1,6 @@
--- For `law_of_all_trusted`. The state within a stretch that can stay, `Follows`: after the end of a
--- frame with a header there is a run, which is reported once a frame is in doubt, `follows_emits`;
--- and at an end, `end_leads`.
+-- Within a stretch that can stay, the state of the tracker has a run from the end of a frame with a
+-- header on (`Follows`), which is reported once a frame is in doubt (`follows_emits`) or at the end
+-- (`end_leads`). Used for `law_of_all_trusted`.
 use Rattle.std.proofs.lemmas.Bool.Decides.{nat_tests}
 use Rattle.std.proofs.Common.{◌≡◌, ℕ, ◌+◌, ◌-◌, ◌<◌, ◌≤◌, inl, inr, Bool, true, false, ◌==◌}
 use Rattle.std.proofs.Common.{List, map, Option, Some, None, is_some, refl, sym, ◌∙◌, arith}

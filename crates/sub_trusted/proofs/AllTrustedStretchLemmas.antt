@@ -1,5 +1,5 @@
--- For `law_of_all_trusted`. The properties of a stretch of the rising part that can stay, for the
--- frames that are sent: `Fits`, `fits`.
+-- The frames of a stretch of the rising part that can stay have the properties `Fits` (`fits`).
+-- Used for `law_of_all_trusted`.
 use Rattle.std.proofs.lemmas.Bool.Decides.{nat_tests}
 use Rattle.std.proofs.Common.{◌≡◌, ℕ, suc, ◌+◌, ◌-◌, ◌<◌, ◌≤◌, true, false, List, [], ◌++◌, drop}
 use Rattle.std.proofs.Common.{length, take, get_or, Some, None, sym, ap, ◌∙◌, subst, arith}

@@ -1,5 +1,6 @@
--- For `law_of_trusted` and `law_of_trusted_repeats`. A list of steps and their trusted frames,
--- `Goes`; steps with events only, `Goes-emits`; the state after these, `emitted`.
+-- The trusted frames that a list of steps reports have a property (`Goes`), also for steps with
+-- events only (`Goes-emits`), and the state after these events is known (`emitted`). Used for
+-- `law_of_trusted` and `law_of_trusted_repeats`.
 use Rattle.std.proofs.lemmas.Bool.Decides.{nat_tests}
 use Rattle.std.proofs.Common.{◌≡◌, ℕ, ◌-◌, ◌<◌, ◌&&◌, Bool, false, not, List, [], ◌∷◌, ◌++◌}
 use Rattle.std.proofs.Common.{if◌then◌else◌, map, Option, Some, None, is_none, refl, sym}

@@ -1,7 +1,7 @@
--- For `law_of_trusted` and `law_of_trusted_repeats`. Which frame is no longer trusted after the
--- reports of a frame's packets, `packets_invalidation`, of its number, `order_at`, and of an end,
--- which may be late, `end_invalidation`. The frame since which an end is unfinished is not after
--- it, `seen_low`.
+-- Shows which frame is no longer trusted after the reports about a frame's packets
+-- (`packets_invalidation`), its number (`order_at`), and its end, which may be late
+-- (`end_invalidation`). The frame from which on an end is unfinished is not after that end
+-- (`seen_low`). Used for `law_of_trusted` and `law_of_trusted_repeats`.
 use Rattle.std.proofs.lemmas.Bool.Decides.{nat_tests}
 use Rattle.std.proofs.Common.{◌≡◌, ℕ, zero, suc, ◌+◌, ◌-◌, ◌<◌, ◌≤◌, Bool, true, false, cond, List}
 use Rattle.std.proofs.Common.{[], ◌∷◌, ◌++◌, map, take, get_or, length, max, Option, Some, None}

@@ -1,5 +1,5 @@
--- For `law_of_trusted_alike`. Frames that are reported as trusted although subtitles were refused
--- are reported by all criteria that agree whenever the due page is known: `reported_too`.
+-- Frames that are reported as trusted although subtitles were refused are reported by all criteria
+-- that agree whenever the due page is known (`reported_too`). Used for `law_of_trusted_alike`.
 use Rattle.std.proofs.lemmas.Bool.Decides.{nat_tests}
 use Rattle.std.proofs.Common.{◌≡◌, ◌≢◌, ℕ, ◌-◌, ◌<◌, ◌≤◌, inl, inr, true}
 use Rattle.std.proofs.Common.{List, [], Contains, Option, Some, length, refl, ap, ◌∙◌}

@@ -1,7 +1,7 @@
--- For `law_of_trusted` and `law_of_trusted_repeats`. If what was read is on air in a stretch of
--- frames, and the first of them has a header that begins the text of the page, the sufficient
--- conditions hold for what is on air, too: `sufficient_too`; and its frames are finished in time,
--- `finishes_too`.
+-- If the packets that were read are on air in a stretch of frames, and its first frame has a header
+-- that begins the text of the page, the sufficient conditions hold for the packets on air, too
+-- (`sufficient_too`), and the frames are finished in time (`finishes_too`). Used for
+-- `law_of_trusted` and `law_of_trusted_repeats`.
 use Rattle.std.proofs.lemmas.Bool.Decides.{nat_tests}
 use Rattle.std.proofs.Common.{◌≡◌, ℕ, zero, suc, ◌+◌, ◌-◌, ◌≤◌, Bool, true, List, []}
 use Rattle.std.proofs.Common.{◌∷◌, ◌++◌, drop, find, option_map, unwrap_or, refl, sym, ap, ap₂, ◌∙◌}

@@ -1,5 +1,5 @@
--- For `law_of_trusted` and `law_of_trusted_repeats`. The steps at the end of a frame, whose trusted
--- frames have the property: `ending`.
+-- The trusted frames that the steps at the end of a frame report have the property of trusted
+-- frames (`ending`). Used for `law_of_trusted` and `law_of_trusted_repeats`.
 use Rattle.std.proofs.lemmas.Bool.Decides.{nat_tests}
 use Rattle.std.proofs.Common.{◌≡◌, ℕ, suc, ◌-◌, ◌<◌, ◌≤◌, ◌⊎◌, inl, inr, Bool, true, false, ◌&&◌}
 use Rattle.std.proofs.Common.{List, [], ◌∷◌, ◌++◌, length, map, Option, Some, None, is_some, refl}

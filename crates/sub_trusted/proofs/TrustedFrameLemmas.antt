@@ -1,6 +1,6 @@
--- For `law_of_trusted` and `law_of_trusted_repeats`. In the rising part there is no report of
--- trusted frames that a receiver depends on, `unreported`; the page is open at none of their ends,
--- `closed`; and the first one has a header that begins the text, `header_there`.
+-- The trusted frames of the rising part have no report that a receiver depends on (`unreported`),
+-- the page is open at none of their ends (`closed`), and the first trusted frame has a header that
+-- begins the text (`header_there`). Used for `law_of_trusted` and `law_of_trusted_repeats`.
 use Rattle.std.proofs.lemmas.Bool.Decides.{nat_tests}
 use Rattle.std.specs.Bool.{Decides}
 use Rattle.std.proofs.Common.{◌≡◌, ℕ, zero, suc, ◌+◌, ◌-◌, ◌<◌, ◌≤◌, inl, inr, true, false, length}

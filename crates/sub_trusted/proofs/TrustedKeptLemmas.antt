@@ -1,7 +1,8 @@
--- For `law_of_trusted` and `law_of_trusted_repeats`. The state for clean frames, whatever `within`
--- is: after frames that have ended, `Keeps`, before the next one, `Arrives`, while it is sent,
--- `Opens`, and at its end, `Closed`. The frames that are then reported as trusted are those of a
--- run, `passes_before`; a run continues with a frame, `run_more`, or begins with it, `run_new`.
+-- The tracker's state for clean frames, whatever `within` is: after frames that have ended
+-- (`Keeps`), before the next frame (`Arrives`), while it is sent (`Opens`), and at its end
+-- (`Closed`). The frames that are reported as trusted are those of a run (`passes_before`); a run
+-- continues with a frame (`run_more`) or begins with it (`run_new`). Used for `law_of_trusted` and
+-- `law_of_trusted_repeats`.
 use Rattle.std.proofs.lemmas.Bool.Decides.{nat_tests}
 use Rattle.std.proofs.Common.{◌≡◌, ℕ, suc, ◌+◌, ◌-◌, ◌<◌, ◌≤◌, ◌⊎◌, inl, inr, Bool, true, false}
 use Rattle.std.proofs.Common.{◌&&◌, ◌==◌, ◌∷◌, nat_lt, List, length, Option, Some, None, is_some}

@@ -1,5 +1,6 @@
--- For `law_of_trusted` and `law_of_trusted_repeats`. The state for the steps of an end, `Looks`,
--- `Backs`; its reports may be taken as those after it was checked: `with_end`.
+-- The tracker's state for the steps at the end of a frame (`Looks`, `Backs`); the reports at an end
+-- may be taken as those after its step (`with_end`). Used for `law_of_trusted` and
+-- `law_of_trusted_repeats`.
 use Rattle.std.proofs.lemmas.Bool.Decides.{nat_tests}
 use Rattle.std.proofs.Common.{◌≡◌, ℕ, ◌≤◌, true, false, not}
 use Rattle.std.proofs.Common.{◌==◌, ◌&&◌, None, if◌then◌else◌, List, [], ◌∷◌}

@@ -1,6 +1,6 @@
--- For `law_of_trusted` and `law_of_trusted_repeats`. Trusted frames of PES packets may stay,
--- whatever `within` is: `all_stay_within`; the reports from a PES packet on: `each_passes` and
--- `all_pass`.
+-- Trusted frames of PES packets may stay on air, whatever `within` is (`all_stay_within`), by the
+-- reports from each PES packet on (`each_passes`, `all_pass`). Used for `law_of_trusted` and
+-- `law_of_trusted_repeats`.
 use Rattle.std.proofs.lemmas.Bool.Decides.{nat_tests}
 use Rattle.std.proofs.Common.{◌≡◌, ℕ, suc, ◌+◌, ◌≤◌, Bool, true, false, not, ◌||◌}
 use Rattle.std.proofs.Common.{List, [], ◌∷◌, ◌++◌, length, map, Option, Some, is_some, refl, sym}

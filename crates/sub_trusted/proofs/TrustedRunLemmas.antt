@@ -1,5 +1,5 @@
--- For `law_of_trusted` and `law_of_trusted_repeats`. The properties of a run of clean frames,
--- `Run`, and its frames that may stay, `Stays`.
+-- The properties of a run of clean frames (`Run`), and of the frames of a run that may stay on air
+-- (`Stays`). Used for `law_of_trusted` and `law_of_trusted_repeats`.
 use Rattle.std.proofs.Common.{◌≡◌, ℕ, ◌+◌, ◌-◌, ◌<◌, ◌≤◌, ◌⊎◌, true, false, length}
 use Rattle.sub_rules.specs.Events.{active_faults_at}
 use Rattle.sub_rules.specs.FrameRules.{Criteria, end_frame, frame_at, packets_of_frame}

@@ -1,6 +1,6 @@
--- For `law_of_trusted` and `law_of_trusted_repeats`. The steps of a frame, whose trusted frames
--- have the property: before its packets, `arrival`, for its packets, `more_sent`, for a skipped PES
--- packet, `skipped`, and at an end, `end_reports`.
+-- The trusted frames that the steps of a frame report have the property of trusted frames: before
+-- its packets (`arrival`), for its packets (`more_sent`), for a skipped PES packet (`skipped`), and
+-- at an end (`end_reports`). Used for `law_of_trusted` and `law_of_trusted_repeats`.
 use Rattle.std.proofs.lemmas.Bool.Decides.{nat_tests}
 use Rattle.std.proofs.Common.{◌≡◌, ℕ, zero, suc, ◌+◌, ◌-◌, ◌<◌, ◌≤◌, inl, inr, true, false, not}
 use Rattle.std.proofs.Common.{◌==◌, ◌&&◌, Bool, None, if◌then◌else◌, List, [], ◌∷◌, ◌++◌}
