@@ -1,5 +1,5 @@
--- `blocks_of`: the blocks written for a subtitle are blocks of it; main lemmas: joined_more,
--- joined_end, blocks_made, blocks_again.
+-- `blocks_of`: the blocks written for a subtitle are the blocks of that subtitle; main lemmas:
+-- joined_more, joined_end, blocks_made, blocks_again.
 use Rattle.std.proofs.Common.{rules, ◌≡◌, ◌*◌, ℕ, true, List, [], ◌∷◌, ◌++◌, length, refl, ap}
 use Rattle.std.proofs.Common.{append_assoc, arith, length-append, take, drop, zero, suc, ◌+◌, ◌-◌}
 use Rattle.std.proofs.Common.{◌<◌, ◌≤◌, replicate, length-take}

@@ -1,5 +1,5 @@
--- `findings_at` by cases, the bytes that determine it, and the blocks in its results; main lemmas:
--- findings_block, findings_at-first, finds_from.
+-- The results of reading blocks, `findings_at`: the bytes that determine them, and their block
+-- numbers; main lemmas: findings_block, findings_at-first, finds_from.
 use Rattle.std.proofs.Common.{◌≡◌, ◌*◌, ℕ, List, [], ◌∷◌, ◌++◌, length, refl, arith}
 use Rattle.std.proofs.Common.{length-append, length-take, take, drop, Option, Some, None, Result}
 use Rattle.std.proofs.Common.{zero, suc, ◌+◌, ◌-◌, ◌<◌, ◌≤◌, inl, inr}

@@ -1,5 +1,5 @@
--- Reading the GSI block, and setting its counts; main lemmas: gsi_sound, gsi_complete,
--- counted_is_gsi.
+-- Reading the GSI block, and setting its counts of blocks and subtitles; main lemmas: gsi_sound,
+-- gsi_complete, counted_is_gsi.
 use Rattle.std.proofs.Common.{◌≡◌, ℕ, Bool, List, ◌++◌, length, refl, sym, ap, ◌∙◌, append_assoc}
 use Rattle.std.proofs.Common.{arith}
 use Rattle.std.proofs.Common.{length-append, take, drop, false, Ok, ◌+◌, ◌≤◌}

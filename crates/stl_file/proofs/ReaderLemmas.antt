@@ -1,5 +1,5 @@
--- What a call of a reader consumes and returns; main lemmas: takes_subtitle, takes_skipped,
--- refuses; left-then.
+-- The bytes that a call of a reader consumes, and its result; main lemmas: takes_subtitle,
+-- takes_skipped, refuses; left-then.
 use Rattle.std.proofs.Common.{◌≡◌, ℕ, true, List, [], ◌∷◌, ◌++◌, refl, sym, ap, ◌∙◌}
 use Rattle.std.proofs.Common.{append_assoc, arith, Option, Some, None, Result, Ok, Err, ◌-◌, length}
 use Rattle.std.proofs.lemmas.Bool.Decides.{nat_tests}
@@ -46,7 +46,7 @@ by_fault to next more s f = grind arith
 is_cut-by : (f : StlFault) → finds_end (found_of (Err f)) ≡ true → is_cut f ≡ true
 is_cut-by f e = grind arith
 
--- No file continues with the bytes of a first fault.
+-- No subtitle file continues with the bytes that led to the first fault.
 pub refuses : (from to : ℕ) (old new : Option (List ℕ)) (s : SubtitleValue) (next : Option Begun)
     (x : StlFault)
     → LeadsOn whole from to None next old new s (found_of (Err x))

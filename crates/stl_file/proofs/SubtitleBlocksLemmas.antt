@@ -1,5 +1,5 @@
--- The blocks of a subtitle, and lists of blocks; main lemmas: length-concat, linked_text,
--- blocks_subtitle.
+-- The number of bytes in the blocks of a subtitle, and the bounds of its text; main lemmas:
+-- length-concat, linked_text, blocks_subtitle.
 use Rattle.std.proofs.Common.{◌≡◌, ◌*◌, ℕ, List, [], ◌∷◌, length, refl, arith, length-append, ◌<◌}
 use Rattle.std.proofs.Common.{◌≤◌}
 use Rattle.std.proofs.lemmas.Bool.Decides.{nat_tests}

@@ -132,10 +132,10 @@ step_at scope begun b =
 
 -- ---- reading all following TTI blocks
 
--- Five faults concern fields of a subtitle's first block: CS, JC, VP, TCI and TCO. It is still
--- known which blocks belong to the subtitle: this one and the next ones up to the first with EBN
--- FF, without comments and user data. So the subtitle is rejected, and reading can continue after
--- its blocks, in which all other faults are still reported (own).
+-- Five faults concern fields of a subtitle's first block: CS, JC, VP, TCI and TCO. After such a
+-- fault it is still known which blocks belong to the subtitle: the first block and the next blocks
+-- up to the first with EBN FF, without comments and user data. So the subtitle is rejected, and
+-- reading can continue after its blocks, in which all other faults are still reported (own).
 
 -- The results for the rest of a file, in order: each subtitle with the number of its last block,
 -- each rejected subtitle with its fault and the number of its first block; then the end of the

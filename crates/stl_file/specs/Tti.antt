@@ -33,7 +33,7 @@ most_of_subtitle = 9
 abbrev pub first_reserved : ℕ
 first_reserved = 0xF0
 
--- The EBN of user data.
+-- The EBN of a block with user data.
 abbrev pub user_data : ℕ
 user_data = 0xFE
 
@@ -45,15 +45,15 @@ last_block = 0xFF
 abbrev pub not_cumulative : ℕ
 not_cumulative = 0x00
 
--- The CF of a subtitle.
+-- The CF of a block that belongs to a subtitle.
 abbrev pub no_comment : ℕ
 no_comment = 0x00
 
--- The CF of a comment.
+-- The CF of a block that is a comment.
 abbrev pub is_comment : ℕ
 is_comment = 0x01
 
--- The byte of a text field that means unused space: the text ends before the first one.
+-- The byte of a text field that means unused space: the text ends before the first such byte.
 abbrev pub unused_space : ℕ
 unused_space = 0x8F
 

@@ -3,8 +3,8 @@
 /// The counts of blocks and subtitles in a GSI block.
 #[derive(Clone, Copy)]
 pub(crate) struct Counts {
-    // TNB, the number of TTI blocks.
+    // The value of TNB, the number of TTI blocks.
     pub(crate) tnb: u32,
-    // TNS, the number of subtitles.
+    // The value of TNS, the number of subtitles.
     pub(crate) tns: u32,
 }

@@ -22,14 +22,14 @@ pub fn law_of_files()
 {}
 
 /// Reading a file with a scope gives the same as reading, for the whole day, the file without the
-/// blocks of subtitles outside the scope, apart from block numbers. No subtitle is outside the
-/// whole day.
+/// blocks of subtitles outside the scope, apart from block numbers. In the scope of the whole day,
+/// no subtitle is outside.
 pub fn law_of_scope()
     ensures part { LawOfScope }
     ensures day { LawOfWholeDay }
 {}
 
-/// A file has one GSI block and one list of subtitles.
+/// The bytes of a file have only one reading: one GSI block and one list of subtitles.
 pub fn law_of_one_reading()
     ensures { (s g h : List ℕ)
         → (ts us : List SubtitleValue)

@@ -54,7 +54,7 @@ impl Model for StlReader {
 impl StlReader {
     ghost use Rattle.stl_file.specs.declared.progress.Progress.TheVariants.{AtEnd, Broken, Reading};
 
-    /// Reads the GSI block of a file, and nothing after it.
+    /// Reads the GSI block of a file, and nothing after the block.
     ///
     /// # Errors
     ///

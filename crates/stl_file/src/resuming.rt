@@ -30,7 +30,7 @@ pub enum Found {
     /// A rejected subtitle, of which the first block was read. The fault is `Cumulative`,
     /// `Justify`, `Row`, `Time` or `EmptyTime`.
     Refused(StlFault),
-    /// The end of the file.
+    /// The end of the subtitle file.
     End,
 }
 

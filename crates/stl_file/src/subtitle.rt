@@ -103,14 +103,14 @@ impl Subtitle {
         })
     }
 
-    /// Returns SGN, the subtitle group number.
+    /// Returns SGN, the subtitle group number of the subtitle.
     pub fn sgn(&self) -> u8
         ensures { result ≡ self.now.sgn }
     {
         self.sgn
     }
 
-    /// Returns SN, the subtitle number.
+    /// Returns SN, the number of the subtitle.
     pub fn sn(&self) -> u16
         ensures { result ≡ self.now.sn }
     {

@@ -52,7 +52,7 @@ use Rattle.std.proofs.lemmas.Bool.{cases_Bool}
 use Rattle.stl_rows.specs.Programme.{follow_faults, order_faults, row_faults, times_of}
 use Rattle.stl_rows.specs.TextCode.{first_of}
 
--- The fault is one of a single subtitle, so reading continues after the fault.
+-- The fault belongs to a single subtitle, so reading continues after the fault.
 abbrev pub is_of_subtitle : LoadFaultKind → Bool
 is_of_subtitle (File fault) = is_of_first fault
 is_of_subtitle OutOfOrder = true
@@ -60,7 +60,7 @@ is_of_subtitle Overlap = true
 is_of_subtitle (Row fault) = true
 is_of_subtitle _ = false
 
--- The fault is one of a single subtitle, at this block or before.
+-- The fault belongs to a single subtitle, and was reported at this block or before.
 abbrev pub IsReportedBy : ℕ → LoadFault → Type 0
 IsReportedBy block fault = (is_of_subtitle fault.kind ≡ true) × (fault.block ≤ block)
 

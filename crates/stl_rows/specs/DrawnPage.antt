@@ -21,7 +21,7 @@ use Rattle.stl_rows.specs.PlainPage.{last_row, plainly_drawn, unless, when}
 use Rattle.stl_rows.specs.PreparedLine.{prepared_by, row_from, start_by}
 use Rattle.stl_rows.specs.TextCode.{fault_of, lines_of_codes, refused_codes, text_codes}
 
--- ---- the lines of a text
+-- ---- the lines of a subtitle's text
 
 -- The text with each byte that the layout item `strip` names replaced by 80, a byte without a cell.
 abbrev pub unstripped : LayoutItems → List ℕ → List ℕ
@@ -36,7 +36,7 @@ abbrev pub lines_by : National → LayoutItems → List ℕ → List (List ℕ)
 lines_by national items text =
     map (prepared_by items) (lines_of_codes (codes_by national items text))
 
--- ---- the rows of lines
+-- ---- the rows of a subtitle's lines
 
 -- A prepared line that takes a row: the number of the line among all lines; `depth`, the row before
 -- the shift of all lines; whether the line directly above has double height, so may hide this line;
@@ -113,7 +113,7 @@ placed_faults items off (line ∷ lines) =
 
 -- ---- the page of a subtitle
 
--- The line is not empty, and its row after subtracting `off` is `row`.
+-- The line is not empty, and the row after subtracting the shift `off` is `row`.
 abbrev pub is_on_row : ℕ → ℕ → PlacedLine → Bool
 is_on_row off row line = has_cells line.cells && (line.depth == off + row)
 

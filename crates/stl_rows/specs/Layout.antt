@@ -91,7 +91,7 @@ items_of_layout layout = unwrap_or layout.items default_items
 abbrev pub strips : LayoutItems → ℕ → Bool
 strips items byte = nat_lt byte 0x20 && slice_index_or items.strip byte false
 
--- A drawing with a national option, a layout and a scope.
+-- Creates a drawing from a national option, a layout and a scope.
 abbrev pub drawing_within : National → Layout → Scope → Drawing
 drawing_within national layout scope =
     record { national = national; layout = layout; scope = scope }

@@ -74,7 +74,7 @@ hex_digit_value c =
     else (if is_within 0x41 0x46 c then Some (c - 0x37)
     else (if is_within 0x61 0x66 c then Some (c - 0x57) else None))
 
--- The value of two hexadecimal digits.
+-- The byte that two hexadecimal digits describe.
 abbrev pub byte_of_digits : ℕ → ℕ → Option ℕ
 byte_of_digits high low = do
   high ← hex_digit_value high

@@ -21,16 +21,16 @@ double_height = 0x0D
 abbrev pub columns : ℕ
 columns = 40
 
--- The line is not empty.
+-- The line of cells is not empty.
 abbrev pub has_cells : List ℕ → Bool
 has_cells [] = false
 has_cells (c ∷ cells) = true
 
--- The line contains a start box.
+-- The line of cells contains a start box.
 unfoldable pub is_boxed : List ℕ → Bool
 is_boxed line = list_any (λ c. c == start_box) line
 
--- The line has double height.
+-- The line of cells contains double height.
 unfoldable pub is_double : List ℕ → Bool
 is_double line = list_any (λ c. c == double_height) line
 

@@ -20,7 +20,7 @@ use Rattle.stl_rows.specs.PlainPage.{last_row, when}
 
 -- ---- the lines of a text, read cell by cell
 
--- Puts cells in front of the first line.
+-- Puts cells in front of the first line in a list of lines.
 abbrev pub onto : List ℕ → List (List ℕ) → List (List ℕ)
 onto [] lines = lines
 onto (c ∷ cells) lines = onto_first c (onto cells lines)

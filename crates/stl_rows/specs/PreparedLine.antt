@@ -43,7 +43,7 @@ without_trailing_spaces cells = take (length cells - trailing 0x20 0x20 cells) c
 unfoldable pub trimmed : List ℕ → List ℕ
 trimmed cells = without_trailing_spaces (without_leading_spaces cells)
 
--- ---- prepared lines
+-- ---- the prepared form of a line
 
 -- The layout item `white`: the leading codes of a line, followed by 07 (alpha white) if none of the
 -- codes is a colour.

@@ -80,7 +80,7 @@ impl<A: Allocator + Copy> Cues<A> {
         }
     }
 
-    /// Returns the number of subtitles.
+    /// Returns the number of subtitles in the list.
     pub fn len(&self) -> usize
         ensures { result ≡ length self.now }
     {

@@ -62,7 +62,7 @@ impl<'a> Model for Judging<'a> {
 }
 
 impl JudgedProgramme {
-    // Creates a programme of the subtitles kept of a file, with their bits.
+    // Creates a `JudgedProgramme` from the subtitles kept of a file, with their bits.
     pub(crate) fn of(drawing: Drawing, kept: Kept<Global>) -> JudgedProgramme
         requires { IsProgramme drawing kept.records }
         ensures { result ≡ judged_with drawing kept }

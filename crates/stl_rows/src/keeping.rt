@@ -23,9 +23,9 @@ pub struct Kept<A: Allocator + Copy> {
     // For each subtitle in order, whether an unreliable subtitle directly precedes it, up to the
     // last bit that is set.
     pub(crate) after_other: Vec<bool, A>,
-    // Whether an unreliable subtitle follows the last kept one.
+    // Whether an unreliable subtitle follows the last kept subtitle.
     pub(crate) is_before_other: bool,
-    // Whether the times of the next subtitle are compared with those of the last kept one.
+    // Whether the times of the next subtitle are compared with those of the last kept subtitle.
     pub(crate) is_latest: bool,
 }
 

@@ -138,7 +138,7 @@ struct Place {
 }
 
 impl Place {
-    // Returns the first fault of a line at this position.
+    // Returns the first fault of a line at this position on the page.
     #[tactic(auto, unfolding(crate::specs::LineByLayout::fault_at))]
     fn fault(&self, items: &LayoutItems, off: u16, line: &[u8]) -> Option<RowFault>
         requires { off ≤ 2271 }
@@ -154,7 +154,7 @@ impl Place {
         })
     }
 
-    // Returns the kind of the first fault of a line at this position.
+    // Returns the kind of the first fault of a line at this position on the page.
     #[tactic(auto, unfolding(crate::specs::DrawnPage::placed_fault_kinds))]
     fn fault_kind(&self, items: &LayoutItems, off: u16, line: &[u8]) -> Option<RowFaultKind>
         requires { off ≤ 2271 }
@@ -175,7 +175,7 @@ impl Place {
         None
     }
 
-    // Moves to the position of the next line.
+    // Moves the position to that of the next line.
     #[tactic(auto, unfolding(crate::specs::LineByLayout::place_after))]
     fn skip_line(&mut self, items: &LayoutItems, line: &[u8])
         requires number { self.old.number ≤ 1008 }

@@ -89,7 +89,7 @@ fn hex_digit_value(byte: u8) -> Option<u8>
     }
 }
 
-// Returns the value of two hexadecimal digits.
+// Returns the byte that two hexadecimal digits describe.
 fn byte_of_digits(high: u8, low: u8) -> Option<u8>
     ensures { result ≡ byte_of_digits high low }
 {

@@ -53,7 +53,7 @@ fn trailing(first: u8, last: u8, cells: &[u8]) -> usize
     cells.len()
 }
 
-// Returns a line without the spaces at both ends.
+// Returns the line without spaces at both ends.
 #[tactic(auto, unfolding(crate::specs::PreparedLine::trimmed))]
 fn trimmed(cells: &[u8]) -> &[u8]
     ensures value { result.now ≡ trimmed cells.now }
@@ -64,7 +64,7 @@ fn trimmed(cells: &[u8]) -> &[u8]
     kept
 }
 
-// Returns whether the line contains a code.
+// Returns whether a line of cells contains a code.
 fn has(cells: &[u8], code: u8) -> bool
     ensures { result ≡ list_any (λ c. c == code) cells.now }
 {
@@ -101,7 +101,7 @@ fn push_codes(line: &mut LineCells, codes: &[Option<Attribute>])
     }
 }
 
-// Builds a line from cells and the codes that a layout adds at the front.
+// Builds a line from its own cells and the codes that a layout adds at the front.
 #[tactic(auto, unfolding(crate::specs::PreparedLine::headed))]
 fn push_headed(line: &mut LineCells, items: &LayoutItems, cells: &[u8])
     requires none { line.old.items ≡ [] }
@@ -152,7 +152,7 @@ pub(crate) fn prepare_by(line: &mut LineCells, items: &LayoutItems, cells: &[u8]
     push_framed(line, items, kept);
 }
 
-/// Returns whether a prepared line has double height.
+/// Returns whether a prepared line contains double height.
 #[tactic(auto, unfolding(crate::specs::Line::is_double))]
 pub(crate) fn is_double(line: &[u8]) -> bool
     ensures { result ≡ is_double line.now }

@@ -144,7 +144,7 @@ fn edge_after(drawing: &Drawing, subtitles: &Cues<Global>, frame: u32) -> Option
     Some(tco)
 }
 
-// Returns the TCO of the subtitle before index `at`, or `None` if `at` is the first.
+// Returns the TCO of the subtitle before the index `at`, or `None` if `at` is 0.
 fn tco_before(subtitles: &Cues<Global>, at: usize) -> Option<u32>
     requires { at ≤ length subtitles.now }
     ensures { MatchOption result (at ≡ 0) (λ tco. (1 ≤ at) × ((d : SubtitleValue)
@@ -241,7 +241,7 @@ impl Programme {
         Programme { drawing, subtitles }
     }
 
-    /// Returns the number of subtitles.
+    /// Returns the number of subtitles in the programme.
     pub fn len(&self) -> usize
         ensures value { result ≡ length self.now.records }
         ensures programme { IsProgramme self.now.drawing self.now.records }
@@ -249,7 +249,7 @@ impl Programme {
         self.subtitles.len()
     }
 
-    /// Returns whether there is no subtitle.
+    /// Returns whether the programme has no subtitle.
     pub fn is_empty(&self) -> bool
         ensures { IsTrue result ↔ (self.now.records ≡ []) }
     {
@@ -264,7 +264,8 @@ impl Programme {
         self.subtitles.subtitle(i)
     }
 
-    /// Returns the first TCI as a frame of the day, or `None` if there is no subtitle.
+    /// Returns the TCI of the first subtitle as a frame of the day, or `None` if the programme has
+    /// no subtitle.
     pub fn first_in(&self) -> Option<u32>
         ensures value { result ≡ first_in self.now.records }
         ensures programme { IsProgramme self.now.drawing self.now.records }
@@ -272,7 +273,8 @@ impl Programme {
         Some(self.subtitles.first()?.tci().frame())
     }
 
-    /// Returns the last TCO as a frame of the day, or `None` if there is no subtitle.
+    /// Returns the TCO of the last subtitle as a frame of the day, or `None` if the programme has
+    /// no subtitle.
     pub fn last_out(&self) -> Option<u32>
         ensures value { result ≡ last_out self.now.records }
         ensures programme { IsProgramme self.now.drawing self.now.records }

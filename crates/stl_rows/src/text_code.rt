@@ -64,7 +64,7 @@ fn cell_of(national: National, byte: u8) -> Option<u8>
     cell_in(national.characters(), None, byte)
 }
 
-// Returns the meaning of a byte without a cell.
+// Returns the text code of a byte without a cell: no cell, a new line, or a rejected byte.
 #[tactic(auto, unfolding(crate::specs::TextCode::code_of_other))]
 fn code_of_other(byte: u8) -> TextCode
     ensures { result ≡ code_of_other byte }

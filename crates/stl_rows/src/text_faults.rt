@@ -55,7 +55,7 @@ impl OpenLine {
         self.is_double = self.is_double || cell == 0x0D;
     }
 
-    // Moves to the next line, which has no cells yet.
+    // Moves to the next line of the text, which has no cells yet.
     fn end(&mut self)
         requires number { self.old.number ≤ 1008 }
         requires row { self.old.row ≤ 1031 }
@@ -71,7 +71,7 @@ impl OpenLine {
         };
     }
 
-    // Returns the first fault of the line.
+    // Returns the kind of the first fault of the current line.
     #[tactic(auto, unfolding(crate::specs::LineByLine::shape_fault_kinds))]
     fn fault_kind(&self) -> Option<RowFaultKind>
         requires { self.now.len ≤ 1008 }
@@ -93,7 +93,7 @@ impl OpenLine {
         None
     }
 
-    // Returns the fault found before the line, or else the first fault of the line.
+    // Returns the fault found before the current line, or else the first fault of this line.
     fn first_fault(&self, before: Option<RowFault>) -> Option<RowFault>
         requires { self.now.len ≤ 1008 }
         ensures { result ≡ reported_first before self.now }

@@ -59,7 +59,7 @@ Opens (names.Extract recording output) calls result =
     OpensAndCreates Extract recording output calls result
 Opens _ _ _ = ⊥
 
--- The calls that were made opened these files, or none.
+-- The device made calls that opened the files of a request, or no files.
 pub record OpensBy
     {I O : Type 0} (AreMade : List (FileCall I O) → Type 0) (names : FileNames)
     (result : Option (Opened I O))

@@ -10,7 +10,7 @@ use crate::file_system::FileSystem;
 use std::marker::Model;
 use sub_io::{MemSink, MemSource};
 
-/// A file in memory.
+/// A file in memory, with its name and contents.
 #[derive(Clone, Copy)]
 pub struct MemFile<'a> {
     pub name: &'a str,

@@ -71,7 +71,7 @@ pub record EndsWork
   pub file_count : RisesIf file.old_count (failed is_file_failure answer) file.new_count
   pub printed : PrintsOrFails out (work_listing things answer) status
 
--- ---- `schedule`
+-- ---- the command `schedule`
 
 -- The file received the schedule of a programme, and the result is the number of page
 -- transmissions; or the file failed and received a prefix of the schedule; or the programme has no
@@ -110,7 +110,7 @@ PrintsMemory drawing known old new =
     (block : ℕ) × Appends old new (line_of (load_line Memory block))
     × IfKnown known (λ bytes. EndsRecord drawing bytes block)
 
--- ---- `normal`
+-- ---- the command `normal`
 
 -- The maximum number of bytes to read: one more than the longest file has.
 abbrev pub most_read : ℕ

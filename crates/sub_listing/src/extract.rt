@@ -96,7 +96,7 @@ pub fn extract_packets<P: PesPackets, F: Close, K: Sink>(
     }
 }
 
-// Copies all PES packets, and stores the file.
+// Copies all PES packets to the output file, and stores the file.
 fn write_pes_packets<P: PesPackets, F: Close>(
     pes_packets: &mut P,
     file: &mut F,

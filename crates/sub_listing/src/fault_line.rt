@@ -26,7 +26,7 @@ pub struct FaultLine {
     pub code: FaultCode,
     /// The place of the fault.
     pub place: FaultPlace,
-    /// The number in its file of the first PES packet that is read, counted from 0.
+    /// The number, in its file, of the first PES packet that is read, counted from 0.
     pub first: u64,
 }
 

@@ -1,4 +1,4 @@
-//! `--help`: explains how to use the program.
+//! The command `--help`, which explains how to use the program.
 ghost use Rattle.std.specs.Prelude.{◌≡◌, ◌+◌};
 ghost use Rattle.sub_listing.specs.DeviceCall.{CanFail, CountsFault, sink_call};
 ghost use Rattle.sub_listing.specs.Help.{help_text};

@@ -10,7 +10,7 @@ use std::simd::prelude::*;
 /// The lower case hexadecimal digits, by value.
 const DIGITS: [u8; 16] = *b"0123456789abcdef";
 
-// Returns the first digit of each byte, that of its upper half.
+// Returns the first hexadecimal digit of each byte, that of its upper half.
 #[inline(always)]
 fn first_digits(bytes: u8x16) -> u8x16
     ensures { result ≡ map (λ b. slice_index lower_digits (b / 16)) bytes }
@@ -18,7 +18,7 @@ fn first_digits(bytes: u8x16) -> u8x16
     u8x16::from_array(DIGITS).swizzle_dyn(bytes >> u8x16::splat(4))
 }
 
-// Returns the second digit of each byte, that of its lower half.
+// Returns the second hexadecimal digit of each byte, that of its lower half.
 #[inline(always)]
 fn second_digits(bytes: u8x16) -> u8x16
     ensures { result ≡ map (λ b. slice_index lower_digits (b % 16)) bytes }

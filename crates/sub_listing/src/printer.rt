@@ -19,7 +19,7 @@ use sub_rules::{CheckFault, Event};
 /// The printer stops if its sink failed; the sink then received a prefix of the line.
 #[derive(Drop)]
 pub struct Printer<'a, K> {
-    /// The sink of the lines.
+    /// The sink to which the printer writes its lines.
     pub out: &'a mut K,
     /// The number of faults counted; the greatest number, 2^64 - 1, also stands for any greater
     /// number.
@@ -28,12 +28,12 @@ pub struct Printer<'a, K> {
     pub failed: bool,
     /// Whether lines were written that the sink may still hold back.
     pub pending: bool,
-    /// The number in its file of the first PES packet that is read, counted from 0.
+    /// The number, in its file, of the first PES packet that is read, counted from 0.
     pub first: u64,
 }
 
 impl<'a, K: Flush> Printer<'a, K> {
-    /// Flushes the sink.
+    /// Flushes the sink of the printer.
     ///
     /// # Errors
     ///
@@ -115,7 +115,7 @@ impl<'a, K: Sink> Printer<'a, K> {
         Ok(())
     }
 
-    // Counts an event if it is a fault.
+    // Counts an event of a printer if the event is a fault.
     #[tactic(auto, unfolding(crate::specs::Printer::counted))]
     fn count(&mut self, event: Event)
         ensures { self.new ≡ record self.old {
@@ -126,7 +126,7 @@ impl<'a, K: Sink> Printer<'a, K> {
     }
 }
 
-// Returns 1 for a fault, and 0 for any other event.
+// Returns the number of faults that an event reports: 1 or 0.
 fn refusal(event: Event) -> u64
     ensures { result ≡ refusal event }
 {
@@ -197,7 +197,7 @@ impl<K: Flush> Live for Printer<'_, K> {
         self.pending
     }
 
-    /// Flushes the sink.
+    /// Flushes the sink of the printer.
     ///
     /// # Errors
     ///

@@ -23,9 +23,9 @@ pub enum WriteFault {
     Input(InputFault),
     /// The input of `schedule` gives no programme.
     Load(LoadFault),
-    /// The normal form was not written.
+    /// The normal form of the subtitle file was not written.
     Normal(NormalFault),
-    /// The schedule was not written.
+    /// The schedule of the subtitle file was not written.
     Plan(PlanFault),
 }
 

@@ -15,7 +15,7 @@ use Rattle.sub_plan.specs.FrameTime.{pts_of}
 use Rattle.sub_plan.specs.Options.{OptionsValue}
 use Rattle.sub_plan.specs.Sending.{sending}
 
--- ---- frames with a page transmission
+-- ---- the frames of a schedule with a page transmission
 
 -- The two pages are equal, cell by cell.
 abbrev pub is_same_page : Rows → Rows → Bool

@@ -9,7 +9,8 @@ ghost use Rattle.sub_plan.specs.Laws.{LawOfLastSending, LawOfPesValues, LawOfSen
 ghost use Rattle.sub_plan.specs.Laws.{LawOfClock, LawOfExactClock, LawOfNearClock};
 ghost use Rattle.sub_plan.specs.Laws.{LawOfSendings, LawOfSentPackets, LawOfSize};
 
-/// Whatever was sent before, a page transmission shows the page from which it was made.
+/// Whatever was sent before, a receiver shows after a page transmission the page from which the
+/// transmission was made.
 pub fn law_of_sending()
     ensures { LawOfSending }
 {}
@@ -66,7 +67,7 @@ pub fn law_of_day()
     ensures { LawOfDay }
 {}
 
-/// Each clock converts the PTS of a frame of the day to that frame.
+/// Each clock converts the PTS of a frame of the day back to that frame.
 pub fn law_of_clock()
     ensures { LawOfClock }
 {}
@@ -82,12 +83,12 @@ pub fn law_of_near_clock()
     ensures { LawOfNearClock }
 {}
 
-/// The header of page 888 byte by byte, for all national options and in both modes.
+/// Example: the header of page 888 byte by byte, for all national options and in both modes.
 pub fn example_of_watched_headers()
     ensures { ExampleOfWatchedHeaders }
 {}
 
-/// The closing header byte by byte, in both modes.
+/// Example: the closing header byte by byte, in parallel and in serial mode.
 pub fn example_of_closing_headers()
     ensures { ExampleOfClosingHeaders }
 {}

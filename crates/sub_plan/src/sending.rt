@@ -91,7 +91,7 @@ fn is_blank(codes: &[u8; 40]) -> bool
     *codes == [0x20; 40]
 }
 
-// Returns whether the row has a cell other than a space.
+// Returns whether a row of the page is sent: it has a cell other than a space.
 fn is_sent_row(codes: &[u8; 40]) -> bool
     ensures { result ≡ is_sent_row codes.now }
 {

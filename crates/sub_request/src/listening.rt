@@ -4,9 +4,9 @@ use sub_plan::Options;
 /// A bit of a Teletext packet that the receiver gets wrong.
 #[derive(Clone, Copy, Debug, PartialEq, Eq)]
 pub struct Flip {
-    /// The number of the packet, counted from 0 among all Teletext packets of the file.
+    /// The number of the Teletext packet, counted from 0 among all Teletext packets of the file.
     pub packet: u64,
-    /// The byte of the packet, 0 to 41, address bytes first.
+    /// The byte of the Teletext packet, 0 to 41, address bytes first.
     pub byte: u8,
     /// The bit of the byte, 1 to 8: bit 1 is the lowest and is sent first (EN 300 706).
     pub bit: u8,

@@ -127,14 +127,14 @@ pub enum Request<'a> {
         /// The PES packets to list.
         pes: PesSelection<'a>,
     },
-    /// `show STL`: lists subtitles.
+    /// `show STL`: lists the subtitles of a file.
     Show {
         /// The name of the subtitle file.
         stl: &'a str,
     },
     /// `normal IN OUT`: writes the normal form of a subtitle file.
     Normal {
-        /// The name of the subtitle file.
+        /// The name of the subtitle file to normalize.
         input: &'a str,
         /// The name of the file to write, different from that of the subtitle file.
         output: &'a str,
@@ -147,7 +147,7 @@ pub enum Request<'a> {
         pes: &'a str,
         /// The options of the schedule: the page, the repeat bound and the PTS of frame 0.
         options: Options,
-        /// Whether the headers are those of serial mode (C11 is set).
+        /// Whether the page headers are those of serial mode (C11 is set).
         serial: bool,
         /// The national option of the subtitles' text.
         national: National,

@@ -70,7 +70,7 @@ HasCleanSpans page transmission =
     (f n : ℕ) → f ≤ last_frame transmission
     → IsCleanSpan page (span (kind page) (take n (on_air_until transmission f)))
 
--- The frame contains a header of the page.
+-- The frame f of the transmission contains a header of the page.
 abbrev pub HoldsHeader : PageIdValue → Transmission → ℕ → Type 0
 HoldsHeader page transmission f = IsTrue (holds_header (kind page) (packets_of transmission f))
 

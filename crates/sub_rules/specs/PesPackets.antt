@@ -104,13 +104,13 @@ ReportsPesPacket clock n bytes pes_packets unread v (Ok (Some (next.Skipped f)))
 ReportsPesPacket clock n bytes pes_packets unread v (Err f) =
     (pes_packets ≡ []) × (u : Unread) × (unread ≡ Some u) × (f ≡ unread_fault n (Some u))
 
--- Exactly one PES packet was consumed.
+-- The call consumed exactly one PES packet.
 pub record TakesOnePesPacket (old new : Option (List ℕ)) : Type 0 where
   pub bytes : List ℕ
   pub is_pes_packet : IsPesPacket bytes
   pub consumed : Consumes old new bytes
 
--- Exactly n PES packets were consumed.
+-- The call consumed exactly n PES packets.
 pub record TakesPesPackets (n : ℕ) (old new : Option (List ℕ)) : Type 0 where
   pub pes_packets : List (List ℕ)
   pub number : length pes_packets ≡ n

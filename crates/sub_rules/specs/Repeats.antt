@@ -101,8 +101,8 @@ pub record KeepsRulesBy
   pub repeats : Repeats options.page options.every transmission
   pub paced : KeepsPace options.pace transmission
 
--- Frame f is finished: at its end each cell is right and, if complete pages are required, the page
--- is not open.
+-- Frame f of the day is finished: at its end each cell is right and, if complete pages are
+-- required, the page is not open.
 pub record IsFinishedBy
     (keeps : Bool) (programme : ProgrammeValue) (transmission : Transmission)
     (options : OptionsValue) (f : ℕ)
@@ -110,12 +110,12 @@ pub record IsFinishedBy
   pub whole : IsCorrectPage keeps programme options.page transmission f
   pub ended : IsTrue options.asks_complete → HasEndedPage options.page transmission f
 
--- At least one of the frames from a to b is finished.
+-- At least one of the frames from a to b is finished (`IsFinishedBy`).
 abbrev pub SomeFinishedBy : Bool → ProgrammeValue → Transmission → OptionsValue → ℕ → ℕ → Type 0
 SomeFinishedBy keeps programme transmission options a b =
     (f : ℕ) × (a ≤ f) × (f ≤ b) × IsFinishedBy keeps programme transmission options f
 
--- Of any `within` + 1 consecutive frames from a to b, at least one is finished.
+-- Of any `within` + 1 consecutive frames from a to b, at least one is finished (`IsFinishedBy`).
 abbrev pub FinishesAgainBy :
     Bool → ProgrammeValue → Transmission → OptionsValue → ℕ → ℕ → Type 0
 FinishesAgainBy keeps programme transmission options a b =

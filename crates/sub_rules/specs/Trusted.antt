@@ -27,13 +27,13 @@ use Rattle.sub_rules.specs.declared.event.Event.TheVariants.{Reported, Trusted}
 use Rattle.sub_rules.specs.declared.fault.CheckFault.TheVariants as fault
 use Rattle.sub_rules.specs.declared.active_faults.ActiveFaults.{ActiveFaults}
 
--- A step of checking a file.
+-- A step of checking a PES file.
 pub data CheckStep : Type 0 where
   -- The following steps belong to the PES packet with this number.
   AtPes : ℕ → CheckStep
   -- An event of the check.
   Emits : Event → CheckStep
-  -- The packets of a frame with this number follow.
+  -- The following Teletext packets belong to the frame with this number.
   Begins : ℕ → CheckStep
   -- The following steps belong to the end of this frame. The second argument is the first frame of
   -- the current run of ends with an unfinished page, if the page is unfinished; the third says
@@ -83,7 +83,7 @@ back_of [] = None
 back_of (GoesBack first_unfinished ∷ past) = first_unfinished
 back_of (m ∷ past) = back_of past
 
--- The step is an event.
+-- The step of the check is an event.
 abbrev pub is_emitted : CheckStep → Bool
 is_emitted (Emits e) = true
 is_emitted m = false

@@ -21,7 +21,7 @@ pub struct ActiveFaults {
 }
 
 impl ActiveFaults {
-    /// Returns the state without active faults.
+    /// Creates the state in which no fault is active.
     pub fn none() -> Self
         ensures { result ≡ no_active_faults }
     {

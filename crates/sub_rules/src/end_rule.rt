@@ -7,15 +7,16 @@ use sub_io::FaultCode;
 /// frames.
 #[derive(Clone, Copy, Debug, PartialEq, Eq)]
 pub enum EndRule {
-    /// The page that is shown is the due page.
+    /// At the end of the frame, the page that is shown is the due page.
     Content,
-    /// The last header of the page is not too long ago.
+    /// At the end of the frame, the last header of the page is not too long ago.
     Gap,
-    /// If complete pages are required, the page is not open.
+    /// At the end of the frame, the page is not open, if complete pages are required.
     Incomplete,
-    /// The due page is known: no rejected subtitle may be due.
+    /// At the end of the frame, the due page is known: no rejected subtitle may be due.
     Undecided,
-    /// If a maximum distance of PES packets is required, the last PES packet is not too long ago.
+    /// At the end of the frame, the last PES packet is not too long ago, if a maximum distance of
+    /// PES packets is required.
     Silent,
 }
 

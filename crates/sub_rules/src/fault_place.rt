@@ -1,11 +1,11 @@
-//! Places of faults.
+//! The places of faults in the subtitle file and the transmission.
 
 /// The place of a fault in the subtitle file or the transmission.
 #[derive(Clone, Copy, Debug, PartialEq, Eq)]
 pub enum FaultPlace {
     /// The fault has no place.
     Nowhere,
-    /// A PES packet, counted from 0.
+    /// A PES packet of the file, counted from 0.
     Pes {
         /// The number of the PES packet, counted from 0.
         pes: u32,
@@ -22,7 +22,7 @@ pub enum FaultPlace {
         /// The index of the byte or the line.
         at: u16,
     },
-    /// A frame of the day.
+    /// A frame of the day at 25 frames per second.
     Frame {
         /// The frame, counted from 0 at midnight.
         frame: u32,

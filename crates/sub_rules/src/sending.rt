@@ -1,4 +1,4 @@
-//! The PES packets of a file with their frames.
+//! The PES packets of a file, each with its frame.
 ghost use Rattle.std.specs.Prelude.{◌≡◌, ◌≤◌, length};
 ghost use Rattle.ttx_pes.specs.PesGrammar.{IsPesValue, most_units};
 

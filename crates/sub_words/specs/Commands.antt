@@ -69,28 +69,28 @@ pace_rule = bare_option_rule (codes "pace")
 -- The table of commands, each with the rules of its arguments.
 abbrev pub commands : List (Text × List Rule)
 commands =
-    -- packet HEX
+    -- The command `packet HEX`.
     (codes "packet", required_rule (codes "hex") ∷ [])
-    -- packets PES [--pid P] [--packet-size S] [--pes I-J]
+    -- The command `packets PES [--pid P] [--packet-size S] [--pes I-J]`.
     ∷ (codes "packets", required_rule (codes "recording") ∷ recording_rules [])
-    -- show STL
+    -- The command `show STL`.
     ∷ (codes "show", required_rule (codes "stl") ∷ [])
-    -- normal IN OUT
+    -- The command `normal IN OUT`.
     ∷ (codes "normal", required_rule (codes "in") ∷ required_rule (codes "out") ∷ [])
-    -- schedule STL PES [--page P] [--origin T] [--every N] [--option O] [--layout TEXT]
-    -- [--from TIME] [--to TIME] [--open] [--serial]
+    -- The command `schedule STL PES [--page P] [--origin T] [--every N] [--option O] [--layout
+    -- TEXT] [--from TIME] [--to TIME] [--open] [--serial]`.
     ∷ (codes "schedule", pair_rules (codes "pes") (flag_rule (codes "serial") ∷ []))
-    -- check STL PES [--page P] [--origin T] [--every N] [--option O] [--layout TEXT]
+    -- The command `check STL PES [--page P] [--origin T] [--every N] [--option O] [--layout TEXT]
     -- [--from TIME] [--to TIME] [--open] [--within N] [--pid P] [--packet-size S] [--pes I-J]
-    -- [--pace K] [--keeping] [--complete] [--all]
+    -- [--pace K] [--keeping] [--complete] [--all]`.
     ∷ (
       codes "check",
       pair_rules (codes "recording") (within_rule
           ∷ recording_rules (pace_rule ∷ flag_rule (codes "keeping") ∷ flag_rule (codes "complete")
           ∷ flag_rule (codes "all") ∷ [])),
     )
-    -- listen PES [--page P] [--origin T] [--within N] [--pid P] [--packet-size S] [--pes I-J]
-    -- --at TIME [--skip N] [--flip F] [--lose L] [--receiver R] [--complete]
+    -- The command `listen PES [--page P] [--origin T] [--within N] [--pid P] [--packet-size S]
+    -- [--pes I-J] --at TIME [--skip N] [--flip F] [--lose L] [--receiver R] [--complete]`.
     ∷ (
       codes "listen",
       required_rule (codes "recording") ∷ option_rule (codes "page") (codes "888")
@@ -100,13 +100,13 @@ commands =
           ∷ bare_option_rule (codes "lose") ∷ option_rule (codes "receiver") (codes "blank")
           ∷ flag_rule (codes "complete") ∷ []),
     )
-    -- extract TS PES --pid P [--packet-size S]
+    -- The command `extract TS PES --pid P [--packet-size S]`.
     ∷ (
       codes "extract",
       required_rule (codes "recording") ∷ required_rule (codes "pes")
           ∷ required_option_rule (codes "pid") ∷ packet_size_rule ∷ [],
     )
-    -- survey RECORDING [--page P] [--pid P] [--packet-size S]
+    -- The command `survey RECORDING [--page P] [--pid P] [--packet-size S]`.
     ∷ (
       codes "survey",
       required_rule (codes "recording") ∷ option_rule (codes "page") (codes "888")

@@ -40,7 +40,7 @@ pub fn text_at<'a>(matches: &ArgMatches<'a>, id: &str) -> &'a str
     given_at(matches, id).unwrap_or("")
 }
 
-/// Returns whether a flag is set. `clap` stores the text `true` or `false` for it.
+/// Returns whether a flag is set. `clap` stores the text `true` or `false` for a flag.
 pub fn flag_at<'a>(matches: &ArgMatches<'a>, id: &str) -> bool
     ensures { result ≡ is_given id.now (rows_of (found_of matches.now)) }
 {

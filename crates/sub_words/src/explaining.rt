@@ -4,8 +4,8 @@ use crate::help::requests_help;
 use crate::version::requests_version;
 use std::alloc::Global;
 
-/// Prints `clap`'s own message on standard error if it refuses the arguments. The message is not
-/// specified.
+/// Prints `clap`'s own message on standard error if `clap` refuses the arguments. The message is
+/// not specified.
 pub fn explain_words<E: Eprint>(alloc: Global, arguments: &[&str], errors: &E) {
     if arguments.is_empty() || requests_help(arguments) || requests_version(arguments) {
         return;

@@ -1,4 +1,4 @@
-//! Arguments that request help.
+//! Tests whether the command-line arguments request help.
 ghost use Rattle.std.specs.Prelude.{◌≡◌};
 ghost use Rattle.sub_words.specs.Commands.{texts_of};
 ghost use Rattle.sub_words.specs.Help as specs;

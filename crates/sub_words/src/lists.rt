@@ -7,7 +7,7 @@ ghost use Rattle.sub_words.specs.Texts.{comma, items_after, list_of_text};
 
 use std::alloc::{AllocError, Allocator};
 
-/// The maximum number of items of a list.
+/// The maximum number of items in a list of an option.
 const MOST_ITEMS: usize = 64;
 
 /// An item of a list in the text of an option.

@@ -63,7 +63,7 @@ fn parse_command<'a>(alloc: Global, arguments: &'a [&'a str]) -> Result<Request<
     }
 }
 
-// Returns `clap`'s matches for the arguments.
+// Returns the matches of `clap` for the arguments.
 fn matches_of<'a>(alloc: Global, arguments: &'a [&'a str]) -> Result<ArgMatches<'a>, UsageFault>
     requires { arguments.now ≢ [] }
     ensures command { IfOk result

@@ -31,7 +31,7 @@ fn digits_after_0x(text: &str) -> Option<&str>
     text.strip_prefix("0x")
 }
 
-// Parses one to eight hexadecimal digits.
+// Parses one to eight hexadecimal digits as a number. Returns `None` for any other text.
 #[tactic(auto, unfolding(crate::specs::PesTexts::number_of_hex_digits))]
 fn parse_hex_digits(text: &str) -> Option<u64>
     ensures value { result ≡ number_of_hex_digits text.now }
@@ -51,7 +51,7 @@ fn are_hex_digits(bytes: &[u8]) -> bool
     bytes.iter().all(|byte| byte.is_ascii_hexdigit())
 }
 
-/// Parses a packet size: `188`, `192` or `204`, and nothing else.
+/// Parses a packet size: `188`, `192` or `204`. Returns `None` for any other text.
 #[tactic(auto, unfolding(crate::specs::PesTexts::packet_size_of_text))]
 pub fn parse_packet_size(text: &str) -> Option<PacketSize>
     ensures { result ≡ packet_size_of_text text.now }

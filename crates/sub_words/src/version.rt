@@ -1,4 +1,4 @@
-//! Arguments that request the version.
+//! Tests whether the command-line arguments request the version.
 ghost use Rattle.std.specs.Prelude.{◌≡◌};
 ghost use Rattle.sub_words.specs.Commands.{texts_of};
 ghost use Rattle.sub_words.specs.Version as specs;
