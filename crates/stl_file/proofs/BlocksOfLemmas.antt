@@ -44,7 +44,7 @@ block_begins : (s : SubtitleValue) (e : ℕ) (piece : List ℕ)
 unfolding block_of is_time frame_in
 block_begins s e piece h = grind (arith, nat_tests, time_in_range)
 
--- The number of full text fields of a long text is one more than that of the text without its first
+-- A text of more than 112 bytes has one more full text field than the same text without its first
 -- 112 bytes.
 pieces_more : (text : List ℕ)
     → 112 < length text

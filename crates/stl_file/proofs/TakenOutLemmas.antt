@@ -133,7 +133,8 @@ fault_of_further : (scope : Scope) (o : Begun) (b : List ℕ) (f : StlFault)
 unfolding kept_at
 fault_of_further scope o b f e = grind (arith, nat_tests)
 
--- A block that is not removed is still the first block after the removal.
+-- If the first block of a list is kept, the list without the removed blocks begins with the same
+-- block.
 stays_is : (scope : Scope) (within : Option Bool) (b : List ℕ) (bs : List (List ℕ))
     → is_skipped_block b ≡ false
     → stays scope within b ≡ true

@@ -53,7 +53,8 @@ blocks_of s = blocks_from s (full_pieces s.text) 0x00 s.text
 abbrev pub all_blocks : List SubtitleValue → List (List ℕ)
 all_blocks ts = flat_map blocks_of ts
 
--- The GSI block with TNB and TNS set to the numbers of blocks and of subtitles in the list.
+-- The GSI block g with TNB and TNS set for the normal form: to the number of blocks of all
+-- subtitles, and to the number of subtitles.
 abbrev pub counted_gsi : List ℕ → List SubtitleValue → List ℕ
 counted_gsi g ts = with_counts (length (all_blocks ts)) (length ts) g
 

@@ -1,9 +1,9 @@
 //! Opens and creates files: the system, or a device that replaces it in a test.
 //!
 //! No contract of std says which file the system opens for a name. So clauses are about the calls
-//! of a `FileSystem`, their names and their order. After the result of a command, nothing more is
-//! read from or written to a file, so each file is returned (`into_inner` of buffers and readers)
-//! and released in the state in which the command left it.
+//! of a `FileSystem`, their names and their order. A clause about bytes cannot show what happens to
+//! a file after the result of a command. So each file is returned (`into_inner` of buffers and
+//! readers), and released in the state in which the command left it.
 ghost use Rattle.std.specs.Prelude.{◌≡◌, IfSome, Option};
 ghost use Rattle.sub_files.specs.FileCalls.{FileCall, any_file_call};
 

@@ -85,7 +85,7 @@ one_more (suc k) b size e =
               rw same (omega (arith, one, before, others));
         }
 
--- The bytes are the PES packets at their beginning, followed by the rest.
+-- Bytes are equal to the PES packets at their beginning, followed by the rest of the bytes.
 pub split_pes_packets : (k : ℕ) (b : List ℕ)
     → count_pes_packets k b ≡ k
     → first_pes_packets k b ++ rest_after_pes_packets k b ≡ b

@@ -100,7 +100,7 @@ taken-to_most (Some b) (Some ys) xs p size bytes e =
     let all : bytes ≡ xs ++ ys = sym (same_Some b bytes e) ∙ p in
     sym (ap (take most_read) all ∙ take_at xs ys most_read size)
 
--- Memory is allocated only after at least one byte was read.
+-- `normal` allocates memory only after it has read at least one byte.
 pub memory-wanted : (x y z : Option (List ℕ)) (n : ℕ) (xs ps : List ℕ)
     → n ≤ length ps
     → n ≢ 0

@@ -229,7 +229,7 @@ impl Options {
         self.keeps
     }
 
-    /// Returns the page with the subtitles.
+    /// Returns the identifier of the page with the subtitles: magazine and page number.
     pub fn page(&self) -> PageId
         ensures value { result ≡ self.now.page }
         ensures options { IsOptions self.now }

@@ -388,8 +388,8 @@ is_pending g frames =
     is_some (unfinished_since g frames n (end_frame frames))
     && not (is_late g frames n (end_frame frames))
 
--- The event after the last frame: the last TCO is after that frame, or the page is unfinished at
--- its end.
+-- The event `Late` after the last frame, if the last TCO is after that frame, or if the page is
+-- unfinished at its end but that is no fault yet.
 abbrev pub late_events : Criteria → Transmission → List Event
 late_events g frames =
     if is_short g.last_out (end_frame frames) || is_pending g frames

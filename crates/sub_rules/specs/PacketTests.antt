@@ -88,7 +88,7 @@ abbrev pub is_wrong_header : Watched → List (List ℕ) → PacketKind → Bool
 is_wrong_header w before (ThisPage h) = not (is_subtitle_header w before h)
 is_wrong_header w before _ = false
 
--- The packet q, if there is one, has other codes than these.
+-- The packet q exists, and the codes of its text differ from `codes`.
 abbrev pub is_other_text : Option (List ℕ) → List ℕ → Bool
 is_other_text None codes = false
 is_other_text (Some q) codes = not (row_differing (codes_of q) codes == 0)

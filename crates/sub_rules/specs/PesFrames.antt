@@ -18,8 +18,8 @@ pub record IsSentAs (origin : ℕ) (pes : PesValue) (s : SentFrame) : Type 0 whe
   pub pts : pes.pts ≡ pts_of origin s.frame
   pub packets : s.packets ≡ map (λ (u : UnitValue). u.packet) pes.units
 
--- The bytes are a PES file with this transmission: valid PES packets, joined, at most one per frame
--- of a day. Given the PTS of frame 0, each PES packet carries one frame, and the frames rise.
+-- The bytes are a PES file with this transmission: valid PES packets, joined, at most as many as a
+-- day has frames. Given the PTS of frame 0, each PES packet carries one frame, and the frames rise.
 pub record Carries (origin : ℕ) (bytes : List ℕ) (frames : Transmission) : Type 0 where
   pub values : List PesValue
   pub packets : List (List ℕ)

@@ -63,7 +63,7 @@ KeepsDueCodes keeps programme transmission options a b =
     → IsDueWithin programme transmission options f row column
     (kept keeps options.page (on_air_until transmission f) row column)
 
--- ---- the transmission of repeats
+-- ---- good transmissions with repeats
 
 -- Rules 1 to 6 of a good transmission, for repeats that may or may not keep the page.
 pub record KeepsRulesBy
