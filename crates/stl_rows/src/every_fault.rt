@@ -90,7 +90,7 @@ pub fn load_all<S: Source, D: Audience<LoadFault>>(
     ensures any { IfOk result (λ found. IfSome found (λ _.
         ReportsAnyOfFile D.is_reported audience.old audience.new)) }
     ensures stopped { D.has_stopped audience.new ≡ true → result ≡ Ok None }
-    // Even if the source's bytes are unknown: faults may have been reported before an error.
+    // Faults may have been reported before an error, even if the source's bytes are unknown.
     ensures some_before { IfErr result (λ _. ReportsSome D.is_reported audience.old audience.new) }
     // If the source failed, the error has the block of the byte that could not be read.
     ensures read { IfErr result (λ f. is_load_read f ≡ true →
