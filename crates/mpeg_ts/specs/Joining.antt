@@ -56,12 +56,12 @@ nothing_joined = record {
   pending = [];
 }
 
--- The part has ended the stream, so no output follows the bytes that are ready.
+-- The current part has ended the stream, so no output follows the bytes that are ready.
 abbrev pub has_ended : PartState → Bool
 has_ended Ended = true
 has_ended _ = false
 
--- The PES packet of the part was returned.
+-- The PES packet of the current part is complete and was returned.
 abbrev pub is_complete : PartState → Bool
 is_complete Complete = true
 is_complete _ = false
@@ -113,19 +113,19 @@ with_gap gap v = record v {
   pending = gap_marker_where (gap && gave_packet v.given);
 }
 
--- What `count` bytes of a part contain, given the size of their PES packet.
+-- What `count` bytes collected for a PES packet contain, given the size of that packet.
 abbrev pub found_by_size : ℕ → Result ℕ PesFault → Found
 found_by_size count (Ok size) = if nat_le size count then found.Whole size else found.Unfinished
 found_by_size count (Err f) = found.Other f
 
--- What the bytes of a part contain: a PES packet, an incomplete PES packet, or a wrong start code
--- or length.
+-- What the bytes collected for a PES packet contain: a complete packet, an incomplete packet, or a
+-- wrong start code or length.
 unfoldable pub found_in : List ℕ → Found
 found_in bytes =
     if nat_lt (length bytes) 6 then found.Unfinished
     else found_by_size (length bytes) (size_at (take 6 bytes))
 
--- Updates the state of an open part by what its bytes contain.
+-- Updates the state of an incomplete PES packet by what its bytes contain.
 abbrev pub settled_as : Found → JoiningValue → JoiningValue
 settled_as found.Unfinished v = v
 settled_as (found.Other f) v = record v { part = Ended; pending = v.pending ++ v.bytes }
@@ -135,7 +135,7 @@ settled_as (found.Whole size) v = record v {
   pending = v.pending ++ (take size v.bytes ++ gap_marker_where (nat_lt size (length v.bytes)));
 }
 
--- Appends bytes to an open part.
+-- Appends bytes to an incomplete PES packet.
 abbrev pub grown : Bool → JoiningValue → List ℕ → JoiningValue
 grown gap v more =
     settled_as (found_in (v.bytes ++ more))
@@ -145,14 +145,15 @@ grown gap v more =
 abbrev pub with_buffered : Bool → JoiningValue → List ℕ → JoiningValue
 with_buffered gap v more = with_gap gap (record v { bytes = more; last = more })
 
--- Starts a part with a payload, after a gap if data was lost or the part before is incomplete.
+-- Starts a part, the packets of one PES packet, with a payload. A gap comes before it if data was
+-- lost or the part before is incomplete.
 abbrev pub begun : Bool → Bool → JoiningValue → List ℕ → JoiningValue
 begun breaks true v more =
     grown (breaks || not (is_complete v.part)) (record v { bytes = [] }) more
 begun breaks false v more =
     with_buffered (breaks || not (is_complete v.part)) (record v { part = Headless }) more
 
--- Continues the part with a payload. After a complete PES packet, more payload is a gap.
+-- Continues the current part with a payload. After a complete PES packet, more payload is a gap.
 abbrev pub gone_on : PartState → JoiningValue → List ℕ → JoiningValue
 gone_on Open v more = grown false v more
 gone_on Complete v more = with_buffered true v more

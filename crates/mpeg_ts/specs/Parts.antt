@@ -39,7 +39,7 @@ is_unlinked _ = true
 abbrev pub begins_part : GoodPacket → Bool
 begins_part g = begins g.packet || is_unlinked g.link
 
--- The part that consists of this transport packet only.
+-- The part that consists of one transport packet.
 abbrev pub part_of : GoodPacket → Part
 part_of g = record {
   after_break = is_break g.link;
@@ -73,7 +73,7 @@ pub data PartOutcome : Type 0 where
   Gap : PartOutcome
   Other : List ℕ → PartOutcome
 
--- The outcome of a possible gap.
+-- The outcome of missing data: a gap, or nothing if no data is missing.
 abbrev pub gap_where : Bool → List PartOutcome
 gap_where true = Gap ∷ []
 gap_where false = []
@@ -82,7 +82,7 @@ gap_where false = []
 abbrev pub part_bytes : Part → List ℕ
 part_bytes part = concat part.payloads
 
--- The payloads up to and including the one with which `count` bytes are reached, joined.
+-- The joined payloads up to and including the payload with which `count` bytes are reached.
 unfoldable pub up_to : ℕ → List (List ℕ) → List ℕ
 up_to count [] = []
 up_to count (first ∷ more) =

@@ -20,18 +20,17 @@ use crate::transport_packet::{
 use std::marker::Model;
 use ttx_pes::PesFault;
 
-/// The progress of the current part, which contains the last good transport packet.
+/// The progress of the PES packet to which the last good transport packet belongs.
 #[derive(Drop)]
 pub(crate) enum PartState {
-    /// The part does not begin with the first byte of a PES packet, or no part has begun yet. It
-    /// yields no output.
+    /// No PES packet has begun, or its first bytes are missing. The payloads yield no output.
     Headless,
-    /// The PES packet of the part has begun and is incomplete.
+    /// A PES packet has begun and is incomplete.
     Open,
-    /// The PES packet of the part was returned.
+    /// The current PES packet is complete and was returned.
     Complete,
-    /// The start code or length of the part is not that of a PES packet with Teletext. The bytes of
-    /// the part were returned unchanged, and no output follows.
+    /// The start code or length is not that of a PES packet with Teletext. The bytes were returned
+    /// unchanged, and no output follows.
     Ended,
 }
 
@@ -46,14 +45,14 @@ pub(crate) enum Given {
     GapMarker,
 }
 
-/// What the bytes of a part contain.
+/// What the bytes collected for a PES packet contain.
 #[derive(Drop)]
 pub(crate) enum Found {
-    /// The bytes are an incomplete PES packet.
+    /// The bytes collected are an incomplete PES packet.
     Unfinished,
-    /// The bytes begin with a PES packet of this size in bytes.
+    /// The bytes collected begin with a PES packet of this size in bytes.
     Whole(usize),
-    /// The bytes have a wrong start code or length.
+    /// The bytes collected have a wrong start code or length.
     Other(PesFault),
 }
 
@@ -63,14 +62,15 @@ pub(crate) enum Found {
 /// The model has the stored state, and the bytes that are ready.
 #[derive(Drop)]
 pub struct Joining {
-    // The payloads of the part, or only the last payload if no more of the part will be returned.
+    // The payloads collected for the current PES packet, or only the last payload if they yield no
+    // more output.
     bytes: PartBytes,
     // Facts about the last good transport packet: bytes 0 to 3, the size of its payload at the end
     // of `bytes` (0 if no good packet came yet), and whether it announced a jump.
     header: [u8; 4],
     payload_size: usize,
     announced: bool,
-    // Events since the last good transport packet.
+    // Events since the last good transport packet: its repeat, an announced jump, lost data.
     has_repeat: bool,
     has_jump: bool,
     has_break: bool,
@@ -220,8 +220,8 @@ impl Joining {
             && self.last_payload() == payload_of(packet)
     }
 
-    // Returns whether data was lost between the last good packet and this packet. `false` for the
-    // first packet, and at an announced jump, where lost data cannot be detected.
+    // Returns whether data was lost between the last good packet and `packet`. Returns `false` for
+    // the first packet, and at an announced jump, where lost data cannot be detected.
     fn is_break(&self, packet: &[u8; PACKET]) -> bool
         ensures { result ≡ is_break (link_after self.now self.now.last packet.now) }
     {
@@ -237,8 +237,8 @@ impl Joining {
         counter_of(packet) != (self.header[3] % 0x10 + 1) % 0x10
     }
 
-    // Returns whether this packet does not continue the last good packet: it is the first packet,
-    // data was lost before it, or a jump is announced.
+    // Returns whether `packet` does not continue the last good packet: it is the first packet, data
+    // was lost before it, or a jump is announced.
     fn is_unlinked(&self, packet: &[u8; PACKET]) -> bool
         ensures { result ≡ is_unlinked (link_after self.now self.now.last packet.now) }
     {
@@ -251,8 +251,8 @@ impl Joining {
         counter_of(packet) != (self.header[3] % 0x10 + 1) % 0x10
     }
 
-    /// Returns whether a jump of the counter was announced between the last good packet and this
-    /// packet (discontinuity_indicator), and no data is known to be lost.
+    /// Returns whether a jump of the counter was announced between the last good packet and
+    /// `packet` (discontinuity_indicator), and no data is known to be lost.
     pub fn is_after_seam(&self, packet: &[u8; PACKET]) -> bool
         ensures { result ≡ is_seam (link_after self.now self.now.last packet.now) }
     {
@@ -274,7 +274,7 @@ impl Joining {
         self.has_break = false;
     }
 
-    // Returns whether the PES packet of the part was returned.
+    // Returns whether the current PES packet is complete and was returned.
     fn is_complete(&self) -> bool
         ensures { result ≡ is_complete self.now.part }
     {
@@ -284,7 +284,7 @@ impl Joining {
         }
     }
 
-    // Starts a part with a payload.
+    // Starts to collect the payloads of a PES packet.
     #[inline(always)]
     fn begin_part(&mut self, is_break: bool, begins: bool, payload: &[u8])
         requires idle { self.old.pending ≡ [] }
@@ -302,7 +302,7 @@ impl Joining {
         }
     }
 
-    // Continues the current part with a payload.
+    // Continues the current PES packet with a payload.
     #[inline(always)]
     fn go_on(&mut self, payload: &[u8])
         requires idle { self.old.pending ≡ [] }
@@ -317,7 +317,7 @@ impl Joining {
         }
     }
 
-    // Clears the bytes of the part, and the last payload.
+    // Clears the bytes collected for the current PES packet, and the last payload.
     #[tactic(auto, using(crate::proofs::ReadyLemmas::idling))]
     #[inline(always)]
     fn clear(&mut self)
@@ -342,8 +342,8 @@ impl Joining {
         self.pending_item = gap_marker_alone(put_gap_marker(gap, &mut self.given));
     }
 
-    // Appends a payload to an open part. If the PES packet of the part is now complete, the packet
-    // becomes ready.
+    // Appends a payload to an incomplete PES packet. If the packet is now complete, it becomes
+    // ready to be returned.
     #[tactic(auto, using(crate::proofs::ReadyLemmas::growing))]
     #[inline(always)]
     fn grow(&mut self, gap: bool, payload: &[u8])
@@ -447,7 +447,7 @@ impl Joining {
         }
     }
 
-    // Returns the bytes of the current part.
+    // Returns the bytes collected for the current PES packet.
     pub(crate) fn bytes(&self) -> &[u8]
         ensures bytes { result.now ≡ self.now.bytes }
         ensures most { length result.now ≤ 1840 }
@@ -455,7 +455,7 @@ impl Joining {
         self.bytes.as_slice()
     }
 
-    // Clears all bytes, since everything that was ready was returned.
+    // Clears all stored bytes, since everything that was ready was returned.
     #[tactic(auto, using(crate::proofs::ReadyLemmas::idling))]
     pub(crate) fn deliver(&mut self)
         ensures { self.new ≡ emptied self.old }

@@ -1,4 +1,4 @@
-//! The bytes of a part, from which a PES packet is reassembled.
+//! The buffer in which the payloads of a PES packet are collected.
 ghost use Rattle.std.specs.Prelude.{◌≡◌, ℕ, ◌+◌, ◌≤◌, [], ◌++◌, length, take};
 ghost use Rattle.sub_io.specs.Reading.{AreBytes};
 ghost use Rattle.ttx_pes.specs.PesPackets.{IsPesPacket};
@@ -13,7 +13,7 @@ use ttx_pes::size_of;
 // The size of the buffer in bytes: room for an incomplete PES packet and one more payload.
 const BUFFER_SIZE: usize = 1840;
 
-/// The bytes of a part. They can be cleared at no cost.
+/// The bytes collected for a PES packet. They can be cleared at no cost.
 #[derive(Drop)]
 pub(crate) struct PartBytes {
     room: [u8; BUFFER_SIZE],
@@ -31,7 +31,7 @@ impl Model for PartBytes {
 }
 
 impl PartBytes {
-    // Creates an empty buffer.
+    // Creates an empty buffer for the bytes of a PES packet.
     pub(crate) fn new() -> Self
         ensures { result ≡ [] }
     {
@@ -41,7 +41,7 @@ impl PartBytes {
         }
     }
 
-    // Returns the bytes of the part.
+    // Returns the bytes collected for a PES packet.
     #[inline(always)]
     pub(crate) fn as_slice(&self) -> &[u8]
         ensures bytes { result.now ≡ self.now }
@@ -51,7 +51,7 @@ impl PartBytes {
         bytes
     }
 
-    // Removes all bytes of the part.
+    // Removes all bytes collected for a PES packet.
     #[inline(always)]
     pub(crate) fn clear(&mut self)
         ensures { self.new ≡ [] }
@@ -59,7 +59,7 @@ impl PartBytes {
         self.len = 0;
     }
 
-    // Appends bytes to the part.
+    // Appends bytes to those collected for a PES packet.
     #[inline(always)]
     pub(crate) fn add(&mut self, more: &[u8])
         requires { length self.old + length more.now ≤ 1840 }
@@ -73,7 +73,7 @@ impl PartBytes {
     }
 }
 
-// Looks for a PES packet at the front of the bytes of a part.
+// Looks for a PES packet at the front of the bytes collected.
 #[inline(always)]
 pub(crate) fn find_packet(bytes: &[u8]) -> Found
     ensures found { found_in bytes.now ≡ result }

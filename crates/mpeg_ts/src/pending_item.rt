@@ -1,4 +1,4 @@
-//! Reassembled items that are ready to be returned.
+//! Reassembled PES packets and gap markers that are ready to be returned.
 ghost use Rattle.std.specs.Prelude.{◌≡◌};
 ghost use Rattle.mpeg_ts.specs.Joining.{gap_marker_alone};
 
@@ -11,14 +11,13 @@ pub(crate) enum PendingItem {
     Nothing,
     /// A gap marker is ready.
     GapMarker,
-    /// The PES packet of the part is ready, with or without a gap marker before and after it.
+    /// The current PES packet is ready, with or without a gap marker before and after it.
     Packet {
         gap_marker_before: bool,
         size: usize,
         gap_marker_after: bool,
     },
-    /// The bytes of a part with a wrong start code or length are ready, with or without a gap
-    /// marker before them.
+    /// Bytes with a wrong start code or length are ready, with or without a gap marker before them.
     Rest {
         gap_marker_before: bool,
         fault: PesFault,
@@ -32,9 +31,9 @@ pub enum Next {
     Nothing,
     /// A gap marker.
     GapMarker,
-    /// A PES packet, with its size in bytes: the first bytes of the part.
+    /// A PES packet, with its size in bytes: the first of the bytes collected.
     Packet(usize),
-    /// All bytes of the part, whose start code or length is not that of a PES packet with Teletext.
+    /// All bytes collected, whose start code or length is not that of a PES packet with Teletext.
     Rest(PesFault),
 }
 

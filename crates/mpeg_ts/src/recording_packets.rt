@@ -133,7 +133,7 @@ impl<S: Source> PesPackets for RecordingPesPackets<S> {
         }
     }
 
-    /// Returns the remaining bytes, which begin no PES packet: all bytes of the part.
+    /// Returns the remaining bytes, which begin no PES packet: all bytes collected.
     #[tactic(auto, using(crate::proofs::RecordingLemmas::rests))]
     fn read_rest(&mut self, room: &mut [u8; REST_BUFFER_SIZE]) -> Result<usize, Failed> {
         let bytes = self.stream.bytes();

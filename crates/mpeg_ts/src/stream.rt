@@ -386,7 +386,7 @@ impl Stream {
         self.read_more(source)
     }
 
-    // Reads on if no item is ready.
+    // Reads on from the source if no item is ready.
     #[inline(always)]
     #[tactic(auto, using(crate::proofs::StreamLemmas::reads))]
     fn read_more<S: Source>(&mut self, source: &mut S) -> Result<(), Failed>
@@ -427,7 +427,7 @@ impl Stream {
         self.joining.take_next()
     }
 
-    // Returns the bytes of the current part.
+    // Returns the bytes collected for the current PES packet.
     pub(crate) fn bytes(&self) -> &[u8]
         ensures bytes { result.now ≡ self.now.joining.bytes }
         ensures most { length result.now ≤ 1840 }
@@ -435,7 +435,7 @@ impl Stream {
         self.joining.bytes()
     }
 
-    // Clears all bytes of the part, since everything that was ready was returned.
+    // Clears the bytes collected, since everything that was ready was returned.
     pub(crate) fn deliver(&mut self)
         ensures { self.new ≡ record self.old { joining = emptied self.old.joining } }
     {

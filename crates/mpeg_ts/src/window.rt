@@ -40,7 +40,7 @@ impl Window {
         }
     }
 
-    // Returns the buffered bytes.
+    // Returns the buffered bytes of the recording.
     #[inline(always)]
     pub(crate) fn buffered(&self) -> &[u8]
         ensures buffered { result.now ≡ self.now.buffered }
@@ -49,7 +49,7 @@ impl Window {
         self.bytes.as_slice()
     }
 
-    // Returns the number of buffered bytes.
+    // Returns the number of buffered bytes of the recording.
     #[inline(always)]
     pub(crate) fn len(&self) -> usize
         ensures { result ≡ length self.now.buffered }
