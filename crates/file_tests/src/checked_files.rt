@@ -21,7 +21,7 @@ impl SecondLook for Finding {
     }
 }
 
-// Asserts the result of a push.
+// Asserts the result of a push, and how often the sink has failed afterwards.
 fn assert_pushes<K: Sink>(
     rt: &impl Abort,
     sink: &mut K,

@@ -110,8 +110,8 @@ fn refuses_where_one_is_missing(rt: HostRuntime) {
         let early = "refused 63 Early frame 10:00:01:00\n";
         assert_checks(&rt, Sent { left_out, ..ALL }, early);
     }
-    // A jump that is announced within a PES packet loses the packet; a recording that ends within a
-    // PES packet does not report it.
+    // If a jump is announced within a PES packet, transport packets are missing; if the recording
+    // ends within a PES packet, none is reported as missing.
     assert_checks(&rt, Sent { jump: 10, ..ALL }, LOST);
     let late = "refused 74 Late frame 10:00:00:00\n";
     assert_checks(&rt, Sent { last: 10, ..ALL }, late);

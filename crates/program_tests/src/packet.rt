@@ -58,7 +58,7 @@ fn shows_rows_and_packets_above_them(rt: HostRuntime) {
     assert_shows(&rt,
         "d08cfe7f7f7f7f7f7f7f7f7f7f7f7f7f7f7f7f7f7f7f7f7f7f7f7f7f7f7f7f7f7f7f7f7f7f7f7f7f7f7f",
         "magazine 8 packet 21\ntext |~.......................................|\n");
-    // A packet 26.
+    // A packet X/26, whose contents are not printed.
     assert_shows(&rt,
         "15b620202020202020202020202020202020202020202020202020202020202020202020202020202020",
         "magazine 8 packet 26\n");

@@ -24,7 +24,7 @@ pub record ReportsSources
   -- The answer shows which of the two sources failed.
   pub stl_count : RisesIf stl.old_count (failed is_stl_read answer) stl.new_count
   pub pes_count : RisesIf pes.old_count (failed is_pes_read answer) pes.new_count
-  -- A failed source is reported where it failed.
+  -- A failed source is reported at the block or PES packet in which it failed.
   pub stl_read :
       (f : LoadFault) → answer ≡ Err (Subtitles f) → is_load_read f ≡ true → FailsAtBlock f.block
   pub pes_read : (index : ℕ) → answer ≡ Err (Pes index Read) → FailsAtPes index

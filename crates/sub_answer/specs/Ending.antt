@@ -270,7 +270,7 @@ devices_of part (ReadBoth stl pes) = sources entire_file (Some stl) (Some pes)
 devices_of part (Write stl output) = source_and_file entire_file stl output
 devices_of part (Extract recording output) = source_and_file part recording output
 
--- The opened files are those that the names request.
+-- The opened files are of the kinds that the file names of the request ask for.
 abbrev pub Fits : {I O : Type 0} → FileNames → Opened I O → Type 0
 Fits names.None Nothing = Unit {0}
 Fits (names.ReadStl name) (ReadStl stl) = Unit {0}

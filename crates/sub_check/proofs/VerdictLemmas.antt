@@ -56,7 +56,7 @@ use Rattle.sub_check.specs.CheckedFiles.{events_of_first_pes_packets, frames_rea
 use Rattle.sub_check.proofs.FirstReportedLemmas.{different_of_first, each_complete}
 use Rattle.sub_check.proofs.ReadOnLemmas.{read_to_the_end}
 
--- All PES packets of the bytes were read.
+-- The whole PES file was read: each of its PES packets, up to the unread rest.
 abbrev pub IsAllRead : ProgrammeValue → OptionsValue → List ℕ → Accepted → Type 0
 IsAllRead programme options bytes a =
     let file = pes_packet_file_of (clock_of options) bytes in

@@ -103,7 +103,7 @@ pub record AreAccepted
       → HasPromises (record { drawing = drawing; records = subtitles }) transmission options
       × (IsTrue options.asks_complete → Complete transmission options)
 
--- ---- both files, with any options
+-- ---- the contents of both files, with any options
 
 -- The contents of both files, as in `Mean`, but with the clock of the options: a PTS may be
 -- slightly early or late, and PES packets of one frame are merged.

@@ -21,7 +21,7 @@ use Rattle.sub_rules.specs.Trusted.CheckStep.{GoesBack, Emits}
 use Rattle.sub_checker.specs.Relay.{at_step}
 use Rattle.sub_checker.specs.declared.reporter.Reporter.{Reporter}
 
--- ---- the state
+-- ---- the state of the checker
 
 -- The criteria that the state of the checker contains. `unread` is the unread rest of the file.
 abbrev pub criteria_kept : CheckerValue → Option Unread → Criteria
@@ -118,7 +118,7 @@ pub record BetweenPesPackets (g : Criteria) (sent : Transmission) (last : List (
     pub within : c.counts.is_open ≡ true → 0 < g.within
     pub opens : c.counts.is_open ≡ true → StaysOpen g sent (length sent - 1) last c
 
--- ---- the steps
+-- ---- the steps of the checker
 
 -- The checker's steps before frame i of the list begins: the order of frames, and the ends of the
 -- frames of the day between.

@@ -23,7 +23,7 @@ use Rattle.sub_packets.specs.declared.listener.Listener.{Listener}
 use Rattle.sub_checker.specs.declared.counts.Counts.{Counts}
 use Rattle.sub_plan.specs.Schedule.{due_in}
 
--- ---- counts
+-- ---- counts of PES packets and headers
 
 -- The counts before the first PES packet.
 abbrev pub nothing_counted : Counts
@@ -50,7 +50,7 @@ pub record AreFew (pes : ℕ) (n : Counts) : Type 0 where
 abbrev pub sent_as : Sending → List UnitValue → SentFrame
 sent_as sending units = record { frame = sending.frame; packets = packets_of_units units }
 
--- ---- the state
+-- ---- the state of the checker
 
 -- The state of the checker:
 --

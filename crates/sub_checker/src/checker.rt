@@ -41,7 +41,7 @@ pub(crate) struct Checker<'a> {
     pub frame: u32,
     // The next frame at which the due page may change.
     pub edge: Option<u32>,
-    // The number of a subtitle near `frame`: where the search for the next due page starts.
+    // The number of a subtitle near `frame`, with which the search for the next due page starts.
     // Contracts don't see this hint.
     pub near: usize,
     // The first frame, up to the next change of the due page, at which the due page is known and

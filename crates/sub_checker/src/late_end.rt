@@ -7,7 +7,7 @@ ghost use Rattle.sub_checker.specs.Checker.{is_overdue_at};
 use stl_rows::Programme;
 
 /// Returns the first frame of the run of frames with a wrong page that ends at `frame`.
-/// `first_unfinished` is the value at the end before.
+/// `first_unfinished` is the result for the end of the frame before.
 pub(crate) fn unfinished_from(
     first_unfinished: Option<u32>,
     unfinished: bool,

@@ -55,7 +55,7 @@ impl<A: Audience<Event>> Reporter<'_, A> {
         self.relay.tracker.go_to(pes);
     }
 
-    /// Notes that the packets of a frame follow.
+    /// Notes that the next packets are those of frame `frame`.
     pub fn begin_frame(&mut self, frame: u32)
         ensures { self.new ≡ at_step (Begins frame) self.old }
     {

@@ -67,7 +67,7 @@ impl TrustTracker {
         self.pes = pes;
     }
 
-    /// Notes that the packets of a frame follow.
+    /// Notes that the next packets are those of frame `frame`.
     #[inline(always)]
     #[tactic(auto, unfolding(crate::specs::TrustTracker::after_step))]
     pub fn begin_frame(&mut self, frame: u32)

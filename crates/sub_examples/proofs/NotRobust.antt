@@ -29,8 +29,7 @@ abbrev header_with_wrong_units : List ℕ
 header_with_wrong_units =
     x0 (0x15 ∷ 0x15 ∷ 0xD1 ∷ 0xD0 ∷ 0x15 ∷ 0xD0 ∷ 0x15 ∷ 0xD0 ∷ 0x02 ∷ 0x15 ∷ [])
 
--- The header of page 888 with two wrong bits in its first address byte, which can't be decoded
--- then.
+-- A header of page 888 with two wrong bits in its first address byte, so the byte can't be decoded.
 abbrev header_with_two_wrong_bits : List ℕ
 header_with_two_wrong_bits =
     x0 (0x16 ∷ 0x15 ∷ 0xD0 ∷ 0xD0 ∷ 0x15 ∷ 0xD0 ∷ 0x15 ∷ 0xD0 ∷ 0x02 ∷ 0x15 ∷ [])

@@ -23,9 +23,9 @@ use Rattle.sub_laws.specs.CleanStretch.{AtEnds, AtPackets, IsUnreported, is_need
 use Rattle.sub_laws.specs.Recovery.{RecoversWithin}
 use Rattle.sub_laws.specs.Robust.{Robust}
 
--- ---- packets
+-- ---- Teletext packets of the examples
 
--- A packet X/0 with these ten coded bytes, and 32 spaces.
+-- A packet X/0 with ten given coded bytes, and 32 spaces.
 abbrev pub x0 : List ℕ → List ℕ
 x0 coded = coded ++ replicate 32 0x20
 
@@ -69,7 +69,7 @@ row_22 =
     ++ (0x0B ∷ 0x0B ∷ 0xC8 ∷ 0xE9 ∷ 0x8A ∷ 0x8A ∷ [])
     ++ replicate 17 0x20
 
--- ---- transmissions
+-- ---- transmissions of the examples
 
 -- A transmission of frame 900000, 10:00:00:00, with these packets.
 abbrev pub one_frame : List (List ℕ) → Transmission

@@ -9,7 +9,7 @@ use Rattle.sub_rules.specs.declared.event.Event.{Event}
 use Rattle.sub_rules.specs.declared.event.Event.TheVariants.{Ended, Reported, Trusted}
 use Rattle.sub_rules.specs.declared.fault.CheckFault.TheVariants as fault
 
--- A file with these steps has these events.
+-- A file with the steps `steps` has the events `events`.
 abbrev pub IsReportedOf : List Event → List CheckStep → Type 0
 IsReportedOf events steps = reported_after [] steps ≡ events
 

@@ -27,7 +27,7 @@ use Rattle.sub_laws.specs.LostRows.{IsGot}
 use Rattle.sub_laws.specs.Planned.{planned}
 use Rattle.sub_laws.specs.Robust.{HoldsDuePage}
 
--- ---- receivers
+-- ---- receivers that may forget the page
 
 -- The promise to a receiver that may forget the page, or starts again at each header (`anew`). The
 -- receiver listened from frame g to the end of frame f, the packets `sent` were sent, and its state
@@ -116,7 +116,7 @@ ShownForgetting keeps anew class programme transmission options a b =
     (IsHitOrLost options.page (on_air transmission g j f) (arrivals_of arrived got)))
     page
 
--- ---- promises
+-- ---- promises for a stretch of frames
 
 -- The frames from a to b are finished in time by the packets that are sent in these frames.
 pub record FinishesInTimeBy
@@ -160,7 +160,7 @@ pub record MayBeTrustedBy
   pub shown :
       (anew : Bool) (class : ReceiverClass)
       → ShownForgetting keeps anew class programme transmission options a b
-  -- Each page becomes right in time.
+  -- Each page becomes right within the allowed number of frames.
   pub finishes : FinishesInTimeBy keeps programme transmission options a b
   -- If no frame may be late, receivers have the due page at the end of each frame.
   pub at_once :
@@ -174,7 +174,7 @@ HasPromisesBy keeps programme transmission options =
     MayBeTrustedBy keeps programme transmission options (first_frame transmission)
     (last_frame transmission)
 
--- ---- sufficient conditions
+-- ---- sufficient conditions for the promises
 
 -- What recovery needs of the frames from a to b, apart from their text. Packets in earlier frames
 -- may be anything, but the frames rise.

@@ -22,7 +22,7 @@ use Rattle.sub_listen.specs.declared.listening.ListenFault.{ListenFault}
 use Rattle.sub_listen.specs.declared.listening.ListenFault.TheVariants as fault
 use Rattle.sub_request.specs.declared.listening.Listening.{Listening}
 
--- ---- faults
+-- ---- faults of a failed read
 
 -- The source failed to read.
 abbrev pub is_failed_read : ListenFault → Bool

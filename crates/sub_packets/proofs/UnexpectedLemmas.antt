@@ -48,8 +48,7 @@ module _ (page : ℕ → Rows) (first f : ℕ) where
   was_due-same n (suc m) row column code low same =
       grind (arith, nat_tests, was_due-one, (was_due-same n m row column code))
 
-  -- After the codes due at frame f itself are replaced by spaces, the remaining page is right for 0
-  -- frames before f.
+  -- If the codes due at frame f are replaced by spaces, no code remains that is due at frame f.
   pub left_first : (shown left : Rows)
       → ((row column : ℕ) → IsCell row column
       → cell left row column ≡ unless_due (cell (page f) row column) (cell shown row column))
@@ -58,9 +57,9 @@ module _ (page : ℕ → Rows) (first f : ℕ) where
   left_first shown left cells row column is =
       let none : f - f ≡ 0 = omega arith in rw none (cells row column is)
 
-  -- After the codes due at an earlier frame are replaced by spaces, the remaining page is right
-  -- back to that frame, if the page due did not change between that frame and the frame examined
-  -- before.
+  -- If the codes due at an earlier frame are replaced by spaces as well, no code remains that was
+  -- due from that frame on, provided that the due page did not change between that frame and the
+  -- frame examined before.
   pub left_more : (at before : ℕ) (shown left new : Rows)
       → before < at
       → at ≤ f
@@ -84,8 +83,8 @@ module _ (page : ℕ → Rows) (first f : ℕ) where
       ∙ sym (same (f - j) (omega arith) (omega arith))) in
       rw next (grind (arith, nat_tests))
 
-  -- The remaining page is right for all n frames before f, if the page due did not change since the
-  -- earliest of these frames.
+  -- No code remains that was due at frame f or at one of the n frames before it, if the due page
+  -- did not change since the earliest of these frames.
   pub left_all : (at n : ℕ) (shown left : Rows)
       → at ≤ f
       → f ≤ at + n

@@ -26,7 +26,7 @@ unfoldable pub rule_set : (PacketRule → Bool) → List PacketRule → ℕ
 rule_set test [] = 0
 rule_set test (r ∷ rules) = (if test r then 1 else 0) + 2 * rule_set test rules
 
--- ---- the state
+-- ---- the state of a listener
 
 -- The codes of a row, given its first packet; spaces if no packet of the row was received.
 abbrev pub held : Option (List ℕ) → List ℕ

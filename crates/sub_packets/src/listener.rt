@@ -396,7 +396,8 @@ impl Listener {
         self.comparison.clear();
     }
 
-    // Repeats the header of the page, which keeps its text: each row has to come again.
+    // Repeats the header of the page without erasing it: the text of the page stays, and each row
+    // has to come again.
     fn repeat(&mut self, subcode: u16)
         ensures { self.new ≡ record self.old {
           is_open = true;

@@ -80,7 +80,7 @@ module _ (g : Criteria) (frames : Transmission) (base : ℕ) where
       pes_packets
   none_requested sent (Skipped u ∷ pes_packets) = (tt, none_requested sent pes_packets)
 
-  -- The state after the frames `sent`.
+  -- The state of the tracker after the frames `sent` were sent.
   abbrev pub SendsOn : Transmission → List CheckStep → Type 0
   SendsOn sent t =
       Sends (List CheckStep) reported_of g frames (Goes P) (Closed g frames base)

@@ -21,7 +21,7 @@ use Rattle.sub_laws.specs.CleanStretch.{AtEnds, IsUnreported, criteria_unsure}
 use Rattle.sub_laws.specs.OnScreen.{CompleteWithin}
 use Rattle.sub_laws.specs.Stretch.{MayBeTrusted}
 
--- ---- the rising part
+-- ---- the part of a file in which frames rise
 
 -- Frame n of the list is the first frame, or after the frame before it.
 unfoldable pub rises_at : Transmission → ℕ → Bool
@@ -84,7 +84,7 @@ pub record StaysAsRead
   pub stays : (on_air : Transmission) → IsAsRead (rising_of g pes_packets) on_air from to → Stays
       on_air
 
--- ---- promises
+-- ---- promises for trusted frames
 
 -- The frames `from` to `to` may stay on air as they are, given the packets up to frame `to`. Frame
 -- `from` has a header of the page, so a receiver that is tuned in at one of the frames recovers

@@ -12,8 +12,8 @@ use sub_io::{
     MemSource, Sink, Source,
 };
 
-// A source whose bytes tell the length of the slice that it got; the first byte of each call tells
-// the number of calls so far.
+// A source whose bytes are the length of the slice that it got; the first byte of each call is the
+// number of calls so far.
 #[derive(Drop)]
 struct Borrowed {
     calls: u8,

@@ -42,7 +42,7 @@ pub fn assert_fills<S: Source>(
     assert!(rt; source.failures() == failures && failures < 9);
 }
 
-/// Asserts the result of a push.
+/// Asserts the result of a push, and how often the sink has failed afterwards.
 pub fn assert_pushes<K: Sink>(
     rt: &impl Abort,
     sink: &mut K,
@@ -58,7 +58,7 @@ pub fn assert_pushes<K: Sink>(
     assert!(rt; sink.failures() == failures && failures < 9);
 }
 
-/// Asserts the result of `put_all`.
+/// Asserts the result of `put_all`, and how often the sink has failed afterwards.
 pub fn assert_puts<K: Sink>(
     rt: &impl Abort,
     sink: &mut K,
@@ -73,7 +73,7 @@ pub fn assert_puts<K: Sink>(
     assert!(rt; sink.failures() == failures && failures < 9);
 }
 
-/// Asserts the result of a flush.
+/// Asserts the result of a flush, and how often the sink has failed afterwards.
 pub fn assert_flushes<F: Flush>(
     rt: &impl Abort,
     sink: &mut F,
@@ -87,7 +87,7 @@ pub fn assert_flushes<F: Flush>(
     assert!(rt; sink.failures() == failures && failures < 9);
 }
 
-/// Asserts the result of a store.
+/// Asserts the result of storing a file, and how often the sink has failed afterwards.
 pub fn assert_stores<F: Close>(
     rt: &impl Abort,
     sink: &mut F,

@@ -20,7 +20,7 @@ pub record State : Type 0 where
   pub is_open : Bool
   pub page : Rows
 
--- A receiver: the page to which it is tuned, and its state.
+-- The value of a receiver in contracts: the page that the receiver was tuned to, and its state.
 pub record Tuned : Type 0 where
   pub watched : PageIdValue
   pub state : State
@@ -47,7 +47,7 @@ StepAt (ThisPage h) packet old new =
     new ≡ record { heard = true; is_open = true; page = if c4 h then blank else old.page }
 -- A header that ends the page closes it.
 StepAt EndsPage packet old new = new ≡ record old { is_open = false }
--- A row is stored while the page is open, and otherwise ignored.
+-- A row 1 to 24 of the page's magazine is stored while the page is open, and otherwise ignored.
 StepAt (Row y) packet old new =
     MatchBool old.is_open
     ((new.heard ≡ old.heard) × (new.is_open ≡ old.is_open) × StoresRow packet y old.page new.page)
@@ -105,7 +105,8 @@ pub data ReceiverClass : Type 0 where
   Storing : ReceiverClass
   Dropping : ReceiverClass
 
--- The packet is a row of the page, and one of its 40 data bytes has even parity.
+-- The packet is a row 1 to 24 of the page's magazine, whether the page is open or not, and one of
+-- its 40 data bytes has even parity.
 abbrev pub is_dropped : PageIdValue → List ℕ → Bool
 is_dropped w packet = is_some_row (kind w packet) && is_some (first_even_byte packet)
 
@@ -115,7 +116,7 @@ drops Storing w packet = false
 drops Dropping w packet = is_dropped w packet
 
 -- A step of a receiver of a class: the receiver ignores a packet that it drops, and makes a step of
--- the receiver relation `Step` at every other packet.
+-- the model (`Step`) at every other packet.
 abbrev pub StepBy : ReceiverClass → PageIdValue → State → List ℕ → State → Type 0
 StepBy class w old packet new = MatchBool (drops class w packet) (new ≡ old) (Step w old packet new)
 

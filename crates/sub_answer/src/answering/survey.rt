@@ -1,4 +1,4 @@
-//! `survey RECORDING`: lists what is in a recording.
+//! `survey RECORDING`: lists facts about a recording.
 ghost use Rattle.std.specs.Prelude.{◌≡◌, ◌<◌};
 ghost use Rattle.std.specs.Io.KnownBytes.{IsAtEnd};
 ghost use Rattle.sub_listing.specs.DeviceCall.{CanFail, CountsFault, sink_call};
