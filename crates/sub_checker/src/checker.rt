@@ -194,9 +194,9 @@ impl<'a> Checker<'a> {
         self.go_back(reporter);
     }
 
-    /// Passes to the reporter the first of the frames, up to the frame before, in which the page has
-    /// been wrong without a break. This is only needed if subtitles were refused and `within` is
-    /// not 0.
+    /// Passes to the reporter the first of the frames, up to the frame before, in which the page
+    /// has been wrong without a break. This is only needed if subtitles were refused and `within`
+    /// is not 0.
     #[inline(always)]
     #[tactic(auto, unfolding(crate::specs::CheckedFrames::back_reporter))]
     pub fn go_back<A: Audience<Event>>(&self, reporter: &mut Reporter<'_, A>)
