@@ -65,34 +65,35 @@ IsFate distance number unit Kept = ⊤
 IsFate distance number unit LeftOut = ⊤
 IsFate distance number unit (MadeWrong other) = IsSpoiled distance number unit other
 
--- ---- the carriers that are recorded
+-- ---- the transport packets that are recorded
 
 -- One of the units is recorded as it was sent.
 abbrev pub any_kept : List Fated → Bool
 any_kept units = list_any (λ f. is_as_sent f.fate) units
 
--- The packet of a carrier is recorded, or its repeat.
+-- The transport packet of a carrier is recorded, or its repeat.
 abbrev pub is_recorded : Carrier Fated → Bool
 is_recorded c = is_as_sent c.packet.fate || any_kept (option_to_list c.again)
 
--- The units of a carrier before the first recorded copy of its packet.
+-- The units of a carrier before the first recorded copy of its transport packet.
 abbrev pub units_before : Carrier Fated → List Fated
 units_before c = if is_as_sent c.packet.fate then [] else c.packet ∷ c.before
 
--- The units of a carrier after the first recorded copy of its packet.
+-- The units of a carrier after the first recorded copy of its transport packet.
 abbrev pub units_after : Carrier Fated → List Fated
 units_after c =
     if is_as_sent c.packet.fate then c.before ++ (option_to_list c.again ++ c.after) else c.after
 
--- Fewer than 15 carriers in a row are missing, both packet and repeat. `gone` counts the missing
--- carriers before the list.
+-- Fewer than 15 transport packets with payload in a row are missing, together with their repeats.
+-- `gone` counts the missing packets before the list.
 abbrev pub are_few_lost : ℕ → List (Carrier Fated) → Bool
 are_few_lost gone [] = true
 are_few_lost gone (c ∷ more) =
     if is_recorded c then are_few_lost 0 more
     else nat_lt (gone + 1) 15 && are_few_lost (gone + 1) more
 
--- All carriers after c are recorded, and no unit between any two of them was damaged.
+-- All transport packets with payload after the packet of c are recorded, and no unit between any
+-- two of them was damaged.
 abbrev pub are_recorded_after : Carrier Fated → List (Carrier Fated) → Bool
 are_recorded_after c [] = true
 are_recorded_after c (d ∷ more) =
@@ -104,7 +105,7 @@ are_recorded_after c (d ∷ more) =
 abbrev pub arrives : SentPes Fated → Bool
 arrives s = is_recorded s.first && are_recorded_after s.first s.others
 
--- The last carrier of the list that begins with c.
+-- The last of the transport packets with payload, in the list that begins with c.
 abbrev pub last_carrier : Carrier Fated → List (Carrier Fated) → Carrier Fated
 last_carrier c [] = c
 last_carrier c (d ∷ more) = last_carrier d more
@@ -148,7 +149,8 @@ pub record AreLosses (number distance : ℕ) (m : Multiplex Fated) (recording : 
       AllByRecursion (λ (f : Fated). IsFate distance number f.unit f.fate) (items_of_multiplex m)
   pub left : recording ≡ concat (units_left (items_of_multiplex m))
 
--- A recording with losses in which fewer than 15 carriers in a row are missing.
+-- A recording with losses in which fewer than 15 transport packets with payload in a row are
+-- missing.
 pub record IsLossy (number distance : ℕ) (m : Multiplex Fated) (recording : List ℕ) : Type 0 where
   pub losses : AreLosses number distance m recording
   pub few : are_few_lost 0 (carriers_of m.sent) ≡ true

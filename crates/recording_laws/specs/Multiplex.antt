@@ -45,7 +45,8 @@ pub record Carrier (A : Type 0) : Type 0 where
   pub again : Option A
   pub after : List A
 
--- A PES packet and its carriers, at least one.
+-- A PES packet, and the transport packets with payload (carriers) in which it is sent, at least
+-- one.
 pub record SentPes (A : Type 0) : Type 0 where
   pub bytes : List ℕ
   pub first : Carrier A
@@ -56,15 +57,16 @@ pub record Multiplex (A : Type 0) : Type 0 where
   pub lead : List A
   pub sent : List (SentPes A)
 
--- All carriers of a PES packet, in order.
+-- The transport packets with payload (carriers) of a PES packet, in order.
 abbrev pub carriers_of_pes : {A : Type 0} → SentPes A → List (Carrier A)
 carriers_of_pes s = s.first ∷ s.others
 
--- All carriers of a list of PES packets, in order.
+-- The transport packets with payload (carriers) of a list of PES packets, in order.
 abbrev pub carriers_of : {A : Type 0} → List (SentPes A) → List (Carrier A)
 carriers_of sent = flat_map carriers_of_pes sent
 
--- All items of a carrier, in order.
+-- The items of a carrier in order: its transport packet, and the items before the next packet with
+-- payload.
 abbrev pub items_of_carrier : {A : Type 0} → Carrier A → List A
 items_of_carrier c = c.packet ∷ (c.before ++ (option_to_list c.again ++ c.after))
 
@@ -72,8 +74,9 @@ items_of_carrier c = c.packet ∷ (c.before ++ (option_to_list c.again ++ c.afte
 abbrev pub items_of_multiplex : {A : Type 0} → Multiplex A → List A
 items_of_multiplex m = m.lead ++ flat_map items_of_carrier (carriers_of m.sent)
 
--- The value c is a carrier of the PID; `first` says whether a PES packet begins with it. No jump is
--- announced between its packet and the repeat.
+-- The value c is a carrier of the PID: a transport packet with payload, and the items before the
+-- next such packet. `first` says whether a PES packet begins with it. No jump is announced between
+-- the packet and its repeat.
 pub record IsCarrier {A : Type 0} (packet_of : A → List ℕ) (number : ℕ) (first : Bool)
     (c : Carrier A) : Type 0 where
   pub carries : carries number (packet_of c.packet) ≡ true
@@ -85,9 +88,9 @@ pub record IsCarrier {A : Type 0} (packet_of : A → List ℕ) (number : ℕ) (f
       (option_to_list c.again)
   pub after : AllByRecursion (λ x. is_irrelevant number (packet_of x) ≡ true) c.after
 
--- A PES packet is sent in its carriers: it begins with the first byte of the first carrier's
--- payload, no other carrier begins a PES packet, and its bytes are the joined payloads of all its
--- carriers.
+-- A PES packet is sent in its transport packets: it begins with the first byte of the first
+-- packet's payload, no other of these packets begins a PES packet, and its bytes are their joined
+-- payloads.
 pub record IsSentPes {A : Type 0} (packet_of : A → List ℕ) (number : ℕ) (s : SentPes A)
     : Type 0 where
   pub is_pes_packet : IsPesPacket s.bytes
@@ -95,17 +98,17 @@ pub record IsSentPes {A : Type 0} (packet_of : A → List ℕ) (number : ℕ) (s
   pub others : AllByRecursion (IsCarrier packet_of number false) s.others
   pub joined : concat (map (λ c. payload (packet_of c.packet)) (carriers_of_pes s)) ≡ s.bytes
 
--- A jump is announced between the carriers c and d: by a packet without payload, or by the packet
--- of d. The packet of d cannot be taken for a repeat of the packet of c, since c has a repeat or
--- the two packets differ.
+-- A jump of the counter is announced between the packets of the carriers c and d: by a packet
+-- without payload, or by the packet of d. The packet of d cannot be taken for a repeat of the
+-- packet of c, since c has a repeat or the two packets differ.
 abbrev pub IsJump : {A : Type 0} → (A → List ℕ) → ℕ → Carrier A → Carrier A → Type 0
 IsJump packet_of number c d =
     (list_any (λ x. announces number (packet_of x)) c.after ≡ true)
     ⊎ ((announces_jump (packet_of d.packet) ≡ true)
     × ((is_some c.again || not (is_same (packet_of c.packet) (packet_of d.packet))) ≡ true))
 
--- The carrier d may follow the carrier c: its counter is the next, or a jump is announced. No jump
--- is announced within a PES packet.
+-- The packet of carrier d may follow the packet of carrier c: its counter is the next, or a jump is
+-- announced. No jump is announced within a PES packet.
 pub record IsNextCarrier {A : Type 0} (packet_of : A → List ℕ) (number : ℕ) (c d : Carrier A)
     : Type 0 where
   pub counter :
@@ -115,13 +118,14 @@ pub record IsNextCarrier {A : Type 0} (packet_of : A → List ℕ) (number : ℕ
       → (list_any (λ x. announces number (packet_of x)) c.after ≡ false)
       × (announces_jump (packet_of d.packet) ≡ false)
 
--- Each carrier may follow the carrier before it; the first of the list follows c.
+-- Each transport packet with payload may follow the packet before it; the first of the list follows
+-- the packet of c.
 abbrev pub AreNextCarriers : {A : Type 0} → (A → List ℕ) → ℕ → Carrier A → List (Carrier A) → Type 0
 AreNextCarriers packet_of number c [] = ⊤
 AreNextCarriers packet_of number c (d ∷ more) =
     IsNextCarrier packet_of number c d × AreNextCarriers packet_of number d more
 
--- Each carrier of the list may follow the carrier before it.
+-- Each transport packet with payload of the list may follow the packet before it.
 abbrev pub AreInSequence : {A : Type 0} → (A → List ℕ) → ℕ → List (Carrier A) → Type 0
 AreInSequence packet_of number [] = ⊤
 AreInSequence packet_of number (c ∷ more) = AreNextCarriers packet_of number c more

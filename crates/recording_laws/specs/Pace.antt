@@ -24,16 +24,16 @@ HoldsPts distance s = 14 ≤ length (payload (sent_packet distance s.first.packe
 
 -- ---- distances of the PES packets sent
 
--- The PES packets begin `between` carriers after a PES packet with this frame: those that begin 16
--- or more carriers after it are more than `pace` frames later.
+-- The PES packets begin `between` transport packets with payload after a PES packet with this
+-- frame. Those that begin 16 or more packets after it are more than `pace` frames later.
 abbrev pub AreFarFrom : (List ℕ → ℕ) → ℕ → ℕ → ℕ → List (SentPes Fated) → Type 0
 AreFarFrom frame_of pace frame between [] = ⊤
 AreFarFrom frame_of pace frame between (s ∷ more) =
     (16 ≤ between → frame + pace < frame_by frame_of s.bytes)
     × AreFarFrom frame_of pace frame (between + length (carriers_of_pes s)) more
 
--- Any two PES packets that begin 16 or more carriers apart are more than `pace` frames apart, and
--- the later one has the greater frame.
+-- Any two PES packets that begin 16 or more transport packets with payload apart are more than
+-- `pace` frames apart, and the later one has the greater frame.
 abbrev pub AreFarApart : (List ℕ → ℕ) → ℕ → List (SentPes Fated) → Type 0
 AreFarApart frame_of pace [] = ⊤
 AreFarApart frame_of pace (s ∷ more) =
