@@ -2,10 +2,10 @@
 ghost use Rattle.sub_io.specs.Device.{CanFail};
 
 use std::alloc::Global;
-use sub_answer::{Status, answer, say};
+use sub_answer::{Status, answer, print_usage_fault};
 use sub_io::{Close, Flush, MemSink, MemSource, Source};
 use sub_request::Request;
-use sub_words::ParseWords;
+use sub_words::ParseArguments;
 
 /// The arguments of a check with the default options.
 pub const CHECK: [&str; 4] = ["subttx", "check", "a", "b"];
@@ -35,7 +35,7 @@ pub fn answer_arguments<'a, S: Source, T: Source, F: Close, K: Flush>(
 {
     match Request::parse(alloc, arguments) {
         Ok(request) => { answer::<S, T, F, K>(alloc, &request, first, second, file, out) }
-        Err(fault) => say(&fault, out),
+        Err(fault) => print_usage_fault(&fault, out),
     }
 }
 

@@ -145,7 +145,7 @@ fn cuts<'a>(
         &mut file,
         &mut out,
     );
-    let is_left_alone = status == Status::Fault && out.late_calls == 0;
+    let is_left_alone = status == Status::Fault && out.calls_after_failure == 0;
     is_left_alone && out.inner.written() == text && file.written() == written
 }
 

@@ -10,8 +10,8 @@ use std::process::Abort;
 pub fn assert_same_in<T: PartialEq + Debug>(
     rt: &impl Abort,
     got: &T,
-    wanted: &T,
+    expected: &T,
     case: &impl Debug,
 ) {
-    assert_eq!(rt; got, wanted, "of {case:?}");
+    assert_eq!(rt; got, expected, "of {case:?}");
 }

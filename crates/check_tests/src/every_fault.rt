@@ -22,7 +22,7 @@ fn reports_every_fault_of_five_subtitles(rt: HostRuntime) {
 }
 
 // Asserts the lines of `check --all` for a subtitle file of three blocks.
-fn assert_tells_three(
+fn assert_faults_of_three_blocks(
     rt: &(impl Abort + Alloc<A = Global>),
     first: &[u8; 128],
     second: &[u8; 128],
@@ -44,7 +44,7 @@ fn reads_on_after_a_subtitle_that_is_refused(rt: HostRuntime) {
     let mut justified = head(TEN + 50, TEN + 100, 22);
     (justified[13], justified[14]) = (0, 4); // VP, JC
     let accent = block(&head(TEN + 100, TEN + 150, 22), &[0x63, 0x61, 0x66, 0xC2, 0x65]);
-    assert_tells_three(&rt, &block(&cumulative, &HI), &block(&justified, &HI), &accent,
+    assert_faults_of_three_blocks(&rt, &block(&cumulative, &HI), &block(&justified, &HI), &accent,
         "refused 16 Cumulative block 1\n\
         refused 18 Justify block 2\n\
         refused 50 Character block 3 at 3\n\
@@ -56,15 +56,15 @@ fn reads_on_after_a_subtitle_that_is_refused(rt: HostRuntime) {
     let mut other = head(TEN, TEN, 22);
     other[1] = 2;
     let first = block(&open, &HI);
-    assert_tells_three(&rt, &first, &block(&head(TEN, TEN, 22), &HI), &good,
+    assert_faults_of_three_blocks(&rt, &first, &block(&head(TEN, TEN, 22), &HI), &good,
         "refused 21 EmptyTime block 1\n\
         trusted frames 10:00:00:00 10:00:02:00\n\
         1 faults\n");
-    assert_tells_three(&rt, &first, &block(&other, &HI), &good,
+    assert_faults_of_three_blocks(&rt, &first, &block(&other, &HI), &good,
         "refused 21 EmptyTime block 1\nrefused 22 Sequence block 2\n2 faults\n");
     let mut no_time = head(TEN + 25, TEN + 75, 22);
     no_time[8] = 25; // frames of TCI
     let early = block(&head(TEN + 40, TEN + 60, 22), &HI);
-    assert_tells_three(&rt, &good, &block(&no_time, &HI), &early,
+    assert_faults_of_three_blocks(&rt, &good, &block(&no_time, &HI), &early,
         "refused 20 Time block 2\nrefused 57 Overlap block 3\n2 faults\n");
 }

@@ -188,7 +188,7 @@ fn assert_stops(rt: &(impl Abort + Alloc<A = Global>), call: u64, lines: &[u8], 
         &mut file,
         &mut out,
     );
-    let seen = (out.failures(), out.late_calls, pes.pulls);
+    let seen = (out.failures(), out.calls_after_failure, pes.pulls);
     assert_same_in(rt, &seen, &(1, 0, bytes), &call);
     let is_right = buffer.starts_with(lines) && buffer.get(lines.len()) == Some(&0);
     assert!(rt; status == Status::Fault && is_right, "{call}");

@@ -6,15 +6,15 @@ use crate::asserting::{assert_same, assert_same_in};
 use crate::files_in_memory::MemoryFile;
 use std::io::Write;
 use std::process::Abort;
-use sub_files::{CheckedFile, SecondLook};
+use sub_files::{CheckedFile, SizeLookup};
 use sub_io::{Close, Failed, IntoFile, Sink};
 
 // A check of a closed file that finds as many bytes as its number says.
 #[derive(Clone, Copy)]
 struct Finding(u64);
 
-impl SecondLook for Finding {
-    ghost is_look = { λ _ _ _. Unit {0} };
+impl SizeLookup for Finding {
+    ghost is_size_lookup = { λ _ _ _. Unit {0} };
 
     fn has_all<W: Write>(&self, _file: &IntoFile<W>, length: u64) -> bool {
         self.0 == length

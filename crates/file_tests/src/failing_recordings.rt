@@ -3,7 +3,7 @@
 use crate::asserting::assert_same_in;
 use crate::pes_ranges::FIRST_LINES;
 use crate::recorded::{
-    BEGINS_0, BEGINS_1, BEGINS_2, FILL, LATE, LOST, MARK_HEAD, NULL, assert_answers,
+    BEGINS_0, BEGINS_1, BEGINS_2, FILL, GAP_MARKER_HEAD, LATE, LOST, NULL, assert_answers,
     put_pes_packets, recording,
 };
 use fixtures::{FIRST, SECOND, file_of_hi};
@@ -140,15 +140,15 @@ fn assert_extracts(
     want: &str,
     written: &[&[u8]],
 ) {
-    let mut wanted_buffer = [0x55; 1024];
-    let mut wanted = MemSink::new(&mut wanted_buffer);
-    put_pes_packets(&mut wanted, written);
+    let mut expected_buffer = [0x55; 1024];
+    let mut expected = MemSink::new(&mut expected_buffer);
+    put_pes_packets(&mut expected, written);
     let mut output = [0x55; 1024];
     let arguments = ["subttx", "extract", "b", "c", "--pid", "257"];
     assert_fails_in(rt, &arguments, pes_packets, &mut output, want);
-    let len = wanted.written().len().min(1024);
+    let len = expected.written().len().min(1024);
     let (begin, _) = output.split_at(len);
-    assert_same_in(rt, &begin, &wanted.written(), &want);
+    assert_same_in(rt, &begin, &expected.written(), &want);
     assert_same_in(rt, &output[len..].first(), &Some(&0x55), &want);
 }
 
@@ -158,6 +158,6 @@ fn writes_what_came_before(rt: HostRuntime) {
     let cut: [&[u8]; 6] = [&BEGINS_0, &FIRST, &NULL, &FILL, &BEGINS_1, &SECOND[..100]];
     assert_extracts(&rt, &cut, FAILED_1, &[&FIRST]);
     let lost: [&[u8]; 5] = [&BEGINS_0, &FIRST, &BEGINS_2, &SECOND, &NULL];
-    let marked: [&[u8]; 4] = [&FIRST, &MARK_HEAD, &FILL[..178], &SECOND];
+    let marked: [&[u8]; 4] = [&FIRST, &GAP_MARKER_HEAD, &FILL[..178], &SECOND];
     assert_extracts(&rt, &lost, FAILED_3, &marked);
 }

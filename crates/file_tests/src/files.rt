@@ -9,7 +9,7 @@ use sub_answer::{Status, open_and_answer};
 use sub_files::{FileSystem, Found, MemFile, MemFiles, open};
 use sub_io::{BufferedSink, MemSink};
 use sub_request::Request;
-use sub_words::ParseWords;
+use sub_words::ParseArguments;
 
 // A file that can be opened, and is empty.
 const INPUT: Entry = Entry {

@@ -121,9 +121,9 @@ impl<'a> FileSystem for FilesInMemory<'a> {
         Some(IntoFile::new(MemoryFile::Created(buffer, 0)))
     }
 
-    fn let_go_input(&mut self, _file: FromRead<MemoryFile<'a>>) {}
+    fn release_input(&mut self, _file: FromRead<MemoryFile<'a>>) {}
 
-    fn let_go_output(&mut self, _file: IntoFile<MemoryFile<'a>>) {}
+    fn release_output(&mut self, _file: IntoFile<MemoryFile<'a>>) {}
 }
 
 impl Read for MemoryFile<'_> {

@@ -18,7 +18,7 @@ use sub_io::{FirstReported, MemSink, MemSource};
 use sub_listen::listen_pes_packets;
 use sub_plan::Options;
 use sub_request::{Listening, ReceiverKind, Request};
-use sub_words::ParseWords;
+use sub_words::ParseArguments;
 use ttx_page::{Keep, Page, Receiver};
 use ttx_pes::{FilePesPackets, NumberedPesPackets, PesPackets};
 

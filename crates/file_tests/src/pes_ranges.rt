@@ -1,7 +1,8 @@
 //! Ranges of PES packets, of recordings and of PES files: the numbers of PES packets are those in
 //! the file.
 use crate::recorded::{
-    BEGINS_0, BEGINS_1, BEGINS_2, EARLY, EMPTY, FILL, LATE, LOST, MARK_HEAD, NULL, assert_prints,
+    BEGINS_0, BEGINS_1, BEGINS_2, EARLY, EMPTY, FILL, GAP_MARKER_HEAD, LATE, LOST, NULL,
+    assert_prints,
 };
 use answer_fixtures::ACCEPTED;
 use fixtures::{FIRST, SECOND};
@@ -115,9 +116,9 @@ fn checks_a_range_of_a_file_of_pes_packets(rt: HostRuntime) {
 fn reports_up_to_which_pes_packet_of_the_file_others_are_skipped(rt: HostRuntime) {
     let marked: [&[u8]; 6] = [
         &FIRST,
-        &MARK_HEAD,
+        &GAP_MARKER_HEAD,
         &FILL[..178],
-        &MARK_HEAD,
+        &GAP_MARKER_HEAD,
         &FILL[..178],
         &SECOND,
     ];

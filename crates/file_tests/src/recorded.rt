@@ -5,11 +5,11 @@ use answer_fixtures::status_of;
 use fixtures::file_of_hi;
 use std::alloc::Global;
 use std::process::Abort;
-use sub_answer::{open_and_answer, say_and_flush};
+use sub_answer::{open_and_answer, print_and_flush_usage_fault};
 use sub_files::Found;
 use sub_io::{BufferedSink, MemSink, Sink, put_all};
 use sub_request::Request;
-use sub_words::ParseWords;
+use sub_words::ParseArguments;
 
 /// Bytes 0 to 3 of a transport packet of PID 101 (hexadecimal) that begins a PES packet, with
 /// continuity counter 0.
@@ -34,7 +34,7 @@ pub const JUMP: [u8; 6] = [0x47, 0x01, 0x01, 0x20, 0xB7, 0x80];
 pub const JUMP_FILL: [u8; 182] = [0xFF; 182];
 
 /// The first bytes of a gap marker, which is filled with bytes of `FILL`.
-pub const MARK_HEAD: [u8; 6] = [0x00, 0x00, 0x01, 0xBD, 0x00, 0xB2];
+pub const GAP_MARKER_HEAD: [u8; 6] = [0x00, 0x00, 0x01, 0xBD, 0x00, 0xB2];
 
 /// The line if PES packets are missing after the first one.
 pub const LOST: &str = "refused 45 Lost pes 1\n";
@@ -103,7 +103,7 @@ pub fn assert_answers<'a, 'f>(
     let mut out = BufferedSink::new(MemSink::new(&mut text), &mut buffered);
     let status = match Request::parse(rt.alloc(), arguments) {
         Ok(request) => open_and_answer(rt.alloc(), &mut files, &request, &mut out).ok(),
-        Err(fault) => Some(say_and_flush(&fault, &mut out)),
+        Err(fault) => Some(print_and_flush_usage_fault(&fault, &mut out)),
     };
     assert_same_in(rt, &status, &Some(status_of(want.as_bytes())), &arguments);
     let len = want.len().min(1024);

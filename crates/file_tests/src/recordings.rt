@@ -1,8 +1,8 @@
 //! Recordings: the PES packets that a transport stream carries are checked and written.
 use crate::asserting::assert_same_in;
 use crate::recorded::{
-    BEGINS_0, BEGINS_1, BEGINS_2, EARLY, EMPTY, FILL, JUMP, JUMP_FILL, LATE, LOST, MARK_HEAD, NULL,
-    assert_answers, assert_prints, put_pes_packets, recording,
+    BEGINS_0, BEGINS_1, BEGINS_2, EARLY, EMPTY, FILL, GAP_MARKER_HEAD, JUMP, JUMP_FILL, LATE, LOST,
+    NULL, assert_answers, assert_prints, put_pes_packets, recording,
 };
 use answer_fixtures::ACCEPTED;
 use fixtures::{FIRST, SECOND};
@@ -21,9 +21,9 @@ const GOES_ON_1: [u8; 4] = [0x47, 0x01, 0x01, 0x11];
 const WRONG_1: [u8; 4] = [0x47, 0xC1, 0x01, 0x11];
 
 // A transport packet whose adaptation field leaves no room for its payload.
-const NO_ROOM: [u8; 5] = [0x47, 0x01, 0x01, 0x31, 0xB8];
+const FULL_ADAPTATION: [u8; 5] = [0x47, 0x01, 0x01, 0x31, 0xB8];
 
-const NO_ROOM_FILL: [u8; 183] = [0xFF; 183];
+const FULL_ADAPTATION_FILL: [u8; 183] = [0xFF; 183];
 
 // The first bytes of transport packets with adaptation fields: two that begin a PES packet, with
 // 100 bytes of payload, and two that continue it, with 84 bytes or with 100.
@@ -56,16 +56,16 @@ fn assert_extracts<'a>(
     let mut buffer = [0; 8192];
     let mut file = MemSink::new(&mut buffer);
     put_pes_packets(&mut file, pes_packets);
-    let mut wanted_buffer = [0x55; 1024];
-    let mut wanted = MemSink::new(&mut wanted_buffer);
-    put_pes_packets(&mut wanted, written);
+    let mut expected_buffer = [0x55; 1024];
+    let mut expected = MemSink::new(&mut expected_buffer);
+    put_pes_packets(&mut expected, written);
     let mut output = [0x55; 1024];
     let arguments = ["subttx", "extract", "b", "c", "--pid", pid];
     let bytes = recording(file.written(), false);
     assert_answers(rt, &arguments, &[], bytes, &mut output, want);
-    let len = wanted.written().len().min(1024);
+    let len = expected.written().len().min(1024);
     let (begin, _) = output.split_at(len);
-    assert_same_in(rt, &begin, &wanted.written(), &want);
+    assert_same_in(rt, &begin, &expected.written(), &want);
     assert_same_in(rt, &output[len..].first(), &Some(&0x55), &want);
 }
 
@@ -106,15 +106,15 @@ fn reports_lost_packets_by_the_number_of_their_gap_marker(rt: HostRuntime) {
     assert_checks(&rt, &[&BEGINS_0, &FIRST, &scrambled, &SECOND], LOST);
     assert_checks(&rt, &[&BEGINS_0, &FIRST, &WRONG_1, &SECOND], LOST);
     assert_checks(&rt, &[&BEGINS_0, &FIRST, &GOES_ON_1, &SECOND], LOST);
-    let no_room: [&[u8]; 6] = [
+    let full_adaptation: [&[u8]; 6] = [
         &BEGINS_0,
         &FIRST,
-        &NO_ROOM,
-        &NO_ROOM_FILL,
+        &FULL_ADAPTATION,
+        &FULL_ADAPTATION_FILL,
         &BEGINS_1,
         &SECOND,
     ];
-    assert_checks(&rt, &no_room, LOST);
+    assert_checks(&rt, &full_adaptation, LOST);
     // No gap is reported before the first PES packet.
     let begin: [u8; 4] = [0x47, 0xC1, 0x01, 0x10];
     assert_checks(&rt, &[&begin, &FIRST, &BEGINS_1, &SECOND], EARLY);
@@ -242,7 +242,7 @@ fn writes_what_a_recording_carries(rt: HostRuntime) {
     assert_extracts(&rt, "257", &stream, written, &both);
     assert_extracts(&rt, "258", &stream, EMPTY, &[]);
     let lost: [&[u8]; 6] = [&BEGINS_0, &FIRST, &NULL, &FILL, &BEGINS_2, &SECOND];
-    let marked: [&[u8]; 4] = [&FIRST, &MARK_HEAD, &FILL[..178], &SECOND];
+    let marked: [&[u8]; 4] = [&FIRST, &GAP_MARKER_HEAD, &FILL[..178], &SECOND];
     let written = "written 3 pes 1 gaps\n";
     assert_extracts(&rt, "257", &lost, written, &marked);
     let wrong: [&[u8]; 8] = [

@@ -319,7 +319,7 @@ fn reports_whether_a_group_of_hevc_is_closed(rt: HostRuntime) {
 
 #[test]
 fn reads_the_header_of_a_group_over_two_packets(rt: HostRuntime) {
-    let goes_on = [0x47, 0x01, 0x10, 0x11];
+    let continues = [0x47, 0x01, 0x10, 0x11];
     let (first, second) = (&CLOSED_GROUP[..3], &CLOSED_GROUP[3..]);
     let stream: [&[u8]; 10] = [
         &PAT,
@@ -329,7 +329,7 @@ fn reads_the_header_of_a_group_over_two_packets(rt: HostRuntime) {
         &FLAGGED,
         &FILL[..160],
         first,
-        &goes_on,
+        &continues,
         second,
         &FILL[..179],
     ];

@@ -10,7 +10,7 @@ use Rattle.std.specs.Prelude.{option_map}
 use Rattle.mpeg_ts.specs.Carried.{carried, gap_marker_where, with_gap_markers}
 use Rattle.mpeg_ts.specs.GoodPackets.{GoodPacket, Note, good_after, loss_size}
 use Rattle.mpeg_ts.specs.GoodPackets.{note_of, notes, empty_history}
-use Rattle.mpeg_ts.specs.Joining.{last_output_after, nothing_joined}
+use Rattle.mpeg_ts.specs.Joining.{last_output_after, initial_joining}
 use Rattle.mpeg_ts.specs.PacketsInStep.{Item, Packet, Skipped, begins_packet, items, items_of}
 use Rattle.mpeg_ts.specs.Parts.{PartOutcome, begins_part, gap_where, is_break, outcomes, part_of}
 use Rattle.mpeg_ts.specs.Parts.{parts}
@@ -98,7 +98,7 @@ no_packet_yet wrong = grind (arith, nat_tests)
 joined_start : (wrong : Bool) (goods : List GoodPacket)
     → FirstIsCut goods
     → HavePayloads goods
-    → joined nothing_joined wrong goods ≡ with_gap_markers false false
+    → joined initial_joining wrong goods ≡ with_gap_markers false false
     (outcomes wrong (parts goods))
 unfolding outcomes
 joined_start wrong [] cut all = no_packet_yet wrong
@@ -107,7 +107,7 @@ joined_start wrong (g ∷ more) cut all =
     ap (λ (b : Bool). begins g.packet || b) cut ∙ or_true (begins g.packet) in
     let rest = tail wrong (part_of g) more in
     rw first (
-    new_part wrong more nothing_joined g all.1 (claims wrong more all.1)
+    new_part wrong more initial_joining g all.1 (claims wrong more all.1)
     ∙ no_gap_marker_yet (is_break g.link || true) rest
     ∙ no_gap_yet (is_break g.link) rest
     ∙ sym (ap (output given.Nothing) (outcomes-from wrong (part_of g) more))
@@ -123,7 +123,7 @@ carried_given number distance recording =
     let good = good_after history all in
     let sound = notes_sound distance number 0 (items_of distance recording)
     (items_complete distance true _ _) in
-    notes_joined nothing_joined history all (record {
+    notes_joined initial_joining history all (record {
       repeat = refl;
       jump = refl;
       lost = refl;

@@ -20,14 +20,16 @@ use Rattle.mpeg_ts.specs.declared.joining.Given.TheVariants as given
 use Rattle.mpeg_ts.specs.declared.joining.Found.{Found}
 use Rattle.mpeg_ts.specs.declared.joining.Found.TheVariants as found
 use Rattle.mpeg_ts.specs.declared.joining.PartState.TheVariants.{Headless, Open, Complete, Ended}
-use Rattle.mpeg_ts.proofs.OutcomeLemmas.{HavePayloads, IsOther, following, by_bool, bytes-with}
+use Rattle.mpeg_ts.proofs.OutcomeLemmas.{HavePayloads, HasWrongStartOrLength, following, by_bool}
+use Rattle.mpeg_ts.proofs.OutcomeLemmas.{bytes-with}
 use Rattle.mpeg_ts.proofs.OutcomeLemmas.{output}
 use Rattle.mpeg_ts.proofs.OutcomeLemmas.{output-again, output-end, output-end_complete}
 use Rattle.mpeg_ts.proofs.OutcomeLemmas.{output-excess}
-use Rattle.mpeg_ts.proofs.OutcomeLemmas.{output-gap_where, output-other, output-silent, other_found}
+use Rattle.mpeg_ts.proofs.OutcomeLemmas.{output-gap_where, output-other, output-silent}
+use Rattle.mpeg_ts.proofs.OutcomeLemmas.{found_in_other}
 use Rattle.mpeg_ts.proofs.OutcomeLemmas.{other_with_last, outcome-headless, outcome-unfinished}
 use Rattle.mpeg_ts.proofs.OutcomeLemmas.{fault_free_after, tail, tail-whole, up_to-last}
-use Rattle.mpeg_ts.proofs.OutcomeLemmas.{complete_found}
+use Rattle.mpeg_ts.proofs.OutcomeLemmas.{found_in_complete}
 
 -- The output of good packets in order, after everything that was ready was returned. `wrong`: an
 -- unusable packet follows the last good packet.
@@ -46,7 +48,7 @@ joined-ended v wrong [] e = rw e refl
 joined-ended v wrong (g ∷ more) e = rw e refl
 
 -- The output of good packets is the output of their parts, for each state of the part before them.
-pub record Claims (wrong : Bool) (goods : List GoodPacket) : Type 0 where
+pub record OutputOfGoods (wrong : Bool) (goods : List GoodPacket) : Type 0 where
   pub headless :
       (v : JoiningValue) (part : Part)
       → part.begins ≡ false
@@ -67,8 +69,8 @@ abbrev pub settled_gives : Found → JoiningValue → Bool → List GoodPacket �
 settled_gives f v wrong more =
     (settled_as f v).pending ++ joined (delivered (settled_as f v)) wrong more
 
-abbrev pub given_open : Bool → JoiningValue → List ℕ → Bool → List GoodPacket → List ℕ
-given_open gap v bytes wrong more =
+abbrev pub output_of_open_part : Bool → JoiningValue → List ℕ → Bool → List GoodPacket → List ℕ
+output_of_open_part gap v bytes wrong more =
     settled_gives (found_in bytes) (with_gap gap (record v { part = Open; bytes = bytes })) wrong
     more
 
@@ -85,9 +87,9 @@ excess_given excess wrong more = grind (arith, nat_tests, output-excess)
 
 settle_by : (gap : Bool) (v : JoiningValue) (part : Part) (wrong : Bool) (more : List GoodPacket)
     → HavePayloads more
-    → Claims wrong more
+    → OutputOfGoods wrong more
     → part.begins ≡ true
-    → (IsOther (part_bytes part) → up_to 6 part.payloads ≡ part_bytes part)
+    → (HasWrongStartOrLength (part_bytes part) → up_to 6 part.payloads ≡ part_bytes part)
     → (f : Found)
     → found_in (part_bytes part) ≡ f
     → settled_gives f (with_gap gap (record v { part = Open; bytes = part_bytes part })) wrong more
@@ -104,12 +106,12 @@ settle_by gap v part wrong more all claims begins last (found.Other f) e =
       part = Ended;
       pending = [];
     } in
-    let o = other_found bytes f e in
+    let o = found_in_other bytes f e in
     ap (λ l. (before ++ bytes) ++ l) (joined-ended state wrong more refl)
     ∙ append-nil (before ++ bytes)
     ∙ ap (λ l. before ++ l)
     (sym (output-other (last_output_after gap v.given) wrong part more begins o ∙ last o))
-settle_by gap v part wrong more all claims begins last (found.Whole size) e =
+settle_by gap v part wrong more all claims begins last (found.CompletePesPacket size) e =
     let before = gap_marker_where (gap && gave_packet v.given) in
     let bytes = part_bytes part in
     let prefix = take size bytes in
@@ -120,7 +122,7 @@ settle_by gap v part wrong more all claims begins last (found.Whole size) e =
       given = after;
       pending = [];
     } in
-    let w = complete_found bytes size e in
+    let w = found_in_complete bytes size e in
     let rest = output after (following excess wrong more) in
     ap (λ l. (before ++ (prefix ++ gap_marker_where excess)) ++ l)
     (claims.complete state excess (fault_free_excess excess))
@@ -133,10 +135,10 @@ settle_by gap v part wrong more all claims begins last (found.Whole size) e =
 
 settle : (gap : Bool) (v : JoiningValue) (part : Part) (wrong : Bool) (more : List GoodPacket)
     → HavePayloads more
-    → Claims wrong more
+    → OutputOfGoods wrong more
     → part.begins ≡ true
-    → (IsOther (part_bytes part) → up_to 6 part.payloads ≡ part_bytes part)
-    → given_open gap v (part_bytes part) wrong more
+    → (HasWrongStartOrLength (part_bytes part) → up_to 6 part.payloads ≡ part_bytes part)
+    → output_of_open_part gap v (part_bytes part) wrong more
     ≡ gap_marker_where (gap && gave_packet v.given)
     ++ output (last_output_after gap v.given) (tail wrong part more)
 settle gap v part wrong more h1 h2 h3 h4 = grind (arith, nat_tests, settle_by)
@@ -147,7 +149,7 @@ up_to-one g =
 
 new_part_by : (wrong : Bool) (more : List GoodPacket) (v : JoiningValue) (g : GoodPacket)
     → HavePayloads more
-    → Claims wrong more
+    → OutputOfGoods wrong more
     → (b : Bool)
     → begins g.packet ≡ b
     → (begun (is_break g.link) b (remembering v g.packet) (payload g.packet)).pending
@@ -160,7 +162,7 @@ new_part_by wrong more v g all claims true e =
     let gap = is_break g.link || not (is_complete v.part) in
     let p = payload g.packet in
     let state : JoiningValue = record (remembering v g.packet) { bytes = []; last = p } in
-    ap (λ b. given_open gap state b wrong more) (sym (append-nil p))
+    ap (λ b. output_of_open_part gap state b wrong more) (sym (append-nil p))
     ∙ settle gap state (part_of g) wrong more all claims e (λ o. up_to-one g)
 new_part_by wrong more v g all claims false e =
     let gap = is_break g.link || not (is_complete v.part) in
@@ -171,7 +173,7 @@ new_part_by wrong more v g all claims false e =
 
 pub new_part : (wrong : Bool) (more : List GoodPacket) (v : JoiningValue) (g : GoodPacket)
     → HavePayloads more
-    → Claims wrong more
+    → OutputOfGoods wrong more
     → (begun (is_break g.link) (begins g.packet) (remembering v g.packet)
     (payload g.packet)).pending
     ++ joined (delivered (begun (is_break g.link) (begins g.packet) (remembering v g.packet)
@@ -193,13 +195,13 @@ output-excess_fault_free : (g : Given) (excess : Bool) (rest : List PartOutcome)
     → output g rest ≡ output g (gap_where excess ++ rest)
 output-excess_fault_free g excess rest h1 = grind (arith, nat_tests, output-silent)
 
-after_unfinished : (wrong : Bool) (more : List GoodPacket) (part : Part) (h : Given)
+new_part_after_incomplete : (wrong : Bool) (more : List GoodPacket) (part : Part) (h : Given)
     (g : GoodPacket)
     → outcome false part ≡ gap_where true
     → gap_marker_where ((is_break g.link || true) && gave_packet h)
     ++ output (last_output_after (is_break g.link || true) h) (tail wrong (part_of g) more)
     ≡ output h (outcome false part ++ (gap_where (is_break g.link) ++ tail wrong (part_of g) more))
-after_unfinished wrong more part h g h1 = grind (
+new_part_after_incomplete wrong more part h g h1 = grind (
   arith,
   nat_tests,
   tail,
@@ -210,7 +212,8 @@ after_unfinished wrong more part h g h1 = grind (
 
 -- The output of good packets is the output of their parts, from any state of reassembly (by
 -- induction over the packets).
-pub claims : (wrong : Bool) (goods : List GoodPacket) → HavePayloads goods → Claims wrong goods
+pub claims : (wrong : Bool) (goods : List GoodPacket) → HavePayloads goods → OutputOfGoods wrong
+    goods
 claims wrong [] all = record {
   headless = λ v part begins.
       output-end v.given wrong
@@ -231,7 +234,8 @@ claims wrong (g ∷ more) all =
           by_bool (begins_part g)
           (λ yes. rw yes (
           new_part wrong more state g all.1 rest
-          ∙ after_unfinished wrong more part v.given g (outcome-headless false part begins)))
+          ∙ new_part_after_incomplete wrong more part v.given g (outcome-headless false part
+          begins)))
           (λ no. rw no (
           rest.headless (delivered (with_buffered false (remembering state g.packet) p))
           (with_packet part g) begins));
@@ -241,12 +245,14 @@ claims wrong (g ∷ more) all =
           by_bool (begins_part g)
           (λ yes. rw yes (
           new_part wrong more state g all.1 rest
-          ∙ after_unfinished wrong more part v.given g (outcome-unfinished false part begins e)))
+          ∙ new_part_after_incomplete wrong more part v.given g (outcome-unfinished false part
+          begins e)))
           (λ no. rw no (
-          ap (λ b. given_open false grown b wrong more) (sym (bytes-with part g))
+          ap (λ b. output_of_open_part false grown b wrong more) (sym (bytes-with part g))
           ∙ settle false grown (with_packet part g) wrong more all.1 rest begins
           (λ o. up_to-last 6 part.payloads p
-          (other_with_last (part_bytes part) p e (subst IsOther (bytes-with part g) o))
+          (other_with_last (part_bytes part) p e (subst HasWrongStartOrLength (bytes-with part g)
+          o))
           ∙ sym (bytes-with part g))));
       complete = λ v excess silent.
           let state : JoiningValue = record v { part = Complete } in

@@ -6,15 +6,16 @@ use Rattle.std.proofs.Common.{Option, Some, None, refl, sym, ap, ◌∙◌, subs
 use Rattle.std.proofs.lemmas.List.{append-nil, get_or-take}
 use Rattle.std.specs.Prelude.{◌&&◌, ◌||◌, not, if◌then◌else◌, bytes_eq}
 use Rattle.mpeg_ts.specs.Carried.{gap_marker, gap_marker_where}
-use Rattle.mpeg_ts.specs.GoodPackets.{GoodPacket, GoodPackets, Link, First, Follows, Seam, Break}
+use Rattle.mpeg_ts.specs.GoodPackets.{GoodPacket, GoodPackets, PacketLink, First, Follows, Seam}
+use Rattle.mpeg_ts.specs.GoodPackets.{Break}
 use Rattle.mpeg_ts.specs.GoodPackets.{Note}
 use Rattle.mpeg_ts.specs.GoodPackets.{Valid, Wrong, Loss, PacketHistory, good_after, counts_on}
 use Rattle.mpeg_ts.specs.GoodPackets.{is_repeat}
 use Rattle.mpeg_ts.specs.GoodPackets.{is_repeat_of, link_from, linked, empty_history, with_good}
 use Rattle.mpeg_ts.specs.Joining.{JoiningValue, after_good, after_note, after_valid, begun}
 use Rattle.mpeg_ts.specs.Joining.{found_in}
-use Rattle.mpeg_ts.specs.Joining.{counter_goes_on, gave_packet, last_output_after, later_output}
-use Rattle.mpeg_ts.specs.Joining.{gone_on}
+use Rattle.mpeg_ts.specs.Joining.{counter_continues, gave_packet, last_output_after, later_output}
+use Rattle.mpeg_ts.specs.Joining.{part_continued}
 use Rattle.mpeg_ts.specs.Joining.{grown, delivered, has_ended, link_after}
 use Rattle.mpeg_ts.specs.Joining.{remembering, repeats, settled_as}
 use Rattle.mpeg_ts.specs.Parts.{is_unlinked}
@@ -51,16 +52,16 @@ grown_fresh : (gap : Bool) (v : JoiningValue) (bytes p : List ℕ)
     → IsFresh (grown gap (record (remembering v p) { bytes = bytes }) (payload p)) p
 grown_fresh gap v bytes p = grind (arith, nat_tests, settled_fresh)
 
-begun_fresh : (breaks b : Bool) (v : JoiningValue) (p : List ℕ)
+started_fresh : (breaks b : Bool) (v : JoiningValue) (p : List ℕ)
     → IsFresh (begun breaks b (remembering v p) (payload p)) p
-begun_fresh breaks b v p = grind (arith, nat_tests, grown_fresh)
+started_fresh breaks b v p = grind (arith, nat_tests, grown_fresh)
 
-gone_on_fresh : (part : PartState) (v : JoiningValue) (p : List ℕ)
-    → IsFresh (gone_on part (remembering v p) (payload p)) p
-gone_on_fresh part v p = grind (arith, nat_tests, grown_fresh)
+part_continued_fresh : (part : PartState) (v : JoiningValue) (p : List ℕ)
+    → IsFresh (part_continued part (remembering v p) (payload p)) p
+part_continued_fresh part v p = grind (arith, nat_tests, grown_fresh)
 
-good_fresh : (link : Link) (v : JoiningValue) (p : List ℕ) → IsFresh (after_good link v p) p
-good_fresh link v p = grind (arith, nat_tests, begun_fresh, gone_on_fresh)
+good_fresh : (link : PacketLink) (v : JoiningValue) (p : List ℕ) → IsFresh (after_good link v p) p
+good_fresh link v p = grind (arith, nat_tests, started_fresh, part_continued_fresh)
 
 -- The state of reassembly stores the last good packet, if any.
 abbrev pub KeepsLast : JoiningValue → Option (List ℕ) → Type 0
@@ -76,12 +77,12 @@ pub record Knows (v : JoiningValue) (s : PacketHistory) : Type 0 where
   pub none : s.good ≡ None → gave_packet v.given ≡ false
   pub last : KeepsLast v s.good
 
-and_order : (a b c d e : Bool)
+conjunction_order : (a b c d e : Bool)
     → (not a && (not b && (c && (d && e)))) ≡ ((d && e) && not a && not b && c)
-and_order a b c d e = grind (arith, nat_tests)
+conjunction_order a b c d e = grind (arith, nat_tests)
 
-and_last : (a b c d : Bool) → (not a && (not b && (c && (d && false)))) ≡ false
-and_last a b c d = grind (arith, nat_tests)
+conjunction_last : (a b c d : Bool) → (not a && (not b && (c && (d && false)))) ≡ false
+conjunction_last a b c d = grind (arith, nat_tests)
 
 nil_not_some : (xs : List ℕ) → 0 < length xs → bytes_eq [] xs ≡ false
 nil_not_some xs h1 = grind (arith, nat_tests)
@@ -92,21 +93,27 @@ repeats_by : (v : JoiningValue) (s : PacketHistory) (o : Option (List ℕ)) (p :
     → v.has_jump ≡ s.has_jump
     → 0 < length (payload p)
     → repeats v p ≡ is_repeat_of o s p
-repeats_by v s o p h1 h2 h3 h4 = grind (arith, nat_tests, nil_not_some, and_last, and_order)
+repeats_by v s o p h1 h2 h3 h4 = grind (
+  arith,
+  nat_tests,
+  nil_not_some,
+  conjunction_last,
+  conjunction_order,
+)
 
-abbrev pub link_by : Bool → Bool → Bool → Link
+abbrev pub link_by : Bool → Bool → Bool → PacketLink
 link_by lost jumps follows =
     if lost then Break else if jumps then Seam else if follows then Follows else Break
 
 link_some : (v : JoiningValue) (l p : List ℕ)
     → 0 < length l
     → link_after v l p
-    ≡ link_by v.has_break (v.has_jump || announces_jump p) (counter_goes_on v.header p)
+    ≡ link_by v.has_break (v.has_jump || announces_jump p) (counter_continues v.header p)
 link_some v l p h1 = grind (arith, nat_tests)
 
 counter_kept : (v : JoiningValue) (q p : List ℕ)
     → v.header ≡ packet_header q
-    → counter_goes_on v.header p ≡ counts_on q p
+    → counter_continues v.header p ≡ counts_on q p
 counter_kept v q p h1 = grind (arith, nat_tests, get_or-take)
 
 -- The link in the state of reassembly agrees with the link by the history of events.
@@ -182,10 +189,10 @@ joined-flags : (v : JoiningValue) (a b c wrong : Bool) (goods : List GoodPacket)
 joined-flags v a b c wrong [] = refl
 joined-flags v a b c wrong (g ∷ more) = refl
 
-no_note : (ended wrong given : Bool)
+no_more_notes : (ended wrong given : Bool)
     → (wrong ≡ true → given ≡ false)
     → ◌≡◌ {A = List ℕ} [] (if ended then [] else gap_marker_where (wrong && given))
-no_note ended wrong given h1 = grind (arith, nat_tests)
+no_more_notes ended wrong given h1 = grind (arith, nat_tests)
 
 -- Data was lost before the first of these good packets; if the list is empty, an unusable packet
 -- follows.
@@ -222,7 +229,7 @@ pending_first : (f : Found) (v : JoiningValue) (wrong : Bool) (more : List GoodP
     ++ joined (delivered (settled_as f (record v { pending = [] }))) wrong more)
 pending_first f v wrong more = grind (arith, nat_tests, append_assoc, joined)
 
-begun_first : (b : Bool) (v : JoiningValue) (p : List ℕ) (wrong : Bool) (more : List GoodPacket)
+started_first : (b : Bool) (v : JoiningValue) (p : List ℕ) (wrong : Bool) (more : List GoodPacket)
     → (begun true b (remembering (delivered (record v { given = given.Packet })) p)
     (payload p)).pending
     ++ joined (delivered (begun true b
@@ -233,7 +240,7 @@ begun_first : (b : Bool) (v : JoiningValue) (p : List ℕ) (wrong : Bool) (more 
     ++ joined (delivered (begun true b
     (remembering (delivered (record v { has_break = true; given = given.GapMarker })) p)
     (payload p))) wrong more)
-begun_first true v p wrong more =
+started_first true v p wrong more =
     pending_first (found_in (payload p))
     (record (remembering v p) {
       part = Open;
@@ -241,9 +248,10 @@ begun_first true v p wrong more =
       last = payload p;
       given = given.GapMarker;
     }) wrong more
-begun_first false v p wrong more = refl
+started_first false v p wrong more = refl
 
-broken_first : (v : JoiningValue) (link : Link) (p : List ℕ) (wrong : Bool) (more : List GoodPacket)
+broken_first : (v : JoiningValue) (link : PacketLink) (p : List ℕ) (wrong : Bool)
+    (more : List GoodPacket)
     → link ≡ Break
     → (after_good link (delivered (record v { given = given.Packet })) p).pending
     ++ joined (delivered (after_good link (delivered (record v { given = given.Packet })) p))
@@ -257,7 +265,7 @@ broken_first v Follows p wrong more is = absurd cc
 broken_first v Seam p wrong more is = absurd cc
 broken_first v Break p wrong more is =
     let cut : (begins p || true) ≡ true = or_true (begins p) in
-    rw cut (begun_first (begins p) v p wrong more)
+    rw cut (started_first (begins p) v p wrong more)
 
 -- After an unusable packet, a gap marker comes before the output of further good packets.
 gap_first : (v : JoiningValue) (g : Given) (wrong : Bool) (goods : List GoodPacket)
@@ -278,13 +286,14 @@ gap_first v given.Packet wrong [] going broken =
 gap_first v given.Packet wrong (g ∷ more) going broken =
     rw going (broken_first v g.link g.packet wrong more (broken refl))
 
-after_wrong_broken : (v : JoiningValue) (s : PacketHistory) (o : Option (List ℕ)) (all : List Note)
+no_marker_after_unusable : (v : JoiningValue) (s : PacketHistory) (o : Option (List ℕ))
+    (all : List Note)
     → s.good ≡ o
     → (s.good ≡ None → gave_packet v.given ≡ false)
     → gave_packet v.given ≡ true
     → BeginBroken (good_after (record s { has_wrong = true }) all).wrong_after
     (good_after (record s { has_wrong = true }) all).packets
-after_wrong_broken v s o all h1 h2 h3 = grind (arith, nat_tests, begin_broken)
+no_marker_after_unusable v s o all h1 h2 h3 = grind (arith, nat_tests, begin_broken)
 
 abbrev pub Agrees : JoiningValue → PacketHistory → List Note → Type 0
 Agrees v s all =
@@ -334,14 +343,14 @@ joined-next : (v : JoiningValue) (wrong : Bool) (g : GoodPacket) (more : List Go
     ++ joined (delivered (after_good g.link v g.packet)) wrong more
 joined-next v wrong g more going = rw going refl
 
-agree_good : (v : JoiningValue) (s : PacketHistory) (p : List ℕ) (more : List Note)
+agree_with_good : (v : JoiningValue) (s : PacketHistory) (p : List ℕ) (more : List Note)
     → has_payload p ≡ true
     → repeats v p ≡ false
     → is_repeat s p ≡ false
     → link_after v v.last p ≡ link_from s.good s p
     → Agrees (after_good (link_from s.good s p) (delivered v) p) (empty_history (Some p)) more
     → Agrees v s (Valid p ∷ more)
-agree_good v s p more some other same link rest =
+agree_with_good v s p more some other same link rest =
     let goods = good_after s (Valid p ∷ more) in
     let after = good_after (empty_history (Some p)) more in
     let w : JoiningValue = after_good (link_from s.good s p) (delivered v) p in
@@ -349,19 +358,19 @@ agree_good v s p more some other same link rest =
     (λ yes. sym (joined-ended (delivered v) goods.wrong_after goods.packets yes))
     (λ no. ap (λ (u : JoiningValue). u.pending ++ later_output (delivered u) more)
     (valid-good (delivered v) p some other
-    ∙ ap (λ (l : Link). after_good l (delivered v) p) link)
+    ∙ ap (λ (l : PacketLink). after_good l (delivered v) p) link)
     ∙ ap (λ l. w.pending ++ l) rest
     ∙ sym (joined-next (delivered v) after.wrong_after (linked s p) after.packets no)
     ∙ ap (λ (g : GoodPackets). joined (delivered v) g.wrong_after g.packets)
     (sym (good-good s p more some same)))
 
-keeps_last : (v w : JoiningValue) (o : Option (List ℕ))
+last_good_unchanged : (v w : JoiningValue) (o : Option (List ℕ))
     → w.header ≡ v.header
     → w.last ≡ v.last
     → w.announced ≡ v.announced
     → KeepsLast v o
     → KeepsLast w o
-keeps_last v w o h1 h2 h3 h4 = grind (arith, nat_tests)
+last_good_unchanged v w o h1 h2 h3 h4 = grind (arith, nat_tests)
 
 -- The output of the events of a PID is the output of the good packets among them (by induction over
 -- the events).
@@ -370,7 +379,8 @@ pub notes_joined : (v : JoiningValue) (s : PacketHistory) (all : List Note)
     → AreSound all
     → Agrees v s all
 unfolding later_output good_after
-notes_joined v s [] k sound = no_note (has_ended v.part) s.has_wrong (gave_packet v.given) k.silent
+notes_joined v s [] k sound = no_more_notes (has_ended v.part) s.has_wrong (gave_packet v.given)
+    k.silent
 notes_joined v s (Wrong ∷ more) k sound =
     let history : PacketHistory = record s { has_wrong = true } in
     let after : JoiningValue =
@@ -382,14 +392,14 @@ notes_joined v s (Wrong ∷ more) k sound =
       lost = refl;
       silent = λ _. fault_free_after v.given;
       none = λ _. fault_free_after v.given;
-      last = keeps_last v after s.good refl refl refl k.last;
+      last = last_good_unchanged v after s.good refl refl refl k.last;
     } in
     step_by v Wrong more (joined (delivered v) goods.wrong_after goods.packets)
     (λ yes. sym (joined-ended (delivered v) goods.wrong_after goods.packets yes))
     (λ no. ap (λ l. gap_marker_where (gave_packet v.given) ++ l)
     (notes_joined after history more known sound)
     ∙ sym (gap_first v v.given goods.wrong_after goods.packets no
-    (after_wrong_broken v s s.good more refl k.none)))
+    (no_marker_after_unusable v s s.good more refl k.none)))
 notes_joined v s (Loss ∷ more) k sound =
     let history : PacketHistory = record s { has_loss = true } in
     let after : JoiningValue = record v { has_break = true } in
@@ -400,7 +410,7 @@ notes_joined v s (Loss ∷ more) k sound =
       lost = sym (or_true s.has_wrong);
       silent = k.silent;
       none = k.none;
-      last = keeps_last v after s.good refl refl refl k.last;
+      last = last_good_unchanged v after s.good refl refl refl k.last;
     } in
     step_by v Loss more (joined (delivered v) goods.wrong_after goods.packets)
     (λ yes. sym (joined-ended (delivered v) goods.wrong_after goods.packets yes))
@@ -422,9 +432,9 @@ notes_joined v s (Valid p ∷ more) k sound =
       lost = k.lost;
       silent = k.silent;
       none = k.none;
-      last = keeps_last v repeated s.good refl refl refl k.last;
+      last = last_good_unchanged v repeated s.good refl refl refl k.last;
     }) sound.1))
-    (λ other. agree_good v s p more some (same ∙ other) other link
+    (λ other. agree_with_good v s p more some (same ∙ other) other link
     (notes_joined (after_good next (delivered v) p) (empty_history (Some p)) more (record {
       repeat = fresh.no_repeat;
       jump = fresh.no_jump;
@@ -440,7 +450,7 @@ notes_joined v s (Valid p ∷ more) k sound =
       lost = k.lost;
       silent = k.silent;
       none = k.none;
-      last = keeps_last v jumped s.good refl refl refl k.last;
+      last = last_good_unchanged v jumped s.good refl refl refl k.last;
     }) sound.1))
 
 abbrev pub FirstIsCut : List GoodPacket → Type 0

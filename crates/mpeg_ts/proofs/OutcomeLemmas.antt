@@ -153,7 +153,7 @@ up_to-last c (f ∷ ps) x lt =
     )
 
 found-whole : (n size : ℕ) (r : Result ℕ PesFault)
-    → found_by_size n r ≡ found.Whole size
+    → found_by_size n r ≡ found.CompletePesPacket size
     → (r ≡ Ok size) × (size ≤ n)
 found-whole n size r h1 = grind (arith, nat_tests, by_bool)
 
@@ -169,20 +169,21 @@ pub record IsCompletePacket (bytes : List ℕ) (size : ℕ) : Type 0 where
   pub within : size ≤ length bytes
 
 -- The bytes have a wrong start code or length.
-pub record IsOther (bytes : List ℕ) : Type 0 where
+pub record HasWrongStartOrLength (bytes : List ℕ) : Type 0 where
   pub six : 6 ≤ length bytes
   pub fault : PesFault
   pub refused : size_at (take 6 bytes) ≡ Err fault
 
-pub complete_found : (bytes : List ℕ) (size : ℕ)
-    → found_in bytes ≡ found.Whole size
+pub found_in_complete : (bytes : List ℕ) (size : ℕ)
+    → found_in bytes ≡ found.CompletePesPacket size
     → IsCompletePacket bytes size
 unfolding found_in
-complete_found bytes size h1 = grind (arith, nat_tests, by_bool, found-whole)
+found_in_complete bytes size h1 = grind (arith, nat_tests, by_bool, found-whole)
 
-pub other_found : (bytes : List ℕ) (f : PesFault) → found_in bytes ≡ found.Other f → IsOther bytes
+pub found_in_other : (bytes : List ℕ) (f : PesFault) → found_in bytes ≡ found.Other f →
+    HasWrongStartOrLength bytes
 unfolding found_in
-other_found bytes f h1 = grind (arith, nat_tests, by_bool, found-other)
+found_in_other bytes f h1 = grind (arith, nat_tests, by_bool, found-other)
 
 pub outcome-headless : (cut : Bool) (part : Part)
     → part.begins ≡ false
@@ -212,7 +213,7 @@ outcome-whole cut part size h1 h2 = grind (arith, nat_tests)
 
 outcome-other : (cut : Bool) (part : Part)
     → part.begins ≡ true
-    → IsOther (part_bytes part)
+    → HasWrongStartOrLength (part_bytes part)
     → outcome cut part ≡ Other (up_to 6 part.payloads) ∷ []
 unfolding outcome
 outcome-other cut part h1 h2 = grind (arith, nat_tests)
@@ -221,11 +222,11 @@ abbrev pub HavePayloads : List GoodPacket → Type 0
 HavePayloads [] = Unit {0}
 HavePayloads (g ∷ more) = (0 < length (payload g.packet)) × HavePayloads more
 
-same_six : (bytes more all : List ℕ)
+first_six_bytes_same : (bytes more all : List ℕ)
     → all ≡ bytes ++ more
     → 6 ≤ length bytes
     → size_at (take 6 all) ≡ size_at (take 6 bytes)
-same_six bytes more all h1 h2 = grind (arith, nat_tests)
+first_six_bytes_same bytes more all h1 h2 = grind (arith, nat_tests)
 
 -- The PES packet of a complete part is returned, whatever packets follow.
 pub tail-whole : (wrong : Bool) (part : Part) (size : ℕ) (goods : List GoodPacket)
@@ -245,7 +246,7 @@ tail-whole wrong part size (g ∷ more) all begins w =
     let long : length grown ≡ length bytes + length p = ap length same ∙ length-append bytes p in
     let w2 : IsCompletePacket grown size = record {
       six = omega (arith, long, w.six);
-      sized = same_six bytes p grown same w.six ∙ w.sized;
+      sized = first_six_bytes_same bytes p grown same w.six ∙ w.sized;
       within = omega (arith, long, w.within);
     } in
     let prefix : take size grown ≡ take size bytes =
@@ -267,7 +268,7 @@ tail-whole wrong part size (g ∷ more) all begins w =
 -- The bytes of a part with a wrong start code or length are returned, whatever packets follow.
 pub output-other : (g : Given) (wrong : Bool) (part : Part) (goods : List GoodPacket)
     → part.begins ≡ true
-    → IsOther (part_bytes part)
+    → HasWrongStartOrLength (part_bytes part)
     → output g (tail wrong part goods) ≡ up_to 6 part.payloads
 output-other h wrong part [] begins o =
     ap (λ l. output h (l ++ gap_where wrong)) (outcome-other (not wrong) part begins o)
@@ -277,10 +278,10 @@ output-other h wrong part (g ∷ more) begins o =
     let grown = part_bytes (with_packet part g) in
     let same : grown ≡ bytes ++ p = bytes-with part g in
     let long : length grown ≡ length bytes + length p = ap length same ∙ length-append bytes p in
-    let o2 : IsOther grown = record {
+    let o2 : HasWrongStartOrLength grown = record {
       six = omega (arith, long, o.six);
       fault = o.fault;
-      refused = same_six bytes p grown same o.six ∙ o.refused;
+      refused = first_six_bytes_same bytes p grown same o.six ∙ o.refused;
     } in
     by_bool (begins_part g)
     (λ yes. rw yes (
@@ -302,7 +303,7 @@ output-excess h wrong (g ∷ more) =
 -- the part had fewer than six bytes before that payload.
 pub other_with_last : (bytes more : List ℕ)
     → found_in bytes ≡ found.Unfinished
-    → IsOther (bytes ++ more)
+    → HasWrongStartOrLength (bytes ++ more)
     → length bytes < 6
 unfolding found_in
-other_with_last bytes more h1 h2 = grind (arith, nat_tests, by_bool, same_six)
+other_with_last bytes more h1 h2 = grind (arith, nat_tests, by_bool, first_six_bytes_same)

@@ -20,7 +20,7 @@ use Rattle.mpeg_ts.specs.declared.pending_item.Next.TheVariants as next
 use Rattle.mpeg_ts.specs.declared.joining.PartState.{PartState}
 use Rattle.mpeg_ts.specs.declared.pending_item.PendingItem.{PendingItem}
 use Rattle.mpeg_ts.specs.declared.pending_item.PendingItem.TheVariants as pending_item
-use Rattle.mpeg_ts.proofs.OutcomeLemmas.{by_bool, found-other, complete_found}
+use Rattle.mpeg_ts.proofs.OutcomeLemmas.{by_bool, found-other, found_in_complete}
 
 pub length-gap_marker : length gap_marker ≡ 184
 unfolding gap_marker
@@ -68,10 +68,10 @@ size_counts h size e = grind (arith, nat_tests)
 -- The bytes of a part that is found complete begin with a PES packet, valid or not.
 pub packet_found : (bytes : List ℕ) (size : ℕ)
     → AreBytes bytes
-    → found_in bytes ≡ found.Whole size
+    → found_in bytes ≡ found.CompletePesPacket size
     → IsPesPacket (take size bytes) × (size ≤ length bytes)
 packet_found bytes size fit e =
-    let w = complete_found bytes size e in
+    let w = found_in_complete bytes size e in
     let long : length (take size bytes) ≡ size = length-take-le size bytes w.within in
     let lo : 6 ≤ size = size_counts (take 6 bytes) size w.sized in
     let head : take 6 (take size bytes) ≡ take 6 bytes = take-take 6 size bytes lo in (
@@ -122,11 +122,11 @@ rest_first old mid new fault taken all =
 
 pub ruleset firsts = (pes_packet_first, rest_first)
 
-pub refused_found : (bytes : List ℕ) (fault : PesFault)
+pub found_in_refused : (bytes : List ℕ) (fault : PesFault)
     → found_in bytes ≡ found.Other fault
     → IsRefused bytes fault
 unfolding found_in
-refused_found bytes fault h1 = grind (arith, nat_tests, by_bool, found-other)
+found_in_refused bytes fault h1 = grind (arith, nat_tests, by_bool, found-other)
 
 pub ruleset idling = (none_pending, none_where_nothing)
 

@@ -23,7 +23,7 @@ use Rattle.mpeg_ts.specs.Stream.{StreamValue, after_packet, after_skipped, bytes
 use Rattle.mpeg_ts.specs.Stream.{output_of, has_output, remaining_output, stream_output}
 use Rattle.mpeg_ts.specs.TransportPacket.{packet_size, pid}
 use Rattle.mpeg_ts.specs.TakenBytes.{TakesPrefix, takes_bytes}
-use Rattle.mpeg_ts.specs.Window.{RequestsUpTo, WindowValue, buffered_and_left, left_to_take}
+use Rattle.mpeg_ts.specs.Window.{RequestsUpTo, WindowValue, buffered_and_left, known_bytes_left}
 use Rattle.mpeg_ts.proofs.TakenBytesLemmas.{takes_kept, takes_none, takes_on, takes_then}
 
 pub items_end : (distance : ℕ) (in_step : Bool) (room : ℕ) (bytes : List ℕ)
@@ -52,15 +52,16 @@ pub by_bool : {P : Type 0} (b : Bool) → (b ≡ true → P) → (b ≡ false �
 by_bool b h1 h2 = grind (arith, nat_tests)
 
 -- The number of items is at most the number of bytes, so any larger bound gives the same items.
-pub items_room : (distance : ℕ) (in_step : Bool) (room : ℕ) (more : ℕ) (bytes : List ℕ)
+pub items_at_most_bytes : (distance : ℕ) (in_step : Bool) (room : ℕ) (more : ℕ) (bytes : List ℕ)
     → 188 ≤ distance
     → length bytes ≤ room
     → length bytes ≤ more
     → items distance in_step room bytes ≡ items distance in_step more bytes
-items_room distance in_step zero more bytes far le le_more = grind (arith, nat_tests, items_end)
-items_room distance in_step (suc room) zero bytes far le le_more =
+items_at_most_bytes distance in_step zero more bytes far le le_more = grind
+    (arith, nat_tests, items_end)
+items_at_most_bytes distance in_step (suc room) zero bytes far le le_more =
     grind (arith, nat_tests, items_end)
-items_room distance in_step (suc room) (suc more) bytes far le le_more =
+items_at_most_bytes distance in_step (suc room) (suc more) bytes far le le_more =
     grind (
       arith,
       nat_tests,
@@ -69,9 +70,9 @@ items_room distance in_step (suc room) (suc more) bytes far le le_more =
       items_packet,
       length-drop,
       items_skipped,
-      items_room distance true room more (drop distance bytes) far
+      items_at_most_bytes distance true room more (drop distance bytes) far
           (omega (arith, length-drop distance bytes)) (omega (arith, length-drop distance bytes)),
-      items_room distance false room more (drop 1 bytes) far
+      items_at_most_bytes distance false room more (drop 1 bytes) far
           (omega (arith, length-drop 1 bytes)) (omega (arith, length-drop 1 bytes)),
     )
 
@@ -83,7 +84,7 @@ all_packet : (distance : ℕ) (in_step : Bool) (bytes : List ℕ)
     ≡ Packet (take packet_size bytes)
     ∷ items distance true (length (drop distance bytes)) (drop distance bytes)
 all_packet distance in_step bytes h1 h2 h3 =
-    grind (arith, nat_tests, items_packet, items_room, length-drop)
+    grind (arith, nat_tests, items_packet, items_at_most_bytes, length-drop)
 
 all_skipped : (distance : ℕ) (in_step : Bool) (bytes : List ℕ)
     → 188 ≤ distance
@@ -92,7 +93,7 @@ all_skipped : (distance : ℕ) (in_step : Bool) (bytes : List ℕ)
     → items distance in_step (length bytes) bytes
     ≡ Skipped ∷ items distance false (length (drop 1 bytes)) (drop 1 bytes)
 all_skipped distance in_step bytes h1 h2 h3 =
-    grind (arith, nat_tests, items_skipped, items_room, length-drop)
+    grind (arith, nat_tests, items_skipped, items_at_most_bytes, length-drop)
 
 later_note : (j : JoiningValue) (n : Note) (more : List Note)
     → has_ended j.part ≡ false
@@ -341,7 +342,7 @@ pub need_end : (known_bytes : Option (List ℕ)) (v : StreamValue)
     → 188 ≤ v.distance
     → v.joining.pending ≡ []
     → length v.window.buffered < v.lead + bytes_needed v.distance v.in_step
-    → IsAtEnd (left_to_take v.window known_bytes)
+    → IsAtEnd (known_bytes_left v.window known_bytes)
     → IsAtEnd (remaining_output v known_bytes)
 need_end known_bytes v h1 h2 h3 h4 =
     grind (arith, nat_tests, stream_short, needs_packet, length-append, length-drop)
@@ -365,13 +366,13 @@ need_requests IsPull borrowed remaining v w before after ok count requests is ne
 
 pub ruleset needing = (given_takes, cut_gives, need_end, need_requests)
 
-pub begins_known : (v : StreamValue) (bytes : List ℕ)
+pub begins_determined : (v : StreamValue) (bytes : List ℕ)
     → 188 ≤ v.distance
     → v.lead + bytes_needed v.distance v.in_step ≤ length v.window.buffered
     → begins_packet v.distance v.in_step (bytes_ahead v bytes)
     ≡ ((slice_index (drop v.lead v.window.buffered) 0 == 0x47)
     && (v.in_step || (slice_index (drop v.lead v.window.buffered) v.distance == 0x47)))
-begins_known v bytes h1 h2 = grind (arith, nat_tests, index-ahead, needs_packet, by_bool)
+begins_determined v bytes h1 h2 = grind (arith, nat_tests, index-ahead, needs_packet, by_bool)
 
 pub ahead_moved : (v w : StreamValue) (count : ℕ) (bytes : List ℕ)
     → w.window.buffered ≡ drop (v.lead + count) v.window.buffered

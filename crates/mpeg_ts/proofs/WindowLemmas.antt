@@ -9,7 +9,7 @@ use Rattle.std.specs.Io.KnownBytes.{Consumes, IsAtEnd}
 use Rattle.sub_io.specs.Asking.{requests_in_vain, requests_on, requests_once}
 use Rattle.sub_io.proofs.AskingLemmas.{requested_after, requests_none}
 use Rattle.mpeg_ts.specs.TakenBytes.{TakesPrefix, takes_bytes}
-use Rattle.mpeg_ts.specs.Window.{RequestsUpTo, WindowValue, buffered_and_left, left_to_take}
+use Rattle.mpeg_ts.specs.Window.{RequestsUpTo, WindowValue, buffered_and_left, known_bytes_left}
 use Rattle.mpeg_ts.proofs.TakenBytesLemmas.{takes_failed, takes_none, takes_then}
 
 abbrev pub window : List ℕ → ℕ → WindowValue
@@ -47,7 +47,7 @@ none_to_take (suc n) (Some b) end = ap (take (suc n)) (end (omega arith))
 pub left_at_end : (w : WindowValue) (known_bytes : Option (List ℕ)) (room : ℕ)
     → (0 < w.left → 0 < room)
     → (0 < room → IsAtEnd known_bytes)
-    → IsAtEnd (left_to_take w known_bytes)
+    → IsAtEnd (known_bytes_left w known_bytes)
 left_at_end w known_bytes room some end = none_to_take w.left known_bytes (λ left. end (some left))
 
 abbrev ahead_of : WindowValue → (List ℕ → Bool) → List ℕ → Bool

@@ -42,15 +42,15 @@ notes distance number run (Skipped ∷ items) =
 -- The link of a good transport packet to the good packet before it: the packet is the first; it
 -- follows that packet; a jump of the counter was announced between them, and no data is known to be
 -- lost; or data was lost between them.
-pub data Link : Type 0 where
-  First : Link
-  Follows : Link
-  Seam : Link
-  Break : Link
+pub data PacketLink : Type 0 where
+  First : PacketLink
+  Follows : PacketLink
+  Seam : PacketLink
+  Break : PacketLink
 
 -- A good transport packet and its link to the good packet before it.
 pub record GoodPacket : Type 0 where
-  pub link : Link
+  pub link : PacketLink
   pub packet : List ℕ
 
 -- The last good transport packet (`None` if no good packet came yet), and which events came after
@@ -94,7 +94,7 @@ abbrev pub counts_on : List ℕ → List ℕ → Bool
 counts_on p q = counter q == (counter p + 1) % 0x10
 
 -- The link of a good transport packet to the good packet before it, if any.
-abbrev pub link_from : Option (List ℕ) → PacketHistory → List ℕ → Link
+abbrev pub link_from : Option (List ℕ) → PacketHistory → List ℕ → PacketLink
 link_from None history p = First
 link_from (Some q) history p =
     if history.has_wrong || history.has_loss then Break

@@ -8,7 +8,8 @@ use Rattle.ttx_pes.specs.PesPackets.{IsPesPacket}
 use Rattle.ttx_pes.specs.Reading.{size_at}
 use Rattle.ttx_pes.specs.declared.fault.PesFault.{PesFault}
 use Rattle.mpeg_ts.specs.Carried.{gap_marker, gap_marker_where}
-use Rattle.mpeg_ts.specs.GoodPackets.{Note, Valid, Wrong, Loss, Link, First, Follows, Seam, Break}
+use Rattle.mpeg_ts.specs.GoodPackets.{Note, Valid, Wrong, Loss, PacketLink, First, Follows, Seam}
+use Rattle.mpeg_ts.specs.GoodPackets.{Break}
 use Rattle.mpeg_ts.specs.Parts.{is_break, is_unlinked}
 use Rattle.mpeg_ts.specs.TransportPacket.{announces_jump, begins, counter, has_payload}
 use Rattle.mpeg_ts.specs.TransportPacket.{packet_header}
@@ -42,8 +43,8 @@ pub record JoiningValue : Type 0 where
   pub pending : List ℕ
 
 -- The state of reassembly before the first event.
-abbrev pub nothing_joined : JoiningValue
-nothing_joined = record {
+abbrev pub initial_joining : JoiningValue
+initial_joining = record {
   header = 0 ∷ 0 ∷ 0 ∷ 0 ∷ [];
   announced = false;
   last = [];
@@ -79,16 +80,16 @@ repeats v p =
 
 -- The continuity counter of packet p is one more than the counter in the bytes 0 to 3 of the packet
 -- before, modulo 16.
-abbrev pub counter_goes_on : List ℕ → List ℕ → Bool
-counter_goes_on head p = counter p == (slice_index head 3 % 0x10 + 1) % 0x10
+abbrev pub counter_continues : List ℕ → List ℕ → Bool
+counter_continues head p = counter p == (slice_index head 3 % 0x10 + 1) % 0x10
 
 -- The link of a good transport packet p to the last good packet.
-abbrev pub link_after : JoiningValue → List ℕ → List ℕ → Link
+abbrev pub link_after : JoiningValue → List ℕ → List ℕ → PacketLink
 link_after v [] p = First
 link_after v (x ∷ xs) p =
     if v.has_break then Break
     else if v.has_jump || announces_jump p then Seam
-    else if counter_goes_on v.header p then Follows
+    else if counter_continues v.header p then Follows
     else Break
 
 -- The state with p as the last good packet, except for the payload.
@@ -115,7 +116,8 @@ with_gap gap v = record v {
 
 -- What `count` bytes collected for a PES packet contain, given the size of that packet.
 abbrev pub found_by_size : ℕ → Result ℕ PesFault → Found
-found_by_size count (Ok size) = if nat_le size count then found.Whole size else found.Unfinished
+found_by_size count (Ok size) = if nat_le size count then found.CompletePesPacket size
+    else found.Unfinished
 found_by_size count (Err f) = found.Other f
 
 -- What the bytes collected for a PES packet contain: a complete packet, an incomplete packet, or a
@@ -129,7 +131,7 @@ found_in bytes =
 abbrev pub settled_as : Found → JoiningValue → JoiningValue
 settled_as found.Unfinished v = v
 settled_as (found.Other f) v = record v { part = Ended; pending = v.pending ++ v.bytes }
-settled_as (found.Whole size) v = record v {
+settled_as (found.CompletePesPacket size) v = record v {
   part = Complete;
   given = if nat_lt size (length v.bytes) then given.GapMarker else given.Packet;
   pending = v.pending ++ (take size v.bytes ++ gap_marker_where (nat_lt size (length v.bytes)));
@@ -154,17 +156,17 @@ begun breaks false v more =
     with_buffered (breaks || not (is_complete v.part)) (record v { part = Headless }) more
 
 -- Continues the current part with a payload. After a complete PES packet, more payload is a gap.
-abbrev pub gone_on : PartState → JoiningValue → List ℕ → JoiningValue
-gone_on Open v more = grown false v more
-gone_on Complete v more = with_buffered true v more
-gone_on _ v more = with_buffered false v more
+abbrev pub part_continued : PartState → JoiningValue → List ℕ → JoiningValue
+part_continued Open v more = grown false v more
+part_continued Complete v more = with_buffered true v more
+part_continued _ v more = with_buffered false v more
 
 -- The state after a good transport packet p with this link to the last good packet.
-abbrev pub after_good : Link → JoiningValue → List ℕ → JoiningValue
+abbrev pub after_good : PacketLink → JoiningValue → List ℕ → JoiningValue
 after_good link v p =
     if begins p || is_unlinked link then
     begun (is_break link) (begins p) (remembering v p) (payload p)
-    else gone_on v.part (remembering v p) (payload p)
+    else part_continued v.part (remembering v p) (payload p)
 
 -- The state after a usable transport packet p of the PID.
 unfoldable pub after_valid : JoiningValue → List ℕ → JoiningValue

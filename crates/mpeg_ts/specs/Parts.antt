@@ -7,7 +7,7 @@ use Rattle.std.specs.Prelude.{if◌then◌else◌, List, [], ◌∷◌, ◌++◌
 use Rattle.std.specs.List.{concat}
 use Rattle.ttx_pes.specs.Reading.{size_at}
 use Rattle.ttx_pes.specs.declared.fault.PesFault.{PesFault}
-use Rattle.mpeg_ts.specs.GoodPackets.{GoodPacket, GoodPackets, Link, Follows, Seam, Break}
+use Rattle.mpeg_ts.specs.GoodPackets.{GoodPacket, GoodPackets, PacketLink, Follows, Seam, Break}
 use Rattle.mpeg_ts.specs.TransportPacket.{begins, payload}
 
 -- A part of the transport packets of a PID: whether data was lost before the part, whether its
@@ -18,19 +18,19 @@ pub record Part : Type 0 where
   pub payloads : List (List ℕ)
 
 -- The link says that data was lost between a good transport packet and the good packet before it.
-abbrev pub is_break : Link → Bool
+abbrev pub is_break : PacketLink → Bool
 is_break Break = true
 is_break _ = false
 
 -- The link says that a jump of the counter was announced between a good transport packet and the
 -- good packet before it, and that no data is known to be lost.
-abbrev pub is_seam : Link → Bool
+abbrev pub is_seam : PacketLink → Bool
 is_seam Seam = true
 is_seam _ = false
 
 -- The link says that a good transport packet does not continue the PES packet of the good packet
 -- before it.
-abbrev pub is_unlinked : Link → Bool
+abbrev pub is_unlinked : PacketLink → Bool
 is_unlinked Follows = false
 is_unlinked _ = true
 

@@ -3,7 +3,7 @@ use Rattle.std.specs.Prelude.{◌≡◌, ℕ, ◌+◌, ◌-◌, ◌^◌, ◌≤�
 use Rattle.std.specs.Prelude.{List, [], ◌++◌, length, drop, nat_lt, slice_index, Option, option_map}
 use Rattle.mpeg_ts.specs.GoodPackets.{Loss, loss_size, note_of, notes}
 use Rattle.mpeg_ts.specs.Joining.{JoiningValue, after_note, later_output, delivered}
-use Rattle.mpeg_ts.specs.Joining.{nothing_joined}
+use Rattle.mpeg_ts.specs.Joining.{initial_joining}
 use Rattle.mpeg_ts.specs.PacketsInStep.{items, lead_size, most_bytes}
 use Rattle.mpeg_ts.specs.Pid.{greatest_pid}
 use Rattle.mpeg_ts.specs.TransportPacket.{pid, sync_byte}
@@ -30,7 +30,7 @@ start_of_stream number distance = record {
   lead = lead_size distance;
   in_step = true;
   run = 0;
-  joining = nothing_joined;
+  joining = initial_joining;
 }
 
 -- The output of reading: the bytes that are ready, and then those that `bytes`, from the next item

@@ -17,8 +17,8 @@ abbrev pub buffered_and_left : WindowValue → List ℕ → List ℕ
 buffered_and_left w bytes = w.buffered ++ take w.left bytes
 
 -- The bytes of the source that may still be read, if they are known.
-abbrev pub left_to_take : WindowValue → Option (List ℕ) → Option (List ℕ)
-left_to_take w known_bytes = option_map (take w.left) known_bytes
+abbrev pub known_bytes_left : WindowValue → Option (List ℕ) → Option (List ℕ)
+known_bytes_left w known_bytes = option_map (take w.left) known_bytes
 
 -- At most `count` bytes from the first buffered byte on are read, whatever predicate says which
 -- bytes are enough, as long as fewer bytes are never enough.

@@ -3,11 +3,12 @@ ghost use Rattle.std.specs.Prelude.{◌≡◌, ◌≤◌, ◌↔◌, length, []}
 ghost use Rattle.std.specs.Prelude.{◌&&◌, false, true};
 ghost use Rattle.mpeg_ts.specs.GoodPackets.{Wrong, Loss, note_of};
 ghost use Rattle.mpeg_ts.specs.Joining.{IsWithin, TakesFirst, TakesNext, after_note, after_valid};
-ghost use Rattle.mpeg_ts.specs.Joining.{begun, emptied, gave_packet, last_output_after, gone_on};
+ghost use Rattle.mpeg_ts.specs.Joining.{begun, emptied, gave_packet, last_output_after};
+ghost use Rattle.mpeg_ts.specs.Joining.{part_continued};
 ghost use Rattle.mpeg_ts.specs.Joining.{grown};
 ghost use Rattle.mpeg_ts.specs.Joining.{has_ended, with_buffered, is_complete, link_after};
 ghost use Rattle.mpeg_ts.specs.Joining.{gap_marker_alone};
-ghost use Rattle.mpeg_ts.specs.Joining.{nothing_joined, remembering, repeats, taken_bytes};
+ghost use Rattle.mpeg_ts.specs.Joining.{initial_joining, remembering, repeats, taken_bytes};
 ghost use Rattle.mpeg_ts.specs.Parts.{is_break, is_seam, is_unlinked};
 ghost use Rattle.mpeg_ts.specs.TransportPacket.{has_payload, is_wrong, payload};
 
@@ -51,7 +52,7 @@ pub(crate) enum Found {
     /// The bytes collected are an incomplete PES packet.
     Unfinished,
     /// The bytes collected begin with a PES packet of this size in bytes.
-    Whole(usize),
+    CompletePesPacket(usize),
     /// The bytes collected have a wrong start code or length.
     Other(PesFault),
 }
@@ -104,7 +105,7 @@ impl Model for Joining {
 impl Joining {
     /// Creates the state before the first transport packet.
     pub fn new() -> Self
-        ensures { result ≡ nothing_joined }
+        ensures { result ≡ initial_joining }
     {
         Joining {
             bytes: PartBytes::new(),
@@ -308,7 +309,7 @@ impl Joining {
         requires idle { self.old.pending ≡ [] }
         requires some { 1 ≤ length payload.now }
         requires most { length payload.now ≤ 184 }
-        ensures { self.new ≡ gone_on self.old.part self.old payload.now }
+        ensures { self.new ≡ part_continued self.old.part self.old payload.now }
     {
         match &self.part {
             PartState::Open => self.grow(false, payload),
@@ -367,7 +368,7 @@ impl Joining {
                     fault,
                 };
             }
-            Found::Whole(size) => {
+            Found::CompletePesPacket(size) => {
                 let gap_marker_after = size < self.bytes.as_slice().len();
                 self.part = PartState::Complete;
                 self.pending_item = PendingItem::Packet {

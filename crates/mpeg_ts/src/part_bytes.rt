@@ -4,7 +4,8 @@ ghost use Rattle.sub_io.specs.Reading.{AreBytes};
 ghost use Rattle.ttx_pes.specs.PesPackets.{IsPesPacket};
 ghost use Rattle.ttx_pes.specs.declared.fault.PesFault.{PesFault};
 ghost use Rattle.mpeg_ts.specs.Joining.{IsRefused, found_in};
-ghost use Rattle.mpeg_ts.specs.declared.joining.Found.TheVariants.{Other, Unfinished, Whole};
+ghost use Rattle.mpeg_ts.specs.declared.joining.Found.TheVariants.{Other, Unfinished};
+ghost use Rattle.mpeg_ts.specs.declared.joining.Found.TheVariants.{CompletePesPacket};
 
 use crate::joining::Found;
 use std::marker::Model;
@@ -78,7 +79,7 @@ impl PartBytes {
 pub(crate) fn find_packet(bytes: &[u8]) -> Found
     ensures found { found_in bytes.now ≡ result }
     ensures open { result ≡ Unfinished → length bytes.now ≤ 1655 }
-    ensures packet { (size : ℕ) → result ≡ Whole size
+    ensures packet { (size : ℕ) → result ≡ CompletePesPacket size
         → IsPesPacket (take size bytes.now) × (size ≤ length bytes.now) }
     ensures other { (fault : PesFault) → result ≡ Other fault → IsRefused bytes.now fault }
 {
@@ -100,7 +101,7 @@ fn found_at_start(bytes: &[u8]) -> Found
         Err(fault) => Found::Other(fault),
         Ok(size) => {
             if size <= bytes.len() {
-                Found::Whole(size)
+                Found::CompletePesPacket(size)
             } else {
                 Found::Unfinished
             }

@@ -25,7 +25,12 @@ pub(crate) fn packet_in(bytes: &[u8], place: usize) -> &[u8; PACKET]
 // registers.
 #[inline(never)]
 #[tactic(auto, using(crate::proofs::StreamLemmas::others))]
-pub(crate) fn place_after_others(bytes: &[u8], from: usize, distance: usize, number: u16) -> usize
+pub(crate) fn place_after_other_pids(
+    bytes: &[u8],
+    from: usize,
+    distance: usize,
+    number: u16,
+) -> usize
     requires from { from ≤ length bytes.now }
     requires near { 188 ≤ distance }
     ensures from { from ≤ result }

@@ -7,7 +7,7 @@ ghost use Rattle.std.specs.Prelude.{true};
 ghost use Rattle.sub_io.specs.Asking.{Requests};
 ghost use Rattle.sub_io.specs.Device.{CanFail, CountsFailure};
 ghost use Rattle.sub_io.specs.Reading.{AreBytes};
-ghost use Rattle.ttx_pes.specs.Advancing.{Advances, lends_none, reports_rest};
+ghost use Rattle.ttx_pes.specs.Advancing.{Advances, no_borrowed_devices, reports_rest};
 ghost use Rattle.ttx_pes.specs.PesPackets.{IsPesPacket};
 ghost use Rattle.mpeg_ts.specs.Carried.{carried};
 ghost use Rattle.mpeg_ts.specs.PacketSize.{bytes_of};
@@ -116,7 +116,7 @@ impl<S: Source> PesPackets for RecordingPesPackets<S> {
         ensures requests { (read : StreamValue) × Requests S.is_pull S.borrowed S.remaining
             (has_output self.old.stream) self.old.device (is_ok result)
             (has_output read) self.new.device }
-        ensures same { lends_none self.new ≡ lends_none self.old }
+        ensures same { no_borrowed_devices self.new ≡ no_borrowed_devices self.old }
         ensures count { CountsFailure
             (S.failure_count self.old.device) result (S.failure_count self.new.device) }
     {

@@ -15,7 +15,7 @@ ghost use Rattle.mpeg_ts.specs.Stream.{output_of, has_output, start_of_stream, r
 ghost use Rattle.mpeg_ts.specs.TakenBytes.{TakesPrefix};
 
 use crate::joining::Joining;
-use crate::passing::{begins_unit, junk_size, packet_in, place_after_others};
+use crate::passing::{begins_unit, junk_size, packet_in, place_after_other_pids};
 use crate::pending_item::Next;
 use crate::transport_packet::{PACKET, SYNC_BYTE, pid_of};
 use crate::window::Window;
@@ -98,7 +98,7 @@ impl Stream {
     // Reads until the buffered bytes determine the next item, and returns whether they do; `false`
     // only at the end of the recording.
     #[tactic(auto, using(crate::proofs::StreamLemmas::needing))]
-    fn need<S: Source>(&mut self, source: &mut S) -> Result<bool, Failed>
+    fn read_needed<S: Source>(&mut self, source: &mut S) -> Result<bool, Failed>
         requires count { CanFail (S.failure_count source.old) }
         requires idle { self.old.joining.pending ≡ [] }
         ensures takes { TakesPrefix (output_of self.old) (output_of self.new)
@@ -142,7 +142,7 @@ impl Stream {
     }
 
     // Returns whether the next item is a transport packet.
-    #[tactic(auto, using(crate::proofs::StreamLemmas::begins_known))]
+    #[tactic(auto, using(crate::proofs::StreamLemmas::begins_determined))]
     fn begins_packet(&self) -> bool
         requires { self.now.lead + bytes_needed self.now.distance self.now.in_step
             ≤ length self.now.window.buffered }
@@ -298,7 +298,7 @@ impl Stream {
         ensures count { CountsFailure
             (S.failure_count source.old) result (S.failure_count source.new) }
     {
-        if !self.need(source)? {
+        if !self.read_needed(source)? {
             return Ok(false);
         }
         if self.begins_packet() {
@@ -334,7 +334,7 @@ impl Stream {
         if borrowed.len() < self.lead || self.window.left() < borrowed.len() as u64 {
             return false;
         }
-        let place = place_after_others(borrowed, self.lead, self.distance, self.number);
+        let place = place_after_other_pids(borrowed, self.lead, self.distance, self.number);
         if !begins_unit(borrowed, place, self.distance, self.number) {
             if place <= self.lead || !source.skip_bytes(place) {
                 return false;

@@ -4,7 +4,8 @@ ghost use Rattle.std.specs.Prelude.{false, is_ok, true};
 ghost use Rattle.std.specs.Io.KnownBytes.{IsAtEnd};
 ghost use Rattle.sub_io.specs.Device.{CanFail, CountsFailure};
 ghost use Rattle.mpeg_ts.specs.TakenBytes.{TakesPrefix};
-ghost use Rattle.mpeg_ts.specs.Window.{RequestsUpTo, buffered_and_left, left_to_take, window_size};
+ghost use Rattle.mpeg_ts.specs.Window.{RequestsUpTo, buffered_and_left, known_bytes_left};
+ghost use Rattle.mpeg_ts.specs.Window.{window_size};
 
 use arrayvec::ArrayVec;
 use std::marker::Model;
@@ -134,7 +135,7 @@ impl Window {
         ensures cut { is_ok result ≡ false → length self.new.buffered < count }
         ensures few { result ≡ Ok false → length self.new.buffered < count }
         ensures end { result ≡ Ok false
-            → IsAtEnd (left_to_take self.new (S.remaining source.new)) }
+            → IsAtEnd (known_bytes_left self.new (S.remaining source.new)) }
         ensures sum { length self.new.buffered + self.new.left
             ≡ length self.old.buffered + self.old.left }
         ensures grows { length self.old.buffered ≤ length self.new.buffered }

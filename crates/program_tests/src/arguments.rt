@@ -3,7 +3,7 @@ use crate::answers::{assert_fills, assert_reports};
 use std::alloc::Global;
 use std::process::Abort;
 use sub_request::Request;
-use sub_words::ParseWords;
+use sub_words::ParseArguments;
 
 // Asserts the line for refused arguments.
 fn assert_refuses<'a>(rt: &(impl Abort + Alloc<A = Global>), arguments: &'a [&'a str], want: &str) {

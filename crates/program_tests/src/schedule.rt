@@ -94,7 +94,7 @@ fn schedules_texts_of_no_row_to_all_rows(rt: HostRuntime) {
 }
 
 // Returns a file of `Hi` and another subtitle in the two seconds after `Hi`.
-fn hi_and(rt: &impl Abort, text: &[u8]) -> [u8; 1280] {
+fn file_of_hi_and(rt: &impl Abort, text: &[u8]) -> [u8; 1280] {
     assert!(rt; text.len() <= 112);
     file_of_two(
         &block(&HEAD, &HI),
@@ -106,12 +106,19 @@ fn hi_and(rt: &impl Abort, text: &[u8]) -> [u8; 1280] {
 fn schedules_two_subtitles(rt: HostRuntime) {
     let three = (552, "written 3 transmissions\n");
     let accepted = "accepted 101 frames 3 transmissions\n";
-    assert_schedules(&rt, &SCHEDULE, &hi_and(&rt, b"Ho"), three, "250", accepted);
+    assert_schedules(
+        &rt,
+        &SCHEDULE,
+        &file_of_hi_and(&rt, b"Ho"),
+        three,
+        "250",
+        accepted,
+    );
     let accepted = "accepted 101 frames 2 transmissions\n";
     assert_schedules(
         &rt,
         &SCHEDULE,
-        &hi_and(&rt, &HI),
+        &file_of_hi_and(&rt, &HI),
         (368, WRITTEN),
         "250",
         accepted,
@@ -139,10 +146,10 @@ fn assert_refuses(rt: &(impl Abort + Alloc<A = Global>), file: &[u8; 1280], want
 
 #[test]
 fn refuses_files(rt: HostRuntime) {
-    let mut cumulative = hi_and(&rt, &HI);
+    let mut cumulative = file_of_hi_and(&rt, &HI);
     cumulative[1156] = 1;
     assert_refuses(&rt, &cumulative, "refused 16 Cumulative block 2\n");
-    let mut open = hi_and(&rt, &HI);
+    let mut open = file_of_hi_and(&rt, &HI);
     open[1155] = 0x00; // EBN
     assert_refuses(&rt, &open, "refused 24 Unfinished block 2\n");
     assert_reports(&rt, &SCHEDULE, &gsi(), &[], "refused 82 NoSubtitles\n");
@@ -150,7 +157,7 @@ fn refuses_files(rt: HostRuntime) {
 
 #[test]
 fn refuses_times(rt: HostRuntime) {
-    let mut overlap = hi_and(&rt, &HI);
+    let mut overlap = file_of_hi_and(&rt, &HI);
     overlap[1036] = 1; // TCO is 10:00:02:01
     assert_refuses(&rt, &overlap, "refused 57 Overlap block 2\n");
     let hi = block(&HEAD, &HI);

@@ -43,7 +43,7 @@ fn assert_cuts<'a>(
     let mut file = Watched::new(MemSink::new(&mut buffer[..written.len()]));
     assert_writes(rt, arguments, input, &mut file, fault, Status::Fault);
     assert!(rt;
-        file.inner.written() == written && file.late_calls == 0,
+        file.inner.written() == written && file.calls_after_failure == 0,
         "{arguments:?}"
     );
 }
@@ -59,7 +59,7 @@ fn assert_stops<'a>(
     let mut buffer = [0; 1280];
     let mut file = Watched::new(FailAt::new(MemSink::new(&mut buffer), call));
     assert_writes(rt, arguments, input, &mut file, fault, Status::Fault);
-    assert!(rt; file.late_calls == 0, "{arguments:?}, call {call}");
+    assert!(rt; file.calls_after_failure == 0, "{arguments:?}, call {call}");
 }
 
 // Asserts that the written file is complete, and the line, also to an output with less room.

@@ -12,7 +12,7 @@ use Rattle.recording_laws.proofs.LeadsLemmas.{Leads, leads-gone, leads-there, le
 use Rattle.recording_laws.proofs.PesPacketLemmas.{concat-gap_markers, gap_markers_where, one-way}
 use Rattle.recording_laws.proofs.PesPacketLemmas.{sent_bytes}
 use Rattle.recording_laws.proofs.ReadingLaw.{law_of_reading}
-use Rattle.recording_laws.proofs.OpenPartLemmas.{Gives}
+use Rattle.recording_laws.proofs.OpenPartLemmas.{YieldsResults}
 use Rattle.recording_laws.proofs.ReadingLemmas.{After, Previous, Marked, Nothing, Reads, is_gap}
 use Rattle.recording_laws.proofs.ReadingLemmas.{has_previous}
 use Rattle.recording_laws.proofs.ReadingLemmas.{Located, located, sent-next, skip}
@@ -57,7 +57,7 @@ reads-lead previous (s ∷ more) pes_packets reads = elim reads [
 
 given-few : (number distance : ℕ) (m : Multiplex Fated) (recording : List ℕ)
     → IsLossy number distance m recording
-    → Gives true Nothing m.sent (carried number distance recording)
+    → YieldsResults true Nothing m.sent (carried number distance recording)
 given-few number distance m recording h =
     law_of_reading number distance true m recording h.losses (λ e. h.few) (λ e. absurd (cc e))
 
@@ -68,7 +68,7 @@ law_of_losses number distance m recording h = record {
   bytes_are = gives.joined ∙ leads.bytes_are;
 }
   where
-    gives : Gives true Nothing m.sent (carried number distance recording)
+    gives : YieldsResults true Nothing m.sent (carried number distance recording)
     gives = given-few number distance m recording h
 
     leads : Leads false false m.sent (concat gives.pes_packets)
@@ -79,10 +79,14 @@ law_of_losses number distance m recording h = record {
 pub law_of_neighbours : LawOfNeighbours
 law_of_neighbours number distance m recording before [] following h each joined none =
     ([], sent_bytes m.sent, refl)
-law_of_neighbours number distance m recording before (x ∷ run) following h each joined none =
-    (found.earlier, next.0, found.sent_are ∙ ap (λ (l : List (List ℕ)). found.earlier ++ l) rest)
+law_of_neighbours number distance m recording before (x ∷ run) following h each joined none = (
+  found.earlier,
+  next.0,
+  found.sent_bytes_eq ∙ ap (λ (l : List (List ℕ)). found.earlier ++ l)
+      rest,
+)
   where
-    gives : Gives true Nothing m.sent (carried number distance recording)
+    gives : YieldsResults true Nothing m.sent (carried number distance recording)
     gives = given-few number distance m recording h
 
     same : gives.pes_packets ≡ before ++ (x ∷ (run ++ following))

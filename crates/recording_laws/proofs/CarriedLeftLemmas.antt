@@ -11,7 +11,7 @@ use Rattle.mpeg_ts.specs.Carried.{carried, with_gap_markers}
 use Rattle.mpeg_ts.specs.GoodPackets.{GoodPackets, Note, good_after, empty_history}
 use Rattle.mpeg_ts.specs.Parts.{outcomes_of}
 use Rattle.mpeg_ts.specs.TransportPacket.{counter, payload}
-use Rattle.recording_laws.specs.Losses.{AreLosses, Fate, Fated, IsFate, IsSpoiled, any_wrong}
+use Rattle.recording_laws.specs.Losses.{AreLosses, Fate, Fated, IsFate, IsSpoiled, any_unit_damaged}
 use Rattle.recording_laws.specs.Losses.{recorded_of}
 use Rattle.recording_laws.specs.Losses.{sent_packet, units_left}
 use Rattle.recording_laws.specs.Multiplex.{AreInSequence, AreNextCarriers, AreRecordedUnits}
@@ -23,7 +23,7 @@ use Rattle.recording_laws.specs.Multiplex.{carriers_of_pes}
 use Rattle.recording_laws.proofs.LeftLemmas.{AreRising, IsSomeLeft, carried-no_jump}
 use Rattle.ttx_pes.specs.PesPackets.{IsPesPacket}
 use Rattle.recording_laws.proofs.LeftNoteLemmas.{IsLeft, IsLeftCarrier, good-quiets-left}
-use Rattle.recording_laws.proofs.LeftNoteLemmas.{heard_left}
+use Rattle.recording_laws.proofs.LeftNoteLemmas.{notes_of_unit}
 use Rattle.recording_laws.proofs.LeftNoteLemmas.{history_after_loss}
 use Rattle.recording_laws.proofs.RecordingLemmas.{noted, notes-units}
 
@@ -80,10 +80,10 @@ length-left distance number (f ∷ fs) fates =
 
 notes-left : (distance number : ℕ) (fs : List Fated)
     → flat_map (λ u. noted number (packet_in distance u)) (units_left fs)
-    ≡ flat_map (heard_left distance number) fs
+    ≡ flat_map (notes_of_unit distance number) fs
 notes-left distance number [] = grind (arith, nat_tests)
 notes-left distance number (f ∷ fs) =
-    grind (arith, nat_tests, flat_map-append, noted, heard_left, (notes-left distance number fs))
+    grind (arith, nat_tests, flat_map-append, noted, notes_of_unit, (notes-left distance number fs))
 
 pub record IsLeftPes (distance number : ℕ) (s : SentPes Fated) : Type 0 where
   pub is_pes_packet : IsPesPacket s.bytes
@@ -283,8 +283,8 @@ module _ (distance number : ℕ) (m : Multiplex Fated) (recording : List ℕ) wh
       → carried number distance recording
       ≡ with_gap_markers false false
       (outcomes_of
-      (good_after (history_after_loss None false (any_wrong m.lead))
-      (flat_map (heard_left distance number) (flat_map items_of_carrier (carriers_of m.sent)))))
+      (good_after (history_after_loss None false (any_unit_damaged m.lead))
+      (flat_map (notes_of_unit distance number) (flat_map items_of_carrier (carriers_of m.sent)))))
   unfolding carried
   carried-left h =
       ap
@@ -293,10 +293,10 @@ module _ (distance number : ℕ) (m : Multiplex Fated) (recording : List ℕ) wh
       (notes-units distance number (units_left (items_of_multiplex m)) recording
       (left-recording h)
       ∙ notes-left distance number (items_of_multiplex m)
-      ∙ flat_map-append (heard_left distance number) m.lead following)
+      ∙ flat_map-append (notes_of_unit distance number) m.lead following)
       ∙ ap (λ (good : GoodPackets). with_gap_markers false false (outcomes_of good))
       (good-quiets-left distance number None false false m.lead
-      (flat_map (heard_left distance number) following)
+      (flat_map (notes_of_unit distance number) following)
       (all-first distance number m.lead following (all-units h)) h.is_multiplex.lead)
     where
       following : List Fated

@@ -79,7 +79,7 @@ closes-pes_packet part given gap bytes longer gives = record {
         (with_gap_markers true longer (outcomes wrong_after more)))
 
 pub record IsBroken (part : Part) : Type 0 where
-  pub outcome_is : (cut_off : Bool) → outcome cut_off part ≡ gap_where (not cut_off)
+  pub outcome_eq : (cut_off : Bool) → outcome cut_off part ≡ gap_where (not cut_off)
 
 pub closes-broken : (part : Part) (given gap : Bool)
     → IsBroken part
@@ -99,19 +99,19 @@ closes-broken part given gap h = record {
         → with_gap_markers given gap (outcomes wrong_after (part ∷ more))
         ≡ with_gap_markers given true (outcomes wrong_after more)
     reported wrong_after more some =
-        rw (h.outcome_is (may_be_cut_off wrong_after more), some)
+        rw (h.outcome_eq (may_be_cut_off wrong_after more), some)
         (gap-before given gap part.after_break (Gap ∷ outcomes wrong_after more))
 
     end : (wrong_after : Bool)
         → with_gap_markers given gap (outcomes wrong_after (part ∷ []))
         ≡ gap_marker_where (given && ((gap || part.after_break) || wrong_after))
     end true =
-        rw (h.outcome_is false)
+        rw (h.outcome_eq false)
         (gap-before given gap part.after_break (Gap ∷ Gap ∷ [])
         ∙ ap (λ (b : Bool). gap_marker_where (given && b))
         (elim (cases_Bool (gap || part.after_break)) [ inl e ↦ rw e | inr e ↦ rw e ]))
     end false =
-        rw (h.outcome_is true)
+        rw (h.outcome_eq true)
         (gap-before given gap part.after_break []
         ∙ ap (λ (b : Bool). gap_marker_where (given && b))
         (elim (cases_Bool (gap || part.after_break)) [ inl e ↦ rw e | inr e ↦ rw e ]))
@@ -126,7 +126,7 @@ pub broken-short : (part : Part) (missing bytes : List ℕ)
     → IsPesPacket bytes
     → IsBroken part
 unfolding outcome
-broken-short part missing bytes joined some pes_packet = record { outcome_is = is }
+broken-short part missing bytes joined some pes_packet = record { outcome_eq = is }
   where
     short : nat_le (length bytes) (length (part_bytes part)) ≡ false
     short =

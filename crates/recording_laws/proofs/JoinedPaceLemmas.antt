@@ -5,7 +5,8 @@ use Rattle.std.proofs.Common.{◌≡◌, ℕ, suc, ◌+◌, ◌-◌, ◌≤◌, 
 use Rattle.std.proofs.Common.{[], ◌∷◌, ◌++◌, length, refl, sym, ap, ◌∙◌, subst, arith, cond}
 use Rattle.std.proofs.Common.{length-append, slice_index}
 use Rattle.sub_rules.specs.FrameRules.{end_frame}
-use Rattle.sub_rules.specs.PesPackets.{goes_on_with, joined, joined_after, sent_after, with_packets}
+use Rattle.sub_rules.specs.PesPackets.{continues_with, joined, joined_after, sent_after}
+use Rattle.sub_rules.specs.PesPackets.{with_packets}
 use Rattle.sub_rules.specs.Transmission.{SentFrame, Transmission}
 use Rattle.sub_rules.proofs.JoinedLemmas.{with_packets-frames}
 use Rattle.recording_laws.proofs.PacedFrameLemmas.{AreNear, AreNearFrom, numbers}
@@ -63,7 +64,7 @@ both-hold : (b : Bool) (m n : ℕ) → (b && (m == n)) ≡ true → m ≡ n
 both-hold b m n h = grind (arith, nat_tests)
 
 goes-on : (within : ℕ) (sent : Transmission) (s : SentFrame)
-    → goes_on_with within sent s ≡ true
+    → continues_with within sent s ≡ true
     → end_frame sent ≡ s.frame
 goes-on within [] s h = grind (arith, nat_tests)
 goes-on within (x ∷ sent) s h = both-hold (not (within == 0)) (end_frame (x ∷ sent)) s.frame h
@@ -75,7 +76,7 @@ module _ (pace within : ℕ) where
   unfolding joined_after
   kept-near sent [] h = h
   kept-near sent (s ∷ frames) h =
-      go (goes_on_with within sent s) (kept-near (sent_after within sent s) frames h)
+      go (continues_with within sent s) (kept-near (sent_after within sent s) frames h)
     where
       go : (same : Bool)
           → AreNear pace (numbers (cond same (with_packets s.packets sent) (sent ++ s ∷ [])))
@@ -91,12 +92,12 @@ module _ (pace within : ℕ) where
   unfolding joined_after
   after-near last sent [] ends h = tt
   after-near last sent (s ∷ frames) ends h =
-      go (goes_on_with within sent s) refl
+      go (continues_with within sent s) refl
       (λ f more. after-near f (sent_after within sent s) frames more h)
       (kept-near (sent_after within sent s) frames h)
     where
       go : (same : Bool)
-          → goes_on_with within sent s ≡ same
+          → continues_with within sent s ≡ same
           → ((f : ℕ)
           → EndsWith (cond same (with_packets s.packets sent) (sent ++ s ∷ [])) f
           → AreNearFrom pace f (numbers frames))

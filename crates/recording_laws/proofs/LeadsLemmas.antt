@@ -4,7 +4,7 @@ use Rattle.std.proofs.Common.{arith, ◌≡◌, ℕ, Bool, true, false, ◌&&◌
 use Rattle.std.proofs.Common.{append_assoc}
 use Rattle.std.specs.List.{list_any}
 use Rattle.mpeg_ts.specs.Carried.{gap_marker_where}
-use Rattle.recording_laws.specs.Losses.{Fated, any_wrong, arrives, arriving, is_wrong_after}
+use Rattle.recording_laws.specs.Losses.{Fated, any_unit_damaged, arrives, arriving, is_wrong_after}
 use Rattle.recording_laws.specs.Losses.{units_before}
 use Rattle.recording_laws.specs.Multiplex.{SentPes}
 use Rattle.recording_laws.proofs.LeftNoteLemmas.{or-true}
@@ -26,7 +26,7 @@ leads-gone given gap s more bytes h1 h2 = grind (arith, nat_tests)
 pub leads-there : (given gap : Bool) (s : SentPes Fated) (more : List (SentPes Fated))
     (bytes inner : List ℕ)
     → arrives s ≡ true
-    → bytes ≡ gap_marker_where (given && (gap || any_wrong (units_before s.first))) ++
+    → bytes ≡ gap_marker_where (given && (gap || any_unit_damaged (units_before s.first))) ++
     (s.bytes ++ inner)
     → Leads true (is_wrong_after s) more inner
     → Leads given gap (s ∷ more) bytes

@@ -9,7 +9,8 @@ use Rattle.std.specs.Option.{option_to_list}
 use Rattle.std.proofs.lemmas.Bool.Decides.{nat_tests}
 use Rattle.std.proofs.lemmas.List.{get_or-take}
 use Rattle.std.proofs.lemmas.Slice.Eq.{bytes_eq-Decides}
-use Rattle.mpeg_ts.specs.GoodPackets.{Follows, Break, First, GoodPacket, Link, counts_on, is_repeat}
+use Rattle.mpeg_ts.specs.GoodPackets.{Follows, Break, First, GoodPacket, PacketLink, counts_on}
+use Rattle.mpeg_ts.specs.GoodPackets.{is_repeat}
 use Rattle.mpeg_ts.specs.GoodPackets.{is_same, linked}
 use Rattle.mpeg_ts.specs.Parts.{is_break, is_unlinked}
 use Rattle.mpeg_ts.specs.PacketsInStep.{lead_size}
@@ -96,7 +97,7 @@ fresh-later good again wrong h i n h1 h2 h3 = grind (arith, nat_tests, counter-f
 
 -- The link of a transport packet to the good packet before it, given whether a packet between them
 -- was damaged.
-abbrev pub link_left : Option (List ℕ) → Bool → List ℕ → Link
+abbrev pub link_left : Option (List ℕ) → Bool → List ℕ → PacketLink
 link_left None wrong h = First
 link_left (Some g) wrong h = if wrong then Break else if counts_on g h then Follows else Break
 

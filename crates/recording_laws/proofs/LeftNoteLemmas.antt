@@ -9,7 +9,8 @@ use Rattle.std.proofs.lemmas.Grind.{flat_map-append}
 use Rattle.std.proofs.lemmas.List.{append-nil}
 use Rattle.std.proofs.lemmas.List.Folds.{list_any-append}
 use Rattle.mpeg_ts.specs.GoodPackets.{Note, PacketHistory, good_after, is_repeat, linked, with_good}
-use Rattle.recording_laws.specs.Losses.{Fate, Fated, IsFate, any_kept, any_wrong, is_as_sent}
+use Rattle.recording_laws.specs.Losses.{Fate, Fated, IsFate, any_unit_kept, any_unit_damaged}
+use Rattle.recording_laws.specs.Losses.{is_as_sent}
 use Rattle.recording_laws.specs.Losses.{is_made_wrong, recorded_of, sent_packet}
 use Rattle.recording_laws.specs.Multiplex.{Carrier, IsCarrier, IsRepetition, announces}
 use Rattle.recording_laws.specs.Multiplex.{is_irrelevant}
@@ -39,8 +40,8 @@ pub or-true : (a : Bool) → (a || true) ≡ true
 or-true a = grind (arith, nat_tests)
 
 module _ (distance number : ℕ) where
-  abbrev pub heard_left : Fated → List Note
-  heard_left f = flat_map (λ u. noted number (packet_in distance u)) (recorded_of f.unit f.fate)
+  abbrev pub notes_of_unit : Fated → List Note
+  notes_of_unit f = flat_map (λ u. noted number (packet_in distance u)) (recorded_of f.unit f.fate)
 
   pub record IsLeft (f : Fated) : Type 0 where
     pub recorded : IsRecordedUnit distance f.unit
@@ -81,19 +82,19 @@ module _ (distance number : ℕ) where
       (ns : List Note)
       → AllByRecursion IsLeft fs
       → AllByRecursion (λ f. is_irrelevant number (sent_packet distance f) ≡ true) fs
-      → good_after (history_after_loss good again wrong) (flat_map heard_left fs ++ ns)
-      ≡ good_after (history_after_loss good again (wrong || any_wrong fs)) ns
+      → good_after (history_after_loss good again wrong) (flat_map notes_of_unit fs ++ ns)
+      ≡ good_after (history_after_loss good again (wrong || any_unit_damaged fs)) ns
   good-quiets-left good again wrong [] ns left irrelevant =
       ap (λ (w : Bool). good_after (history_after_loss good again w) ns) (sym (or-false wrong))
   good-quiets-left good again wrong (f ∷ fs) ns left irrelevant =
       ap (good_after (history_after_loss good again wrong))
-      (append_assoc (heard_left f) (flat_map heard_left fs) ns)
-      ∙ good-irrelevant-left good again wrong f.unit f.fate (flat_map heard_left fs ++ ns)
+      (append_assoc (notes_of_unit f) (flat_map notes_of_unit fs) ns)
+      ∙ good-irrelevant-left good again wrong f.unit f.fate (flat_map notes_of_unit fs ++ ns)
       left.0.fate
       left.0.no_jump irrelevant.0
       ∙ good-quiets-left good again (wrong || is_made_wrong f.fate) fs ns left.1 irrelevant.1
       ∙ ap (λ (w : Bool). good_after (history_after_loss good again w) ns)
-      (or-assoc wrong (is_made_wrong f.fate) (any_wrong fs))
+      (or-assoc wrong (is_made_wrong f.fate) (any_unit_damaged fs))
 
   pub heard-kept : (unit : List ℕ) (fate : Fate)
       → is_as_sent fate ≡ true
@@ -108,10 +109,10 @@ module _ (distance number : ℕ) where
       → AllByRecursion IsLeft (option_to_list again)
       → AllByRecursion (λ f. IsRepetition number p (sent_packet distance f)) (option_to_list again)
       → good_after (history_after_loss (Some p) false wrong)
-      (flat_map heard_left (option_to_list again) ++ ns)
+      (flat_map notes_of_unit (option_to_list again) ++ ns)
       ≡ good_after
-      (history_after_loss (Some p) (any_kept (option_to_list again))
-      (wrong || any_wrong (option_to_list again))) ns
+      (history_after_loss (Some p) (any_unit_kept (option_to_list again))
+      (wrong || any_unit_damaged (option_to_list again))) ns
   good-again-left p wrong again ns h1 h2 =
       grind (
         arith,
@@ -137,13 +138,15 @@ module _ (distance number : ℕ) where
     pub after : AllByRecursion IsLeft c.after
 
   pub heard-carrier : (c : Carrier Fated) (ns : List Note)
-      → flat_map heard_left (items_of_carrier c) ++ ns
-      ≡ heard_left c.packet ++ (flat_map heard_left c.before
-      ++ (flat_map heard_left (option_to_list c.again) ++ (flat_map heard_left c.after ++ ns)))
+      → flat_map notes_of_unit (items_of_carrier c) ++ ns
+      ≡ notes_of_unit c.packet ++ (flat_map notes_of_unit c.before
+      ++ (flat_map notes_of_unit (option_to_list c.again) ++ (flat_map notes_of_unit c.after ++
+      ns)))
   heard-carrier c ns = simp (flat_map-append, append_assoc)
 
   wrong-of_three : (a b c : List Fated)
-      → any_wrong (a ++ (b ++ c)) ≡ ((any_wrong a || any_wrong b) || any_wrong c)
+      → any_unit_damaged (a ++ (b ++ c)) ≡ ((any_unit_damaged a || any_unit_damaged b) ||
+      any_unit_damaged c)
   wrong-of_three a b c = grind (arith, nat_tests, list_any-append, or-assoc)
 
   -- If a transport packet with payload is recorded, it becomes a good packet.
@@ -152,12 +155,14 @@ module _ (distance number : ℕ) where
       → IsLeftCarrier first c
       → is_as_sent c.packet.fate ≡ true
       → is_repeat (history_after_loss good again wrong) (sent_packet distance c.packet) ≡ false
-      → good_after (history_after_loss good again wrong) (flat_map heard_left (items_of_carrier c)
+      → good_after (history_after_loss good again wrong)
+      (flat_map notes_of_unit (items_of_carrier c)
       ++ ns)
       ≡ with_good (linked (history_after_loss good again wrong) (sent_packet distance c.packet))
       (good_after
-      (history_after_loss (Some (sent_packet distance c.packet)) (any_kept (option_to_list c.again))
-      (any_wrong (c.before ++ (option_to_list c.again ++ c.after)))) ns)
+      (history_after_loss (Some (sent_packet distance c.packet))
+      (any_unit_kept (option_to_list c.again))
+      (any_unit_damaged (c.before ++ (option_to_list c.again ++ c.after)))) ns)
   good-first good again wrong first c ns h1 h2 h3 =
       grind (
         arith,
@@ -174,10 +179,11 @@ module _ (distance number : ℕ) where
       (ns : List Note)
       → IsLeftCarrier first c
       → is_as_sent c.packet.fate ≡ false
-      → good_after (history_after_loss good again wrong) (flat_map heard_left (items_of_carrier c)
+      → good_after (history_after_loss good again wrong)
+      (flat_map notes_of_unit (items_of_carrier c)
       ++ ns)
-      ≡ good_after (history_after_loss good again (wrong || any_wrong (c.packet ∷ c.before)))
-      (flat_map heard_left (option_to_list c.again) ++ (flat_map heard_left c.after ++ ns))
+      ≡ good_after (history_after_loss good again (wrong || any_unit_damaged (c.packet ∷ c.before)))
+      (flat_map notes_of_unit (option_to_list c.again) ++ (flat_map notes_of_unit c.after ++ ns))
   good-no_first good again wrong first c ns h1 h2 =
       grind (arith, nat_tests, heard-carrier, good-lost, good-quiets-left, or-assoc)
 
@@ -187,12 +193,12 @@ module _ (distance number : ℕ) where
       → AllByRecursion (λ f. IsRepetition number p (sent_packet distance f)) (option_to_list o)
       → AllByRecursion IsLeft after
       → AllByRecursion (λ f. is_irrelevant number (sent_packet distance f) ≡ true) after
-      → any_kept (option_to_list o) ≡ true
+      → any_unit_kept (option_to_list o) ≡ true
       → is_repeat (history_after_loss good again wrong) (copy_of o p) ≡ false
       → good_after (history_after_loss good again wrong)
-      (flat_map heard_left (option_to_list o) ++ (flat_map heard_left after ++ ns))
+      (flat_map notes_of_unit (option_to_list o) ++ (flat_map notes_of_unit after ++ ns))
       ≡ with_good (linked (history_after_loss good again wrong) (copy_of o p))
-      (good_after (history_after_loss (Some (copy_of o p)) false (any_wrong after)) ns)
+      (good_after (history_after_loss (Some (copy_of o p)) false (any_unit_damaged after)) ns)
   good-second good again wrong p o after ns h1 h2 h3 h4 h5 =
       grind (arith, nat_tests, append-nil, heard-kept, or-false, good-packet, good-quiets-left)
 
@@ -201,11 +207,12 @@ module _ (distance number : ℕ) where
       → AllByRecursion IsLeft (option_to_list o)
       → AllByRecursion IsLeft after
       → AllByRecursion (λ f. is_irrelevant number (sent_packet distance f) ≡ true) after
-      → any_kept (option_to_list o) ≡ false
+      → any_unit_kept (option_to_list o) ≡ false
       → good_after (history_after_loss good again wrong)
-      (flat_map heard_left (option_to_list o) ++ (flat_map heard_left after ++ ns))
+      (flat_map notes_of_unit (option_to_list o) ++ (flat_map notes_of_unit after ++ ns))
       ≡ good_after
-      (history_after_loss good again ((wrong || any_wrong (option_to_list o)) || any_wrong after))
+      (history_after_loss good again ((wrong || any_unit_damaged (option_to_list o)) ||
+      any_unit_damaged after))
       ns
   good-no_second good again wrong o after ns h1 h2 h3 h4 =
       grind (arith, nat_tests, good-quiets-left, or-false, append-nil, good-lost)

@@ -1,5 +1,5 @@
 pub mod ArrivingLaw
-pub mod BegunPartLemmas
+pub mod StartedPartLemmas
 pub mod CarriedLeftLemmas
 pub mod CarrierLemmas
 pub mod ClosedPartLemmas

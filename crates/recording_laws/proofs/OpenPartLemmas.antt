@@ -13,7 +13,8 @@ use Rattle.mpeg_ts.specs.GoodPackets.{GoodPacket}
 use Rattle.mpeg_ts.specs.Parts.{Part, begins_part, outcomes, part_bytes, part_of, parts_from}
 use Rattle.mpeg_ts.specs.Parts.{with_packet, is_break}
 use Rattle.mpeg_ts.specs.TransportPacket.{begins, payload}
-use Rattle.recording_laws.specs.Losses.{Fated, any_wrong, are_recorded_after, arrives, is_recorded}
+use Rattle.recording_laws.specs.Losses.{Fated, any_unit_damaged, are_recorded_after, arrives}
+use Rattle.recording_laws.specs.Losses.{is_recorded}
 use Rattle.recording_laws.specs.Losses.{is_wrong_after, last_carrier, sent_packet, units_before}
 use Rattle.recording_laws.specs.Losses.{units_after}
 use Rattle.recording_laws.proofs.LeftLemmas.{carrier-payload}
@@ -23,7 +24,7 @@ use Rattle.recording_laws.proofs.ClosedPartLemmas.{parts_from-some, broken-unbeg
 use Rattle.recording_laws.proofs.PartLemmas.{outcome-whole, IsCompletePart, parts_from-cut}
 use Rattle.recording_laws.proofs.PartLemmas.{concat-snoc}
 use Rattle.recording_laws.proofs.PartLemmas.{parts_from-follows}
-use Rattle.recording_laws.proofs.BegunPartLemmas.{ClosesGiven, IsPrefix, closes-prefix}
+use Rattle.recording_laws.proofs.StartedPartLemmas.{ClosesGiven, IsPrefix, closes-prefix}
 use Rattle.recording_laws.proofs.ReadingLemmas.{IsGapMarkerExact, has_previous, After, Fits}
 use Rattle.recording_laws.proofs.ReadingLemmas.{Previous, Marked}
 use Rattle.recording_laws.proofs.ReadingLemmas.{Nothing, Reads, reads-marked, skip}
@@ -51,7 +52,8 @@ gapped true = Marked
 gapped false = Nothing
 
 -- The bytes are the joined results of reading the PES packets sent, after the state `previous`.
-pub record Gives (few : Bool) (previous : Previous) (sent : List (SentPes Fated)) (bytes : List ℕ)
+pub record YieldsResults (few : Bool) (previous : Previous) (sent : List (SentPes Fated))
+    (bytes : List ℕ)
     : Type 0 where
   pub pes_packets : List (List ℕ)
   pub each : AllByRecursion IsPesPacket pes_packets
@@ -60,7 +62,7 @@ pub record Gives (few : Bool) (previous : Previous) (sent : List (SentPes Fated)
 
 -- The bytes are the joined results of reading, and the first result is that of the PES packet s,
 -- with or without a gap marker before it.
-pub record GivesOne (few marked : Bool) (s : SentPes Fated) (between : ℕ) (skipped : Bool)
+pub record YieldsOneResult (few marked : Bool) (s : SentPes Fated) (between : ℕ) (skipped : Bool)
     (sent : List (SentPes Fated)) (bytes : List ℕ) : Type 0 where
   pub pes_packet : List ℕ
   pub is_pes_packet : IsPesPacket pes_packet
@@ -75,8 +77,8 @@ pub record GivesOne (few marked : Bool) (s : SentPes Fated) (between : ℕ) (ski
 abbrev pub Opens : Bool → Bool → Bool → SentPes Fated → ℕ → Bool → List (SentPes Fated) → List ℕ
     → Type 0
 Opens few given marked s between skipped sent bytes =
-    GivesOne few marked s between skipped sent bytes
-    ⊎ ((few ≡ true → arrives s ≡ false) × Gives few (gapped given) sent bytes)
+    YieldsOneResult few marked s between skipped sent bytes
+    ⊎ ((few ≡ true → arrives s ≡ false) × YieldsResults few (gapped given) sent bytes)
 
 gapped-skip : (few given : Bool) (s : SentPes Fated) (more : List (SentPes Fated))
     (pes_packets : List (List ℕ))
@@ -101,8 +103,8 @@ previous-skip few (After x t between skipped) false s more pes_packets e h = abs
 pub gives-later : (few given : Bool) (s : SentPes Fated) (more : List (SentPes Fated))
     (bytes : List ℕ)
     → (few ≡ true → arrives s ≡ false)
-    → Gives few (gapped given) more bytes
-    → Gives few (gapped given) (s ∷ more) bytes
+    → YieldsResults few (gapped given) more bytes
+    → YieldsResults few (gapped given) (s ∷ more) bytes
 gives-later few given s more bytes gone h = record {
   pes_packets = h.pes_packets;
   each = h.each;
@@ -137,7 +139,7 @@ pub gives-opened : (few : Bool) (previous : Previous) (given marked : Bool) (s :
     → Fits previous marked
     → IsGapMarkerExact few previous s marked
     → Opens few given marked s (length s.others) false more bytes
-    → Gives few previous (s ∷ more) bytes
+    → YieldsResults few previous (s ∷ more) bytes
 gives-opened few previous given marked s more bytes is fits exact h = elim h [
   | inl one ↦
       record {
@@ -177,8 +179,8 @@ pub gives-one : (few marked : Bool) (s : SentPes Fated) (between : ℕ) (skipped
     → up_to_pts pes_packet ≡ up_to_pts s.bytes
     → (few ≡ true → (arrives s ≡ true) × (pes_packet ≡ s.bytes))
     → bytes ≡ (gap_marker_where marked ++ pes_packet) ++ inner
-    → Gives few (After pes_packet s between skipped) sent inner
-    → GivesOne few marked s between skipped sent bytes
+    → YieldsResults few (After pes_packet s between skipped) sent inner
+    → YieldsOneResult few marked s between skipped sent bytes
 gives-one few marked s between skipped sent pes_packet bytes inner is prefix as_sent e h = record {
   pes_packet = pes_packet;
   is_pes_packet = is;
@@ -196,8 +198,8 @@ gives-one few marked s between skipped sent pes_packet bytes inner is prefix as_
 pub gives-marked : (few : Bool) (x : List ℕ) (s : SentPes Fated) (between : ℕ) (skipped : Bool)
     (sent : List (SentPes Fated)) (bytes : List ℕ)
     → (few ≡ true → (skipped || is_wrong_after s) ≡ true)
-    → Gives few Marked sent bytes
-    → Gives few (After x s between skipped) sent bytes
+    → YieldsResults few Marked sent bytes
+    → YieldsResults few (After x s between skipped) sent bytes
 gives-marked few x s between skipped sent bytes gap h = record {
   pes_packets = h.pes_packets;
   each = h.each;
@@ -245,8 +247,8 @@ module _ (distance number : ℕ) (wrong_after few : Bool) where
     pub exact :
         few ≡ true
         → (arrives s ≡ are_recorded_after last cs)
-        × (is_wrong_after s ≡ any_wrong (units_after (last_carrier last cs)))
-        × (wrong ≡ any_wrong (units_after last))
+        × (is_wrong_after s ≡ any_unit_damaged (units_after (last_carrier last cs)))
+        × (wrong ≡ any_unit_damaged (units_after last))
 
   abbrev pub IsLost : Part → SentPes Fated → Bool → Type 0
   IsLost part s skipped =
@@ -256,8 +258,9 @@ module _ (distance number : ℕ) (wrong_after few : Bool) where
   -- The state of a PES packet that is being reassembled: all its transport packets so far were
   -- read; or some are missing; or at least 16 were missing, so that the counter may continue all
   -- the same.
-  abbrev pub IsGoing : Part → SentPes Fated → ℕ → Bool → ℕ → Bool → List (Carrier Fated) → Type 0
-  IsGoing part s between skipped n wrong cs =
+  abbrev pub PartContinues : Part → SentPes Fated → ℕ → Bool → ℕ → Bool → List (Carrier Fated) →
+      Type 0
+  PartContinues part s between skipped n wrong cs =
       IsUnbroken part s between skipped n wrong cs
       ⊎ (((1 ≤ n) × (n + length cs ≤ between) × (few ≡ true → IsLost part s skipped))
       ⊎ ((16 + length cs ≤ between) × (few ≡ false)))
@@ -286,13 +289,13 @@ module _ (distance number : ℕ) (wrong_after few : Bool) where
       is
 
   going-gone : (part : Part) (s : SentPes Fated) (between : ℕ) (skipped : Bool) (n : ℕ)
-      (wrong wrong_since : Bool) (c : Carrier Fated) (cs : List (Carrier Fated))
+      (wrong wrong_after_good : Bool) (c : Carrier Fated) (cs : List (Carrier Fated))
       → IsPesPacket s.bytes
       → IsLeftCarrier distance number false c
       → (few ≡ true → is_recorded c ≡ false)
-      → IsGoing part s between skipped n wrong (c ∷ cs)
-      → IsGoing part s between skipped (n + 1) wrong_since cs
-  going-gone part s between skipped n wrong wrong_since c cs is left gone (inl all) =
+      → PartContinues part s between skipped n wrong (c ∷ cs)
+      → PartContinues part s between skipped (n + 1) wrong_after_good cs
+  going-gone part s between skipped n wrong wrong_after_good c cs is left gone (inl all) =
       let none = all.none_lost in
       let near = all.near in
       inr
@@ -302,13 +305,13 @@ module _ (distance number : ℕ) (wrong_after few : Bool) where
         λ e. inl (
           broken-here part s between skipped n wrong c cs is left all,
           (all.exact e).0
-              ∙ not-there (any_wrong (units_after all.last)) (is_recorded c)
-              (any_wrong (units_before c)) (are_recorded_after c cs) (gone e),
+              ∙ not-there (any_unit_damaged (units_after all.last)) (is_recorded c)
+              (any_unit_damaged (units_before c)) (are_recorded_after c cs) (gone e),
         ),
       ))
-  going-gone part s between skipped n wrong wrong_since c cs is left gone (inr (inl some)) =
+  going-gone part s between skipped n wrong wrong_after_good c cs is left gone (inr (inl some)) =
       let near = some.1 in inr (inl (omega arith, omega (arith, near), some.2))
-  going-gone part s between skipped n wrong wrong_since c cs is left gone (inr (inr far)) =
+  going-gone part s between skipped n wrong wrong_after_good c cs is left gone (inr (inr far)) =
       let many = far.0 in inr (inr (omega (arith, many), far.1))
 
   whole-here : (part : Part) (s : SentPes Fated) (between : ℕ) (skipped : Bool) (n : ℕ)
@@ -329,11 +332,12 @@ module _ (distance number : ℕ) (wrong_after few : Bool) where
   lost-skip part s skipped (inr whole) = inr (whole.0, whole.1, refl)
 
   pub going-skip : (part : Part) (s : SentPes Fated) (between : ℕ) (skipped : Bool) (n : ℕ)
-      (wrong wrong_since : Bool) (t : SentPes Fated)
+      (wrong wrong_after_good : Bool) (t : SentPes Fated)
       → IsFirst part s
-      → IsGoing part s between skipped n wrong []
-      → IsGoing part s (between + length (carriers_of_pes t)) true (n + 1) wrong_since t.others
-  going-skip part s between skipped n wrong wrong_since t first (inl all) =
+      → PartContinues part s between skipped n wrong []
+      → PartContinues part s (between + length (carriers_of_pes t)) true (n + 1) wrong_after_good
+      t.others
+  going-skip part s between skipped n wrong wrong_after_good t first (inl all) =
       let none = all.none_lost in
       inr
       (inl (
@@ -345,35 +349,37 @@ module _ (distance number : ℕ) (wrong_after few : Bool) where
           refl,
         ),
       ))
-  going-skip part s between skipped n wrong wrong_since t first (inr (inl some)) =
+  going-skip part s between skipped n wrong wrong_after_good t first (inr (inl some)) =
       let near = some.1 in
       inr (inl (omega arith, omega (arith, near), λ e. lost-skip part s skipped (some.2 e)))
-  going-skip part s between skipped n wrong wrong_since t first (inr (inr far)) =
+  going-skip part s between skipped n wrong wrong_after_good t first (inr (inr far)) =
       let many = far.0 in inr (inr (omega (arith, many), far.1))
 
-  sixteen : (n size between : ℕ)
+  sixteen_are_too_far : (n size between : ℕ)
       → 1 ≤ n
       → n % 16 ≡ 0
       → n + (size + 1) ≤ between
       → 16 + size ≤ between
-  sixteen n size between h1 h2 h3 = omega arith
+  sixteen_are_too_far n size between h1 h2 h3 = omega arith
 
   abbrev StillRecorded : ℕ → Bool → Carrier Fated → Type 0
   StillRecorded n wrong c =
       few ≡ true
-      → (n ≡ 0) × (wrong ≡ false) × (any_wrong (units_before c) ≡ false) × (is_recorded c ≡ true)
+      → (n ≡ 0) × (wrong ≡ false) × (any_unit_damaged (units_before c) ≡ false) ×
+      (is_recorded c ≡ true)
 
   -- A transport packet that continues the counter and begins no PES packet is joined to the PES
   -- packet before it.
   going-follows : (part : Part) (s : SentPes Fated) (between : ℕ) (skipped : Bool) (n : ℕ)
-      (wrong wrong_since : Bool) (c : Carrier Fated) (cs : List (Carrier Fated)) (g : GoodPacket)
-      → IsGoing part s between skipped n wrong (c ∷ cs)
+      (wrong wrong_after_good : Bool) (c : Carrier Fated) (cs : List (Carrier Fated))
+      (g : GoodPacket)
+      → PartContinues part s between skipped n wrong (c ∷ cs)
       → payload g.packet ≡ payload (sent_packet distance c.packet)
       → n % 16 ≡ 0
       → StillRecorded n wrong c
-      → (few ≡ true → wrong_since ≡ any_wrong (units_after c))
-      → IsGoing (with_packet part g) s between skipped 0 wrong_since cs
-  going-follows part s between skipped n wrong wrong_since c cs g (inl all) same on still is =
+      → (few ≡ true → wrong_after_good ≡ any_unit_damaged (units_after c))
+      → PartContinues (with_packet part g) s between skipped 0 wrong_after_good cs
+  going-follows part s between skipped n wrong wrong_after_good c cs g (inl all) same on still is =
       let near = all.near in
       inl
       (record {
@@ -389,29 +395,34 @@ module _ (distance number : ℕ) (wrong_after few : Bool) where
         last = c;
         exact = λ e. (
           (all.exact e).0
-              ∙ there-after (any_wrong (units_after all.last)) (is_recorded c)
-              (any_wrong (units_before c)) (are_recorded_after c cs)
+              ∙ there-after (any_unit_damaged (units_after all.last)) (is_recorded c)
+              (any_unit_damaged (units_before c)) (are_recorded_after c cs)
               (sym (all.exact e).2 ∙ (still e).1) (still e).3 (still e).2,
           (all.exact e).1,
           is e,
         );
       })
-  going-follows part s between skipped n wrong wrong_since c cs g (inr (inl some)) same on still
+  going-follows part s between skipped n wrong wrong_after_good c cs g (inr (inl some)) same on
+      still
       is =
       elim (cases_Bool few) [
         | inl e ↦
             let first = some.0 in let none = (still e).0 in absurd (omega (arith, first, none))
         | inr many ↦
             let near = some.1 in
-            inr (inr (sixteen n (length cs) between some.0 on (omega (arith, near)), many))
+            inr (inr (
+              sixteen_are_too_far n (length cs) between some.0 on (omega (arith, near)),
+              many,
+            ))
       ]
-  going-follows part s between skipped n wrong wrong_since c cs g (inr (inr far)) same on still is =
+  going-follows part s between skipped n wrong wrong_after_good c cs g (inr (inr far)) same on still
+      is =
       let many = far.0 in inr (inr (omega (arith, many), far.1))
 
   pub going-fits : (part : Part) (given gap : Bool) (s : SentPes Fated) (between : ℕ)
       (skipped : Bool) (n : ℕ) (wrong : Bool) (pes_packet : List ℕ) (longer breaks : Bool)
       → (part_bytes part ≡ s.bytes → pes_packet ≡ s.bytes)
-      → IsGoing part s between skipped n wrong []
+      → PartContinues part s between skipped n wrong []
       → (breaks ≡ false → n % 16 ≡ 0)
       → Fits (After pes_packet s between skipped) (true && (longer || breaks))
   going-fits
@@ -514,7 +525,7 @@ module _ (distance number : ℕ) (wrong_after few : Bool) where
   pub going-ends : (part : Part) (s : SentPes Fated) (between : ℕ) (skipped : Bool) (n : ℕ)
       (wrong : Bool)
       → IsFirst part s
-      → IsGoing part s between skipped n wrong []
+      → PartContinues part s between skipped n wrong []
       → Ends part s
   going-ends part s between skipped n wrong first (inl all) is =
       inr (whole-here part s between skipped n wrong first all, (all.exact is).0)
@@ -527,14 +538,14 @@ module _ (distance number : ℕ) (wrong_after few : Bool) where
       (part : Part) (given gap following : Bool) (n : ℕ) (wrong : Bool) (goods : List GoodPacket)
       → part.begins ≡ false
       → Traced distance number few following n wrong (carriers_of sent) goods
-      → Gives few (gapped given) sent (carried_from part given gap goods)
+      → YieldsResults few (gapped given) sent (carried_from part given gap goods)
 
   abbrev pub OnwardOpen : List (SentPes Fated) → Type 0
   OnwardOpen sent =
       (part : Part) (given gap : Bool) (s : SentPes Fated) (between : ℕ) (skipped : Bool) (n : ℕ)
       (wrong : Bool) (goods : List GoodPacket)
       → IsFirst part s
-      → IsGoing part s between skipped n wrong []
+      → PartContinues part s between skipped n wrong []
       → Traced distance number few true n wrong (carriers_of sent) goods
       → Opens few given (given && (gap || part.after_break)) s between skipped sent
       (carried_from part given gap goods)
@@ -562,7 +573,7 @@ module _ (distance number : ℕ) (wrong_after few : Bool) where
       → StillRecorded n wrong c
   heard-still n wrong c g heard within is =
       let none =
-      nothing-lost wrong (any_wrong (units_before c)) n
+      nothing-lost wrong (any_unit_damaged (units_before c)) n
       (sym ((heard.linked refl).exact is).1 ∙ heard-follows n wrong c g heard within) in
       (none.0, none.1, none.2, heard.there is)
 
@@ -580,17 +591,17 @@ module _ (distance number : ℕ) (wrong_after few : Bool) where
       → IsLeftCarrier distance number false c
       → IsHeard distance number few true n wrong c g
       → begins_part g ≡ true
-      → IsGoing part s between skipped n wrong (c ∷ cs)
+      → PartContinues part s between skipped n wrong (c ∷ cs)
       → few ≡ true
       → IsLost part s skipped
   cut-lost part s between skipped n wrong c cs g is left heard cut (inl all) e =
       inl (
         broken-here part s between skipped n wrong c cs is left all,
         (all.exact e).0
-            ∙ wrong-between (any_wrong (units_after all.last)) (is_recorded c)
-            (any_wrong (units_before c)) (are_recorded_after c cs)
-            (ap (λ (b : Bool). b || any_wrong (units_before c)) (sym (all.exact e).2)
-            ∙ wrong-lost wrong (any_wrong (units_before c)) n
+            ∙ wrong-between (any_unit_damaged (units_after all.last)) (is_recorded c)
+            (any_unit_damaged (units_before c)) (are_recorded_after c cs)
+            (ap (λ (b : Bool). b || any_unit_damaged (units_before c)) (sym (all.exact e).2)
+            ∙ wrong-lost wrong (any_unit_damaged (units_before c)) n
             (sym ((heard.linked refl).exact e).1
             ∙ heard-breaks n wrong c g (heard-begins true n wrong c g left heard) heard cut)
             all.none_lost),
@@ -605,7 +616,7 @@ module _ (distance number : ℕ) (wrong_after few : Bool) where
       → part.begins ≡ false
       → AllByRecursion (IsLeftCarrier distance number false) cs
       → Traced distance number few following n wrong (cs ++ carriers_of more) goods
-      → Gives few (gapped given) more (carried_from part given gap goods)
+      → YieldsResults few (gapped given) more (carried_from part given gap goods)
   headless-within more part given gap following n wrong [] goods go headless each traced =
       go.headless part given gap following n wrong goods headless traced
   headless-within more part given gap following n wrong (c ∷ cs) goods go headless each traced =
@@ -615,7 +626,7 @@ module _ (distance number : ℕ) (wrong_after few : Bool) where
             gone.2
         | inr here ↦ elim (cases_Bool (begins_part here.0)) [
           | inl cut ↦
-              subst (Gives few (gapped given) more)
+              subst (YieldsResults few (gapped given) more)
               (sym
               (ap (carried_from part given gap) here.2
               ∙ closed-by wrong_after part given gap [] given true here.0 here.1
@@ -623,7 +634,7 @@ module _ (distance number : ℕ) (wrong_after few : Bool) where
               (headless-within more (part_of here.0) given true true 0 here.4 cs here.1 go
               (heard-begins following n wrong c here.0 each.0 here.3) each.1 here.6)
           | inr within ↦
-              subst (Gives few (gapped given) more)
+              subst (YieldsResults few (gapped given) more)
               (sym
               (ap (carried_from part given gap) here.2
               ∙ ap (λ (ps : List Part). with_gap_markers given gap (outcomes wrong_after ps))
@@ -639,7 +650,7 @@ module _ (distance number : ℕ) (wrong_after few : Bool) where
       → (few ≡ true → IsLost part s skipped)
       → begins_part g ≡ true
       → ((given' gap' : Bool)
-      → Gives few (gapped given') more (carried_from (part_of g) given' gap' later))
+      → YieldsResults few (gapped given') more (carried_from (part_of g) given' gap' later))
       → Opens few given (given && (gap || part.after_break)) s between skipped more
       (carried_from part given gap (g ∷ later))
   open-cut more part given gap s between skipped g later first lost cut go =
@@ -665,7 +676,7 @@ module _ (distance number : ℕ) (wrong_after few : Bool) where
         | inr none ↦
             inr (
               none.1,
-              subst (Gives few (gapped given) more)
+              subst (YieldsResults few (gapped given) more)
                   (sym (closed-by wrong_after part given gap [] given true g later none.0 cut))
                   (go given true),
             )
@@ -676,7 +687,7 @@ module _ (distance number : ℕ) (wrong_after few : Bool) where
       (cs : List (Carrier Fated)) (goods : List GoodPacket)
       → Onward more
       → IsFirst part s
-      → IsGoing part s between skipped n wrong cs
+      → PartContinues part s between skipped n wrong cs
       → AllByRecursion (IsLeftCarrier distance number false) cs
       → Traced distance number few true n wrong (cs ++ carriers_of more) goods
       → Opens few given (given && (gap || part.after_break)) s between skipped more

@@ -70,7 +70,7 @@ law_of_paced_check number distance pace m recording before packets following pro
       earlier = sent.0;
       later = sent.1;
       next = sent.2;
-      sent_are = sent.3;
+      sent_bytes_eq = sent.3;
       last_is = sent.4;
     }
   where

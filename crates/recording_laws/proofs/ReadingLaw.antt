@@ -16,7 +16,7 @@ use Rattle.std.proofs.lemmas.Bool.Decides.{nat_tests}
 use Rattle.recording_laws.specs.Losses.{AreLosses, are_few_lost, are_recorded_after, arrives}
 use Rattle.recording_laws.specs.Losses.{is_recorded}
 use Rattle.recording_laws.specs.Losses.{is_wrong_after, units_before, units_after, Fated}
-use Rattle.recording_laws.specs.Losses.{any_wrong}
+use Rattle.recording_laws.specs.Losses.{any_unit_damaged}
 use Rattle.recording_laws.specs.Losses.{sent_packet}
 use Rattle.recording_laws.specs.Multiplex.{Multiplex, Carrier, SentPes, carriers_of}
 use Rattle.recording_laws.specs.Multiplex.{carriers_of_pes}
@@ -28,21 +28,22 @@ use Rattle.recording_laws.specs.Pace.{HoldsPts, up_to_pts}
 use Rattle.recording_laws.proofs.LeftLemmas.{IsCopy}
 use Rattle.recording_laws.proofs.CarriedLeftLemmas.{all-carriers-left, all-pes, carried-left}
 use Rattle.recording_laws.proofs.CarriedLeftLemmas.{first_counter, pes-rising, IsLeftPes}
-use Rattle.recording_laws.proofs.OpenPartLemmas.{closed-by, payloads_of, Gives, Onward, Opens}
+use Rattle.recording_laws.proofs.OpenPartLemmas.{closed-by, payloads_of, YieldsResults, Onward}
+use Rattle.recording_laws.proofs.OpenPartLemmas.{Opens}
 use Rattle.recording_laws.proofs.OpenPartLemmas.{carried_from, gapped, closing, going-ends, IsFirst}
 use Rattle.recording_laws.proofs.OpenPartLemmas.{gives-later, gives-one, gives-opened, going-fits}
 use Rattle.recording_laws.proofs.OpenPartLemmas.{going-skip, headless-within, open-within}
 use Rattle.recording_laws.proofs.OpenPartLemmas.{opens-later}
-use Rattle.recording_laws.proofs.OpenPartLemmas.{IsGoing}
-use Rattle.recording_laws.proofs.LeftNoteLemmas.{or-true, heard_left, history_after_loss}
+use Rattle.recording_laws.proofs.OpenPartLemmas.{PartContinues}
+use Rattle.recording_laws.proofs.LeftNoteLemmas.{or-true, notes_of_unit, history_after_loss}
 use Rattle.recording_laws.proofs.ClosedPartLemmas.{broken-unbegun, closes-broken}
 use Rattle.recording_laws.proofs.PesPacketLemmas.{gap_markers-alone, gap_markers_where, one-way}
 use Rattle.recording_laws.proofs.TraceLemmas.{IsHeard, Traced, traced}
-use Rattle.recording_laws.proofs.BegunPartLemmas.{IsPrefix}
+use Rattle.recording_laws.proofs.StartedPartLemmas.{IsPrefix}
 
 gives-gap_markers : (few : Bool) (previous : Previous) (marked : Bool)
     → (marked ≡ true → has_previous previous ≡ true)
-    → Gives few previous [] (gap_marker_where marked)
+    → YieldsResults few previous [] (gap_marker_where marked)
 gives-gap_markers few previous true after = record {
   pes_packets = gap_markers_where true;
   each = gap_markers-alone true;
@@ -100,26 +101,27 @@ module _ (distance number : ℕ) (wrong_after few : Bool) where
       bytes = append-nil (payload g.packet) ∙ copy.payload
 
   opening : (s : SentPes Fated) (more : List (SentPes Fated)) (g : GoodPacket)
-      (later : List GoodPacket) (wrong_since : Bool) (previous : Previous) (given gap : Bool)
+      (later : List GoodPacket) (wrong_after_good : Bool) (previous : Previous) (given gap : Bool)
       → Onward distance number wrong_after few more
       → IsLeftPes distance number s
       → (few ≡ false → HoldsPts distance s)
       → IsCopy (sent_packet distance s.first.packet) g.packet
       → (few ≡ true → (is_recorded s.first ≡ true) ×
-      (wrong_since ≡ any_wrong (units_after s.first)))
-      → Traced distance number few true 0 wrong_since (s.others ++ carriers_of more) later
+      (wrong_after_good ≡ any_unit_damaged (units_after s.first)))
+      → Traced distance number few true 0 wrong_after_good (s.others ++ carriers_of more) later
       → has_previous previous ≡ given
       → Fits previous (given && (gap || is_break g.link))
       → IsGapMarkerExact few previous s (given && (gap || is_break g.link))
-      → Gives few previous (s ∷ more)
+      → YieldsResults few previous (s ∷ more)
       (carried_from distance number wrong_after few (part_of g) given gap later)
-  opening s more g later wrong_since previous given gap go is holds copy first traced buffered_is
+  opening s more g later wrong_after_good previous given gap go is holds copy first traced
+      buffered_eq
       fits exact =
       gives-opened few previous given (given && (gap || is_break g.link)) s more
-      (carried_from distance number wrong_after few (part_of g) given gap later) buffered_is fits
+      (carried_from distance number wrong_after few (part_of g) given gap later) buffered_eq fits
       exact
       (open-within distance number wrong_after few more (part_of g) given gap s (length s.others)
-      false 0 wrong_since s.others later go
+      false 0 wrong_after_good s.others later go
       (record {
         begins = copy.begins ∙ is.first.is_carrier.begins;
         is_pes_packet = is.is_pes_packet;
@@ -165,13 +167,14 @@ module _ (distance number : ℕ) (wrong_after few : Bool) where
 
   going-exact : (part : Part) (s : SentPes Fated) (between : ℕ) (skipped : Bool) (n : ℕ)
       (wrong : Bool) (pes_packet : List ℕ) (longer : Bool) (t : SentPes Fated) (g : GoodPacket)
-      → IsGoing distance number wrong_after few part s between skipped n wrong []
+      → PartContinues distance number wrong_after few part s between skipped n wrong []
       → IsHeard distance number few true n wrong t.first g
       → (few ≡ true → (arrives s ≡ true) × (longer ≡ false))
       → IsGapMarkerExact few (After pes_packet s between skipped) t
       (true && (longer || is_break g.link))
   going-exact part s between skipped n wrong pes_packet longer t g (inl all) heard is = λ e.
-      gap_marker-following-whole longer (is_break g.link) wrong (any_wrong (units_before t.first))
+      gap_marker-following-whole longer (is_break g.link) wrong
+      (any_unit_damaged (units_before t.first))
       skipped
       (is_wrong_after s) n (is e).1 ((heard.linked refl).exact e).1 all.none_lost all.unskipped
       ((all.exact e).2 ∙ sym (all.exact e).1)
@@ -180,7 +183,7 @@ module _ (distance number : ℕ) (wrong_after few : Bool) where
         | inl broken ↦ absurd (cc (broken.1, (is e).0))
         | inr whole ↦
             gap_marker-following-gone longer (is_break g.link) wrong
-            (any_wrong (units_before t.first))
+            (any_unit_damaged (units_before t.first))
             skipped (is_wrong_after s) n ((heard.linked refl).exact e).1 some.0 whole.2
       ]
   going-exact part s between skipped n wrong pes_packet longer t g (inr (inr far)) heard is = λ e.
@@ -189,12 +192,12 @@ module _ (distance number : ℕ) (wrong_after few : Bool) where
   end-headless : (part : Part) (given gap : Bool) (goods : List GoodPacket)
       → part.begins ≡ false
       → goods ≡ []
-      → Gives few (gapped given) []
+      → YieldsResults few (gapped given) []
       (carried_from distance number wrong_after few part given gap goods)
   unfolding parts_from
   end-headless part given gap goods headless none =
       let end = (closes-broken part given gap (broken-unbegun part headless)).last wrong_after in
-      subst (Gives few (gapped given) [])
+      subst (YieldsResults few (gapped given) [])
       (sym (ap (carried_from distance number wrong_after few part given gap) none ∙ end.bytes_are))
       (gives-gap_markers few (gapped given) end.is_marked
       (λ e. gapped-previous given ∙ end.after_one e))
@@ -202,7 +205,7 @@ module _ (distance number : ℕ) (wrong_after few : Bool) where
   end-open : (part : Part) (given gap : Bool) (s : SentPes Fated) (between : ℕ) (skipped : Bool)
       (n : ℕ) (wrong : Bool) (goods : List GoodPacket)
       → IsFirst distance number wrong_after few part s
-      → IsGoing distance number wrong_after few part s between skipped n wrong []
+      → PartContinues distance number wrong_after few part s between skipped n wrong []
       → goods ≡ []
       → Opens few given (given && (gap || part.after_break)) s between skipped []
       (carried_from distance number wrong_after few part given gap goods)
@@ -226,7 +229,7 @@ module _ (distance number : ℕ) (wrong_after few : Bool) where
             let end = broken.0.last wrong_after in
             inr (
               broken.1,
-              subst (Gives few (gapped given) [])
+              subst (YieldsResults few (gapped given) [])
                   (sym
                   (ap (carried_from distance number wrong_after few part given gap) none
                   ∙ end.bytes_are))
@@ -243,7 +246,7 @@ module _ (distance number : ℕ) (wrong_after few : Bool) where
       → part.begins ≡ false
       → Traced distance number few following n wrong (t.first ∷ (t.others ++ carriers_of more))
       goods
-      → Gives few (gapped given) (t ∷ more)
+      → YieldsResults few (gapped given) (t ∷ more)
       (carried_from distance number wrong_after few part given gap goods)
   next-headless t more part given gap following n wrong goods go is holds headless traced =
       elim traced [
@@ -254,7 +257,7 @@ module _ (distance number : ℕ) (wrong_after few : Bool) where
             (headless-within distance number wrong_after few more part given gap following (n + 1)
             gone.0 t.others goods go headless is.others gone.2)
         | inr here ↦
-            subst (Gives few (gapped given) (t ∷ more))
+            subst (YieldsResults few (gapped given) (t ∷ more))
             (sym
             (ap (carried_from distance number wrong_after few part given gap) here.2
             ∙ closed-by wrong_after part given gap [] given true here.0 here.1
@@ -268,18 +271,19 @@ module _ (distance number : ℕ) (wrong_after few : Bool) where
 
   next-opened : (t : SentPes Fated) (more : List (SentPes Fated)) (part : Part)
       (given gap : Bool) (s : SentPes Fated) (between : ℕ) (skipped : Bool) (n : ℕ)
-      (wrong : Bool) (g : GoodPacket) (later : List GoodPacket) (wrong_since : Bool)
+      (wrong : Bool) (g : GoodPacket) (later : List GoodPacket) (wrong_after_good : Bool)
       → Onward distance number wrong_after few more
       → IsLeftPes distance number t
       → (few ≡ false → HoldsPts distance t)
       → IsFirst distance number wrong_after few part s
-      → IsGoing distance number wrong_after few part s between skipped n wrong []
+      → PartContinues distance number wrong_after few part s between skipped n wrong []
       → IsHeard distance number few true n wrong t.first g
-      → (few ≡ true → wrong_since ≡ any_wrong (units_after t.first))
-      → Traced distance number few true 0 wrong_since (t.others ++ carriers_of more) later
+      → (few ≡ true → wrong_after_good ≡ any_unit_damaged (units_after t.first))
+      → Traced distance number few true 0 wrong_after_good (t.others ++ carriers_of more) later
       → Opens few given (given && (gap || part.after_break)) s between skipped (t ∷ more)
       (carried_from distance number wrong_after few part given gap (g ∷ later))
-  next-opened t more part given gap s between skipped n wrong g later wrong_since go is holds first
+  next-opened t more part given gap s between skipped n wrong g later wrong_after_good go is holds
+      first
       going
       heard following traced =
       elim (closing distance number wrong_after few part given gap s first
@@ -296,7 +300,8 @@ module _ (distance number : ℕ) (wrong_after few : Bool) where
             (gap_marker_where (given && (gap || part.after_break)) ++ one.is.pes_packet) true
             one.is.longer g
             later one.is.closes (first-cuts t g is heard.copy))
-            (opening t more g later wrong_since (After one.is.pes_packet s between skipped) true
+            (opening t more g later wrong_after_good (After one.is.pes_packet s between skipped)
+            true
             one.is.longer
             go is holds heard.copy (λ e. (heard.there e, following e)) traced refl
             (going-fits distance number wrong_after few part given gap s between skipped n wrong
@@ -308,11 +313,11 @@ module _ (distance number : ℕ) (wrong_after few : Bool) where
         | inr broken ↦
             inr (
               broken.1,
-              subst (Gives few (gapped given) (t ∷ more))
+              subst (YieldsResults few (gapped given) (t ∷ more))
                   (sym
                   (closed-by wrong_after part given gap [] given true g later broken.0
                   (first-cuts t g is heard.copy)))
-                  (opening t more g later wrong_since (gapped given) given true go is holds
+                  (opening t more g later wrong_after_good (gapped given) given true go is holds
                   heard.copy
                   (λ e. (heard.there e, following e)) traced
                   (gapped-previous given) (gapped-fits given (is_break g.link))
@@ -327,7 +332,7 @@ module _ (distance number : ℕ) (wrong_after few : Bool) where
       → IsLeftPes distance number t
       → (few ≡ false → HoldsPts distance t)
       → IsFirst distance number wrong_after few part s
-      → IsGoing distance number wrong_after few part s between skipped n wrong []
+      → PartContinues distance number wrong_after few part s between skipped n wrong []
       → Traced distance number few true n wrong (t.first ∷ (t.others ++ carriers_of more)) goods
       → Opens few given (given && (gap || part.after_break)) s between skipped (t ∷ more)
       (carried_from distance number wrong_after few part given gap goods)
@@ -351,12 +356,12 @@ module _ (distance number : ℕ) (wrong_after few : Bool) where
             holds first going here.3 here.5 here.6)
       ]
 
-  abbrev AllHold : List (SentPes Fated) → Type 0
-  AllHold sent = few ≡ false → AllByRecursion (HoldsPts distance) sent
+  abbrev AllHavePts : List (SentPes Fated) → Type 0
+  AllHavePts sent = few ≡ false → AllByRecursion (HoldsPts distance) sent
 
   onward : (sent : List (SentPes Fated))
       → AllByRecursion (IsLeftPes distance number) sent
-      → AllHold sent
+      → AllHavePts sent
       → Onward distance number wrong_after few sent
   onward [] each holds = record {
     headless = λ part given gap following n wrong goods headless none.
@@ -408,11 +413,12 @@ module _ (distance number : ℕ) (wrong_after few : Bool) where
 
   pub starting : (sent : List (SentPes Fated)) (wrong : Bool) (goods : List GoodPacket)
       → AllByRecursion (IsLeftPes distance number) sent
-      → AllHold sent
+      → AllHavePts sent
       → Traced distance number few false 0 wrong (carriers_of sent) goods
-      → Gives few Nothing sent (from_goods goods)
+      → YieldsResults few Nothing sent (from_goods goods)
   starting sent wrong goods each holds traced =
-      subst (Gives few Nothing sent) (sym (from-no_part 0 wrong (carriers_of sent) goods traced))
+      subst (YieldsResults few Nothing sent)
+      (sym (from-no_part 0 wrong (carriers_of sent) goods traced))
       ((onward sent each holds).headless no_part false false false 0 wrong goods refl traced)
 
 -- Each PES packet that a recording carries, other than a gap marker, begins like a PES packet that
@@ -422,12 +428,13 @@ pub law_of_reading : (number distance : ℕ) (few : Bool) (m : Multiplex Fated) 
     → AreLosses number distance m recording
     → (few ≡ true → are_few_lost 0 (carriers_of m.sent) ≡ true)
     → (few ≡ false → AllByRecursion (HoldsPts distance) m.sent)
-    → Gives few Nothing m.sent (carried number distance recording)
+    → YieldsResults few Nothing m.sent (carried number distance recording)
 law_of_reading number distance few m recording h small holds =
-    subst (Gives few Nothing m.sent) (sym (carried-left distance number m recording h))
-    (starting distance number goods.wrong_after few m.sent (any_wrong m.lead) goods.packets pes
+    subst (YieldsResults few Nothing m.sent) (sym (carried-left distance number m recording h))
+    (starting distance number goods.wrong_after few m.sent (any_unit_damaged m.lead) goods.packets
+    pes
     holds
-    (traced distance number few None false (any_wrong m.lead)
+    (traced distance number few None false (any_unit_damaged m.lead)
     (15 + first_counter distance number cs) 0 cs tt
     (all-carriers-left distance number m.sent pes) (pes-rising distance number m recording h)
     (λ e. (omega arith, small e))))
@@ -440,16 +447,16 @@ law_of_reading number distance few m recording h small holds =
 
     goods : GoodPackets
     goods =
-        good_after (history_after_loss None false (any_wrong m.lead))
-        (flat_map (heard_left distance number) (flat_map items_of_carrier cs))
+        good_after (history_after_loss None false (any_unit_damaged m.lead))
+        (flat_map (notes_of_unit distance number) (flat_map items_of_carrier cs))
 
 pub law_of_pace : LawOfPace
 law_of_pace number distance pace frame_of m recording before run following last h holds far each
     joined
     unmarked keep =
-    (sent.earlier, sent.later, sent.next, sent.sent_are, sent.prefix)
+    (sent.earlier, sent.later, sent.next, sent.sent_bytes_eq, sent.prefix)
   where
-    gives : Gives false Nothing m.sent (carried number distance recording)
+    gives : YieldsResults false Nothing m.sent (carried number distance recording)
     gives =
         law_of_reading number distance false m recording h (λ e. absurd (cc e)) (λ e. holds)
 

@@ -7,7 +7,8 @@ use Rattle.std.specs.Bool.{⊤}
 use Rattle.std.proofs.lemmas.Bool.{cases_Bool}
 use Rattle.std.specs.List.{AllByRecursion}
 use Rattle.mpeg_ts.specs.Carried.{gap_marker}
-use Rattle.recording_laws.specs.Losses.{Fated, any_wrong, arrives, is_wrong_after, units_before}
+use Rattle.recording_laws.specs.Losses.{Fated, any_unit_damaged, arrives, is_wrong_after}
+use Rattle.recording_laws.specs.Losses.{units_before}
 use Rattle.recording_laws.specs.Multiplex.{SentPes, carriers_of_pes}
 use Rattle.recording_laws.specs.Pace.{AreFarApart, AreFarFrom, KeepPace, KeepPaceFrom, frame_by}
 use Rattle.recording_laws.specs.Pace.{up_to_pts}
@@ -50,7 +51,7 @@ is_gap (After x s between skipped) = skipped || is_wrong_after s
 abbrev pub IsGapMarkerExact : Bool → Previous → SentPes Fated → Bool → Type 0
 IsGapMarkerExact few previous s marked =
     few ≡ true → marked ≡
-    (has_previous previous && (is_gap previous || any_wrong (units_before s.first)))
+    (has_previous previous && (is_gap previous || any_unit_damaged (units_before s.first)))
 
 -- The results of reading PES packets, in order; each result begins like its PES packet. If fewer
 -- than 15 transport packets with payload in a row are missing, the results are the PES packets that
@@ -94,7 +95,7 @@ reads-marked few x s between skipped (t ∷ more) pes_packets gap h = elim h [
         here.6,
         here.7,
         λ e. here.8 e
-            ∙ ap (λ (z : Bool). z || any_wrong (units_before t.first)) (sym (gap e)),
+            ∙ ap (λ (z : Bool). z || any_unit_damaged (units_before t.first)) (sym (gap e)),
       )
 ]
 
@@ -123,7 +124,7 @@ module _ (few : Bool) (IsFar : List (SentPes Fated) → Type 0)
       pub earlier : List (List ℕ)
       pub here : SentPes Fated
       pub later : List (SentPes Fated)
-      pub sent_are : sent_bytes sent ≡ earlier ++ (here.bytes ∷ sent_bytes later)
+      pub sent_bytes_eq : sent_bytes sent ≡ earlier ++ (here.bytes ∷ sent_bytes later)
       pub prefix : up_to_pts x ≡ up_to_pts here.bytes
       pub reads : Reads few (After x here (length here.others) false) later tail
       pub as_sent : few ≡ true → x ≡ here.bytes
@@ -137,7 +138,7 @@ module _ (few : Bool) (IsFar : List (SentPes Fated) → Type 0)
       earlier = s.bytes ∷ h.earlier;
       here = h.here;
       later = h.later;
-      sent_are = ap (λ (l : List (List ℕ)). s.bytes ∷ l) h.sent_are;
+      sent_bytes_eq = ap (λ (l : List (List ℕ)). s.bytes ∷ l) h.sent_bytes_eq;
       prefix = h.prefix;
       reads = h.reads;
       as_sent = h.as_sent;
@@ -160,7 +161,7 @@ module _ (few : Bool) (IsFar : List (SentPes Fated) → Type 0)
           earlier = [];
           here = s;
           later = more;
-          sent_are = refl;
+          sent_bytes_eq = refl;
           prefix = ap up_to_pts (sym same) ∙ prefix;
           reads =
               subst (λ (z : List ℕ). Reads few (After z s (length s.others) false) more tail) same
@@ -223,7 +224,7 @@ module _ (frame_of : List ℕ → ℕ) (pace : ℕ) where
     as_sent : x ≡ s.bytes
     later : List (List ℕ)
     next : List ℕ
-    sent_are : sent_bytes more ≡ run ++ (next ∷ later)
+    sent_bytes_eq : sent_bytes more ≡ run ++ (next ∷ later)
     prefix : up_to_pts next ≡ up_to_pts last
 
   -- PES packets that begin 16 or more transport packets with payload apart do not keep the maximum
@@ -281,7 +282,7 @@ module _ (frame_of : List ℕ → ℕ) (pace : ℕ) where
         as_sent = first.1;
         later = sent_bytes more;
         next = t.bytes;
-        sent_are = refl;
+        sent_bytes_eq = refl;
         prefix = sym second ∙ ap up_to_pts same;
       }
   follows-here x s between skipped t more y rest (z ∷ run) last following e none keep prefix second
@@ -290,16 +291,16 @@ module _ (frame_of : List ℕ → ℕ) (pace : ℕ) where
       let close = subst (λ (w : List ℕ). frame_by frame_of w ≤ frame_by frame_of x + pace)
       (sym same) keep.0 in
       let first = as-sent x y s t between skipped prefix second far close fits in
-      let more_is = go run (tails y z rest (run ++ (last ∷ following)) e) none.1
+      let more_eq = go run (tails y z rest (run ++ (last ∷ following)) e) none.1
       (subst (λ (w : List ℕ). KeepPaceFrom frame_of pace (frame_by frame_of w) (run ++ last ∷ []))
       (sym same) keep.1) in
       record {
         unskipped = first.0;
         as_sent = first.1;
-        later = more_is.later;
-        next = more_is.next;
-        sent_are = cc (more_is.as_sent, same, more_is.sent_are);
-        prefix = more_is.prefix;
+        later = more_eq.later;
+        next = more_eq.next;
+        sent_bytes_eq = cc (more_eq.as_sent, same, more_eq.sent_bytes_eq);
+        prefix = more_eq.prefix;
       }
 
   follows-marked : (marked : Bool) (x : List ℕ) (s : SentPes Fated) (between : ℕ)
@@ -384,7 +385,7 @@ module _ (frame_of : List ℕ → ℕ) (pace : ℕ) where
     pub earlier : List (List ℕ)
     pub later : List (List ℕ)
     pub next : List ℕ
-    pub sent_are : sent_bytes sent ≡ earlier ++ (run ++ (next ∷ later))
+    pub sent_bytes_eq : sent_bytes sent ≡ earlier ++ (run ++ (next ∷ later))
     pub prefix : up_to_pts next ≡ up_to_pts last
 
   -- PES packets that are read within the maximum distance, without a gap marker among them, were
@@ -404,7 +405,7 @@ module _ (frame_of : List ℕ → ℕ) (pace : ℕ) where
         earlier = found.earlier;
         later = sent_bytes found.later;
         next = found.here.bytes;
-        sent_are = found.sent_are;
+        sent_bytes_eq = found.sent_bytes_eq;
         prefix = sym found.prefix;
       }
   read-run previous sent before (x ∷ run) last following reads none keep far =
@@ -420,10 +421,10 @@ module _ (frame_of : List ℕ → ℕ) (pace : ℕ) where
         earlier = found.earlier;
         later = after_it.later;
         next = after_it.next;
-        sent_are =
-            found.sent_are
+        sent_bytes_eq =
+            found.sent_bytes_eq
             ∙ ap (λ (l : List (List ℕ)). found.earlier ++ l)
-            (cc (after_it.as_sent, after_it.sent_are));
+            (cc (after_it.as_sent, after_it.sent_bytes_eq));
         prefix = after_it.prefix;
       }
 

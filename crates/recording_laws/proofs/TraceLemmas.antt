@@ -19,13 +19,14 @@ use Rattle.mpeg_ts.specs.GoodPackets.{with_good}
 use Rattle.mpeg_ts.specs.Parts.{is_break, is_unlinked}
 use Rattle.mpeg_ts.specs.TransportPacket.{announces_jump, counter}
 use Rattle.recording_laws.specs.Losses.{are_few_lost, is_recorded, units_before, units_after, Fated}
-use Rattle.recording_laws.specs.Losses.{any_kept, any_wrong, is_as_sent, sent_packet}
+use Rattle.recording_laws.specs.Losses.{any_unit_kept, any_unit_damaged, is_as_sent, sent_packet}
 use Rattle.recording_laws.specs.Multiplex.{Carrier, IsRepetition, is_irrelevant, items_of_carrier}
 use Rattle.recording_laws.proofs.CarrierLemmas.{good-repeat}
 use Rattle.recording_laws.proofs.LeftNoteLemmas.{or-false, IsLeft, IsLeftCarrier, copy_of}
 use Rattle.recording_laws.proofs.LeftNoteLemmas.{good-first}
 use Rattle.recording_laws.proofs.LeftNoteLemmas.{good-no_first, good-no_second, good-quiets-left}
-use Rattle.recording_laws.proofs.LeftNoteLemmas.{good-second, heard-carrier, heard-kept, heard_left}
+use Rattle.recording_laws.proofs.LeftNoteLemmas.{good-second, heard-carrier, heard-kept}
+use Rattle.recording_laws.proofs.LeftNoteLemmas.{notes_of_unit}
 use Rattle.recording_laws.proofs.LeftNoteLemmas.{history_after_loss}
 
 -- If a good packet continues the counter of the good packet before it, the number of transport
@@ -48,29 +49,29 @@ module _ (distance number : ℕ) (few : Bool) where
   pub record Stays (good : Option (List ℕ)) (c : Carrier Fated) (goods : GoodPackets)
       (ns : List Note) : Type 0 where
     pub again : Bool
-    pub wrong_since : Bool
+    pub wrong_after_good : Bool
     pub gone : few ≡ true → is_recorded c ≡ false
-    pub goods_are : goods ≡ good_after (history_after_loss good again wrong_since) ns
+    pub goods_eq : goods ≡ good_after (history_after_loss good again wrong_after_good) ns
 
-  pub record Comes (good : Option (List ℕ)) (wrong : Bool) (c : Carrier Fated)
+  pub record CopyComesFirst (good : Option (List ℕ)) (wrong : Bool) (c : Carrier Fated)
       (goods : GoodPackets) (ns : List Note) : Type 0 where
     pub copy : List ℕ
     pub spoiled : Bool
     pub again : Bool
-    pub wrong_since : Bool
+    pub wrong_after_good : Bool
     pub is_copy : IsCopy (sent_packet distance c.packet) copy
     pub exact :
         few ≡ true
         → (is_recorded c ≡ true)
-        × (spoiled ≡ (wrong || any_wrong (units_before c)))
-        × (wrong_since ≡ any_wrong (units_after c))
-    pub goods_are :
+        × (spoiled ≡ (wrong || any_unit_damaged (units_before c)))
+        × (wrong_after_good ≡ any_unit_damaged (units_after c))
+    pub goods_eq :
         goods
         ≡ with_good (good_left good spoiled copy)
-        (good_after (history_after_loss (Some copy) again wrong_since) ns)
+        (good_after (history_after_loss (Some copy) again wrong_after_good) ns)
 
   abbrev pub Steps : Option (List ℕ) → Bool → Carrier Fated → GoodPackets → List Note → Type 0
-  Steps good wrong c goods ns = Stays good c goods ns ⊎ Comes good wrong c goods ns
+  Steps good wrong c goods ns = Stays good c goods ns ⊎ CopyComesFirst good wrong c goods ns
 
   -- If fewer than 15 transport packets with payload in a row are missing, the next packet is never
   -- taken for a repeat of the last good packet.
@@ -86,12 +87,12 @@ module _ (distance number : ℕ) (few : Bool) where
       → AllByRecursion (λ f. IsRepetition number p (sent_packet distance f)) (option_to_list o)
       → AllByRecursion (IsLeft distance number) after
       → AllByRecursion (λ f. is_irrelevant number (sent_packet distance f) ≡ true) after
-      → any_kept (option_to_list o) ≡ true
+      → any_unit_kept (option_to_list o) ≡ true
       → is_repeat (history_after_loss good again wrong) (copy_of distance number o p) ≡ true
       → good_after (history_after_loss good again wrong)
-      (flat_map (heard_left distance number) (option_to_list o)
-      ++ (flat_map (heard_left distance number) after ++ ns))
-      ≡ good_after (history_after_loss good true (wrong || any_wrong after)) ns
+      (flat_map (notes_of_unit distance number) (option_to_list o)
+      ++ (flat_map (notes_of_unit distance number) after ++ ns))
+      ≡ good_after (history_after_loss good true (wrong || any_unit_damaged after)) ns
   second-repeat good again wrong p o after ns h1 h2 h3 h4 h5 =
       grind (arith, nat_tests, append-nil, heard-kept, good-repeat, good-quiets-left)
 
@@ -103,21 +104,21 @@ module _ (distance number : ℕ) (few : Bool) where
       → IsFresh good c
       → (few ≡ true
       → (is_as_sent c.packet.fate ≡ false)
-      × (wrong ≡ (was || any_wrong (c.packet ∷ c.before))))
+      × (wrong ≡ (was || any_unit_damaged (c.packet ∷ c.before))))
       → Steps good was c
       (good_after (history_after_loss good again wrong)
-      (flat_map (heard_left distance number) (option_to_list c.again)
-      ++ (flat_map (heard_left distance number) c.after ++ ns))) ns
+      (flat_map (notes_of_unit distance number) (option_to_list c.again)
+      ++ (flat_map (notes_of_unit distance number) c.after ++ ns))) ns
   second-steps good again was wrong first c ns h copy new gone =
-      elim (cases_Bool (any_kept (option_to_list c.again))) [
+      elim (cases_Bool (any_unit_kept (option_to_list c.again))) [
         | inl kept ↦ elim (cases_Bool (is_repeat (history_after_loss good again wrong) q)) [
           | inl same ↦
               inl
               (record {
                 again = true;
-                wrong_since = wrong || any_wrong c.after;
+                wrong_after_good = wrong || any_unit_damaged c.after;
                 gone = λ e. absurd (cc (same, new e again wrong q copy));
-                goods_are =
+                goods_eq =
                     second-repeat good again wrong p c.again c.after ns h.is_carrier.again h.after
                     h.is_carrier.after kept same;
               })
@@ -127,18 +128,19 @@ module _ (distance number : ℕ) (few : Bool) where
                 copy = q;
                 spoiled = wrong;
                 again = false;
-                wrong_since = any_wrong c.after;
+                wrong_after_good = any_unit_damaged c.after;
                 is_copy = copy;
                 exact = λ e. (
                   rw ((gone e).0, kept),
                   rw (gone e).0 (gone e).1,
                   rw (gone e).0,
                 );
-                goods_are =
+                goods_eq =
                     good-second distance number good again wrong p c.again c.after ns
                     h.is_carrier.again h.after h.is_carrier.after kept fresh
                     ∙ ap (λ (l : GoodPacket).
-                    with_good l (good_after (history_after_loss (Some q) false (any_wrong c.after))
+                    with_good l (good_after
+                    (history_after_loss (Some q) false (any_unit_damaged c.after))
                     ns))
                     (linked-left good again wrong q copy.no_jump);
               })
@@ -147,9 +149,10 @@ module _ (distance number : ℕ) (few : Bool) where
             inl
             (record {
               again = again;
-              wrong_since = (wrong || any_wrong (option_to_list c.again)) || any_wrong c.after;
+              wrong_after_good = (wrong || any_unit_damaged (option_to_list c.again)) ||
+                  any_unit_damaged c.after;
               gone = λ e. rw ((gone e).0, lost);
-              goods_are =
+              goods_eq =
                   good-no_second distance number good again wrong c.again c.after ns h.again h.after
                   h.is_carrier.after lost;
             })
@@ -167,10 +170,10 @@ module _ (distance number : ℕ) (few : Bool) where
       → is_as_sent c.packet.fate ≡ true
       → is_repeat (history_after_loss good again wrong) (sent_packet distance c.packet) ≡ true
       → good_after (history_after_loss good again wrong)
-      (flat_map (heard_left distance number) (items_of_carrier c) ++ ns)
-      ≡ good_after (history_after_loss good true (wrong || any_wrong c.before))
-      (flat_map (heard_left distance number) (option_to_list c.again)
-      ++ (flat_map (heard_left distance number) c.after ++ ns))
+      (flat_map (notes_of_unit distance number) (items_of_carrier c) ++ ns)
+      ≡ good_after (history_after_loss good true (wrong || any_unit_damaged c.before))
+      (flat_map (notes_of_unit distance number) (option_to_list c.again)
+      ++ (flat_map (notes_of_unit distance number) c.after ++ ns))
   first-repeat good again wrong first c ns h1 h2 h3 =
       grind (arith, nat_tests, heard-carrier, heard-kept, good-repeat, good-quiets-left)
 
@@ -180,37 +183,38 @@ module _ (distance number : ℕ) (few : Bool) where
       → IsFresh good c
       → Steps good wrong c
       (good_after (history_after_loss good again wrong)
-      (flat_map (heard_left distance number) (items_of_carrier c) ++ ns)) ns
+      (flat_map (notes_of_unit distance number) (items_of_carrier c) ++ ns)) ns
   carrier-steps good again wrong first c ns h new = elim (cases_Bool (is_as_sent c.packet.fate)) [
     | inl kept ↦ elim (cases_Bool (is_repeat (history_after_loss good again wrong) p)) [
       | inl same ↦
           subst (λ (l : GoodPackets). Steps good wrong c l ns)
           (sym (first-repeat good again wrong first c ns h kept same))
-          (second-steps good true wrong (wrong || any_wrong c.before) first c ns h copy new
+          (second-steps good true wrong (wrong || any_unit_damaged c.before) first c ns h copy new
           (λ e. absurd (cc (same, new e again wrong p itself))))
       | inr fresh ↦
           inr
           (record {
             copy = p;
             spoiled = wrong;
-            again = any_kept (option_to_list c.again);
-            wrong_since = any_wrong (c.before ++ (option_to_list c.again ++ c.after));
+            again = any_unit_kept (option_to_list c.again);
+            wrong_after_good = any_unit_damaged (c.before ++ (option_to_list c.again ++ c.after));
             is_copy = itself;
             exact = λ e. (rw kept, rw kept (sym (or-false wrong)), rw kept);
-            goods_are =
+            goods_eq =
                 good-first distance number good again wrong first c ns h kept fresh
                 ∙ ap (λ (l : GoodPacket).
                 with_good l
                 (good_after
-                (history_after_loss (Some p) (any_kept (option_to_list c.again))
-                (any_wrong (c.before ++ (option_to_list c.again ++ c.after)))) ns))
+                (history_after_loss (Some p) (any_unit_kept (option_to_list c.again))
+                (any_unit_damaged (c.before ++ (option_to_list c.again ++ c.after)))) ns))
                 (linked-left good again wrong p none);
           })
     ]
     | inr lost ↦
         subst (λ (l : GoodPackets). Steps good wrong c l ns)
         (sym (good-no_first distance number good again wrong first c ns h lost))
-        (second-steps good again wrong (wrong || any_wrong (c.packet ∷ c.before)) first c ns h copy
+        (second-steps good again wrong (wrong || any_unit_damaged (c.packet ∷ c.before)) first c ns
+        h copy
         new (λ e. (lost, refl)))
   ]
     where
@@ -233,7 +237,8 @@ module _ (distance number : ℕ) (few : Bool) where
     pub far : is_break g.link ≡ false → n % 16 ≡ 0
     pub exact :
         few ≡ true
-        → (n < 15) × (is_break g.link ≡ ((wrong || any_wrong (units_before c)) || nat_lt 0 n))
+        → (n < 15) × (is_break g.link ≡ ((wrong || any_unit_damaged (units_before c)) || nat_lt 0
+        n))
 
   pub record IsHeard (following : Bool) (n : ℕ) (wrong : Bool) (c : Carrier Fated) (g : GoodPacket)
       : Type 0 where
@@ -248,15 +253,16 @@ module _ (distance number : ℕ) (few : Bool) where
   abbrev pub Traced : Bool → ℕ → Bool → List (Carrier Fated) → List GoodPacket → Type 0
   Traced following n wrong [] goods = goods ≡ []
   Traced following n wrong (c ∷ cs) goods =
-      ((wrong_since : Bool) × (few ≡ true → is_recorded c ≡ false) × Traced following (n + 1)
-      wrong_since cs goods)
+      ((wrong_after_good : Bool) × (few ≡ true → is_recorded c ≡ false) × Traced following (n + 1)
+      wrong_after_good cs goods)
       ⊎ ((g : GoodPacket) × (more : List GoodPacket)
       × (goods ≡ g ∷ more) × IsHeard following n wrong c g
-      × (wrong_since : Bool) × (few ≡ true → wrong_since ≡ any_wrong (units_after c))
-      × Traced true 0 wrong_since cs more)
+      × (wrong_after_good : Bool) × (few ≡ true → wrong_after_good ≡ any_unit_damaged
+      (units_after c))
+      × Traced true 0 wrong_after_good cs more)
 
-  abbrev pub AreFew : ℕ → List (Carrier Fated) → Type 0
-  AreFew n cs = few ≡ true → (n < 15) × (are_few_lost n cs ≡ true)
+  abbrev pub FewMissing : ℕ → List (Carrier Fated) → Type 0
+  FewMissing n cs = few ≡ true → (n < 15) × (are_few_lost n cs ≡ true)
 
   split-step : (good : Option (List ℕ)) (again wrong : Bool) (c : Carrier Fated)
       (cs : List (Carrier Fated))
@@ -264,25 +270,25 @@ module _ (distance number : ℕ) (few : Bool) where
       → IsFresh good c
       → Steps good wrong c
       (good_after (history_after_loss good again wrong)
-      (flat_map (heard_left distance number) (flat_map items_of_carrier (c ∷ cs))))
-      (flat_map (heard_left distance number) (flat_map items_of_carrier cs))
+      (flat_map (notes_of_unit distance number) (flat_map items_of_carrier (c ∷ cs))))
+      (flat_map (notes_of_unit distance number) (flat_map items_of_carrier cs))
   split-step good again wrong c cs is new =
       subst
       (λ (l : List Note).
       Steps good wrong c (good_after (history_after_loss good again wrong) l)
-      (flat_map (heard_left distance number) (flat_map items_of_carrier cs)))
+      (flat_map (notes_of_unit distance number) (flat_map items_of_carrier cs)))
       (sym
-      (flat_map-append (heard_left distance number) (items_of_carrier c)
+      (flat_map-append (notes_of_unit distance number) (items_of_carrier c)
       (flat_map items_of_carrier cs)))
       (carrier-steps good again wrong is.0 c
-      (flat_map (heard_left distance number) (flat_map items_of_carrier cs)) is.1 new)
+      (flat_map (notes_of_unit distance number) (flat_map items_of_carrier cs)) is.1 new)
 
   linked-copy : (good : Option (List ℕ)) (i n : ℕ) (wrong spoiled : Bool) (c : Carrier Fated)
       (h : List ℕ)
       → IsCounter good i
       → counter h ≡ (i + 1 + n) % 16
       → (few ≡ true → n < 15)
-      → (few ≡ true → spoiled ≡ (wrong || any_wrong (units_before c)))
+      → (few ≡ true → spoiled ≡ (wrong || any_unit_damaged (units_before c)))
       → is_some good ≡ true
       → IsLinked n wrong c (good_left good spoiled h)
   linked-copy None i n wrong spoiled c h number_is second small same some = absurd (cc some)
@@ -306,10 +312,10 @@ module _ (distance number : ℕ) (few : Bool) where
       → IsCounter good i
       → AllByRecursion (IsSomeLeft distance number) cs
       → AreRising distance number (i + 1 + n) cs
-      → AreFew n cs
+      → FewMissing n cs
       → Traced (is_some good) n wrong cs
       (good_after (history_after_loss good again wrong)
-      (flat_map (heard_left distance number) (flat_map items_of_carrier cs))).packets
+      (flat_map (notes_of_unit distance number) (flat_map items_of_carrier cs))).packets
   unfolding good_after
   traced good again wrong i n [] number_is each rising small = refl
   traced good again wrong i n (c ∷ cs) number_is each rising small =
@@ -318,12 +324,12 @@ module _ (distance number : ℕ) (few : Bool) where
       fresh-later good again w q i n number_is (copy.counter ∙ rising.0) (small e).0)) [
         | inl stays ↦
             inl (
-              stays.wrong_since,
+              stays.wrong_after_good,
               stays.gone,
-              subst (λ (l : GoodPackets). Traced (is_some good) (n + 1) stays.wrong_since cs
+              subst (λ (l : GoodPackets). Traced (is_some good) (n + 1) stays.wrong_after_good cs
                   l.packets)
-                  (sym stays.goods_are)
-                  (traced good stays.again stays.wrong_since i (n + 1) cs number_is each.1
+                  (sym stays.goods_eq)
+                  (traced good stays.again stays.wrong_after_good i (n + 1) cs number_is each.1
                   (subst (λ (j : ℕ). AreRising distance number j cs) (omega arith) rising.1)
                   (λ e. few-gone n c cs (stays.gone e) (small e).1)),
             )
@@ -331,9 +337,10 @@ module _ (distance number : ℕ) (few : Bool) where
             let next = comes.is_copy.counter ∙ rising.0 in
             inr (
               good_left good comes.spoiled comes.copy,
-              (good_after (history_after_loss (Some comes.copy) comes.again comes.wrong_since)
-                  (flat_map (heard_left distance number) (flat_map items_of_carrier cs))).packets,
-              ap (λ (l : GoodPackets). l.packets) comes.goods_are,
+              (good_after (history_after_loss (Some comes.copy) comes.again comes.wrong_after_good)
+                  (flat_map (notes_of_unit distance number) (flat_map items_of_carrier
+                  cs))).packets,
+              ap (λ (l : GoodPackets). l.packets) comes.goods_eq,
               record {
                 copy = comes.is_copy;
                 there = λ e. (comes.exact e).0;
@@ -342,9 +349,10 @@ module _ (distance number : ℕ) (few : Bool) where
                     linked-copy good i n wrong comes.spoiled c comes.copy number_is next
                     (λ e. (small e).0) (λ e. (comes.exact e).1) some;
               },
-              comes.wrong_since,
+              comes.wrong_after_good,
               λ e. (comes.exact e).2,
-              traced (Some comes.copy) comes.again comes.wrong_since (i + 1 + n) 0 cs next each.1
+              traced (Some comes.copy) comes.again comes.wrong_after_good (i + 1 + n) 0 cs next
+                  each.1
                   (subst (λ (j : ℕ). AreRising distance number j cs) (omega arith) rising.1)
                   (λ e. (omega arith, few-there n c cs (comes.exact e).0 (small e).1)),
             )

@@ -36,8 +36,8 @@ is_made_wrong (MadeWrong _) = true
 is_made_wrong _ = false
 
 -- One of the units was damaged: an unusable packet is recorded instead.
-abbrev pub any_wrong : List Fated → Bool
-any_wrong units = list_any (λ f. is_made_wrong f.fate) units
+abbrev pub any_unit_damaged : List Fated → Bool
+any_unit_damaged units = list_any (λ f. is_made_wrong f.fate) units
 
 -- The bytes that are recorded of a unit, if any.
 abbrev pub recorded_of : List ℕ → Fate → List (List ℕ)
@@ -68,12 +68,12 @@ IsFate distance number unit (MadeWrong other) = IsSpoiled distance number unit o
 -- ---- the transport packets that are recorded
 
 -- One of the units is recorded as it was sent.
-abbrev pub any_kept : List Fated → Bool
-any_kept units = list_any (λ f. is_as_sent f.fate) units
+abbrev pub any_unit_kept : List Fated → Bool
+any_unit_kept units = list_any (λ f. is_as_sent f.fate) units
 
 -- The transport packet of a carrier is recorded, or its repeat.
 abbrev pub is_recorded : Carrier Fated → Bool
-is_recorded c = is_as_sent c.packet.fate || any_kept (option_to_list c.again)
+is_recorded c = is_as_sent c.packet.fate || any_unit_kept (option_to_list c.again)
 
 -- The units of a carrier before the first recorded copy of its transport packet.
 abbrev pub units_before : Carrier Fated → List Fated
@@ -97,8 +97,8 @@ are_few_lost gone (c ∷ more) =
 abbrev pub are_recorded_after : Carrier Fated → List (Carrier Fated) → Bool
 are_recorded_after c [] = true
 are_recorded_after c (d ∷ more) =
-    not (any_wrong (units_after c))
-    && (is_recorded d && (not (any_wrong (units_before d)) && are_recorded_after d more))
+    not (any_unit_damaged (units_after c))
+    && (is_recorded d && (not (any_unit_damaged (units_before d)) && are_recorded_after d more))
 
 -- The PES packet arrives: each of its transport packets, or its repeat, is recorded, and no damaged
 -- packet of the PID is between them.
@@ -113,7 +113,7 @@ last_carrier c (d ∷ more) = last_carrier d more
 -- A unit after the last transport packet of an arriving PES packet, or after its repeat, was
 -- damaged.
 abbrev pub is_wrong_after : SentPes Fated → Bool
-is_wrong_after s = any_wrong (units_after (last_carrier s.first s.others))
+is_wrong_after s = any_unit_damaged (units_after (last_carrier s.first s.others))
 
 -- ---- the PES packets that a recording carries
 
@@ -125,7 +125,7 @@ unfoldable pub arriving : Bool → Bool → List (SentPes Fated) → List ℕ
 arriving given gap [] = []
 arriving given gap (s ∷ more) =
     if arrives s then
-    gap_marker_where (given && (gap || any_wrong (units_before s.first)))
+    gap_marker_where (given && (gap || any_unit_damaged (units_before s.first)))
     ++ (s.bytes ++ arriving true (is_wrong_after s) more)
     else arriving given true more
 

@@ -28,7 +28,7 @@ pub record WereSent (sent packets : List (List ℕ)) : Type 0 where
   pub earlier : List (List ℕ)
   pub next : List ℕ
   pub later : List (List ℕ)
-  pub sent_are : sent ≡ earlier ++ (run ++ (next ∷ later))
+  pub sent_bytes_eq : sent ≡ earlier ++ (run ++ (next ∷ later))
   pub last_is : up_to_pts next ≡ up_to_pts last
 
 -- The law of `check` with `--pace`. Assumption: two PES packets are more than `pace` frames apart

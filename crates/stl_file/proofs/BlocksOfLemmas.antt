@@ -10,58 +10,58 @@ use Rattle.std.proofs.lemmas.List.{drop-replicate}
 use Rattle.stl_file.specs.Tti.{ebn, text_of, unused_space}
 use Rattle.stl_file.specs.SubtitleBlocks.{BelongsTo, AreLinked, Begins, AreBlocksOf}
 use Rattle.stl_file.specs.Subtitle.{SubtitleValue, IsSubtitle, has_no_unused}
-use Rattle.stl_file.specs.NormalForm.{block_head, block_of, blocks_from, full_pieces, blocks_of}
+use Rattle.stl_file.specs.NormalForm.{block_head, block_of, blocks_from, full_chunks, blocks_of}
 use Rattle.stl_file.specs.TimeCode.{frame_in, is_time}
 use Rattle.stl_file.proofs.TimeCodeLemmas.{time_in_range}
-use Rattle.stl_file.proofs.SubtitleLemmas.{before_clean, clean_take, clean_drop}
+use Rattle.stl_file.proofs.SubtitleLemmas.{before_unused_of_text, clean_take, clean_drop}
 use Rattle.stl_file.proofs.SubtitleBlocksLemmas.{linked_cons, linked_text, blocks_subtitle}
 
 -- A TTI block is its first 16 bytes, a part of the subtitle's text, and unused space up to the end.
-pub block_parts : (s : SubtitleValue) (e : ℕ) (piece : List ℕ)
-    → block_of s e piece
-    ≡ (block_head s e ++ piece) ++ drop (length piece) (replicate 112 unused_space)
+pub block_parts : (s : SubtitleValue) (e : ℕ) (chunk : List ℕ)
+    → block_of s e chunk
+    ≡ (block_head s e ++ chunk) ++ drop (length chunk) (replicate 112 unused_space)
 unfolding block_of
-block_parts s e piece = search (rules, drop-replicate, append_assoc)
+block_parts s e chunk = search (rules, drop-replicate, append_assoc)
 
 pub ruleset pushed = (append_assoc, block_parts)
 
-block_fields : (s : SubtitleValue) (e : ℕ) (piece : List ℕ)
-    → has_no_unused piece ≡ true
-    → (ebn (block_of s e piece) ≡ e) × (text_of (block_of s e piece) ≡ piece)
+block_fields : (s : SubtitleValue) (e : ℕ) (chunk : List ℕ)
+    → has_no_unused chunk ≡ true
+    → (ebn (block_of s e chunk) ≡ e) × (text_of (block_of s e chunk) ≡ chunk)
 unfolding block_of
-block_fields s e piece h = (refl, before_clean piece (112 - length piece) h)
+block_fields s e chunk h = (refl, before_unused_of_text chunk (112 - length chunk) h)
 
-block_belongs : (s : SubtitleValue) (e : ℕ) (piece : List ℕ)
-    → length piece ≤ 112
-    → BelongsTo s.sgn s.sn (block_of s e piece)
+block_belongs : (s : SubtitleValue) (e : ℕ) (chunk : List ℕ)
+    → length chunk ≤ 112
+    → BelongsTo s.sgn s.sn (block_of s e chunk)
 unfolding block_of
-block_belongs s e piece le = grind (arith, length-append, length-replicate)
+block_belongs s e chunk le = grind (arith, length-append, length-replicate)
 
 -- A TTI block written for a valid subtitle can be the first block of that subtitle.
-block_begins : (s : SubtitleValue) (e : ℕ) (piece : List ℕ)
+block_begins : (s : SubtitleValue) (e : ℕ) (chunk : List ℕ)
     → IsSubtitle s
-    → Begins s (block_of s e piece)
+    → Begins s (block_of s e chunk)
 unfolding block_of is_time frame_in
-block_begins s e piece h = grind (arith, nat_tests, time_in_range)
+block_begins s e chunk h = grind (arith, nat_tests, time_in_range)
 
 -- A text of more than 112 bytes has one more full text field than the same text without its first
 -- 112 bytes.
-pieces_more : (text : List ℕ)
+more_chunks : (text : List ℕ)
     → 112 < length text
-    → full_pieces text ≡ suc (full_pieces (drop 112 text))
-pieces_more text lt = omega (arith, length-drop 112 text)
+    → full_chunks text ≡ suc (full_chunks (drop 112 text))
+more_chunks text lt = omega (arith, length-drop 112 text)
 
 pub joined_more : (s : SubtitleValue) (ebn : ℕ) (text : List ℕ)
     → 112 < length text
-    → concat (blocks_from s (full_pieces text) ebn text)
+    → concat (blocks_from s (full_chunks text) ebn text)
     ≡ block_of s ebn (take 112 text)
-    ++ concat (blocks_from s (full_pieces (drop 112 text)) (ebn + 1) (drop 112 text))
+    ++ concat (blocks_from s (full_chunks (drop 112 text)) (ebn + 1) (drop 112 text))
 unfolding blocks_from
-joined_more s ebn text lt = rw (pieces_more text lt) refl
+joined_more s ebn text lt = rw (more_chunks text lt) refl
 
 pub joined_end : (s : SubtitleValue) (ebn : ℕ) (text : List ℕ)
     → length text ≤ 112
-    → concat (blocks_from s (full_pieces text) ebn text) ≡ block_of s 255 text
+    → concat (blocks_from s (full_chunks text) ebn text) ≡ block_of s 255 text
 unfolding blocks_from
 joined_end s ebn text le = grind (arith, nat_tests, append-nil)
 
@@ -82,11 +82,11 @@ unfolding blocks_from
 blocks_linked s zero e text le few h =
     (block_belongs s 255 text (omega arith), (block_fields s 255 text h).0)
 blocks_linked s (suc full) e text le few h =
-    let piece = take 112 text in
-    linked_cons s.sgn s.sn (block_of s e piece)
+    let chunk = take 112 text in
+    linked_cons s.sgn s.sn (block_of s e chunk)
     (blocks_from s full (e + 1) (drop 112 text))
-    (block_belongs s e piece (omega (arith, length-take 112 text)))
-    (let b = (block_fields s e piece (clean_take 112 text h)).0 in omega arith)
+    (block_belongs s e chunk (omega (arith, length-take 112 text)))
+    (let b = (block_fields s e chunk (clean_take 112 text h)).0 in omega arith)
     (blocks_linked s full (e + 1) (drop 112 text) (omega (arith, length-drop 112 text))
     (omega arith) (clean_drop 112 text h))
 
@@ -115,7 +115,7 @@ blocks_begin s (suc full) e text h = (
 -- The blocks written for a valid subtitle satisfy the definition of its blocks.
 blocks_made : (s : SubtitleValue) → IsSubtitle s → AreBlocksOf s (blocks_of s)
 blocks_made s h =
-    let full = full_pieces s.text in
+    let full = full_chunks s.text in
     let b = blocks_begin s full 0 s.text h in
     grind (arith, nat_tests, blocks_begin, blocks_count, blocks_linked, blocks_text)
 

@@ -12,7 +12,7 @@ use Rattle.stl_file.specs.declared.fault.StlFault.{StlFault}
 use Rattle.stl_file.specs.declared.scope.Scope.{Scope}
 use Rattle.stl_file.specs.Tti.{most_blocks}
 use Rattle.stl_file.specs.Reader.{findings_for, findings_of, findings_opened, gsi_of, outcome_of}
-use Rattle.stl_file.specs.Resuming.{ResumingValue, begun_at}
+use Rattle.stl_file.specs.Resuming.{ResumingValue, started_at}
 use Rattle.stl_file.specs.Gsi.{gsi_at, IsGsiFor}
 use Rattle.stl_file.specs.Scope.{whole}
 use Rattle.stl_file.specs.Subtitle.{SubtitleValue}
@@ -95,13 +95,13 @@ one_file s g h ts us a b =
     grind (arith, nat_tests, file_complete whole s g ts a, file_complete whole s h us b)
 
 pub findings_for-begun : (scope : Scope) (s : List ℕ) (reader : ResumingValue)
-    → begun_at scope s ≡ (let r : Result ResumingValue StlFault = Ok reader in r)
+    → started_at scope s ≡ (let r : Result ResumingValue StlFault = Ok reader in r)
     → findings_for scope s ≡ findings_from scope 0 None (drop 1024 s)
 unfolding findings_for
 findings_for-begun scope s reader e = grind (arith, nat_tests)
 
 pub findings_for-refused : (scope : Scope) (s : List ℕ) (fault : StlFault)
-    → begun_at scope s ≡ (let r : Result ResumingValue StlFault = Err fault in r)
+    → started_at scope s ≡ (let r : Result ResumingValue StlFault = Err fault in r)
     → findings_for scope s ≡ breaks fault 0
 unfolding findings_for
 findings_for-refused scope s fault e = grind (arith, nat_tests)

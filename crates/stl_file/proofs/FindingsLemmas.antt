@@ -1,5 +1,5 @@
 -- The results of reading blocks, `findings_at`: the bytes that determine them, and their block
--- numbers; main lemmas: findings_block, findings_at-first, finds_from.
+-- numbers; main lemmas: findings_block, findings_at-first, findings_are_later.
 use Rattle.std.proofs.Common.{◌≡◌, ◌*◌, ℕ, List, [], ◌∷◌, ◌++◌, length, refl, arith}
 use Rattle.std.proofs.Common.{length-append, length-take, take, drop, Option, Some, None, Result}
 use Rattle.std.proofs.Common.{zero, suc, ◌+◌, ◌-◌, ◌<◌, ◌≤◌, inl, inr}
@@ -10,34 +10,35 @@ use Rattle.stl_file.specs.declared.fault.StlFault.{StlFault}
 use Rattle.stl_file.specs.declared.fault.StlFault.TheVariants as fault
 use Rattle.stl_file.specs.Tti.{most_blocks}
 use Rattle.stl_file.specs.Reader.{FindsFrom}
-use Rattle.stl_file.specs.Reading.{Begun, BlockStep, Findings, breaks, findings_after, findings_at}
+use Rattle.stl_file.specs.Reading.{StartedSubtitle, BlockStep, Findings, breaks, findings_after}
+use Rattle.stl_file.specs.Reading.{findings_at}
 use Rattle.stl_file.specs.Reading.{finds, no_more, refuses, step_at}
 use Rattle.stl_file.specs.declared.scope.Scope.{Scope}
 
-abbrev pub findings_nil : ℕ → Option Begun → Findings
+abbrev pub findings_nil : ℕ → Option StartedSubtitle → Findings
 findings_nil room None = no_more
 findings_nil room (Some begun) = breaks fault.Unfinished (most_blocks - room)
 
 module _ (scope : Scope) where
-  pub findings_end : (room : ℕ) (begun : Option Begun)
+  pub findings_end : (room : ℕ) (begun : Option StartedSubtitle)
       → findings_at scope room begun [] ≡ findings_nil room begun
   unfolding findings_at
   findings_end room begun = grind arith
 
-  pub findings_full : (begun : Option Begun) (b : List ℕ)
+  pub findings_full : (begun : Option StartedSubtitle) (b : List ℕ)
       → 0 < length b
       → findings_at scope 0 begun b ≡ breaks fault.TooManyBlocks (most_blocks + 1)
   unfolding findings_at
   findings_full begun b h = grind arith
 
-  pub findings_short : (room : ℕ) (begun : Option Begun) (b : List ℕ)
+  pub findings_short : (room : ℕ) (begun : Option StartedSubtitle) (b : List ℕ)
       → 0 < length b
       → length b < 128
       → findings_at scope (suc room) begun b ≡ breaks fault.Truncated (most_blocks - room)
   unfolding findings_at
   findings_short room begun b h lt = grind (arith, nat_tests)
 
-  pub findings_step : (room : ℕ) (begun : Option Begun) (b : List ℕ)
+  pub findings_step : (room : ℕ) (begun : Option StartedSubtitle) (b : List ℕ)
       → 128 ≤ length b
       → findings_at scope (suc room) begun b
       ≡ findings_after room (λ next. findings_at scope room next (drop 128 b)) (take 128 b)
@@ -47,7 +48,7 @@ module _ (scope : Scope) where
   findings_step room None (x ∷ b) le = rw (le-ltb _ _ le) refl
   findings_step room (Some o) (x ∷ b) le = rw (le-ltb _ _ le) refl
 
-  pub findings_block : (room next : ℕ) (begun : Option Begun) (b rest : List ℕ)
+  pub findings_block : (room next : ℕ) (begun : Option StartedSubtitle) (b rest : List ℕ)
       → room ≡ suc next
       → length b ≡ 128
       → findings_at scope room begun (b ++ rest)
@@ -58,7 +59,7 @@ module _ (scope : Scope) where
 
 -- The results depend only on the bytes of `room` blocks and one byte more, since reading stops at
 -- the byte after the last permitted block.
-pub findings_at-first : (scope : Scope) (room : ℕ) (begun : Option Begun) (b : List ℕ)
+pub findings_at-first : (scope : Scope) (room : ℕ) (begun : Option StartedSubtitle) (b : List ℕ)
     → findings_at scope room begun (take (128 * room + 1) b) ≡ findings_at scope room begun b
 findings_at-first scope zero begun b = grind (arith, nat_tests, findings_full)
 findings_at-first scope (suc room) begun b = elim (cases_lt (length b) 128) [
@@ -81,23 +82,24 @@ finds-before block (breaks f at) h = grind arith
 finds-before block (finds s at o) h = (grind arith, finds-before block o h.1)
 finds-before block (refuses f at o) h = (grind arith, finds-before block o h.1)
 
-finds-after : (room block : ℕ) (next : Option Begun → Findings) (b : List ℕ)
+finds-after : (room block : ℕ) (next : Option StartedSubtitle → Findings) (b : List ℕ)
     (r : Result BlockStep StlFault)
     → block ≤ most_blocks - room
-    → ((begun : Option Begun) → FindsFrom (block + 1) (next begun))
+    → ((begun : Option StartedSubtitle) → FindsFrom (block + 1) (next begun))
     → FindsFrom block (findings_after room next b r)
 finds-after room block next b r le n = grind (arith, finds-before)
 
 -- After `block` blocks were read, all results have a greater block number.
-pub finds_from : (scope : Scope) (room block : ℕ) (begun : Option Begun) (b : List ℕ)
+pub findings_are_later : (scope : Scope) (room block : ℕ) (begun : Option StartedSubtitle)
+    (b : List ℕ)
     → block + room ≡ most_blocks
     → FindsFrom (block + 1) (findings_at scope room begun b)
-finds_from scope room block begun [] e = rw findings_end (grind arith)
-finds_from scope zero block begun (x ∷ b) e =
+findings_are_later scope room block begun [] e = rw findings_end (grind arith)
+findings_are_later scope zero block begun (x ∷ b) e =
     rw (findings_full scope begun (x ∷ b) (omega arith)) (omega arith)
-finds_from scope (suc room) block begun (x ∷ b) e = elim (cases_lt (length (x ∷ b)) 128) [
+findings_are_later scope (suc room) block begun (x ∷ b) e = elim (cases_lt (length (x ∷ b)) 128) [
   | inl cut ↦ rw (findings_short scope room begun (x ∷ b) (omega arith) cut) (omega arith)
   | inr long ↦ rw (findings_step scope room begun (x ∷ b) long)
       (finds-after room (block + 1) _ (take 128 (x ∷ b)) _ (omega arith)
-      (λ next. finds_from scope room (block + 1) next _ (omega arith)))
+      (λ next. findings_are_later scope room (block + 1) next _ (omega arith)))
 ]

@@ -13,4 +13,4 @@ pub mod ReaderLemmas
 pub mod BlocksOfLemmas
 pub mod NormalCountsLemmas
 pub mod NormalFormLemmas
-pub mod TakenOutLemmas
+pub mod KeptBlocksLemmas

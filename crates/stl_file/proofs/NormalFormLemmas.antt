@@ -15,7 +15,7 @@ use Rattle.stl_file.specs.declared.fault.NormalFault.TheVariants.{Refused, Write
 use Rattle.stl_file.specs.Tti.{is_kept, most_blocks}
 use Rattle.stl_file.specs.SubtitleBlocks.{IsBlock, AreLinked, AreSubtitleBlocks, AreBlocksOf}
 use Rattle.stl_file.specs.Reader.{ReaderValue, findings_for, gsi_of, outcome_from, outcome_of}
-use Rattle.stl_file.specs.Reader.{opened_at}
+use Rattle.stl_file.specs.Reader.{open_result}
 use Rattle.stl_file.specs.Scope.{whole}
 use Rattle.stl_file.specs.Gsi.{with_counts}
 use Rattle.stl_file.specs.Subtitle.{SubtitleValue}
@@ -23,7 +23,7 @@ use Rattle.stl_file.specs.File.{IsFile}
 use Rattle.stl_file.specs.NormalForm.{Judged, all_blocks, counted_gsi, normal_form, subtitles_of}
 use Rattle.stl_file.specs.NormalForm.{WritesNormal, WritesPrefix, NormalAnswers, blocks_of}
 use Rattle.stl_file.specs.NormalCounts.{normal_counts, given}
-use Rattle.stl_file.proofs.SubtitleBlocksLemmas.{kept_few}
+use Rattle.stl_file.proofs.SubtitleBlocksLemmas.{kept_at_most}
 use Rattle.stl_file.proofs.GsiLemmas.{counted_is_gsi, counts_twice}
 use Rattle.stl_file.proofs.OpeningLemmas.{good, opened_bad, opened_good, opened_sound}
 use Rattle.stl_file.proofs.FileLemmas.{body_sound, one_file}
@@ -81,7 +81,7 @@ own_rest bs ts r =
     let own = respelled ts r.groups (rw (all_inside r.groups) at r.are_of) in
     record {
       each = own.each;
-      few = omega (arith, own.few, ap length r.kept, kept_few bs, r.few);
+      few = omega (arith, own.few, ap length r.kept, kept_at_most bs, r.few);
       groups = own.groups;
       kept = own.kept;
       outside = own.outside;
@@ -103,19 +103,19 @@ normal_twice s g h ts us a b =
     let o = one_file (normal_form g ts) h (counted_gsi g ts) us ts b (normal_is_file s g ts a) in
     grind (arith, nat_tests, counts_twice)
 
-keeps_same : (o : Option (List ℕ)) → Keeps o o
-keeps_same o = grind (arith, nat_tests)
+unchanged_keeps : (o : Option (List ℕ)) → Keeps o o
+unchanged_keeps o = grind (arith, nat_tests)
 
 -- If the GSI block is rejected, `normal` writes nothing and reports block 0.
 pub refused_open : (s : List ℕ) (f : StlFault) (old : Option (List ℕ))
-    → opened_at s ≡ Err f
+    → open_result s ≡ Err f
     → NormalAnswers s old old (Err (Refused f 0))
 unfolding findings_for
 refused_open s f old e =
-    (rw (opened_bad (gsi_of false s) f e) refl, keeps_same old)
+    (rw (opened_bad (gsi_of false s) f e) refl, unchanged_keeps old)
 
 file_body : (s : List ℕ) (r : ReaderValue)
-    → opened_at s ≡ good r
+    → open_result s ≡ good r
     → subtitles_of (outcome_of s) ≡ subtitles_of (outcome_from 0 (drop 1024 s))
 unfolding findings_for
 file_body s r e =
@@ -123,11 +123,11 @@ file_body s r e =
 
 -- If a TTI block is rejected, `normal` writes nothing and reports the file's first fault.
 pub refused_body : (s : List ℕ) (r : ReaderValue) (f : NormalFault) (old : Option (List ℕ))
-    → opened_at s ≡ good r
+    → open_result s ≡ good r
     → (f ≡ Write → ⊥)
     → normal_counts (subtitles_of (outcome_from 0 (drop 1024 s))) ≡ Err f
     → NormalAnswers s old old (Err f)
-refused_body s r f old e never c = grind (arith, nat_tests, file_body, keeps_same)
+refused_body s r f old e never c = grind (arith, nat_tests, file_body, unchanged_keeps)
 
 -- The facts about an accepted file: its subtitles, their counts, and the bytes of the normal form.
 record Accepted (s : List ℕ) (r : ReaderValue) (c : Counts) : Type 0 where
@@ -146,7 +146,7 @@ counted_ok j c e = grind (arith, nat_tests)
 
 -- If the file was opened and the first pass counted its subtitles, the file is accepted.
 accepted : (s : List ℕ) (r : ReaderValue) (c : Counts)
-    → opened_at s ≡ good r
+    → open_result s ≡ good r
     → normal_counts (subtitles_of (outcome_from 0 (drop 1024 s))) ≡ Ok c
     → Accepted s r c
 accepted s r c opened judged =
@@ -159,7 +159,7 @@ accepted s r c opened judged =
       form = cc (ap given j.1, ap (λ (x : ReaderValue). x.gsi) o.2);
     }
 
-module _ (s : List ℕ) (r : ReaderValue) (c : Counts) (g : List ℕ) (opened : opened_at s ≡ good r)
+module _ (s : List ℕ) (r : ReaderValue) (c : Counts) (g : List ℕ) (opened : open_result s ≡ good r)
     (judged : normal_counts (subtitles_of (outcome_from 0 (drop 1024 s))) ≡ Ok c)
     (set : g ≡ with_counts c.tnb c.tns r.gsi) (old new : Option (List ℕ)) where
   pub all_written : Appends old new

@@ -13,7 +13,7 @@ use Rattle.stl_file.specs.declared.fault.StlFault.{StlFault}
 use Rattle.stl_file.specs.declared.fault.StlFault.TheVariants as fault
 use Rattle.stl_file.specs.declared.progress.Progress.TheVariants.{Reading}
 use Rattle.stl_file.specs.declared.scope.Scope.{Scope}
-use Rattle.stl_file.specs.Reader.{ReaderValue, opened, opened_at, gsi_of, RefusesOpeningFor}
+use Rattle.stl_file.specs.Reader.{ReaderValue, opened, open_result, gsi_of, RefusesOpeningFor}
 use Rattle.stl_file.specs.Gsi.{gsi_at, IsGsi, IsGsiFor}
 use Rattle.stl_file.specs.Subtitle.{SubtitleValue}
 use Rattle.stl_file.specs.File.{IsFileFor}
@@ -57,7 +57,7 @@ opened_bad (Ok g) f e = absurd cc
 
 -- If a file was opened, the file begins with an accepted GSI block.
 pub opened_sound : (s : List ℕ) (r : ReaderValue)
-    → opened_at s ≡ good r
+    → open_result s ≡ good r
     → (1024 ≤ length s) × IsGsi (take 1024 s)
     × (r ≡ record { gsi = take 1024 s; block = 0; progress = Reading })
 opened_sound s r e =

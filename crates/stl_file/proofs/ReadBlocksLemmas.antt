@@ -17,20 +17,22 @@ use Rattle.stl_file.specs.declared.resuming.Found.TheVariants as found
 use Rattle.stl_file.specs.Tti.{most_blocks}
 use Rattle.stl_file.specs.Reader.{FailsReading, LastIsKept, block_after}
 use Rattle.stl_file.specs.Subtitle.{SubtitleValue}
-use Rattle.stl_file.specs.Reading.{Begun, More, Yield, findings_after, findings_at, findings_from}
+use Rattle.stl_file.specs.Reading.{StartedSubtitle, More, Yield, findings_after, findings_at}
+use Rattle.stl_file.specs.Reading.{findings_from}
 use Rattle.stl_file.specs.Reading.{skipped_at, step_at}
 use Rattle.stl_file.specs.declared.scope.Scope.{Scope}
-use Rattle.stl_file.specs.Resuming.{LeadsOn, findings_by, finds_end, found_of}
+use Rattle.stl_file.specs.Resuming.{LeadsOn, findings_by, depends_on_end, found_of}
 use Rattle.stl_file.specs.Fault.{is_cut, is_of_block}
 use Rattle.stl_file.proofs.StepLemmas.{step_gives}
 use Rattle.stl_file.proofs.FindingsLemmas.{findings_block, findings_full, findings_short}
-use Rattle.stl_file.proofs.FindingsLemmas.{finds_from}
+use Rattle.stl_file.proofs.FindingsLemmas.{findings_are_later}
 
 -- The bytes read in the current call, after `from` blocks, are complete blocks up to number
 -- `block`, and the results of these bytes followed by any further bytes are known.
 pub record HasRead
-    (scope : Scope) (from : ℕ) (refused : Option Begun) (old now : Option (List ℕ)) (block : ℕ)
-    (begun : Option Begun)
+    (scope : Scope) (from : ℕ) (refused : Option StartedSubtitle) (old now : Option (List ℕ))
+    (block : ℕ)
+    (begun : Option StartedSubtitle)
     : Type 0 where
   pub bytes : List ℕ
   pub consumed : Consumes old now bytes
@@ -41,8 +43,8 @@ pub record HasRead
 
 -- If the source fails within a block, no result of the file has a smaller block number, whatever
 -- bytes follow.
-pub fails_reading : (scope : Scope) (from block : ℕ) (refused : Option Begun)
-    (old mid new : Option (List ℕ)) (begun : Option Begun) (bytes : List ℕ)
+pub fails_reading : (scope : Scope) (from block : ℕ) (refused : Option StartedSubtitle)
+    (old mid new : Option (List ℕ)) (begun : Option StartedSubtitle) (bytes : List ℕ)
     → HasRead scope from refused old mid block begun
     → block ≤ most_blocks
     → length bytes < 128
@@ -54,23 +56,24 @@ fails_reading scope from block refused old mid new begun bytes h few lt c = reco
   block = let s = h.size in omega (arith, length-append h.bytes bytes);
   none = λ more.
       rw (append_assoc h.bytes bytes more, h.goes (bytes ++ more))
-      (finds_from scope (most_blocks - block) block begun (bytes ++ more) (omega arith));
+      (findings_are_later scope (most_blocks - block) block begun (bytes ++ more) (omega arith));
 }
 
-module _ {scope : Scope} {from : ℕ} {refused : Option Begun} {old mid new : Option (List ℕ)}
-    {n block : ℕ} {begun : Option Begun} {buffer : List ℕ}
+module _ {scope : Scope} {from : ℕ} {refused : Option StartedSubtitle}
+    {old mid new : Option (List ℕ)}
+    {n block : ℕ} {begun : Option StartedSubtitle} {buffer : List ℕ}
     (h : HasRead scope from refused old mid block begun) (f : Fills mid n new buffer)
-    (size : length buffer ≡ 128) (next : Option Begun) (s : SubtitleValue) where
+    (size : length buffer ≡ 128) (next : Option StartedSubtitle) (s : SubtitleValue) where
   length_prefix : length (take n buffer) ≡ n
   length_prefix = omega (arith, length-take n buffer)
 
   leads : (to : ℕ) (r : Result Found StlFault)
       → to ≡ block + (n + 127) / 128
       → (is_ok r ≡ true → 128 * block + n ≡ 128 * to)
-      → (finds_end r ≡ false → 0 < n)
-      → (finds_end r ≡ true → n < 128)
+      → (depends_on_end r ≡ false → 0 < n)
+      → (depends_on_end r ≡ true → n < 128)
       → ((more : List ℕ)
-      → (finds_end r ≡ true → more ≡ [])
+      → (depends_on_end r ≡ true → more ≡ [])
       → findings_at scope (most_blocks - block) begun (take n buffer ++ more)
       ≡ findings_by scope to next more s r)
       → (r ≡ Ok found.Subtitle → LastIsKept (h.bytes ++ take n buffer))
@@ -84,7 +87,7 @@ module _ {scope : Scope} {from : ℕ} {refused : Option Begun} {old mid new : Op
   pub leads_end : (r : Result Found StlFault)
       → n ≡ 0
       → block ≤ most_blocks
-      → finds_end r ≡ true
+      → depends_on_end r ≡ true
       → (r ≡ Ok found.Subtitle → ⊥)
       → findings_at scope (most_blocks - block) begun [] ≡ findings_by scope block next [] s r
       → LeadsOn scope from block refused next old new s r

@@ -14,10 +14,10 @@ use Rattle.stl_file.specs.Tti.{is_kept, most_blocks}
 use Rattle.stl_file.specs.SubtitleBlocks.{IsBlock, AreBlocksOf}
 use Rattle.stl_file.specs.Reader.{EndsKept, LastIsKept, Refuses, TakesSkipped, TakesSubtitle}
 use Rattle.stl_file.specs.Subtitle.{SubtitleValue}
-use Rattle.stl_file.specs.Reading.{Begun, fails, findings_from, begun_skipped, stopped}
+use Rattle.stl_file.specs.Reading.{StartedSubtitle, fails, findings_from, started_skipped, stopped}
 use Rattle.stl_file.specs.Scope.{whole}
 use Rattle.stl_file.specs.declared.scope.Scope.{Scope}
-use Rattle.stl_file.specs.Resuming.{LeadsOn, findings_by, finds_end, found_of}
+use Rattle.stl_file.specs.Resuming.{LeadsOn, findings_by, depends_on_end, found_of}
 use Rattle.stl_file.proofs.SubtitleBlocksLemmas.{length-concat}
 use Rattle.stl_file.proofs.FindingsLemmas.{findings_end}
 use Rattle.stl_file.proofs.RestLemmas.{read_complete, read_sound, groups_of}
@@ -25,7 +25,7 @@ use Rattle.stl_file.proofs.ScopeLemmas.{all_inside}
 
 -- The bytes left before a call are the bytes consumed, followed by the bytes left after the call.
 pub left-then : (old new : Option (List ℕ)) (rest : List ℕ) {scope : Scope} {from to : ℕ}
-    {refused next : Option Begun} {t : SubtitleValue} {result : Result Found StlFault}
+    {refused next : Option StartedSubtitle} {t : SubtitleValue} {result : Result Found StlFault}
     → LeadsOn scope from to refused next old new t result
     → old ≡ Some rest
     → (more : List ℕ) × (new ≡ Some more)
@@ -38,16 +38,18 @@ left-then (Some all) (Some more) rest l is =
 
 -- A reader that stops at the first fault reports nothing after a fault, even if reading could
 -- continue.
-by_fault : (to : ℕ) (next : Option Begun) (more : List ℕ) (s : SubtitleValue) (f : StlFault)
+by_fault : (to : ℕ) (next : Option StartedSubtitle) (more : List ℕ) (s : SubtitleValue)
+    (f : StlFault)
     → stopped (findings_by whole to next more s (found_of (Err f))) ≡ fails f to
 by_fault to next more s f = grind arith
 
 -- If more bytes could remove a fault, the fault is `Truncated` or `Unfinished`.
-is_cut-by : (f : StlFault) → finds_end (found_of (Err f)) ≡ true → is_cut f ≡ true
+is_cut-by : (f : StlFault) → depends_on_end (found_of (Err f)) ≡ true → is_cut f ≡ true
 is_cut-by f e = grind arith
 
 -- No subtitle file continues with the bytes that led to the first fault.
-pub refuses : (from to : ℕ) (old new : Option (List ℕ)) (s : SubtitleValue) (next : Option Begun)
+pub refuses : (from to : ℕ) (old new : Option (List ℕ)) (s : SubtitleValue)
+    (next : Option StartedSubtitle)
     (x : StlFault)
     → LeadsOn whole from to None next old new s (found_of (Err x))
     → Refuses from to old new x
@@ -92,7 +94,7 @@ ends_group s (b ∷ bs) a h k = ends_kept [] b bs h k
 pub takes_subtitle : (from to : ℕ) (old new : Option (List ℕ)) (s : SubtitleValue)
     (kept : Option (List ℕ))
     → kept ≡ None
-    → LeadsOn whole from to None (option_map begun_skipped kept) old new s (Ok found.Subtitle)
+    → LeadsOn whole from to None (option_map started_skipped kept) old new s (Ok found.Subtitle)
     → TakesSubtitle from to old new s
 takes_subtitle from to old new s kept over l =
     let r = read_sound whole (most_blocks - from) None [] l.bytes (s ∷ []) refl
@@ -110,7 +112,7 @@ takes_subtitle from to old new s kept over l =
 
 -- If a call returns `None`, the bytes consumed are only skipped blocks.
 pub takes_skipped : (from to : ℕ) (old new : Option (List ℕ)) (s : SubtitleValue)
-    (next : Option Begun)
+    (next : Option StartedSubtitle)
     → LeadsOn whole from to None next old new s (Ok found.End)
     → TakesSkipped from to old new
 takes_skipped from to old new s next l =

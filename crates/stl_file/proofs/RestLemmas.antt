@@ -17,11 +17,13 @@ use Rattle.stl_file.specs.declared.scope.Scope.{Scope}
 use Rattle.stl_file.specs.SubtitleBlocks.{IsBlock, AreLinked, AreOutside, AreSubtitleBlocks}
 use Rattle.stl_file.specs.SubtitleBlocks.{AreBlocksOf}
 use Rattle.stl_file.specs.Subtitle.{SubtitleValue}
-use Rattle.stl_file.specs.NormalForm.{Judged, subtitles_of, cons_all}
-use Rattle.stl_file.specs.Reading.{Begun, BlockStep, More, Yield, Findings, closed, findings_after}
-use Rattle.stl_file.specs.Reading.{findings_at, kept_at, begun_skipped, step_at, stopped}
-use Rattle.stl_file.proofs.SubtitleBlocksLemmas.{kept_few, first_linked}
-use Rattle.stl_file.proofs.StepLemmas.{first_begun, first_kept, further_kept, longer, outside_kept}
+use Rattle.stl_file.specs.NormalForm.{Judged, subtitles_of, cons_judged}
+use Rattle.stl_file.specs.Reading.{StartedSubtitle, BlockStep, More, Yield, Findings, closed}
+use Rattle.stl_file.specs.Reading.{findings_after}
+use Rattle.stl_file.specs.Reading.{findings_at, block_step_at, started_skipped, step_at, stopped}
+use Rattle.stl_file.proofs.SubtitleBlocksLemmas.{kept_at_most, first_linked}
+use Rattle.stl_file.proofs.StepLemmas.{first_started, first_kept, further_kept, longer}
+use Rattle.stl_file.proofs.StepLemmas.{outside_kept}
 use Rattle.stl_file.proofs.StepLemmas.{Represents, step_kept, step_skipped, step_sound}
 use Rattle.stl_file.proofs.FindingsLemmas.{findings_full, findings_step, findings_end}
 use Rattle.stl_file.proofs.FindingsLemmas.{findings_block, findings_short}
@@ -30,42 +32,44 @@ abbrev pub groups_of : List (List (List ℕ)) → List (List ℕ)
 groups_of gs = flat_map (λ (g : List (List ℕ)). g) gs
 
 -- The subtitles in the bytes b, given the current subtitle, if any.
-abbrev pub read_at : Scope → ℕ → Option Begun → List ℕ → Judged
+abbrev pub read_at : Scope → ℕ → Option StartedSubtitle → List ℕ → Judged
 read_at scope room begun b = subtitles_of (stopped (findings_at scope room begun b))
 
 -- ---- completeness: the blocks of a file are read as its subtitles
 
-after_enough : (few room : ℕ) (f g : Option Begun → Findings) (b : List ℕ)
+findings_with_enough_room : (few room : ℕ) (f g : Option StartedSubtitle → Findings) (b : List ℕ)
     (r : Result BlockStep StlFault) (ss : List SubtitleValue)
-    → ((next : Option Begun) (ts : List SubtitleValue)
+    → ((next : Option StartedSubtitle) (ts : List SubtitleValue)
     → subtitles_of (stopped (f next)) ≡ Ok ts
     → subtitles_of (stopped (g next)) ≡ Ok ts)
     → subtitles_of (stopped (findings_after few f b r)) ≡ Ok ss
     → subtitles_of (stopped (findings_after room g b r)) ≡ Ok ss
-after_enough few room f g b r ss same e = grind arith
+findings_with_enough_room few room f g b r ss same e = grind arith
 
 -- Comments and user data between blocks do not change the subtitles that are read.
-kept_enough : (scope : Scope) (bs : List (List ℕ)) (begun : Option Begun) (few room : ℕ)
+result_without_skipped : (scope : Scope) (bs : List (List ℕ)) (begun : Option StartedSubtitle)
+    (few room : ℕ)
     (ss : List SubtitleValue)
     → AllByRecursion IsBlock bs
     → length bs ≤ few
     → length bs ≤ room
     → read_at scope few begun (concat (filter is_kept bs)) ≡ Ok ss
     → read_at scope room begun (concat bs) ≡ Ok ss
-kept_enough scope [] begun few room ss h f le e = grind (arith, findings_end)
-kept_enough scope (b ∷ bs) begun few room ss h f le e =
+result_without_skipped scope [] begun few room ss h f le e = grind (arith, findings_end)
+result_without_skipped scope (b ∷ bs) begun few room ss h f le e =
     rw (findings_block scope room (room - 1) begun b (concat bs) (omega arith) h.0)
     (elim (cases_Bool (is_skipped_block b)) [
       | inl skipped ↦
           rw (step_skipped scope begun b skipped)
-          (kept_enough scope bs begun few (room - 1) ss h.1 (omega arith) (omega arith)
+          (result_without_skipped scope bs begun few (room - 1) ss h.1 (omega arith) (omega arith)
           (rw skipped at e))
       | inr kept ↦
-          after_enough (few - 1) (room - 1)
+          findings_with_enough_room (few - 1) (room - 1)
           (λ next. findings_at scope (few - 1) next (concat (filter is_kept bs)))
           (λ next. findings_at scope (room - 1) next (concat bs)) b (step_at scope begun b) ss
           (λ next ts.
-          kept_enough scope bs next (few - 1) (room - 1) ts h.1 (omega arith) (omega arith))
+          result_without_skipped scope bs next (few - 1) (room - 1) ts h.1 (omega arith)
+          (omega arith))
           (rw (
             kept,
             findings_block scope few (few - 1) begun b (concat (filter is_kept bs)) (omega arith)
@@ -75,21 +79,21 @@ kept_enough scope (b ∷ bs) begun few room ss h f le e =
 
 -- The result after the blocks of a subtitle: the subtitle, unless it is skipped, followed by the
 -- later subtitles.
-abbrev after_begun : Begun → List (List ℕ) → Judged → Judged
-after_begun o tail j =
+abbrev after_started : StartedSubtitle → List (List ℕ) → Judged → Judged
+after_started o tail j =
     cond o.is_skipped j
-    (cons_all (record o.subtitle { text = o.subtitle.text ++ flat_map text_of tail }) j)
+    (cons_judged (record o.subtitle { text = o.subtitle.text ++ flat_map text_of tail }) j)
 
 -- If the remaining blocks of a subtitle are linked, reading them returns the subtitle and then the
 -- later subtitles.
-blocks_give : (scope : Scope) (tail : List (List ℕ)) (room : ℕ) (begun : Option Begun)
-    (b rest : List ℕ) (o : Begun)
-    → kept_at scope begun b ≡ Ok (closed (ebn b) o)
+blocks_give : (scope : Scope) (tail : List (List ℕ)) (room : ℕ) (begun : Option StartedSubtitle)
+    (b rest : List ℕ) (o : StartedSubtitle)
+    → block_step_at scope begun b ≡ Ok (closed (ebn b) o)
     → AreLinked o.subtitle.sgn o.subtitle.sn (b ∷ tail)
     → o.blocks + length tail ≤ 9
     → length tail < room
     → read_at scope room begun (b ++ (concat tail ++ rest))
-    ≡ after_begun o tail (read_at scope (room - length (b ∷ tail)) None rest)
+    ≡ after_started o tail (read_at scope (room - length (b ∷ tail)) None rest)
 blocks_give scope [] room begun b rest o step linked few le =
     let one = findings_block scope room (room - 1) begun b rest (omega arith) linked.0.size in
     grind (arith, nat_tests, step_kept, append-nil)
@@ -114,7 +118,7 @@ outside_gives scope b others room rest i le =
     let linked : AreLinked (sgn b) (sn b) (b ∷ others) =
     subst (λ (x : List ℕ). AreLinked (sgn x) (sn x) (b ∷ others)) (sym same) i.linked in
     let outside : begins_outside scope b ≡ true = rw same i.outside in
-    blocks_give scope others room None b rest (begun_skipped b) (outside_kept scope b outside)
+    blocks_give scope others room None b rest (started_skipped b) (outside_kept scope b outside)
     linked
     (let few = i.few in omega arith) (omega arith)
 
@@ -125,14 +129,14 @@ inside_gives : (scope : Scope) (s : SubtitleValue) (g : List (List ℕ)) (room :
     → AreBlocksOf s g
     → length g ≤ room
     → read_at scope room None (concat g ++ rest)
-    ≡ cons_all s (read_at scope (room - length g) None rest)
+    ≡ cons_judged s (read_at scope (room - length g) None rest)
 inside_gives scope s g room rest inside i le =
     let size = ap length i.blocks in
     let here : begins_outside scope i.first ≡ false = rw i.blocks at inside in
-    let one = blocks_give scope i.others room None i.first rest (first_begun s i.first)
+    let one = blocks_give scope i.others room None i.first rest (first_started s i.first)
     (first_kept scope s i.first here i.begins) (rw i.blocks at i.linked)
     (let few = i.few in omega arith) (omega arith) in
-    let text = i.text_is in
+    let text = i.text_eq in
     grind (arith, append_assoc)
 
 skips_group : (scope : Scope) (b : List ℕ) (others : List (List ℕ)) (gs : List (List (List ℕ)))
@@ -163,7 +167,7 @@ gives_group scope g gs kept (s ∷ ss) room inside are le on =
     rw (concat-append g (groups_of gs))
     (inside_gives scope s g room (concat (groups_of gs)) inside are.0
     (omega (arith, length-append g (groups_of gs), le))
-    ∙ ap (cons_all s) (on ss are.1))
+    ∙ ap (cons_judged s) (on ss are.1))
 
 groups_give : (scope : Scope) (gs : List (List (List ℕ))) (ss : List SubtitleValue) (room : ℕ)
     → AllByRecursion (AreOutside scope) (filter (is_outside scope) gs)
@@ -195,8 +199,8 @@ pub read_complete : (scope : Scope) (bs : List (List ℕ)) (room : ℕ) (ss : Li
     → read_at scope room None (concat bs) ≡ Ok ss
 read_complete scope bs room ss r =
     let few : length (groups_of r.groups) ≤ room =
-    omega (arith, r.few, kept_few bs, ap length r.kept) in
-    kept_enough scope bs None room room ss r.each r.few r.few
+    omega (arith, r.few, kept_at_most bs, ap length r.kept) in
+    result_without_skipped scope bs None room room ss r.each r.few r.few
     (rw r.kept (groups_give scope r.groups ss room r.outside r.are_of few))
 
 -- ---- soundness: bytes that are read as subtitles are their blocks
@@ -234,10 +238,10 @@ in_front scope room before k b ss ts groups le r kept out are = record {
   are_groups = are;
 }
 
-pub cons_ok : (s : SubtitleValue) (j : Judged) (ss : List SubtitleValue)
-    → cons_all s j ≡ Ok ss
+pub cons_judged_ok : (s : SubtitleValue) (j : Judged) (ss : List SubtitleValue)
+    → cons_judged s j ≡ Ok ss
     → (rest : List SubtitleValue) × (j ≡ Ok rest) × (ss ≡ s ∷ rest)
-cons_ok s j ss e = grind (arith, nat_tests)
+cons_judged_ok s j ss e = grind (arith, nat_tests)
 
 abbrev HasGroups : Scope → List SubtitleValue → List (List (List ℕ)) → Type 0
 HasGroups scope ss gs =
@@ -264,12 +268,13 @@ groups_inside : (scope : Scope) (s : SubtitleValue) (ss : List SubtitleValue) (g
 groups_inside scope s ss [] gs inside i h = (h.0, (i, h.1))
 groups_inside scope s ss (b ∷ others) gs inside i h = (rw inside h.0, rw inside (i, h.1))
 
-step_reads : (scope : Scope) (room : ℕ) (begun : Option Begun) (before : List (List ℕ))
+step_reads : (scope : Scope) (room : ℕ) (begun : Option StartedSubtitle) (before : List (List ℕ))
     (b : List ℕ) (ss : List SubtitleValue) (r : Result BlockStep StlFault)
     → 128 ≤ length b
     → Represents scope begun before
     → step_at scope begun (take 128 b) ≡ r
-    → ((g : Option Begun) (k : List (List ℕ)) (ts : List SubtitleValue) → Represents scope g k
+    → ((g : Option StartedSubtitle) (k : List (List ℕ)) (ts : List SubtitleValue) → Represents scope
+    g k
     → read_at scope room g (drop 128 b) ≡ Ok ts → Reads scope room k (drop 128 b) ts)
     → subtitles_of (stopped (findings_after room
     (λ next. findings_at scope room next (drop 128 b)) (take 128 b) r)) ≡ Ok ss
@@ -294,7 +299,7 @@ step_reads scope room begun before b ss (Ok (More None)) le rep e go all =
     ]
 step_reads scope room begun before b ss (Ok (Yield s)) le rep e go all =
     let t = step_sound scope begun before (take 128 b) (Yield s) (length-take-le 128 b le) rep e in
-    let c = cons_ok s _ ss all in
+    let c = cons_judged_ok s _ ss all in
     let r = go None [] c.0 refl c.1 in
     let own = before ++ cond (is_kept (take 128 b)) (take 128 b ∷ []) [] in
     let has = groups_inside scope s c.0 own r.groups t.1 t.0 (r.outside, r.are_groups) in
@@ -304,7 +309,8 @@ step_reads scope room begun before b ss (Ok (Yield s)) le rep e go all =
     (filter (is_inside scope) (own ∷ r.groups))) (sym c.2) has.1)
 
 -- If bytes are read as subtitles without a fault, the bytes are the blocks of these subtitles.
-pub read_sound : (scope : Scope) (room : ℕ) (begun : Option Begun) (before : List (List ℕ))
+pub read_sound : (scope : Scope) (room : ℕ) (begun : Option StartedSubtitle)
+    (before : List (List ℕ))
     (b : List ℕ) (ss : List SubtitleValue)
     → Represents scope begun before
     → read_at scope room begun b ≡ Ok ss

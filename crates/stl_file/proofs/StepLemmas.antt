@@ -14,9 +14,10 @@ use Rattle.stl_file.specs.SubtitleBlocks.{BelongsTo, AreLinked, AreOutside, Begi
 use Rattle.stl_file.specs.Subtitle.{SubtitleValue}
 use Rattle.stl_file.specs.Scope.{begins_outside, is_outside}
 use Rattle.stl_file.specs.declared.scope.Scope.{Scope}
-use Rattle.stl_file.specs.Reading.{Begun, BlockStep, More, Yield, step_at, closed, first_at}
-use Rattle.stl_file.specs.Reading.{kept_at}
-use Rattle.stl_file.specs.Reading.{required_of_first, begun_skipped}
+use Rattle.stl_file.specs.Reading.{StartedSubtitle, BlockStep, More, Yield, step_at, closed}
+use Rattle.stl_file.specs.Reading.{first_at}
+use Rattle.stl_file.specs.Reading.{block_step_at}
+use Rattle.stl_file.specs.Reading.{required_of_first, started_skipped}
 
 -- If a list of checks yields a value, all checks passed.
 pub requested-right : {X : Type 0} (qs : Questions) (answer : Result X StlFault) (x : X)
@@ -40,37 +41,37 @@ first_complete : (b : List ℕ) (s : SubtitleValue)
 unfolding first_at
 first_complete b s h = grind (arith, nat_tests)
 
-abbrev pub first_begun : SubtitleValue → List ℕ → Begun
-first_begun s b =
+abbrev pub first_started : SubtitleValue → List ℕ → StartedSubtitle
+first_started s b =
     record { subtitle = record s { text = text_of b }; blocks = 1; is_skipped = false }
 
 -- A reader accepts a block that begins a subtitle inside the scope.
 pub first_kept : (scope : Scope) (s : SubtitleValue) (b : List ℕ)
     → begins_outside scope b ≡ false
     → Begins s b
-    → kept_at scope None b ≡ Ok (closed (ebn b) (first_begun s b))
-unfolding kept_at
+    → block_step_at scope None b ≡ Ok (closed (ebn b) (first_started s b))
+unfolding block_step_at
 first_kept scope s b inside h = rw (inside, first_complete b s h) refl
 
 -- A first block outside the scope begins a skipped subtitle.
 pub outside_kept : (scope : Scope) (b : List ℕ)
     → begins_outside scope b ≡ true
-    → kept_at scope None b ≡ Ok (closed (ebn b) (begun_skipped b))
-unfolding kept_at
+    → block_step_at scope None b ≡ Ok (closed (ebn b) (started_skipped b))
+unfolding block_step_at
 outside_kept scope b outside = rw outside (grind (arith, nat_tests))
 
-abbrev pub longer : Begun → List ℕ → Begun
+abbrev pub longer : StartedSubtitle → List ℕ → StartedSubtitle
 longer o b = record o {
   subtitle = record o.subtitle { text = o.subtitle.text ++ text_of b };
   blocks = o.blocks + 1;
 }
 
 -- A reader accepts a later block with the subtitle's SGN and SN, up to nine blocks.
-pub further_kept : (scope : Scope) (o : Begun) (b : List ℕ)
+pub further_kept : (scope : Scope) (o : StartedSubtitle) (b : List ℕ)
     → BelongsTo o.subtitle.sgn o.subtitle.sn b
     → o.blocks < 9
-    → kept_at scope (Some o) b ≡ Ok (closed (ebn b) (longer o b))
-unfolding kept_at
+    → block_step_at scope (Some o) b ≡ Ok (closed (ebn b) (longer o b))
+unfolding block_step_at
 further_kept scope o b belongs few = grind (arith, nat_tests)
 
 abbrev pub Within : ℕ → ℕ → List ℕ → Type 0
@@ -78,7 +79,7 @@ Within sgn_is sn_is b = BelongsTo sgn_is sn_is b × (ebn b < 240)
 
 -- The list g has the blocks of the current subtitle, without its last block. A skipped subtitle is
 -- outside the scope.
-pub record IsOpen (scope : Scope) (o : Begun) (g : List (List ℕ)) : Type 0 where
+pub record IsOpen (scope : Scope) (o : StartedSubtitle) (g : List (List ℕ)) : Type 0 where
   pub first : List ℕ
   pub others : List (List ℕ)
   pub blocks : g ≡ first ∷ others
@@ -92,7 +93,7 @@ pub record IsOpen (scope : Scope) (o : Begun) (g : List (List ℕ)) : Type 0 whe
 
 -- The blocks so far agree with the current subtitle. If there is no current subtitle, no blocks
 -- were read.
-abbrev pub Represents : Scope → Option Begun → List (List ℕ) → Type 0
+abbrev pub Represents : Scope → Option StartedSubtitle → List (List ℕ) → Type 0
 Represents scope None kept = kept ≡ []
 Represents scope (Some o) kept = IsOpen scope o kept
 
@@ -124,19 +125,20 @@ kept_first : (scope : Scope) (b : List ℕ) (r : BlockStep)
     → length b ≡ 128
     → cf b ≡ 0
     → (ebn b < 240) ⊎ (ebn b ≡ 255)
-    → kept_at scope None b ≡ Ok r
+    → block_step_at scope None b ≡ Ok r
     → Reaches scope (b ∷ []) r
-unfolding kept_at
+unfolding block_step_at
 kept_first scope b r size none e k = grind (arith, nat_tests, first_sound, append-nil)
 
-kept_further : (scope : Scope) (o : Begun) (kept : List (List ℕ)) (b : List ℕ) (r : BlockStep)
+kept_further : (scope : Scope) (o : StartedSubtitle) (kept : List (List ℕ)) (b : List ℕ)
+    (r : BlockStep)
     → length b ≡ 128
     → cf b ≡ 0
     → (ebn b < 240) ⊎ (ebn b ≡ 255)
     → IsOpen scope o kept
-    → kept_at scope (Some o) b ≡ Ok r
+    → block_step_at scope (Some o) b ≡ Ok r
     → Reaches scope (kept ++ b ∷ []) r
-unfolding kept_at
+unfolding block_step_at
 kept_further scope o kept b r size none e h k =
     grind (
       arith,
@@ -150,24 +152,25 @@ kept_further scope o kept b r size none e h k =
 
 -- If a block that is not skipped is read without a fault, the block belongs to the current
 -- subtitle.
-kept_sound : (scope : Scope) (begun : Option Begun) (kept : List (List ℕ)) (b : List ℕ)
+kept_sound : (scope : Scope) (begun : Option StartedSubtitle) (kept : List (List ℕ)) (b : List ℕ)
     (r : BlockStep)
     → length b ≡ 128
     → cf b ≡ 0
     → (ebn b < 240) ⊎ (ebn b ≡ 255)
     → Represents scope begun kept
-    → kept_at scope begun b ≡ Ok r
+    → block_step_at scope begun b ≡ Ok r
     → Reaches scope (kept ++ b ∷ []) r
 kept_sound scope None kept b r size none e h k = rw h (kept_first scope b r size none e k)
 kept_sound scope (Some o) kept b r size none e h k = kept_further scope o kept b r size none e h k
 
-stays_begun : (scope : Scope) (begun : Option Begun) (kept : List (List ℕ))
+stays_started : (scope : Scope) (begun : Option StartedSubtitle) (kept : List (List ℕ))
     → Represents scope begun kept
     → Reaches scope kept (More begun)
-stays_begun scope begun kept h = grind (arith, nat_tests)
+stays_started scope begun kept h = grind (arith, nat_tests)
 
 -- If a block is read without a fault, the block belongs to the current subtitle or is skipped.
-pub step_sound : (scope : Scope) (begun : Option Begun) (kept : List (List ℕ)) (b : List ℕ)
+pub step_sound : (scope : Scope) (begun : Option StartedSubtitle) (kept : List (List ℕ))
+    (b : List ℕ)
     (r : BlockStep)
     → length b ≡ 128
     → Represents scope begun kept
@@ -175,25 +178,25 @@ pub step_sound : (scope : Scope) (begun : Option Begun) (kept : List (List ℕ))
     → Reaches scope (kept ++ cond (is_kept b) (b ∷ []) []) r
 unfolding step_at
 step_sound scope begun kept b r size h e =
-    grind (arith, nat_tests, append-nil, kept_sound, stays_begun)
+    grind (arith, nat_tests, append-nil, kept_sound, stays_started)
 
 -- A subtitle ends with a block that is not skipped.
-pub step_gives : (scope : Scope) (begun : Option Begun) (b : List ℕ) (s : SubtitleValue)
+pub step_gives : (scope : Scope) (begun : Option StartedSubtitle) (b : List ℕ) (s : SubtitleValue)
     → step_at scope begun b ≡ Ok (Yield s)
     → is_kept b ≡ true
 unfolding step_at
 step_gives scope begun b s e = grind (arith, nat_tests)
 
 -- A reader takes a block with a valid EBN and CF 0 as a block of a subtitle.
-pub step_kept : (scope : Scope) (begun : Option Begun) (b : List ℕ)
+pub step_kept : (scope : Scope) (begun : Option StartedSubtitle) (b : List ℕ)
     → (ebn b < 240) ⊎ (ebn b ≡ 255)
     → cf b ≡ 0
-    → step_at scope begun b ≡ kept_at scope begun b
+    → step_at scope begun b ≡ block_step_at scope begun b
 unfolding step_at
 step_kept scope begun b e c = grind (arith, nat_tests)
 
 -- Comments and user data do not change the current subtitle.
-pub step_skipped : (scope : Scope) (begun : Option Begun) (b : List ℕ)
+pub step_skipped : (scope : Scope) (begun : Option StartedSubtitle) (b : List ℕ)
     → is_skipped_block b ≡ true
     → step_at scope begun b ≡ Ok (More begun)
 unfolding step_at

@@ -19,8 +19,8 @@ pub length-concat : (bs : List (List ℕ))
 length-concat [] h = refl
 length-concat (x ∷ bs) h = grind (arith, nat_tests, length-append, length-concat bs h.1)
 
-pub kept_few : (bs : List (List ℕ)) → length (filter is_kept bs) ≤ length bs
-kept_few bs = omega (arith, length-filter is_kept bs, count_by-le-length is_kept bs)
+pub kept_at_most : (bs : List (List ℕ)) → length (filter is_kept bs) ≤ length bs
+kept_at_most bs = omega (arith, length-filter is_kept bs, count_by-le-length is_kept bs)
 
 pub first_linked : (sgn_is sn_is : ℕ) (b : List ℕ) (bs : List (List ℕ))
     → AreLinked sgn_is sn_is (b ∷ bs)

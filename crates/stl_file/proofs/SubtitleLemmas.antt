@@ -1,4 +1,4 @@
--- Texts without unused space (8F); main lemmas: used, before_clean, text_short.
+-- Texts without unused space (8F); main lemmas: used, before_unused_of_text, text_short.
 use Rattle.std.proofs.Common.{◌≡◌, ℕ, true, List, [], ◌∷◌, ◌++◌, length, refl, append_assoc, arith}
 use Rattle.std.proofs.Common.{take, drop, zero, suc, ◌+◌, ◌<◌, ◌≤◌, get_or, replicate}
 use Rattle.std.specs.List.{flat_map}
@@ -61,16 +61,16 @@ clean_drop zero xs h = h
 clean_drop (suc n) xs h = grind (arith, nat_tests, clean_drop n)
 
 -- If a text without unused space is padded with unused space, reading returns the text.
-pub before_clean : (xs : List ℕ) (k : ℕ)
+pub before_unused_of_text : (xs : List ℕ) (k : ℕ)
     → has_no_unused xs ≡ true
     → before_unused (xs ++ replicate k unused_space) ≡ xs
-before_clean [] zero h = refl
-before_clean [] (suc k) h = refl
-before_clean (x ∷ xs) k h = grind (arith, nat_tests, before_clean xs k)
+before_unused_of_text [] zero h = refl
+before_unused_of_text [] (suc k) h = refl
+before_unused_of_text (x ∷ xs) k h = grind (arith, nat_tests, before_unused_of_text xs k)
 
-before_short : (xs : List ℕ) → length (before_unused xs) ≤ length xs
-before_short [] = omega arith
-before_short (x ∷ xs) = grind (arith, nat_tests, before_short xs)
+before_unused_short : (xs : List ℕ) → length (before_unused xs) ≤ length xs
+before_unused_short [] = omega arith
+before_unused_short (x ∷ xs) = grind (arith, nat_tests, before_unused_short xs)
 
 pub text_short : (b : List ℕ) → length b ≡ 128 → length (text_of b) ≤ 112
-text_short b size = omega (arith, before_short (tf b), length-drop 16 b)
+text_short b size = omega (arith, before_unused_short (tf b), length-drop 16 b)

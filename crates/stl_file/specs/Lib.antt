@@ -9,7 +9,7 @@ pub mod Reader
 pub mod Reading
 pub mod Subtitle
 pub mod SubtitleBlocks
-pub mod TakenOut
+pub mod KeptBlocks
 pub mod TimeCode
 pub mod Tti
 pub mod Resuming

@@ -5,7 +5,7 @@ use Rattle.stl_file.specs.declared.fault.StlFault.{StlFault}
 use Rattle.stl_file.specs.declared.fault.NormalFault.{NormalFault}
 use Rattle.stl_file.specs.declared.fault.NormalFault.TheVariants.{Refused}
 use Rattle.stl_file.specs.Subtitle.{SubtitleValue}
-use Rattle.stl_file.specs.NormalForm.{Judged, all_blocks, cons_all}
+use Rattle.stl_file.specs.NormalForm.{Judged, all_blocks, cons_judged}
 
 -- The subtitles of an accepted file; none for a rejected file.
 abbrev pub given : Judged → List SubtitleValue
@@ -20,6 +20,6 @@ normal_counts (Err f) = Err f
 -- All subtitles from the next call of the reader on, given the call's result, the block of that
 -- result and the subtitles of later calls.
 abbrev pub judged_on : Result Bool StlFault → SubtitleValue → ℕ → Judged → Judged
-judged_on (Ok true) s block left = cons_all s left
+judged_on (Ok true) s block left = cons_judged s left
 judged_on (Ok false) s block left = Ok []
 judged_on (Err f) s block left = Err (Refused f block)

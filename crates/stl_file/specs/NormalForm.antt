@@ -26,11 +26,11 @@ block_head s ebn =
 
 -- A text field: a part of a subtitle's text, padded with unused space to 112 bytes.
 abbrev pub text_field : List ℕ → List ℕ
-text_field piece = piece ++ replicate (112 - length piece) unused_space
+text_field chunk = chunk ++ replicate (112 - length chunk) unused_space
 
 -- The TTI block of the subtitle s with this EBN and this part of the subtitle's text.
 unfoldable pub block_of : SubtitleValue → ℕ → List ℕ → List ℕ
-block_of s ebn piece = block_head s ebn ++ text_field piece
+block_of s ebn chunk = block_head s ebn ++ text_field chunk
 
 -- The blocks of a subtitle: `full` blocks with full text fields, whose EBN counts up, then the last
 -- block.
@@ -40,12 +40,12 @@ blocks_from s (suc full) ebn text =
     block_of s ebn (take 112 text) ∷ blocks_from s full (ebn + 1) (drop 112 text)
 
 -- The number of full text fields, of 112 bytes each, before the last text field.
-abbrev pub full_pieces : List ℕ → ℕ
-full_pieces text = (length text - 1) / 112
+abbrev pub full_chunks : List ℕ → ℕ
+full_chunks text = (length text - 1) / 112
 
 -- The fewest blocks that hold the subtitle s, at least one.
 abbrev pub blocks_of : SubtitleValue → List (List ℕ)
-blocks_of s = blocks_from s (full_pieces s.text) 0x00 s.text
+blocks_of s = blocks_from s (full_chunks s.text) 0x00 s.text
 
 -- ---- the normal form of a whole file
 
@@ -69,15 +69,15 @@ abbrev pub Judged : Type 0
 Judged = Result (List SubtitleValue) NormalFault
 
 -- Puts the subtitle s in front of the subtitles in a result.
-abbrev pub cons_all : SubtitleValue → Judged → Judged
-cons_all s (Ok ss) = Ok (s ∷ ss)
-cons_all s (Err f) = Err f
+abbrev pub cons_judged : SubtitleValue → Judged → Judged
+cons_judged s (Ok ss) = Ok (s ∷ ss)
+cons_judged s (Err f) = Err f
 
 -- The subtitles in a reader's results, or the first fault with the number of its block.
 abbrev pub subtitles_of : Outcome → Judged
 subtitles_of ends = Ok []
 subtitles_of (fails f block) = Err (Refused f block)
-subtitles_of (gives s block o) = cons_all s (subtitles_of o)
+subtitles_of (gives s block o) = cons_judged s (subtitles_of o)
 
 -- ---- the effect of `normal`
 

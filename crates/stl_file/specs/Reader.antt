@@ -15,7 +15,8 @@ use Rattle.stl_file.specs.declared.scope.Scope.{Scope}
 use Rattle.stl_file.specs.Tti.{most_blocks, is_kept}
 use Rattle.stl_file.specs.Subtitle.{SubtitleValue}
 use Rattle.stl_file.specs.SubtitleBlocks.{IsBlock, AreBlocksOf, AreSubtitleBlocks}
-use Rattle.stl_file.specs.Reading.{Begun, Findings, breaks, findings_from, finds, no_more, refuses}
+use Rattle.stl_file.specs.Reading.{StartedSubtitle, Findings, breaks, findings_from, finds, no_more}
+use Rattle.stl_file.specs.Reading.{refuses}
 use Rattle.stl_file.specs.Reading.{Outcome, ends, fails, gives, stopped}
 use Rattle.stl_file.specs.File.{IsFileFor}
 
@@ -68,7 +69,7 @@ pub record GivesNextSubtitle
     (result : Result (Option SubtitleValue) StlFault)
     : Type 0 where
   pub rest : List ℕ
-  pub rest_is : now ≡ Some rest
+  pub rest_eq : now ≡ Some rest
   pub outcome : outcome_left old bytes ≡ outcome_with new rest result
 
 -- ---- the results within one call of a reader
@@ -150,7 +151,7 @@ FindsFrom block (refuses f at more) = (block ≤ at) × FindsFrom block more
 -- The source failed: `to` is the block of the first byte that could not be read. Whatever follows
 -- the bytes consumed, no result has a smaller block number.
 pub record FailsReading
-    (scope : Scope) (from to : ℕ) (refused : Option Begun) (old new : Option (List ℕ))
+    (scope : Scope) (from to : ℕ) (refused : Option StartedSubtitle) (old new : Option (List ℕ))
     : Type 0 where
   pub bytes : List ℕ
   pub consumed : Consumes old new bytes
@@ -189,8 +190,8 @@ gsi_of takes_open s =
     else gsi_at takes_open (take gsi_size s)
 
 -- The result of `open` for a file with the bytes s.
-abbrev pub opened_at : List ℕ → Result ReaderValue StlFault
-opened_at s = opened (gsi_of false s)
+abbrev pub open_result : List ℕ → Result ReaderValue StlFault
+open_result s = opened (gsi_of false s)
 
 -- No file within the scope begins with the bytes consumed. For faults of a truncated file, no file
 -- consists of exactly these bytes.

@@ -25,7 +25,7 @@ use Rattle.stl_file.specs.declared.subtitle_blocks.BlocksRead.{BlocksRead}
 -- A subtitle whose last block has not been read: its fields and the text so far, the number of its
 -- blocks so far, 1 to 9, and whether the subtitle is skipped because it is outside the scope or was
 -- rejected.
-pub record Begun : Type 0 where
+pub record StartedSubtitle : Type 0 where
   pub subtitle : SubtitleValue
   pub blocks : ℕ
   pub is_skipped : Bool
@@ -33,7 +33,7 @@ pub record Begun : Type 0 where
 -- The effect of a block. `More`: the subtitle continues, or no subtitle has begun. `Yield`: the
 -- block was the last block of this subtitle.
 pub data BlockStep : Type 0 where
-  More : Option Begun → BlockStep
+  More : Option StartedSubtitle → BlockStep
   Yield : SubtitleValue → BlockStep
 
 -- The checks of the first block of a subtitle.
@@ -61,7 +61,7 @@ first_at b =
     }))
 
 -- The checks of the second and each later block of a subtitle.
-abbrev pub required_of_further : Begun → List ℕ → Questions
+abbrev pub required_of_further : StartedSubtitle → List ℕ → Questions
 required_of_further begun b =
     (fault.Sequence, not ((sgn b == begun.subtitle.sgn) && (sn b == begun.subtitle.sn)))
     ∷ (fault.TooLong, begun.blocks == most_of_subtitle)
@@ -69,52 +69,52 @@ required_of_further begun b =
 
 -- The effect of a block with EBN n: FF ends a subtitle, any other EBN continues it. A skipped
 -- subtitle is not returned.
-abbrev pub closed : ℕ → Begun → BlockStep
+abbrev pub closed : ℕ → StartedSubtitle → BlockStep
 closed n begun =
     if n == last_block then (if begun.is_skipped then More None else Yield begun.subtitle)
     else More (Some begun)
 
 -- A skipped subtitle that starts with the block b. The later blocks must have the same SGN and SN,
 -- and the subtitle at most 9 blocks.
-abbrev pub begun_skipped : List ℕ → Begun
-begun_skipped b = record {
+abbrev pub started_skipped : List ℕ → StartedSubtitle
+started_skipped b = record {
   subtitle = record empty_subtitle { sgn = sgn b; sn = sn b };
   blocks = 1;
   is_skipped = true;
 }
 
 -- The skipped subtitle that continues after its first block b; `None` if b is also its last block.
-abbrev pub skipped_at : List ℕ → Option Begun
-skipped_at b = if ebn b == last_block then None else Some (begun_skipped b)
+abbrev pub skipped_at : List ℕ → Option StartedSubtitle
+skipped_at b = if ebn b == last_block then None else Some (started_skipped b)
 
 -- The effect of a block of a subtitle: its first block, or a later block of the current subtitle.
 -- The first block of a subtitle outside the scope is not checked.
-unfoldable pub kept_at : Scope → Option Begun → List ℕ → Result BlockStep StlFault
-kept_at scope None b =
+unfoldable pub block_step_at : Scope → Option StartedSubtitle → List ℕ → Result BlockStep StlFault
+block_step_at scope None b =
     if begins_outside scope b then Ok (More (skipped_at b))
     else do
       s ← first_at b
       Ok (closed (ebn b) (record { subtitle = s; blocks = 1; is_skipped = false }))
-kept_at scope (Some begun) b =
+block_step_at scope (Some begun) b =
     requested (required_of_further begun b) (Ok (closed (ebn b) (record begun {
       subtitle = record begun.subtitle { text = begun.subtitle.text ++ text_of b };
       blocks = begun.blocks + 1;
     })))
 
 -- The current subtitle, given its contents so far and the state of reading its blocks.
-abbrev pub begun_by : SubtitleValue → BlocksRead → Begun
-begun_by s read = record { subtitle = s; blocks = read.count; is_skipped = read.is_skipped }
+abbrev pub started_by : SubtitleValue → BlocksRead → StartedSubtitle
+started_by s read = record { subtitle = s; blocks = read.count; is_skipped = read.is_skipped }
 
 -- The current subtitle; `None` before the first block of a subtitle.
-abbrev pub begun_in : SubtitleValue → BlocksRead → Option Begun
-begun_in s read = if read.count == 0 then None else Some (begun_by s read)
+abbrev pub started_in : SubtitleValue → BlocksRead → Option StartedSubtitle
+started_in s read = if read.count == 0 then None else Some (started_by s read)
 
 -- The effect of a block, given the contents and the state that the block leaves, and whether the
 -- subtitle is complete.
 abbrev pub step_in : SubtitleValue → BlocksRead → Result Bool StlFault → Result BlockStep StlFault
 step_in s read (Err f) = Err f
 step_in s read (Ok true) = Ok (Yield s)
-step_in s read (Ok false) = Ok (More (begun_in s read))
+step_in s read (Ok false) = Ok (More (started_in s read))
 
 -- The checks of every block except user data.
 abbrev pub required_of_block : List ℕ → Questions
@@ -124,11 +124,11 @@ required_of_block b =
     ∷ []
 
 -- The effect of any block. User data and comments do not change the current subtitle.
-unfoldable pub step_at : Scope → Option Begun → List ℕ → Result BlockStep StlFault
+unfoldable pub step_at : Scope → Option StartedSubtitle → List ℕ → Result BlockStep StlFault
 step_at scope begun b =
     if ebn b == user_data then Ok (More begun)
     else requested (required_of_block b)
-    (if cf b == is_comment then Ok (More begun) else kept_at scope begun b)
+    (if cf b == is_comment then Ok (More begun) else block_step_at scope begun b)
 
 -- ---- reading all following TTI blocks
 
@@ -148,7 +148,7 @@ pub data Findings : Type 0 where
 
 -- The results after the block b, if `room` more blocks may follow.
 abbrev pub findings_after :
-    ℕ → (Option Begun → Findings) → List ℕ → Result BlockStep StlFault → Findings
+    ℕ → (Option StartedSubtitle → Findings) → List ℕ → Result BlockStep StlFault → Findings
 findings_after room next b (Err f) =
     if is_of_first f then refuses f (most_blocks - room) (next (skipped_at b))
     else breaks f (most_blocks - room)
@@ -158,7 +158,7 @@ findings_after room next b (Ok (Yield s)) = finds s (most_blocks - room) (next N
 -- The results for bytes after the GSI block, if `room` blocks may still follow and `begun` is the
 -- current subtitle. If the file ends within a subtitle, the last complete block is reported; for
 -- every other fault, the block that was begun. A byte after 99,999 blocks is a block too many.
-unfoldable pub findings_at : Scope → ℕ → Option Begun → List ℕ → Findings
+unfoldable pub findings_at : Scope → ℕ → Option StartedSubtitle → List ℕ → Findings
 findings_at scope room None [] = no_more
 findings_at scope room (Some begun) [] = breaks fault.Unfinished (most_blocks - room)
 findings_at scope zero begun (x ∷ b) = breaks fault.TooManyBlocks (most_blocks + 1)
@@ -169,7 +169,7 @@ findings_at scope (suc room) begun (x ∷ b) =
 
 -- The results for the bytes b after `block` TTI blocks, either before the next subtitle or within a
 -- rejected subtitle.
-abbrev pub findings_from : Scope → ℕ → Option Begun → List ℕ → Findings
+abbrev pub findings_from : Scope → ℕ → Option StartedSubtitle → List ℕ → Findings
 findings_from scope block refused b = findings_at scope (most_blocks - block) refused b
 
 -- ---- reading up to the first fault
@@ -192,7 +192,7 @@ stopped (refuses f block more) = fails f block
 
 -- The text of the current subtitle has at most 112 bytes per block, and the subtitle at most nine
 -- blocks.
-abbrev pub BegunFits : Option Begun → Type 0
-BegunFits None = Unit {0}
-BegunFits (Some begun) =
+abbrev pub StartedSubtitleFits : Option StartedSubtitle → Type 0
+StartedSubtitleFits None = Unit {0}
+StartedSubtitleFits (Some begun) =
     (length begun.subtitle.text ≤ 112 * begun.blocks) × (begun.blocks ≤ most_of_subtitle)

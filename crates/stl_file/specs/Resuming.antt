@@ -10,7 +10,8 @@ use Rattle.stl_file.specs.declared.resuming.Found.{Found}
 use Rattle.stl_file.specs.declared.resuming.Found.TheVariants as found
 use Rattle.stl_file.specs.Fault.{is_cut, is_of_first}
 use Rattle.stl_file.specs.Subtitle.{SubtitleValue}
-use Rattle.stl_file.specs.Reading.{Begun, Findings, breaks, findings_from, finds, no_more, refuses}
+use Rattle.stl_file.specs.Reading.{StartedSubtitle, Findings, breaks, findings_from, finds, no_more}
+use Rattle.stl_file.specs.Reading.{refuses}
 use Rattle.stl_file.specs.Reader.{LastIsKept, gsi_of}
 use Rattle.stl_file.specs.declared.scope.Scope.{Scope}
 
@@ -20,22 +21,22 @@ pub record ResumingValue : Type 0 where
   pub scope : Scope
   pub block : ℕ
   pub progress : Progress
-  pub refused : Option Begun
+  pub refused : Option StartedSubtitle
 
 -- The reader after its GSI block was accepted, or the fault of the GSI block.
-abbrev pub begun_after : Scope → Result (List ℕ) StlFault → Result ResumingValue StlFault
-begun_after scope (Err f) = Err f
-begun_after scope (Ok g) =
+abbrev pub started_after : Scope → Result (List ℕ) StlFault → Result ResumingValue StlFault
+started_after scope (Err f) = Err f
+started_after scope (Ok g) =
     Ok (record { scope = scope; block = 0; progress = Reading; refused = None })
 
 -- The result of `open` for a file with the bytes s.
-abbrev pub begun_at : Scope → List ℕ → Result ResumingValue StlFault
-begun_at scope s = begun_after scope (gsi_of scope.takes_open s)
+abbrev pub started_at : Scope → List ℕ → Result ResumingValue StlFault
+started_at scope s = started_after scope (gsi_of scope.takes_open s)
 
 -- The results of a call and of all later calls, given the call's result, its block number and
 -- `rest`, the bytes left.
 abbrev pub findings_by :
-    Scope → ℕ → Option Begun → List ℕ → SubtitleValue → Result Found StlFault → Findings
+    Scope → ℕ → Option StartedSubtitle → List ℕ → SubtitleValue → Result Found StlFault → Findings
 findings_by scope block refused rest s (Err f) = breaks f block
 findings_by scope block refused rest s (Ok found.End) = no_more
 findings_by scope block refused rest s (Ok found.Subtitle) =
@@ -44,27 +45,27 @@ findings_by scope block refused rest s (Ok (found.Refused f)) =
     refuses f block (findings_from scope block refused rest)
 
 -- The result of the call depends on the end of the file: more bytes might change it.
-abbrev pub finds_end : Result Found StlFault → Bool
-finds_end (Err f) = is_cut f
-finds_end (Ok found.End) = true
-finds_end (Ok _) = false
+abbrev pub depends_on_end : Result Found StlFault → Bool
+depends_on_end (Err f) = is_cut f
+depends_on_end (Ok found.End) = true
+depends_on_end (Ok _) = false
 
 -- The bytes consumed after block `from` lead to the call's result at block `to`, whatever bytes
 -- follow. If the result depends on the end of the file, no bytes follow. All blocks are complete,
 -- except a block that ends reading; and a subtitle ends with a block that is not skipped.
-pub record LeadsOn (scope : Scope) (from to : ℕ) (refused next : Option Begun)
+pub record LeadsOn (scope : Scope) (from to : ℕ) (refused next : Option StartedSubtitle)
     (old new : Option (List ℕ)) (s : SubtitleValue) (result : Result Found StlFault) : Type 0 where
   pub bytes : List ℕ
   pub consumed : Consumes old new bytes
   pub block : to ≡ from + (length bytes + 127) / 128
   pub whole : is_ok result ≡ true → 128 * from + length bytes ≡ 128 * to
-  pub some : finds_end result ≡ false → 0 < length bytes
+  pub some : depends_on_end result ≡ false → 0 < length bytes
   pub findings :
       (more : List ℕ)
-      → (finds_end result ≡ true → more ≡ [])
+      → (depends_on_end result ≡ true → more ≡ [])
       → findings_from scope from refused (bytes ++ more)
       ≡ findings_by scope to next more s result
-  pub ended : finds_end result ≡ true → IsAtEnd new
+  pub ended : depends_on_end result ≡ true → IsAtEnd new
   pub kept : result ≡ Ok found.Subtitle → LastIsKept bytes
 
 -- The progress of a reader after a call, by the call's result.
@@ -74,9 +75,9 @@ progress_found (Ok found.End) = AtEnd
 progress_found (Ok _) = Reading
 
 -- If a subtitle is rejected, the fault is a fault of its first block.
-abbrev pub IsOfFirst : Found → Type 0
-IsOfFirst (found.Refused f) = is_of_first f ≡ true
-IsOfFirst _ = ⊤
+abbrev pub IsFirstBlockFault : Found → Type 0
+IsFirstBlockFault (found.Refused f) = is_of_first f ≡ true
+IsFirstBlockFault _ = ⊤
 
 -- The result of a call, after the reader has read blocks up to the last block of a subtitle, the
 -- end of the file or a fault. A fault of a subtitle's first block only rejects the subtitle.

@@ -41,8 +41,8 @@ pub record Begins (s : SubtitleValue) (b : List ℕ) : Type 0 where
   pub cumulative : cs b ≡ not_cumulative
   pub sgn_is : sgn b ≡ s.sgn
   pub sn_is : sn b ≡ s.sn
-  pub vp_is : vp b ≡ s.vp
-  pub jc_is : jc b ≡ s.jc
+  pub vp_eq : vp b ≡ s.vp
+  pub jc_eq : jc b ≡ s.jc
   pub tci_is : IsTime (tci b) s.tci
   pub tco_is : IsTime (tco b) s.tco
   pub times : s.tci < s.tco
@@ -58,7 +58,7 @@ pub record AreBlocksOf (s : SubtitleValue) (bs : List (List ℕ)) : Type 0 where
   pub few : length bs ≤ most_of_subtitle
   pub begins : Begins s first
   pub linked : AreLinked s.sgn s.sn bs
-  pub text_is : s.text ≡ flat_map text_of bs
+  pub text_eq : s.text ≡ flat_map text_of bs
 
 -- The list has 1 to 9 blocks, and they are the blocks of one subtitle outside the scope. Of the
 -- fields only the TCI of the first block is checked.

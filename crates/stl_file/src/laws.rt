@@ -6,7 +6,7 @@ ghost use Rattle.stl_file.specs.NormalForm.{counted_gsi, normal_form, subtitles_
 ghost use Rattle.stl_file.specs.Reader.{findings_for};
 ghost use Rattle.stl_file.specs.Reading.{stopped};
 ghost use Rattle.stl_file.specs.Subtitle.{SubtitleValue};
-ghost use Rattle.stl_file.specs.TakenOut.{LawOfWholeDay, LawOfScope};
+ghost use Rattle.stl_file.specs.KeptBlocks.{LawOfWholeDay, LawOfScope};
 ghost use Rattle.stl_file.specs.declared.scope.Scope.{Scope};
 
 /// Bytes are a file with certain subtitles if and only if reading these bytes returns exactly these

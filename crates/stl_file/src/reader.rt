@@ -10,11 +10,11 @@ ghost use Rattle.sub_io.specs.Reading.{IfKnown};
 ghost use Rattle.stl_file.specs.declared.fault.StlFault.TheVariants.{Ended};
 ghost use Rattle.stl_file.specs.Fault.{is_format, is_file_read};
 ghost use Rattle.stl_file.specs.Gsi.{IsGsi, IsGsiFor};
-ghost use Rattle.stl_file.specs.Reader.{block_after, block_by, gsi_of, opened_at, FailsReading};
+ghost use Rattle.stl_file.specs.Reader.{block_after, block_by, gsi_of, open_result, FailsReading};
 ghost use Rattle.stl_file.specs.Reader.{HasPlace, GivesNextSubtitle, Refuses, RefusesOpening};
 ghost use Rattle.stl_file.specs.Reader.{RefusesOpeningFor, TakesByAnswer, TakesSkipped};
 ghost use Rattle.stl_file.specs.Reader.{TakesSubtitle, yielded_subtitle, progress_after_answer};
-ghost use Rattle.stl_file.specs.Reading.{begun_in, begun_skipped};
+ghost use Rattle.stl_file.specs.Reading.{started_in, started_skipped};
 ghost use Rattle.stl_file.specs.Resuming.{LeadsOn, found_of};
 ghost use Rattle.stl_file.specs.Scope.{whole};
 ghost use Rattle.stl_file.specs.Tti.{most_blocks};
@@ -65,7 +65,7 @@ impl StlReader {
         // If the source's bytes are known and the source does not fail, the bytes determine the
         // result.
         ensures exact { IfKnown (S.remaining source.old) (λ bytes.
-            failed is_file_read result ≡ false → opened_at bytes ≡ result) }
+            failed is_file_read result ≡ false → open_result bytes ≡ result) }
         // The call consumes only the GSI block.
         ensures taken { IfOk result (λ reader. IsGsi reader.gsi
             × Consumes (S.remaining source.old) (S.remaining source.new) reader.gsi) }
@@ -289,10 +289,10 @@ pub(crate) fn read_blocks<S: Source>(
     requires count { CanFail (S.failure_count source.old) }
     ensures leads { failed is_file_read result ≡ false →
         LeadsOn scope block.old (block_by block.new (yielded_subtitle result subtitle.new))
-        (option_map begun_skipped refused.old) (option_map begun_skipped refused.new)
+        (option_map started_skipped refused.old) (option_map started_skipped refused.new)
         (S.remaining source.old) (S.remaining source.new) subtitle.new (found_of result) }
     ensures failed { failed is_file_read result ≡ true →
-        FailsReading scope block.old (block.new + 1) (option_map begun_skipped refused.old)
+        FailsReading scope block.old (block.new + 1) (option_map started_skipped refused.old)
         (S.remaining source.old) (S.remaining source.new) }
     ensures never { IfErr result (λ fault. fault ≢ Ended) }
     ensures over { result ≡ Ok true → refused.new ≡ None }
@@ -335,7 +335,7 @@ pub(crate) fn read_blocks<S: Source>(
 // Continues a subtitle whose first block was rejected, if there is one. Returns the number of its
 // blocks that were read.
 fn resume(subtitle: &mut Subtitle, refused: &Option<Tti>) -> BlocksRead
-    ensures { begun_in subtitle.new result ≡ option_map begun_skipped refused.now }
+    ensures { started_in subtitle.new result ≡ option_map started_skipped refused.now }
 {
     let count = match refused {
         None => 0,

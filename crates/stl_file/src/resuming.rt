@@ -10,8 +10,8 @@ ghost use Rattle.stl_file.specs.declared.progress.Progress.TheVariants.{Reading}
 ghost use Rattle.stl_file.specs.Fault.{is_format, is_file_read};
 ghost use Rattle.stl_file.specs.Gsi.{IsGsiFor};
 ghost use Rattle.stl_file.specs.Reader.{FailsReading, HasPlace, RefusesOpeningFor};
-ghost use Rattle.stl_file.specs.Reading.{begun_skipped};
-ghost use Rattle.stl_file.specs.Resuming.{IsOfFirst, LeadsOn, begun_at, progress_found};
+ghost use Rattle.stl_file.specs.Reading.{started_skipped};
+ghost use Rattle.stl_file.specs.Resuming.{IsFirstBlockFault, LeadsOn, started_at, progress_found};
 
 use crate::fault::StlFault;
 use crate::progress::Progress;
@@ -51,7 +51,7 @@ pub struct ResumingReader {
 impl Model for ResumingReader {
     ghost use Rattle.std.specs.Prelude.{option_map};
     ghost use Rattle.stl_file.specs.Reader.{HasPlace};
-    ghost use Rattle.stl_file.specs.Reading.{begun_skipped};
+    ghost use Rattle.stl_file.specs.Reading.{started_skipped};
     ghost use Rattle.stl_file.specs.Resuming.{ResumingValue};
 
     ghost Value = { ResumingValue };
@@ -60,7 +60,7 @@ impl Model for ResumingReader {
       scope = r.scope;
       block = r.block;
       progress = r.progress;
-      refused = option_map begun_skipped r.refused;
+      refused = option_map started_skipped r.refused;
     } };
 
     ghost invariant = { λ r. HasPlace r.progress r.block };
@@ -78,7 +78,7 @@ impl ResumingReader {
         // If the source's bytes are known and the source does not fail, the bytes determine the
         // result.
         ensures exact { IfKnown (S.remaining source.old) (λ bytes.
-            failed is_file_read result ≡ false → begun_at scope bytes ≡ result) }
+            failed is_file_read result ≡ false → started_at scope bytes ≡ result) }
         // The call consumes only the GSI block.
         ensures taken { IfOk result (λ reader. (gsi : List ℕ) × IsGsiFor scope.takes_open gsi
             × Consumes (S.remaining source.old) (S.remaining source.new) gsi) }
@@ -146,7 +146,7 @@ impl ResumingReader {
         ensures failed { failed is_file_read result ≡ true →
             FailsReading self.old.scope self.old.block self.new.block self.old.refused
             (S.remaining source.old) (S.remaining source.new) }
-        ensures first { IfOk result IsOfFirst }
+        ensures first { IfOk result IsFirstBlockFault }
         ensures never { IfErr result (λ fault. fault ≢ Ended) }
         ensures scope { self.new.scope ≡ self.old.scope }
         ensures progress { self.new.progress ≡ progress_found result }

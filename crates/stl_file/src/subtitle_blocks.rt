@@ -2,7 +2,8 @@
 
 ghost use Rattle.std.specs.Prelude.{◌≡◌, IfErr, OnOk, None, Some, true};
 ghost use Rattle.stl_file.specs.Fault.{is_of_block};
-ghost use Rattle.stl_file.specs.Reading.{BegunFits, begun_by, begun_in, kept_at, step_at, step_in};
+ghost use Rattle.stl_file.specs.Reading.{StartedSubtitleFits, started_by, started_in};
+ghost use Rattle.stl_file.specs.Reading.{block_step_at, step_at, step_in};
 
 use crate::fault::StlFault;
 use crate::scope::Scope;
@@ -36,10 +37,10 @@ pub(crate) fn take_block(
     read: &mut BlocksRead,
     block: &Tti,
 ) -> Result<bool, StlFault>
-    requires { BegunFits (begun_in subtitle.old read.old) }
-    ensures exact { step_at scope (begun_in subtitle.old read.old) block.now
+    requires { StartedSubtitleFits (started_in subtitle.old read.old) }
+    ensures exact { step_at scope (started_in subtitle.old read.old) block.now
         ≡ step_in subtitle.new read.new result }
-    ensures room { OnOk result (BegunFits (begun_in subtitle.new read.new)) }
+    ensures room { OnOk result (StartedSubtitleFits (started_in subtitle.new read.new)) }
     ensures own { IfErr result (λ fault. is_of_block fault ≡ true) }
 {
     let ebn = block.ebn();
@@ -66,10 +67,10 @@ fn take_kept(
     read: &mut BlocksRead,
     block: &Tti,
 ) -> Result<bool, StlFault>
-    requires { BegunFits (begun_in subtitle.old read.old) }
-    ensures exact { kept_at scope (begun_in subtitle.old read.old) block.now
+    requires { StartedSubtitleFits (started_in subtitle.old read.old) }
+    ensures exact { block_step_at scope (started_in subtitle.old read.old) block.now
         ≡ step_in subtitle.new read.new result }
-    ensures room { OnOk result (BegunFits (begun_in subtitle.new read.new)) }
+    ensures room { OnOk result (StartedSubtitleFits (started_in subtitle.new read.new)) }
     ensures own { IfErr result (λ fault. is_of_block fault ≡ true) }
 {
     if read.count == 0 {
@@ -80,15 +81,15 @@ fn take_kept(
 }
 
 // Takes the first block of a subtitle.
-#[tactic(auto, unfolding(crate::specs::Reading::kept_at))]
+#[tactic(auto, unfolding(crate::specs::Reading::block_step_at))]
 fn take_first(
     scope: Scope,
     subtitle: &mut Subtitle,
     read: &mut BlocksRead,
     block: &Tti,
 ) -> Result<bool, StlFault>
-    ensures exact { kept_at scope None block.now ≡ step_in subtitle.new read.new result }
-    ensures room { OnOk result (BegunFits (begun_in subtitle.new read.new)) }
+    ensures exact { block_step_at scope None block.now ≡ step_in subtitle.new read.new result }
+    ensures room { OnOk result (StartedSubtitleFits (started_in subtitle.new read.new)) }
     ensures own { IfErr result (λ fault. is_of_block fault ≡ true) }
 {
     let is_last = block.ebn() == 0xff;
@@ -105,17 +106,17 @@ fn take_first(
 }
 
 // Takes a later block of a subtitle.
-#[tactic(auto, unfolding(crate::specs::Reading::kept_at))]
+#[tactic(auto, unfolding(crate::specs::Reading::block_step_at))]
 fn take_further(
     scope: Scope,
     subtitle: &mut Subtitle,
     read: &mut BlocksRead,
     block: &Tti,
 ) -> Result<bool, StlFault>
-    requires { BegunFits (Some (begun_by subtitle.old read.old)) }
-    ensures exact { kept_at scope (Some (begun_by subtitle.old read.old)) block.now
+    requires { StartedSubtitleFits (Some (started_by subtitle.old read.old)) }
+    ensures exact { block_step_at scope (Some (started_by subtitle.old read.old)) block.now
         ≡ step_in subtitle.new read.new result }
-    ensures room { OnOk result (BegunFits (begun_in subtitle.new read.new)) }
+    ensures room { OnOk result (StartedSubtitleFits (started_in subtitle.new read.new)) }
     ensures own { IfErr result (λ fault. is_of_block fault ≡ true) }
 {
     if !subtitle.is_of(block) {

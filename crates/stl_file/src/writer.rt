@@ -44,8 +44,8 @@ fn spell(subtitle: &Subtitle) -> (ArrayVec<u8, 1152>, u8)
     let mut ebn = 0;
     let mut rest = subtitle.text();
     while rest.len() > 112 {
-        let (piece, after) = rest.split_at(112);
-        push_block(&mut out, subtitle, ebn, piece);
+        let (chunk, after) = rest.split_at(112);
+        push_block(&mut out, subtitle, ebn, chunk);
         ebn += 1;
         rest = after;
     }
@@ -55,16 +55,16 @@ fn spell(subtitle: &Subtitle) -> (ArrayVec<u8, 1152>, u8)
 
 // Appends one TTI block of a subtitle, with the given EBN and part of the text.
 #[tactic(auto, using(crate::proofs::BlocksOfLemmas::pushed))]
-fn push_block(out: &mut ArrayVec<u8, 1152>, subtitle: &Subtitle, ebn: u8, piece: &[u8])
+fn push_block(out: &mut ArrayVec<u8, 1152>, subtitle: &Subtitle, ebn: u8, chunk: &[u8])
     requires room { length out.old.items + 128 ≤ 1152 }
-    requires piece { length piece.now ≤ 112 }
-    ensures items { out.new.items ≡ out.old.items ++ block_of subtitle.now ebn piece.now }
+    requires chunk { length chunk.now ≤ 112 }
+    ensures items { out.new.items ≡ out.old.items ++ block_of subtitle.now ebn chunk.now }
     ensures len { length out.new.items ≡ length out.old.items + 128 }
 {
     let head = head_of(subtitle, ebn);
     push_all(out, &head);
-    push_all(out, piece);
-    let (_, pad) = UNUSED.split_at(piece.len());
+    push_all(out, chunk);
+    let (_, pad) = UNUSED.split_at(chunk.len());
     push_all(out, pad);
 }
 

@@ -17,7 +17,7 @@ use Rattle.stl_rows.specs.PlainPage.{unless}
 use Rattle.stl_rows.specs.TextCode.{HasSevenBits, code_before, codes_after, first_of}
 use Rattle.stl_rows.specs.TextCode.{lines_of_codes, refused_codes, text_codes, with_code}
 use Rattle.stl_rows.proofs.LaidOutLemmas.{drawn_from-is}
-use Rattle.stl_rows.proofs.LineLemmas.{Small}
+use Rattle.stl_rows.proofs.LineLemmas.{AreSevenBitCodes}
 use Rattle.stl_rows.proofs.PageShapeLemmas.{cells_small}
 use Rattle.stl_rows.proofs.TextCodeLemmas.{code_before-small}
 
@@ -42,7 +42,7 @@ module _ (n : National) (items : LayoutItems) (t : SubtitleValue) (cells : List 
   pub cut_prepared : prepared_cut items cells ≡ lines_by n items t.text
   cut_prepared = rw (is, cut_flat n 0 0 (unstripped items t.text)) refl
 
-  pub cut_small : AllByRecursion Small (cut_lines cells)
+  pub cut_small : AllByRecursion AreSevenBitCodes (cut_lines cells)
   cut_small =
       rw (is, cut_flat n 0 0 (unstripped items t.text))
       (cells_small n 0 0 (unstripped items t.text))

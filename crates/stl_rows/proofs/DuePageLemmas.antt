@@ -70,12 +70,12 @@ unfolding due
 edges_alone n ts f first none = search (rules, find_same, get_or_default)
 
 -- If the blank page and each drawn page have a property, each expected page has the property.
-pub due_has : (P : Rows → Type 0) (n : Drawing) (ts : List SubtitleValue) (f : ℕ)
+pub due_has_property : (P : Rows → Type 0) (n : Drawing) (ts : List SubtitleValue) (f : ℕ)
     → P blank
     → ((t : SubtitleValue) (page : Rows) → drawn n t ≡ Ok page → P page)
     → P (due n ts f)
 unfolding due
-due_has P n ts f none some = grind (arith, nat_tests)
+due_has_property P n ts f none some = grind (arith, nat_tests)
 
 pub record IsFirstAfter (ts : List SubtitleValue) (f at : ℕ) : Type 0 where
   pub before : (k : ℕ) (d : SubtitleValue) → k < at → (get_or ts k d).tco ≤ f

@@ -101,7 +101,7 @@ none-reported drawing old new block (Some fault) none failed = absurd (none refl
 none-reported drawing old new block None none failed = record {
   bytes = failed.bytes;
   consumed = failed.consumed;
-  block_is = failed.block_is;
+  block_eq = failed.block_eq;
   none = λ all is fault e.
       is_late block fault.block fault.kind
       (not_before block (faults drawing all) fault
@@ -148,5 +148,5 @@ reports-failed drawing file block kind (inl is) wants =
 reports-failed drawing file block kind (inr is) wants = rw is tt
 
 pub keeps-none : (first : Option LoadFault) → (is_some first ≡ true → ⊥) → first ≡ None
-keeps-none None goes_on = refl
-keeps-none (Some fault) goes_on = absurd (goes_on refl)
+keeps-none None continues = refl
+keeps-none (Some fault) continues = absurd (continues refl)

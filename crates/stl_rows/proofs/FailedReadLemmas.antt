@@ -12,7 +12,7 @@ use Rattle.stl_file.specs.declared.fault.StlFault.{StlFault}
 use Rattle.stl_file.specs.declared.resuming.Found.{Found}
 use Rattle.stl_file.specs.declared.scope.Scope.{Scope}
 use Rattle.stl_file.specs.Subtitle.{SubtitleValue}
-use Rattle.stl_file.specs.Reading.{Begun, findings_from}
+use Rattle.stl_file.specs.Reading.{StartedSubtitle, findings_from}
 use Rattle.stl_file.specs.Reader.{FailsReading, FindsFrom, block_of_byte}
 use Rattle.stl_file.specs.Resuming.{LeadsOn, ResumingValue}
 use Rattle.stl_rows.specs.declared.layout.Drawing.{Drawing}
@@ -20,7 +20,7 @@ use Rattle.stl_rows.specs.declared.fault.LoadFault.{LoadFault}
 use Rattle.stl_rows.specs.declared.times.Times.{Times}
 use Rattle.stl_rows.specs.EveryFault.{FailsReporting, faults, is_reported_before}
 use Rattle.stl_rows.specs.Keeping.{KeptRecords}
-use Rattle.stl_rows.proofs.LoadingLemmas.{GoesOn, IsReportedBy, reports-unread}
+use Rattle.stl_rows.proofs.LoadingLemmas.{LoadingInvariant, IsReportedBy, reports-unread}
 
 -- The GSI block and `block` TTI blocks have been read completely.
 pub record HasTaken (old now : Option (List ℕ)) (block : ℕ) : Type 0 where
@@ -29,7 +29,7 @@ pub record HasTaken (old now : Option (List ℕ)) (block : ℕ) : Type 0 where
   pub long : length bytes ≡ 1024 + 128 * block
 
 pub has_taken-next : {old mid now : Option (List ℕ)} {scope : Scope} {from to : ℕ}
-    {refused next : Option Begun} {t : SubtitleValue} {result : Result Found StlFault}
+    {refused next : Option StartedSubtitle} {t : SubtitleValue} {result : Result Found StlFault}
     → LeadsOn scope from to refused next mid now t result
     → is_ok result ≡ true
     → HasTaken old mid from
@@ -62,7 +62,8 @@ pub fails-next : {drawing : Drawing} {start old new : Option (List ℕ)} {before
     → All (IsReportedBy reader.block) early
     → Reports IsReported reported_old reported_new early
     → ((all : List ℕ) → start ≡ Some all → (rest : List ℕ) × (old ≡ Some rest)
-    × GoesOn drawing all (findings_from scope reader.block reader.refused rest) before kept early)
+    × LoadingInvariant drawing all (findings_from scope reader.block reader.refused rest) before
+    kept early)
     → FailsReading scope reader.block block reader.refused old new
     → FailsReporting drawing start new IsReported reported_old reported_new block
 fails-next {start = start} {old} {new} {scope = scope} reader {block} taken early_reported reported
@@ -72,7 +73,7 @@ fails-next {start = start} {old} {new} {scope = scope} reader {block} taken earl
       bytes = taken.bytes ++ failed.bytes;
       consumed =
           Consumes-trans start old new taken.bytes failed.bytes taken.consumed failed.consumed;
-      block_is = block-is taken.bytes failed.bytes reader.block block taken.long failed.block;
+      block_eq = block-is taken.bytes failed.bytes reader.block block taken.long failed.block;
       reported = λ all is.
           let here = goes all is in
           let left = left_over here.0 new failed.bytes (rw here.1 at failed.consumed) in

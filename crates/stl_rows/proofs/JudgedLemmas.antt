@@ -66,9 +66,10 @@ decided_more : (t : SubtitleValue) (all : AllJudged)
 decided_more t all h =
     (h.0, λ start frame. let rest = h.1 t.tco frame in grind (arith, nat_tests))
 
-no_order : (order row : List LoadFaultKind) → order ++ row ≡ [] → is_none (first_of order) ≡ true
-no_order [] row e = refl
-no_order (k ∷ ks) row e = absurd cc
+no_order_faults : (order row : List LoadFaultKind) → order ++ row ≡ [] → is_none (first_of order) ≡
+    true
+no_order_faults [] row e = refl
+no_order_faults (k ∷ ks) row e = absurd cc
 
 followed : (drawing : Drawing) (t : SubtitleValue) (left : Findings)
     → faults_after drawing (Some (times_of t)) left ≡ []
@@ -78,22 +79,22 @@ followed drawing t no_more none = grind (arith, nat_tests)
 followed drawing t (breaks f block) none = grind (arith, nat_tests)
 followed drawing t (refuses f block left) none = grind (arith, nat_tests)
 followed drawing t (finds u block left) none =
-    grind (arith, nat_tests, empty_parts, no_order, map_empty)
+    grind (arith, nat_tests, empty_parts, no_order_faults, map_empty)
 
-all_after : (drawing : Drawing) (before : Option Times) (left : Findings)
+all_reliable_after : (drawing : Drawing) (before : Option Times) (left : Findings)
     → faults_after drawing before left ≡ []
     → (map (λ (j : JudgedSubtitle). j.subtitle) (judged_after drawing before false left).judged
     ≡ records_of left)
     × AllDecided (judged_after drawing before false left)
 unfolding faults_after judged_after
-all_after drawing before no_more none = (refl, decided_none)
-all_after drawing before (breaks f block) none = absurd cc
-all_after drawing before (refuses f block left) none = absurd cc
-all_after drawing before (finds t block left) none =
+all_reliable_after drawing before no_more none = (refl, decided_none)
+all_reliable_after drawing before (breaks f block) none = absurd cc
+all_reliable_after drawing before (refuses f block left) none = absurd cc
+all_reliable_after drawing before (finds t block left) none =
     let parts = empty_parts (map (load_fault block) (follow_faults drawing before t)) _ none in
     let own = map_empty (load_fault block) (follow_faults drawing before t) parts.0 in
     let next = followed drawing t left parts.1 in
-    let rest = all_after drawing (Some (times_of t)) left parts.1 in
+    let rest = all_reliable_after drawing (Some (times_of t)) left parts.1 in
     rw (own, next) (
       ap (λ (l : List SubtitleValue). t ∷ l) rest.0,
       decided_more t (judged_after drawing (Some (times_of t)) false left) rest.1,
@@ -102,7 +103,7 @@ all_after drawing before (finds t block left) none =
 pub all_decided : LawOfDecided
 unfolding faults judged_of
 all_decided drawing file none =
-    let all = all_after drawing None (findings_for drawing.scope file) none in
+    let all = all_reliable_after drawing None (findings_for drawing.scope file) none in
     (all.0, λ frame. all.1.1 0 frame)
 
 none_set : (ts : List SubtitleValue) (start frame : ℕ)

@@ -23,14 +23,15 @@ use Rattle.stl_rows.specs.declared.times.Times.{Times}
 use Rattle.stl_rows.specs.Judged.{AllJudged, JudgedSubtitle, are_in_order}
 use Rattle.stl_rows.specs.Judged.{is_followed_in_order}
 use Rattle.stl_rows.specs.Judged.{judged_before, judged_after, start_from, with_bits}
-use Rattle.stl_rows.specs.Keeping.{KeptRecords, all_kept, kept_after, nothing_kept, refused_one}
+use Rattle.stl_rows.specs.Keeping.{KeptRecords, all_kept, records_after, no_subtitles_yet}
+use Rattle.stl_rows.specs.Keeping.{with_rejected}
 use Rattle.stl_rows.specs.EveryFault.{load_fault}
 use Rattle.stl_rows.specs.Keeping.{are_none, bits_after, is_enough, are_all_kept}
-use Rattle.stl_rows.specs.Keeping.{broken_one, with_one, without_last}
+use Rattle.stl_rows.specs.Keeping.{with_faulty, with_kept, without_last}
 use Rattle.stl_rows.specs.Programme.{AreInOrder, IsProgramme, follow_faults, order_faults}
 use Rattle.stl_rows.specs.Programme.{row_faults, times_before, times_of}
 use Rattle.stl_rows.proofs.FaultlessLemmas.{empty_parts}
-use Rattle.stl_rows.proofs.ProgrammeLemmas.{IsProgramme-push, draws, last_of-push}
+use Rattle.stl_rows.proofs.ProgrammeLemmas.{IsProgramme-push, draws_without_faults, last_of-push}
 use Rattle.stl_rows.specs.DrawnPage.{drawn}
 use Rattle.stl_rows.specs.TextCode.{first_of}
 
@@ -196,7 +197,7 @@ judged_on drawing before k left =
     else joined (all_kept k) (judged_after drawing before k.is_before_other left)
 
 pub judged-start : (drawing : Drawing) (left : Findings)
-    → judged_after drawing None false left ≡ judged_on drawing None nothing_kept left
+    → judged_after drawing None false left ≡ judged_on drawing None no_subtitles_yet left
 judged-start drawing left = refl
 
 end_none : (latest other : Bool) (js : List JudgedSubtitle) (given : AllJudged)
@@ -215,7 +216,7 @@ judged-end drawing (Some times) k = end_none k.is_latest k.is_before_other (all_
 pub judged-refused : (drawing : Drawing) (before : Option Times) (k : KeptRecords)
     (fault : StlFault) (block : ℕ) (left : Findings)
     → judged_on drawing before k (refuses fault block left)
-    ≡ judged_on drawing before (refused_one k) left
+    ≡ judged_on drawing before (with_rejected k) left
 unfolding judged_after
 judged-refused drawing None k fault block left = refl
 judged-refused drawing (Some times) k fault block left = refl
@@ -238,11 +239,11 @@ finds_reported : (drawing : Drawing) (before : Option Times) (other : Bool) (t :
 unfolding judged_after
 finds_reported drawing before other t block left some = rw some refl
 
-followed_is : (before : Option Times) (t : SubtitleValue) (block : ℕ) (left : Findings)
+followed_eq : (before : Option Times) (t : SubtitleValue) (block : ℕ) (left : Findings)
     → is_followed before (finds t block left)
     ≡ is_none (first_of (order_faults before (times_of t)))
-followed_is None t block left = refl
-followed_is (Some times) t block left = refl
+followed_eq None t block left = refl
+followed_eq (Some times) t block left = refl
 
 clean_order : (order row : List LoadFaultKind)
     → is_none (first_of (order ++ row)) ≡ true
@@ -252,7 +253,7 @@ clean_order (k ∷ ks) row none = absurd cc
 
 bits_kept : (k : KeptRecords) (t : SubtitleValue)
     → length k.after_other ≤ length k.records
-    → all_kept (with_one t k) ≡ all_kept k ++ with_bit t k.is_before_other ∷ []
+    → all_kept (with_kept t k) ≡ all_kept k ++ with_bit t k.is_before_other ∷ []
 bits_kept k t fits = grind (arith, nat_tests, with_bits-set, with_bits-unset)
 
 drop_last : (js : List JudgedSubtitle) (j : JudgedSubtitle) (n : ℕ)
@@ -281,12 +282,12 @@ judged_clean : (drawing : Drawing) (before : Option Times) (k : KeptRecords) (t 
     → length k.after_other ≤ length k.records
     → is_none (first_of (follow_faults drawing before t)) ≡ true
     → judged_on drawing before k (finds t block left)
-    ≡ judged_on drawing (Some (times_of t)) (with_one t k) left
+    ≡ judged_on drawing (Some (times_of t)) (with_kept t k) left
 judged_clean drawing before k t block left fits none =
     grind (
       arith,
       nat_tests,
-      followed_is,
+      followed_eq,
       clean_order,
       length-append,
       kept_length,
@@ -301,9 +302,9 @@ judged_reported : (drawing : Drawing) (before : Option Times) (k : KeptRecords) 
     → in_order ≡ is_none (first_of (order_faults before (times_of t)))
     → judged_on drawing before k (finds t block left)
     ≡ judged_on drawing (Some (times_of t))
-    (if k.is_latest && not in_order then broken_one (without_last k) else broken_one k) left
+    (if k.is_latest && not in_order then with_faulty (without_last k) else with_faulty k) left
 judged_reported drawing before k t block left in_order some is =
-    grind (arith, nat_tests, followed_is, finds_reported, with_bits-take)
+    grind (arith, nat_tests, followed_eq, finds_reported, with_bits-take)
 
 -- Taking one more subtitle of the file does not change the reliable subtitles of the file.
 pub judged-next : (drawing : Drawing) (before : Option Times) (k : KeptRecords)
@@ -312,7 +313,7 @@ pub judged-next : (drawing : Drawing) (before : Option Times) (k : KeptRecords)
     → in_order ≡ is_none (first_of (order_faults before (times_of t)))
     → clean ≡ is_none (first_of (follow_faults drawing before t))
     → judged_on drawing before k (finds t block left)
-    ≡ judged_on drawing (Some (times_of t)) (kept_after in_order clean t k) left
+    ≡ judged_on drawing (Some (times_of t)) (records_after in_order clean t k) left
 judged-next drawing before k t block left in_order true fits is_order is_clean =
     judged_clean drawing before k t block left fits (sym is_clean)
 judged-next drawing before k t block left in_order false fits is_order is_clean =
@@ -328,7 +329,7 @@ pub record AreKept (drawing : Drawing) (before : Option Times) (early : List Loa
   pub whole : are_all_kept k ≡ is_none (first_of early)
   pub programme : early ≡ [] → (before ≡ times_before k.records) × IsProgramme drawing k.records
 
-pub kept-none : (drawing : Drawing) → AreKept drawing None [] nothing_kept
+pub kept-none : (drawing : Drawing) → AreKept drawing None [] no_subtitles_yet
 kept-none drawing = grind (arith, nat_tests)
 
 not_all_kept : (none : Bool) → (none && not true) ≡ false
@@ -346,7 +347,7 @@ not_empty (x ∷ xs) ys y e = absurd cc
 pub kept-refused : {drawing : Drawing} {before : Option Times} {early : List LoadFault}
     {k : KeptRecords} (fault : LoadFault)
     → AreKept drawing before early k
-    → AreKept drawing before (early ++ fault ∷ []) (refused_one k)
+    → AreKept drawing before (early ++ fault ∷ []) (with_rejected k)
 kept-refused fault kept = grind (arith, nat_tests, not_all_kept, reported_some, not_empty)
 
 some_bits : (bits more : List Bool) → are_none (bits ++ (more ++ true ∷ [])) ≡ false
@@ -364,8 +365,8 @@ reported_more early block [] some = absurd cc
 reported_more early block (kind ∷ kinds) some =
     reported_some early (map (load_fault block) kinds) (load_fault block kind)
 
-none_some : {A : Type 0} (xs : List A) → is_none (first_of xs) ≡ false → xs ≡ [] → ⊥
-none_some xs some none = grind (arith, nat_tests)
+not_empty_of_first : {A : Type 0} (xs : List A) → is_none (first_of xs) ≡ false → xs ≡ [] → ⊥
+not_empty_of_first xs some none = grind (arith, nat_tests)
 
 module _ {drawing : Drawing} {before : Option Times} {early : List LoadFault} {k : KeptRecords}
     (t : SubtitleValue) (block : ℕ) (kept : AreKept drawing before early k) where
@@ -373,13 +374,13 @@ module _ {drawing : Drawing} {before : Option Times} {early : List LoadFault} {k
       → length (bits_after (length k.records) other k.after_other) ≤ length (k.records ++ t ∷ [])
   fits_then other = grind (arith, nat_tests, length-append, length-replicate, length-take)
 
-  all_kept_then : are_all_kept (with_one t k) ≡ is_none (first_of early)
+  all_kept_then : are_all_kept (with_kept t k) ≡ is_none (first_of early)
   all_kept_then = grind (arith, nat_tests, not_all_kept, some_bits)
 
   kept_clean : IsSubtitle t
       → follow_faults drawing before t ≡ []
       → AreKept drawing (Some (times_of t))
-      (early ++ map (load_fault block) (follow_faults drawing before t)) (with_one t k)
+      (early ++ map (load_fault block) (follow_faults drawing before t)) (with_kept t k)
   kept_clean subtitle none =
       let rows =
       empty_parts (order_faults before (times_of t)) (row_faults (drawn drawing t)) none in
@@ -387,7 +388,7 @@ module _ {drawing : Drawing} {before : Option Times} {early : List LoadFault} {k
         each = All-push IsSubtitle k.records t kept.each subtitle;
         drawable =
             All-push (λ x. IsOk (drawn drawing x)) k.records t kept.drawable
-            (draws (drawn drawing t) rows.1);
+            (draws_without_faults (drawn drawing t) rows.1);
         fits = fits_then k.is_before_other;
         whole = all_kept_then;
         programme = λ nothing.
@@ -400,13 +401,13 @@ module _ {drawing : Drawing} {before : Option Times} {early : List LoadFault} {k
   kept_reported : (early_then : List LoadFault) (drops : Bool)
       → is_none (first_of early_then) ≡ false
       → AreKept drawing (Some (times_of t)) early_then
-      (if drops then broken_one (without_last k) else broken_one k)
+      (if drops then with_faulty (without_last k) else with_faulty k)
   kept_reported early_then false some = record {
     each = kept.each;
     drawable = kept.drawable;
     fits = kept.fits;
     whole = not_all_kept (are_none k.after_other) ∙ sym some;
-    programme = λ none. absurd (none_some early_then some none);
+    programme = λ none. absurd (not_empty_of_first early_then some none);
   }
   kept_reported early_then true some =
       let n : ℕ = length k.records - 1 in
@@ -416,7 +417,7 @@ module _ {drawing : Drawing} {before : Option Times} {early : List LoadFault} {k
         drawable = All-take (λ x. IsOk (drawn drawing x)) n k.records kept.drawable;
         fits = omega (arith, fits, length-take n k.records, length-take n k.after_other);
         whole = not_all_kept (are_none (take n k.after_other)) ∙ sym some;
-        programme = λ none. absurd (none_some early_then some none);
+        programme = λ none. absurd (not_empty_of_first early_then some none);
       }
 
   pub kept-next : (in_order clean : Bool)
@@ -424,7 +425,7 @@ module _ {drawing : Drawing} {before : Option Times} {early : List LoadFault} {k
       → IsSubtitle t
       → AreKept drawing (Some (times_of t))
       (early ++ map (load_fault block) (follow_faults drawing before t))
-      (kept_after in_order clean t k)
+      (records_after in_order clean t k)
   kept-next in_order true is_clean subtitle =
       kept_clean subtitle (none-first (follow_faults drawing before t) (sym is_clean))
   kept-next in_order false is_clean subtitle =

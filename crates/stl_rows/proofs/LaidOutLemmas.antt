@@ -179,9 +179,9 @@ blank_rows : (row : ℕ) → 1 ≤ row → row ≤ 24 → row_at blank row ≡ b
 unfolding blank
 blank_rows row low high = get_or-replicate 24 (row - 1) blank_row [] (omega (arith, low, high))
 
-blank_long : length blank ≡ 24
+blank_length : length blank ≡ 24
 unfolding blank
-blank_long = refl
+blank_length = refl
 
 pub drawn_from-is : (items : LayoutItems) (jc off : ℕ) (place : Place) (lines : List (List ℕ))
     → drawn_from items jc off place blank lines
@@ -190,7 +190,7 @@ pub drawn_from-is : (items : LayoutItems) (jc off : ℕ) (place : Place) (lines 
 unfolding page_of_placed
 drawn_from-is items jc off place lines =
     let taken : List PlacedLine = placed_at items place lines in
-    drawn_from-over items jc off place blank lines blank_long
+    drawn_from-over items jc off place blank lines blank_length
     ∙ ap (unless (placed_faults items off taken))
     (rows_same (row_over items jc off blank taken) (shown_row items jc off taken) (λ row low high.
     ap (option_map_or (λ (line : PlacedLine). row_from (start_by items jc line.cells) line.cells)

@@ -8,7 +8,7 @@ use Rattle.stl_rows.specs.declared.layout.Drawing.{Drawing}
 use Rattle.stl_rows.specs.declared.layout.LayoutItems.{LayoutItems}
 use Rattle.stl_rows.specs.DrawnPage.{PlacedLine, drawn, page_of_placed, placed_faults}
 use Rattle.stl_rows.specs.DuePage.{due}
-use Rattle.stl_rows.proofs.DuePageLemmas.{due_has}
+use Rattle.stl_rows.proofs.DuePageLemmas.{due_has_property}
 use Rattle.stl_rows.proofs.LaidOutLemmas.{drawn_by-lines, lines_of_subtitle, none_below}
 use Rattle.stl_rows.proofs.LaidOutLemmas.{off_of_subtitle}
 
@@ -18,9 +18,9 @@ row_free : (items : LayoutItems) (jc off : ℕ) (lines : List PlacedLine)
 unfolding page_of_placed
 row_free items jc off lines none = grind (arith, nat_tests, none_below)
 
-blank_free : row_at blank 24 ≡ blank_row
+blank_row_24 : row_at blank 24 ≡ blank_row
 unfolding blank
-blank_free = refl
+blank_row_24 = refl
 
 drawn_free : (drawing : Drawing) (t : SubtitleValue) (page : Rows)
     → drawn drawing t ≡ Ok page
@@ -32,5 +32,5 @@ drawn_free drawing t page e =
 pub last_row_blank : (drawing : Drawing) (records : List SubtitleValue) (frame : ℕ)
     → row_at (due drawing records frame) 24 ≡ blank_row
 last_row_blank drawing records frame =
-    due_has (λ page. row_at page 24 ≡ blank_row) drawing records frame blank_free
+    due_has_property (λ page. row_at page 24 ≡ blank_row) drawing records frame blank_row_24
     (drawn_free drawing)

@@ -23,8 +23,8 @@ row_from-put start line row room is =
     fill_by_all (code_in_column start line) _ 40 0 (grind (arith, places))
     (λ k h. grind (arith, nat_tests, places, blank, get_or_past line (k - start) space))
 
-abbrev pub Small : List ℕ → Type 0
-Small codes = AllByRecursion (λ (c : ℕ). c < 128) codes
+abbrev pub AreSevenBitCodes : List ℕ → Type 0
+AreSevenBitCodes codes = AllByRecursion (λ (c : ℕ). c < 128) codes
 
 pub holds_at : {X : Type 0} (P : X → Type 0) (xs : List X) (k : ℕ) (d : X)
     → P d
@@ -33,14 +33,14 @@ pub holds_at : {X : Type 0} (P : X → Type 0) (xs : List X) (k : ℕ) (d : X)
 holds_at P [] k d none h = none
 holds_at P (x ∷ xs) k d none h = grind (arith, nat_tests, holds_at P xs)
 
-pub holds_map : {X Y : Type 0} (P : Y → Type 0) (f : X → Y) (xs : List X)
+pub all_of_map : {X Y : Type 0} (P : Y → Type 0) (f : X → Y) (xs : List X)
     → ((x : X) → P (f x))
     → AllByRecursion P (map f xs)
-holds_map P f [] h = tt
-holds_map P f (x ∷ xs) h = (h x, holds_map P f xs h)
+all_of_map P f [] h = tt
+all_of_map P f (x ∷ xs) h = (h x, all_of_map P f xs h)
 
 cell_small : (start column : ℕ) (line : List ℕ)
-    → Small line
+    → AreSevenBitCodes line
     → code_in_column start line column < 128
 cell_small start column line h = grind (arith, nat_tests, holds_at)
 
@@ -48,9 +48,10 @@ pub row_length : (start : ℕ) (line : List ℕ) → length (row_from start line
 unfolding row_from
 row_length start line = grind (arith, nat_tests, length-map-range_with_len)
 
-pub row_small : (start : ℕ) (line : List ℕ) → Small line → Small (row_from start line)
+pub row_small : (start : ℕ) (line : List ℕ) → AreSevenBitCodes line → AreSevenBitCodes
+    (row_from start line)
 unfolding row_from
-row_small start line h = grind (arith, nat_tests, holds_map, cell_small)
+row_small start line h = grind (arith, nat_tests, all_of_map, cell_small)
 
 pub row_from-codes : (start : ℕ) (line : List ℕ) → AreCodes line → AreCodes (row_from start line)
 row_from-codes start line codes column =

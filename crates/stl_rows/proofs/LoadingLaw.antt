@@ -11,13 +11,13 @@ use Rattle.std.specs.Prelude.{◌↔◌, All, IsOk, option_map}
 use Rattle.std.specs.List.{AllZip}
 use Rattle.ttx_page.specs.Page.{Rows}
 use Rattle.stl_file.specs.File.{IsFileFor}
-use Rattle.stl_file.specs.NormalForm.{cons_all, subtitles_of}
+use Rattle.stl_file.specs.NormalForm.{cons_judged, subtitles_of}
 use Rattle.stl_file.specs.Reader.{findings_for}
 use Rattle.stl_file.specs.Reading.{Findings, breaks, finds, no_more, refuses, stopped}
 use Rattle.stl_file.specs.Subtitle.{IsSubtitle, SubtitleValue}
 use Rattle.stl_file.specs.declared.scope.Scope.{Scope}
 use Rattle.stl_file.specs.SubtitleBlocks.{AreBlocksOf}
-use Rattle.stl_file.proofs.RestLemmas.{cons_ok}
+use Rattle.stl_file.proofs.RestLemmas.{cons_judged_ok}
 use Rattle.stl_file.proofs.SubtitleBlocksLemmas.{blocks_subtitle}
 use Rattle.stl_rows.specs.declared.fault.LoadFault.{LoadFault}
 use Rattle.stl_rows.specs.declared.fault.RowFault.{RowFault}
@@ -52,7 +52,7 @@ faultless n records (finds t block left) h =
     let rest = faultless n (records ++ t ∷ []) left
     (rw (ap (option_map times_of) (last_of-push records t)) parts.1) in
     record {
-      all = ap (cons_all t) rest.all;
+      all = ap (cons_judged t) rest.all;
       programme = λ before each.
           rw append_assoc
           at (rest.programme
@@ -89,19 +89,20 @@ none_follow n records ts t ok =
     rw (times_follow n records ts t ok, no_row_fault (drawn n t) drawable) refl
 
 -- If the subtitles of a file are a programme, the file has no faults.
-given_faultless : (n : Drawing) (records : List SubtitleValue) (left : Findings)
+programme_is_faultless : (n : Drawing) (records : List SubtitleValue) (left : Findings)
     (ts : List SubtitleValue)
     → subtitles_of (stopped left) ≡ Ok ts
     → IsProgramme n (records ++ ts)
     → (faults_after n (times_before records) left ≡ []) × (records_of left ≡ ts)
 unfolding faults_after
-given_faultless n records no_more ts h ok = (refl, cc)
-given_faultless n records (breaks f block) ts h ok = absurd cc
-given_faultless n records (refuses f block left) ts h ok = absurd cc
-given_faultless n records (finds t block left) ts h ok =
-    let given = cons_ok t (subtitles_of (stopped left)) ts h in
+programme_is_faultless n records no_more ts h ok = (refl, cc)
+programme_is_faultless n records (breaks f block) ts h ok = absurd cc
+programme_is_faultless n records (refuses f block left) ts h ok = absurd cc
+programme_is_faultless n records (finds t block left) ts h ok =
+    let given = cons_judged_ok t (subtitles_of (stopped left)) ts h in
     let all : IsProgramme n (records ++ t ∷ given.0) = rw given.2 at ok in
-    let rest = given_faultless n (records ++ t ∷ []) left given.0 given.1 (rw append_assoc all) in (
+    let rest = programme_is_faultless n (records ++ t ∷ []) left given.0 given.1
+    (rw append_assoc all) in (
       rw (none_follow n records given.0 t all)
           (rw (ap (option_map times_of) (last_of-push records t)) at rest.0),
       ap (λ rs. t ∷ rs) rest.1 ∙ sym given.2,
@@ -154,7 +155,7 @@ loading_is file n s ts = (there, back)
         ≡ Ok (record { drawing = n; records = ts })
     back h =
         let given = ((file n.scope s h.0 ts).0 h.1).1 in
-        let all = given_faultless n [] (findings_for n.scope s) ts given (record {
+        let all = programme_is_faultless n [] (findings_for n.scope s) ts given (record {
           each = all_subtitles ts _ h.1.rest.are_of;
           in_order = h.2;
           drawable = h.3;

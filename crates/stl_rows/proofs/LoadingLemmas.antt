@@ -1,5 +1,5 @@
 -- The loop of `load_all`: faults reported so far and faults of the rest of the file; main lemmas:
--- goes_on-next, reports-unread.
+-- continues-next, reports-unread.
 use Rattle.std.proofs.Common.{rules, ◌≡◌, ◌<◌, ◌≤◌, ◌+◌, ℕ, Bool, true, false, List, ◌∷◌, ◌++◌, []}
 use Rattle.std.proofs.Common.{take, length, map, Option, Some, None, refl, sym}
 use Rattle.std.proofs.Common.{◌∙◌, ◌-◌, ap, inl, inr, arith, length-take, append_assoc, append-nil}
@@ -34,20 +34,20 @@ use Rattle.stl_rows.specs.EveryFault.{faults_after}
 use Rattle.stl_rows.specs.EveryFault.{ends_in_subtitle, is_reported_before, is_of_file}
 use Rattle.stl_rows.specs.EveryFault.{EndsSubtitleAfter, WantsMemory, load_fault}
 use Rattle.stl_rows.specs.Judged.{AllJudged, JudgedSubtitle, JudgesBy, are_in_order, are_some}
-use Rattle.stl_rows.specs.Judged.{judged_of, judges}
+use Rattle.stl_rows.specs.Judged.{judged_of, can_judge}
 use Rattle.stl_rows.specs.Keeping.{KeptRecords, all_kept, are_none, is_enough, are_all_kept}
 use Rattle.stl_rows.specs.Keeping.{judged_with}
-use Rattle.stl_rows.specs.Keeping.{kept_after, nothing_kept, refused_one}
+use Rattle.stl_rows.specs.Keeping.{records_after, no_subtitles_yet, with_rejected}
 use Rattle.stl_rows.specs.Loading.{loaded, records_of}
 use Rattle.stl_rows.proofs.JudgedLemmas.{all_decided}
 use Rattle.stl_rows.proofs.KeepingLemmas.{AreKept, judged-end, judged-next, judged-refused}
 use Rattle.stl_rows.proofs.KeepingLemmas.{judged-start, judged_on, none-first, all_kept_none}
 use Rattle.stl_rows.proofs.KeepingLemmas.{with_bits-subtitles}
-use Rattle.stl_file.specs.TakenOut.{is_read_to_the_end}
-use Rattle.stl_file.specs.Reading.{Begun, findings_from}
+use Rattle.stl_file.specs.KeptBlocks.{is_read_to_the_end}
+use Rattle.stl_file.specs.Reading.{StartedSubtitle, findings_from}
 use Rattle.stl_file.specs.Tti.{most_blocks}
 use Rattle.stl_file.specs.declared.scope.Scope.{Scope}
-use Rattle.stl_file.proofs.FindingsLemmas.{finds_from}
+use Rattle.stl_file.proofs.FindingsLemmas.{findings_are_later}
 use Rattle.std.proofs.lemmas.Bool.{cases_Bool}
 use Rattle.stl_rows.specs.Programme.{follow_faults, order_faults, row_faults, times_of}
 use Rattle.stl_rows.specs.TextCode.{first_of}
@@ -137,7 +137,8 @@ stops-last drawing before t block old mid new order row is_order is_row some p q
 -- The faults reported so far, followed by the faults of the rest, are all faults of the file.
 -- Likewise the kept subtitles, followed by the reliable ones of the rest, are all reliable
 -- subtitles.
-pub record GoesOn (drawing : Drawing) (file : List ℕ) (left : Findings) (before : Option Times)
+pub record LoadingInvariant (drawing : Drawing) (file : List ℕ) (left : Findings)
+    (before : Option Times)
     (kept : KeptRecords) (early : List LoadFault) : Type 0 where
   pub same : faults drawing file ≡ early ++ faults_after drawing before left
   pub judged : judged_of drawing file ≡ judged_on drawing before kept left
@@ -146,30 +147,30 @@ pub record GoesOn (drawing : Drawing) (file : List ℕ) (left : Findings) (befor
       → EndsSubtitleAfter drawing before rest at left
       → EndsSubtitleAfter drawing None (early ++ rest) at (findings_for drawing.scope file)
 
-pub goes_on-start : (drawing : Drawing) (file : List ℕ)
-    → GoesOn drawing file (findings_for drawing.scope file) None nothing_kept []
+pub continues-start : (drawing : Drawing) (file : List ℕ)
+    → LoadingInvariant drawing file (findings_for drawing.scope file) None no_subtitles_yet []
 unfolding faults judged_of
-goes_on-start drawing file = grind (arith, nat_tests, judged-start)
+continues-start drawing file = grind (arith, nat_tests, judged-start)
 
 module _ {drawing : Drawing} {file : List ℕ} {rest : Findings} {before : Option Times}
     {kept : KeptRecords} {early : List LoadFault} where
-  pub goes_on-next : (t : SubtitleValue) (block : ℕ) (in_order clean : Bool)
+  pub continues-next : (t : SubtitleValue) (block : ℕ) (in_order clean : Bool)
       → AreKept drawing before early kept
       → in_order ≡ is_none (first_of (order_faults before (times_of t)))
       → clean ≡ is_none (first_of (follow_faults drawing before t))
-      → GoesOn drawing file (finds t block rest) before kept early
-      → GoesOn drawing file rest (Some (times_of t)) (kept_after in_order clean t kept)
+      → LoadingInvariant drawing file (finds t block rest) before kept early
+      → LoadingInvariant drawing file rest (Some (times_of t)) (records_after in_order clean t kept)
       (early ++ map (load_fault block) (follow_faults drawing before t))
   unfolding faults_after
-  goes_on-next t block in_order clean are_kept is_order is_clean on =
+  continues-next t block in_order clean are_kept is_order is_clean on =
       grind (arith, nat_tests, append_assoc, judged-next)
 
-  pub goes_on-refused : (fault : StlFault) (block : ℕ)
-      → GoesOn drawing file (refuses fault block rest) before kept early
-      → GoesOn drawing file rest before (refused_one kept)
+  pub continues-refused : (fault : StlFault) (block : ℕ)
+      → LoadingInvariant drawing file (refuses fault block rest) before kept early
+      → LoadingInvariant drawing file rest before (with_rejected kept)
       (early ++ load_fault block (File fault) ∷ [])
   unfolding faults_after
-  goes_on-refused fault block on = grind (arith, nat_tests, append_assoc, judged-refused)
+  continues-refused fault block on = grind (arith, nat_tests, append_assoc, judged-refused)
 
 reports-all : {D : Type 0} {IsReported : D → LoadFault → D → Type 0} {old new : D} {stopped : Bool}
     {early all : List LoadFault}
@@ -237,7 +238,7 @@ module _ {D : Type 0} {IsReported : D → LoadFault → D → Type 0} {old mid n
 
 module _ {D : Type 0} {IsReported : D → LoadFault → D → Type 0} {old mid : D} {drawing : Drawing}
     {file : List ℕ} {left : Findings} {before : Option Times} {kept : KeptRecords}
-    {early : List LoadFault} (on : GoesOn drawing file left before kept early)
+    {early : List LoadFault} (on : LoadingInvariant drawing file left before kept early)
     (reported : Reports IsReported old mid early) where
   pub reports-none : {stopped : Bool}
       → left ≡ no_more
@@ -299,11 +300,11 @@ all_kept_bits (bit ∷ bits) other h = absurd cc
 
 module _ {drawing : Drawing} {file : List ℕ} {left : Findings} {before : Option Times}
     {kept : KeptRecords} {early : List LoadFault}
-    (on : GoesOn drawing file left before kept early) where
+    (on : LoadingInvariant drawing file left before kept early) where
   module _ (is : left ≡ no_more) where
-    all_is : judged_of drawing file
+    all_eq : judged_of drawing file
         ≡ record { judged = all_kept kept; is_before_other = kept.is_before_other }
-    all_is = rw is at on.judged ∙ judged-end drawing before kept
+    all_eq = rw is at on.judged ∙ judged-end drawing before kept
 
     read_to_the_end : is_read_to_the_end (findings_for drawing.scope file) ≡ true
     read_to_the_end = rw is at on.whole
@@ -312,18 +313,18 @@ module _ {drawing : Drawing} {file : List ℕ} {left : Findings} {before : Optio
     unfolding faults_after
     reported-all = rw is at on.same ∙ append-nil early
 
-    judges_is : judges drawing file ≡ (are_some (all_kept kept) && are_in_order (all_kept kept))
-    judges_is = rw (all_is, read_to_the_end) refl
+    judges_eq : can_judge drawing file ≡ (are_some (all_kept kept) && are_in_order (all_kept kept))
+    judges_eq = rw (all_eq, read_to_the_end) refl
 
-    pub judges-enough : AreKept drawing before early kept
+    pub can_judge-enough : AreKept drawing before early kept
         → is_enough kept ≡ true
         → JudgesBy drawing file (judged_with drawing kept)
     unfolding loaded
-    judges-enough are_kept enough = record {
-      all = sym all_is;
+    can_judge-enough are_kept enough = record {
+      all = sym all_eq;
       enough = elim (cases_Bool (are_all_kept kept)) [
         | inl whole ↦ inr (reported-all ∙ all_kept_none are_kept whole)
-        | inr part ↦ inl (judges_is ∙ rw part at enough)
+        | inr part ↦ inl (judges_eq ∙ rw part at enough)
       ];
       whole = λ none.
           let nothing = sym reported-all ∙ none in
@@ -331,19 +332,19 @@ module _ {drawing : Drawing} {file : List ℕ} {left : Findings} {before : Optio
           all_kept_bits kept.after_other kept.is_before_other (are_kept.whole ∙ rw nothing refl) in
           let records : records_of (findings_for drawing.scope file) ≡ kept.records =
           sym (all_decided drawing file none).0
-          ∙ ap (λ (all : AllJudged). map (λ (j : JudgedSubtitle). j.subtitle) all.judged) all_is
+          ∙ ap (λ (all : AllJudged). map (λ (j : JudgedSubtitle). j.subtitle) all.judged) all_eq
           ∙ with_bits-subtitles kept.records kept.after_other in
           (rw (none, records) refl, rw (bits.0, bits.1) refl);
     }
 
-    pub judges-not : is_enough kept ≡ false → judges drawing file ≡ false
-    judges-not few = judges_is ∙ grind (arith, nat_tests)
+    pub can_judge-not : is_enough kept ≡ false → can_judge drawing file ≡ false
+    can_judge-not few = judges_eq ∙ grind (arith, nat_tests)
 
   -- If reading ended before the end of the file, a transmission cannot be checked against the file.
-  pub judges-broken : {fault : StlFault} {block : ℕ}
+  pub can_judge-broken : {fault : StlFault} {block : ℕ}
       → left ≡ breaks fault block
-      → judges drawing file ≡ false
-  judges-broken is =
+      → can_judge drawing file ≡ false
+  can_judge-broken is =
       let broken : is_read_to_the_end (findings_for drawing.scope file) ≡ false = rw is at on.whole
       in
       rw broken refl
@@ -403,7 +404,7 @@ unread : {drawing : Drawing} {file : List ℕ} {left : Findings} {before : Optio
     → from < block
     → All (IsReportedBy from) early
     → FindsFrom block left
-    → GoesOn drawing file left before kept early
+    → LoadingInvariant drawing file left before kept early
     → filter (is_reported_before block) (faults drawing file) ≡ early
 unread {drawing} {left = left} {before} {early = early} from block lt early_reported names on =
     rw (
@@ -420,24 +421,25 @@ pub reports-unread : {D : Type 0} {IsReported : D → LoadFault → D → Type 0
     → from < block
     → All (IsReportedBy from) early
     → FindsFrom block left
-    → GoesOn drawing file left before kept early
+    → LoadingInvariant drawing file left before kept early
     → Reports IsReported old new early
     → Reports IsReported old new (filter (is_reported_before block) (faults drawing file))
 reports-unread from block lt early_reported names on reported =
     rw (unread from block lt early_reported names on) reported
 
-finds_before : (block : ℕ) (left : Findings) → FindsFrom (block + 1) left → FindsFrom block left
-finds_before block no_more h = tt
-finds_before block (breaks f at) h = grind arith
-finds_before block (finds t at left) h = (grind arith, finds_before block left h.1)
-finds_before block (refuses f at left) h = (grind arith, finds_before block left h.1)
+finds_from_earlier : (block : ℕ) (left : Findings) → FindsFrom (block + 1) left → FindsFrom block
+    left
+finds_from_earlier block no_more h = tt
+finds_from_earlier block (breaks f at) h = grind arith
+finds_from_earlier block (finds t at left) h = (grind arith, finds_from_earlier block left h.1)
+finds_from_earlier block (refuses f at left) h = (grind arith, finds_from_earlier block left h.1)
 
-pub found-from : (scope : Scope) (block : ℕ) (refused : Option Begun) (b : List ℕ)
+pub found-from : (scope : Scope) (block : ℕ) (refused : Option StartedSubtitle) (b : List ℕ)
     → block ≤ most_blocks
     → FindsFrom block (findings_from scope block refused b)
 found-from scope block refused b le =
-    finds_before block (findings_from scope block refused b)
-    (finds_from scope (most_blocks - block) block refused b (omega arith))
+    finds_from_earlier block (findings_from scope block refused b)
+    (findings_are_later scope (most_blocks - block) block refused b (omega arith))
 
 pub wants-memory : {D : Type 0} {IsReported : D → LoadFault → D → Type 0} {old new : D}
     {drawing : Drawing} {file : List ℕ} {before : Option Times} {kept : KeptRecords}
@@ -446,7 +448,7 @@ pub wants-memory : {D : Type 0} {IsReported : D → LoadFault → D → Type 0} 
     → All (IsReportedBy from) early
     → FindsFrom block rest
     → is_none (first_of (follow_faults drawing before t)) ≡ true
-    → GoesOn drawing file (finds t block rest) before kept early
+    → LoadingInvariant drawing file (finds t block rest) before kept early
     → Reports IsReported old new (early ++ map (load_fault block) (follow_faults drawing before t))
     → WantsMemory drawing file IsReported old new block
 wants-memory {drawing = drawing} {before = before} {early = early} from block t rest lt

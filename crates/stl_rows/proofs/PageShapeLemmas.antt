@@ -23,19 +23,20 @@ use Rattle.stl_rows.specs.PreparedLine.{row_from, start_by}
 use Rattle.stl_rows.specs.PreparedLine.{trimmed, whitened}
 use Rattle.stl_rows.specs.TextCode.{HasSevenBits, code_before, codes_after, lines_of_codes}
 use Rattle.stl_rows.specs.TextCode.{with_code}
-use Rattle.stl_rows.proofs.DuePageLemmas.{due_has}
+use Rattle.stl_rows.proofs.DuePageLemmas.{due_has_property}
 use Rattle.stl_rows.proofs.LaidOutLemmas.{drawn_by-lines, off_of_subtitle}
-use Rattle.stl_rows.proofs.LineLemmas.{Small, holds_at, holds_map, row_length, row_small}
+use Rattle.stl_rows.proofs.LineLemmas.{AreSevenBitCodes, holds_at, all_of_map, row_length}
+use Rattle.stl_rows.proofs.LineLemmas.{row_small}
 use Rattle.stl_rows.proofs.TextCodeLemmas.{code_before-small}
 
 with_small : (s : TextCode) (ls : List (List ℕ))
     → HasSevenBits s
-    → AllByRecursion Small ls
-    → AllByRecursion Small (with_code s ls)
+    → AllByRecursion AreSevenBitCodes ls
+    → AllByRecursion AreSevenBitCodes (with_code s ls)
 with_small s ls l h = grind (arith, nat_tests)
 
 pub cells_small : (national : National) (at skip : ℕ) (bytes : List ℕ)
-    → AllByRecursion Small (lines_of_codes (codes_after national at skip bytes))
+    → AllByRecursion AreSevenBitCodes (lines_of_codes (codes_after national at skip bytes))
 cells_small national at skip [] = (tt, tt)
 cells_small national at (suc skip) (b ∷ bytes) = cells_small national (at + 1) skip bytes
 cells_small national at zero (b ∷ bytes) =
@@ -43,16 +44,17 @@ cells_small national at zero (b ∷ bytes) =
     with_small s.0 (lines_of_codes (codes_after national (at + 1) s.1 bytes))
     (code_before-small national b bytes) (cells_small national (at + 1) s.1 bytes)
 
-append_small : (xs ys : List ℕ) → Small xs → Small ys → Small (xs ++ ys)
+append_small : (xs ys : List ℕ) → AreSevenBitCodes xs → AreSevenBitCodes ys → AreSevenBitCodes
+    (xs ++ ys)
 append_small [] ys h k = k
 append_small (x ∷ xs) ys h k = (h.0, append_small xs ys h.1 k)
 
-take_small : (n : ℕ) (xs : List ℕ) → Small xs → Small (take n xs)
+take_small : (n : ℕ) (xs : List ℕ) → AreSevenBitCodes xs → AreSevenBitCodes (take n xs)
 take_small zero xs h = tt
 take_small (suc n) [] h = tt
 take_small (suc n) (x ∷ xs) h = (h.0, take_small n xs h.1)
 
-drop_small : (n : ℕ) (xs : List ℕ) → Small xs → Small (drop n xs)
+drop_small : (n : ℕ) (xs : List ℕ) → AreSevenBitCodes xs → AreSevenBitCodes (drop n xs)
 drop_small zero xs h = h
 drop_small (suc n) [] h = tt
 drop_small (suc n) (x ∷ xs) h = drop_small n xs h.1
@@ -61,59 +63,61 @@ attribute_small : (a : Attribute) → attribute_code a < 128
 unfolding attribute_code
 attribute_small a = grind (arith, nat_tests)
 
-codes_small : (places : List (Option Attribute)) → Small (codes_of_places places)
+codes_small : (places : List (Option Attribute)) → AreSevenBitCodes (codes_of_places places)
 codes_small [] = tt
 codes_small (None ∷ places) = codes_small places
 codes_small (Some a ∷ places) = (attribute_small a, codes_small places)
 
-whitened_small : (items : LayoutItems) (codes : List ℕ) → Small codes
-    → Small (whitened items codes)
+whitened_small : (items : LayoutItems) (codes : List ℕ) → AreSevenBitCodes codes
+    → AreSevenBitCodes (whitened items codes)
 whitened_small items codes h = grind (arith, nat_tests, append_small codes (0x07 ∷ []) h)
 
-ending_small : (items : LayoutItems) (n : ℕ) → Small (ending items n)
+ending_small : (items : LayoutItems) (n : ℕ) → AreSevenBitCodes (ending items n)
 ending_small items n = grind (arith, nat_tests, codes_small items.after, take_small)
 
-headed_small : (items : LayoutItems) (cells : List ℕ) → Small cells → Small (headed items cells)
+headed_small : (items : LayoutItems) (cells : List ℕ) → AreSevenBitCodes cells → AreSevenBitCodes
+    (headed items cells)
 unfolding headed
 headed_small items cells h =
     grind (arith, nat_tests, append_small, codes_small, whitened_small, take_small, drop_small)
 
-framed_small : (items : LayoutItems) (cells : List ℕ) → Small cells → Small (framed items cells)
+framed_small : (items : LayoutItems) (cells : List ℕ) → AreSevenBitCodes cells → AreSevenBitCodes
+    (framed items cells)
 unfolding framed
 framed_small items [] h = tt
 framed_small items (c ∷ cells) h =
     append_small (headed items (c ∷ cells)) _ (headed_small items (c ∷ cells) h)
     (ending_small items (length (headed items (c ∷ cells))))
 
-trimmed_small : (cells : List ℕ) → Small cells → Small (trimmed cells)
+trimmed_small : (cells : List ℕ) → AreSevenBitCodes cells → AreSevenBitCodes (trimmed cells)
 unfolding trimmed
 trimmed_small cells h = take_small _ _ (drop_small _ cells h)
 
-pub prepared_small : (items : LayoutItems) (cells : List ℕ) → Small cells
-    → Small (prepared_by items cells)
+pub prepared_small : (items : LayoutItems) (cells : List ℕ) → AreSevenBitCodes cells
+    → AreSevenBitCodes (prepared_by items cells)
 unfolding prepared_by
 prepared_small items cells h = grind (arith, nat_tests, framed_small, trimmed_small)
 
 all_prepared : (items : LayoutItems) (ls : List (List ℕ))
-    → AllByRecursion Small ls
-    → AllByRecursion Small (map (prepared_by items) ls)
+    → AllByRecursion AreSevenBitCodes ls
+    → AllByRecursion AreSevenBitCodes (map (prepared_by items) ls)
 all_prepared items [] h = tt
 all_prepared items (l ∷ ls) h = (prepared_small items l h.0, all_prepared items ls h.1)
 
 record IsRowOfCodes (codes : List ℕ) : Type 0 where
   columns : length codes ≡ 40
-  small : Small codes
+  small : AreSevenBitCodes codes
 
 blank_is : IsRowOfCodes blank_row
 unfolding blank_row
 blank_is = record { columns = refl; small = grind (arith, nat_tests) }
 
-row_is : (start : ℕ) (line : List ℕ) → Small line → IsRowOfCodes (row_from start line)
+row_is : (start : ℕ) (line : List ℕ) → AreSevenBitCodes line → IsRowOfCodes (row_from start line)
 row_is start line h = record { columns = row_length start line; small = row_small start line h }
 
 shown_is : (items : LayoutItems) (jc off row number depth : ℕ) (under : Bool)
     (lines : List (List ℕ))
-    → AllByRecursion Small lines
+    → AllByRecursion AreSevenBitCodes lines
     → IsRowOfCodes (shown_row items jc off (placed_from items number depth under lines) row)
 shown_is items jc off row number depth under [] h = blank_is
 shown_is items jc off row number depth under (line ∷ lines) h =
@@ -126,7 +130,7 @@ shown_is items jc off row number depth under (line ∷ lines) h =
     )
 
 page_is : (items : LayoutItems) (jc off depth : ℕ) (ls : List (List ℕ))
-    → AllByRecursion Small ls
+    → AllByRecursion AreSevenBitCodes ls
     → IsPage (page_of_placed items jc off (placed_from items 0 depth false ls))
 unfolding page_of_placed
 page_is items jc off depth ls h = record {
@@ -135,8 +139,8 @@ page_is items jc off depth ls h = record {
       (each (1 + r)).columns;
   codes = λ r c.
       holds_at (λ n. n < 128) (get_or (map shown (range_with_len 1 24)) r []) c 0 (lit< tt)
-      (holds_at Small (map shown (range_with_len 1 24)) r [] tt
-      (holds_map Small shown (range_with_len 1 24) (λ row. (each row).small)));
+      (holds_at AreSevenBitCodes (map shown (range_with_len 1 24)) r [] tt
+      (all_of_map AreSevenBitCodes shown (range_with_len 1 24) (λ row. (each row).small)));
 }
   where
     shown : ℕ → List ℕ
@@ -158,4 +162,5 @@ drawn_is_page drawing t page e =
 
 pub due_is_page : (drawing : Drawing) (ts : List SubtitleValue) (f : ℕ)
     → IsPage (due drawing ts f)
-due_is_page drawing ts f = due_has IsPage drawing ts f is_page_blank (drawn_is_page drawing)
+due_is_page drawing ts f = due_has_property IsPage drawing ts f is_page_blank
+    (drawn_is_page drawing)

@@ -121,23 +121,24 @@ by_test items number depth under line lines P true is none some = rw is (none is
 by_test items number depth under line lines P false is none some = rw is (some is)
 
 module _ (items : LayoutItems) (jc off : ℕ) where
-  abbrev HasNothing : List PlacedLine → Type 0
-  HasNothing lines = placed_faults items off lines ≡ [] → printed_lines (cells_of lines) ≡ []
+  abbrev PrintsNothingBelow : List PlacedLine → Type 0
+  PrintsNothingBelow lines = placed_faults items off lines ≡ [] → printed_lines (cells_of lines) ≡
+      []
 
   nothing-cells : (place : PlacedLine) (rest : List PlacedLine) (b : Bool)
       → off + 24 ≤ place.depth
       → has_cells place.cells ≡ b
-      → HasNothing rest
-      → HasNothing (place ∷ rest)
+      → PrintsNothingBelow rest
+      → PrintsNothingBelow (place ∷ rest)
   nothing-cells place rest b h1 h2 h3 =
       grind (arith, nat_tests, on_page, own_and_rest, printed_lines-empty)
 
   nothing_below : (number depth : ℕ) (under : Bool) (lines : List (List ℕ))
       → off + 24 ≤ depth
-      → HasNothing (placed_from items number depth under lines)
+      → PrintsNothingBelow (placed_from items number depth under lines)
   nothing_below number depth under [] low = λ none. refl
   nothing_below number depth under (line ∷ lines) low =
-      by_test items number depth under line lines HasNothing (takes_none items line) refl
+      by_test items number depth under line lines PrintsNothingBelow (takes_none items line) refl
       (λ is. nothing_below (number + 1) depth under lines low)
       (λ is. nothing-cells (place_of number depth under line)
       (following items number depth line lines) (has_cells line) low refl

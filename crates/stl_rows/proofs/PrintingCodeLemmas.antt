@@ -19,36 +19,36 @@ use Rattle.stl_rows.specs.PreparedLine.{without_leading_spaces}
 use Rattle.stl_rows.specs.TextCode.{is_within}
 use Rattle.stl_rows.proofs.LineLemmas.{row_from-put}
 
-abbrev pub NonePrints : List ℕ → Type 0
-NonePrints cells = AllByRecursion (λ (c : ℕ). c ≤ space) cells
+abbrev pub AreNonPrinting : List ℕ → Type 0
+AreNonPrinting cells = AllByRecursion (λ (c : ℕ). c ≤ space) cells
 
-none-append : (xs ys : List ℕ) → NonePrints xs → NonePrints ys → NonePrints (xs ++ ys)
+none-append : (xs ys : List ℕ) → AreNonPrinting xs → AreNonPrinting ys → AreNonPrinting (xs ++ ys)
 none-append [] ys h k = k
 none-append (x ∷ xs) ys h k = (h.0, none-append xs ys h.1 k)
 
-none-take : (n : ℕ) (xs : List ℕ) → NonePrints xs → NonePrints (take n xs)
+none-take : (n : ℕ) (xs : List ℕ) → AreNonPrinting xs → AreNonPrinting (take n xs)
 none-take zero xs h = tt
 none-take (suc n) [] h = tt
 none-take (suc n) (x ∷ xs) h = (h.0, none-take n xs h.1)
 
-none-drop : (n : ℕ) (xs : List ℕ) → NonePrints xs → NonePrints (drop n xs)
+none-drop : (n : ℕ) (xs : List ℕ) → AreNonPrinting xs → AreNonPrinting (drop n xs)
 none-drop zero xs h = h
 none-drop (suc n) [] h = tt
 none-drop (suc n) (x ∷ xs) h = none-drop n xs h.1
 
-none-spaces : (n : ℕ) → NonePrints (replicate n space)
+none-spaces : (n : ℕ) → AreNonPrinting (replicate n space)
 none-spaces zero = tt
 none-spaces (suc n) = (omega arith, none-spaces n)
 
 none-leading : (first last : ℕ) (cells : List ℕ) → last ≤ space
-    → NonePrints (take (leading first last cells) cells)
+    → AreNonPrinting (take (leading first last cells) cells)
 none-leading first last [] low = tt
 none-leading first last (c ∷ cells) low =
     grind (arith, nat_tests, none-leading first last cells low)
 
 none-all : (first last : ℕ) (cells : List ℕ) → last ≤ space
     → list_all (is_within first last) cells ≡ true
-    → NonePrints cells
+    → AreNonPrinting cells
 none-all first last [] low all = tt
 none-all first last (c ∷ cells) low all =
     grind (arith, nat_tests, none-all first last cells low)
@@ -59,13 +59,13 @@ trailing-few first last (c ∷ cells) = grind (arith, nat_tests, trailing-few fi
 
 none-trailing-by : (first last c : ℕ) (cells : List ℕ) (all : Bool) → last ≤ space
     → list_all (is_within first last) (c ∷ cells) ≡ all
-    → NonePrints (drop (length cells - trailing first last cells) cells)
-    → NonePrints (drop (length (c ∷ cells) - trailing first last (c ∷ cells)) (c ∷ cells))
+    → AreNonPrinting (drop (length cells - trailing first last cells) cells)
+    → AreNonPrinting (drop (length (c ∷ cells) - trailing first last (c ∷ cells)) (c ∷ cells))
 none-trailing-by first last c cells all low is rest =
     grind (arith, nat_tests, none-drop, none-all, trailing-few)
 
 none-trailing : (first last : ℕ) (cells : List ℕ) → last ≤ space
-    → NonePrints (drop (length cells - trailing first last cells) cells)
+    → AreNonPrinting (drop (length cells - trailing first last cells) cells)
 none-trailing first last [] low = tt
 none-trailing first last (c ∷ cells) low =
     none-trailing-by first last c cells (list_all (is_within first last) (c ∷ cells)) low refl
@@ -75,40 +75,41 @@ attribute-low : (a : Attribute) → attribute_code a ≤ space
 unfolding attribute_code
 attribute-low a = grind (arith, nat_tests)
 
-none-codes : (places : List (Option Attribute)) → NonePrints (codes_of_places places)
+none-codes : (places : List (Option Attribute)) → AreNonPrinting (codes_of_places places)
 none-codes [] = tt
 none-codes (None ∷ places) = none-codes places
 none-codes (Some a ∷ places) = (attribute-low a, none-codes places)
 
-from_first-none : (xs cells : List ℕ) → NonePrints xs → from_first (xs ++ cells) ≡ from_first cells
+from_first-none : (xs cells : List ℕ) → AreNonPrinting xs → from_first (xs ++ cells) ≡ from_first
+    cells
 from_first-none [] cells h = refl
 from_first-none (x ∷ xs) cells h = grind (arith, nat_tests, from_first-none xs cells h.1)
 
-to_last-nothing : (xs : List ℕ) → NonePrints xs → to_last xs ≡ []
+to_last-nothing : (xs : List ℕ) → AreNonPrinting xs → to_last xs ≡ []
 to_last-nothing [] h = refl
 to_last-nothing (x ∷ xs) h = grind (arith, nat_tests, to_last-nothing xs h.1)
 
-to_last-none : (cells xs : List ℕ) → NonePrints xs → to_last (cells ++ xs) ≡ to_last cells
+to_last-none : (cells xs : List ℕ) → AreNonPrinting xs → to_last (cells ++ xs) ≡ to_last cells
 to_last-none [] xs h = to_last-nothing xs h
 to_last-none (c ∷ cells) xs h = ap (before_left c) (to_last-none cells xs h)
 
-printed-following : (cells xs : List ℕ) → NonePrints xs → printed (cells ++ xs) ≡ printed cells
+printed-following : (cells xs : List ℕ) → AreNonPrinting xs → printed (cells ++ xs) ≡ printed cells
 unfolding printed
 printed-following [] xs h =
     grind (arith, nat_tests, from_first-none xs [] h, append-nil, to_last-nothing)
 printed-following (c ∷ cells) xs h =
     grind (arith, nat_tests, to_last-none (c ∷ cells) xs h, printed-following cells xs h)
 
-printed-ahead : (xs cells : List ℕ) → NonePrints xs → printed (xs ++ cells) ≡ printed cells
+printed-ahead : (xs cells : List ℕ) → AreNonPrinting xs → printed (xs ++ cells) ≡ printed cells
 unfolding printed
 printed-ahead xs cells h = ap to_last (from_first-none xs cells h)
 
-printed-drop : (n : ℕ) (cells : List ℕ) → NonePrints (take n cells)
+printed-drop : (n : ℕ) (cells : List ℕ) → AreNonPrinting (take n cells)
     → printed (drop n cells) ≡ printed cells
 printed-drop n cells h =
     sym (printed-ahead (take n cells) (drop n cells) h) ∙ ap printed (take-append-drop n cells)
 
-printed-take : (n : ℕ) (cells : List ℕ) → NonePrints (drop n cells)
+printed-take : (n : ℕ) (cells : List ℕ) → AreNonPrinting (drop n cells)
     → printed (take n cells) ≡ printed cells
 printed-take n cells h =
     sym (printed-following (take n cells) (drop n cells) h) ∙ ap printed (take-append-drop n cells)
@@ -120,12 +121,12 @@ printed-trimmed cells =
     (none-trailing 0x20 0x20 (without_leading_spaces cells) (omega arith))
     ∙ printed-drop _ cells (none-leading 0x20 0x20 cells (omega arith))
 
-none-whitened : (items : LayoutItems) (codes : List ℕ) → NonePrints codes
-    → NonePrints (whitened items codes)
+none-whitened : (items : LayoutItems) (codes : List ℕ) → AreNonPrinting codes
+    → AreNonPrinting (whitened items codes)
 none-whitened items codes h =
     grind (arith, nat_tests, none-append codes (0x07 ∷ []) h (omega arith, tt))
 
-none-ending : (items : LayoutItems) (n : ℕ) → NonePrints (ending items n)
+none-ending : (items : LayoutItems) (n : ℕ) → AreNonPrinting (ending items n)
 none-ending items n = grind (arith, nat_tests, none-codes items.after, none-take)
 
 printed-headed : (items : LayoutItems) (cells : List ℕ)

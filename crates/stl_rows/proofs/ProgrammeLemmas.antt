@@ -16,14 +16,14 @@ use Rattle.stl_rows.specs.Programme.{AreInOrder, IsProgramme, follow_faults, las
 use Rattle.stl_rows.specs.Programme.{row_faults, times_before, times_of}
 use Rattle.stl_rows.proofs.FaultlessLemmas.{empty_parts}
 
-pub draws : (r : Result Rows RowFault) → row_faults r ≡ [] → IsOk r
-draws r h = grind arith
+pub draws_without_faults : (r : Result Rows RowFault) → row_faults r ≡ [] → IsOk r
+draws_without_faults r h = grind arith
 
 -- If a subtitle's times have no fault, its TCI is at or after the TCO of the previous subtitle.
-after_last : (last t : SubtitleValue)
+starts_after_last : (last t : SubtitleValue)
     → order_faults (Some (times_of last)) (times_of t) ≡ []
     → last.tco ≤ t.tci
-after_last last t h = grind (arith, nat_tests)
+starts_after_last last t h = grind (arith, nat_tests)
 
 last_before : (ts : List SubtitleValue) (t : SubtitleValue) (i : ℕ) (d : SubtitleValue)
     → All IsSubtitle ts
@@ -34,7 +34,7 @@ last_before : (ts : List SubtitleValue) (t : SubtitleValue) (i : ℕ) (d : Subti
 last_before ts t i d each ordered h inside =
     let at : ℕ = length ts - 1 in
     let times = (each at d (omega arith)).times in
-    grind (arith, nat_tests, after_last, slice_get-get_or)
+    grind (arith, nat_tests, starts_after_last, slice_get-get_or)
 
 in_order-push : (ts : List SubtitleValue) (t : SubtitleValue)
     → All IsSubtitle ts
@@ -55,7 +55,8 @@ IsProgramme-push n ts t ok subtitle h =
     record {
       each = All-push IsSubtitle ts t ok.each subtitle;
       in_order = in_order-push ts t ok.each ok.in_order parts.0;
-      drawable = All-push (λ x. IsOk (drawn n x)) ts t ok.drawable (draws (drawn n t) parts.1);
+      drawable = All-push (λ x. IsOk (drawn n x)) ts t ok.drawable (draws_without_faults (drawn n t)
+          parts.1);
     }
 
 pub last_of-push : {A : Type 0} (xs : List A) (x : A) → last_of (xs ++ x ∷ []) ≡ Some x

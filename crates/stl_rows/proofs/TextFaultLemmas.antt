@@ -25,11 +25,11 @@ use Rattle.stl_rows.proofs.LineByLineLemmas.{onto_code, onto_line_end}
 pub record HasShape (cells : List ℕ) (line : OpenLine) : Type 0 where
   pub count : length cells ≡ line.len
   pub box : is_boxed cells ≡ line.is_boxed
-  pub height : is_double cells ≡ line.is_double
+  pub is_double_eq : is_double cells ≡ line.is_double
 
 shape-none : (number row : ℕ) (under : Bool) → HasShape [] (empty_line number row under)
 unfolding is_boxed is_double
-shape-none number row under = record { count = refl; box = refl; height = refl }
+shape-none number row under = record { count = refl; box = refl; is_double_eq = refl }
 
 shape-push : (cells : List ℕ) (code : ℕ) (line : OpenLine)
     → HasShape cells line
@@ -54,7 +54,7 @@ kinds_of_none : (line : OpenLine)
     → HasShape [] line
     → line_fault_kinds line.row line.is_under_double (prepared []) ≡ shape_fault_kinds line
 unfolding line_fault_kinds shape_fault_kinds prepared is_boxed is_double
-kinds_of_none line h = rw (← h.count, ← h.box, ← h.height) refl
+kinds_of_none line h = rw (← h.count, ← h.box, ← h.is_double_eq) refl
 
 shape_kinds : (cells : List ℕ) (line : OpenLine)
     → HasShape cells line

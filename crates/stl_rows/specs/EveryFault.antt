@@ -107,7 +107,7 @@ pub record FailsReporting
     : Type 0 where
   pub bytes : List ℕ
   pub consumed : Consumes old new bytes
-  pub block_is : block ≡ block_of_byte (length bytes)
+  pub block_eq : block ≡ block_of_byte (length bytes)
   pub reported :
       IfKnown old
       (λ all. Reports IsReported reported_old reported_new

@@ -10,7 +10,7 @@ use Rattle.std.specs.List.{list_any}
 use Rattle.stl_file.specs.Reader.{findings_for}
 use Rattle.stl_file.specs.Reading.{Findings, breaks, finds, no_more, refuses}
 use Rattle.stl_file.specs.Subtitle.{SubtitleValue}
-use Rattle.stl_file.specs.TakenOut.{is_read_to_the_end}
+use Rattle.stl_file.specs.KeptBlocks.{is_read_to_the_end}
 use Rattle.stl_rows.specs.declared.layout.Drawing.{Drawing}
 use Rattle.stl_rows.specs.declared.times.Times.{Times}
 use Rattle.stl_rows.specs.DrawnPage.{drawn}
@@ -82,8 +82,8 @@ are_some (j ∷ js) = true
 
 -- A transmission can be checked against the reliable subtitles of the file: the file was read to
 -- its end, and the reliable subtitles are at least one and do not overlap.
-abbrev pub judges : Drawing → List ℕ → Bool
-judges drawing file =
+abbrev pub can_judge : Drawing → List ℕ → Bool
+can_judge drawing file =
     let judged = (judged_of drawing file).judged in
     is_read_to_the_end (findings_for drawing.scope file) && are_some judged && are_in_order judged
 
@@ -122,15 +122,15 @@ with_bits (t ∷ ts) (bit ∷ bits) =
     record { subtitle = t; is_after_other = bit } ∷ with_bits ts bits
 
 -- The reliable subtitles of a `JudgedProgramme`, each with its bit.
-abbrev pub all_of : JudgedValue → AllJudged
-all_of j = record {
+abbrev pub all_judged_of : JudgedValue → AllJudged
+all_judged_of j = record {
   judged = with_bits j.programme.records j.after_other;
   is_before_other = j.is_before_other;
 }
 
 -- The expected page of a `JudgedProgramme` is unknown at this frame.
 unfoldable pub is_undecided_in : JudgedValue → ℕ → Bool
-is_undecided_in j frame = is_undecided (all_of j) frame
+is_undecided_in j frame = is_undecided (all_judged_of j) frame
 
 -- The file of a `JudgedProgramme` has at least one unreliable subtitle.
 abbrev pub has_refused : JudgedValue → Bool
@@ -144,8 +144,8 @@ known programme =
 -- The programme against which a transmission is checked: if the file has no faults, all its
 -- subtitles; otherwise its reliable subtitles, if a transmission can be checked against them.
 pub record JudgesBy (drawing : Drawing) (file : List ℕ) (j : JudgedValue) : Type 0 where
-  pub all : all_of j ≡ judged_of drawing file
-  pub enough : (judges drawing file ≡ true) ⊎ (faults drawing file ≡ [])
+  pub all : all_judged_of j ≡ judged_of drawing file
+  pub enough : (can_judge drawing file ≡ true) ⊎ (faults drawing file ≡ [])
   pub whole :
       faults drawing file ≡ []
       → (loaded drawing file ≡ Ok j.programme) × (j ≡ known j.programme)

@@ -9,7 +9,7 @@ use Rattle.stl_rows.specs.declared.fault.LoadFault.{LoadFault}
 use Rattle.stl_rows.specs.declared.fault.LoadFaultKind.TheVariants.{Memory}
 use Rattle.stl_rows.specs.EveryFault.{ReportsFaults, WantsMemory, faults}
 use Rattle.stl_rows.specs.Judged.{JudgedSubtitle, JudgedValue, JudgesBy, are_in_order, are_some}
-use Rattle.stl_rows.specs.Judged.{judges, with_bits}
+use Rattle.stl_rows.specs.Judged.{can_judge, with_bits}
 
 -- The state of loading: the kept subtitles; for each, whether an unreliable subtitle directly
 -- precedes it (a missing bit means false); whether an unreliable subtitle follows the last; and
@@ -21,8 +21,8 @@ pub record KeptRecords : Type 0 where
   pub is_latest : Bool
 
 -- The state of loading before the first subtitle.
-abbrev pub nothing_kept : KeptRecords
-nothing_kept =
+abbrev pub no_subtitles_yet : KeptRecords
+no_subtitles_yet =
     record { records = []; after_other = []; is_before_other = false; is_latest = false }
 
 -- The kept subtitles, each with its bit: whether an unreliable subtitle directly precedes it.
@@ -46,8 +46,8 @@ bits_after n other bits =
     if other then take n bits ++ (replicate (n - length bits) false ++ true ∷ []) else bits
 
 -- The state after keeping the subtitle t.
-abbrev pub with_one : SubtitleValue → KeptRecords → KeptRecords
-with_one t k = record {
+abbrev pub with_kept : SubtitleValue → KeptRecords → KeptRecords
+with_kept t k = record {
   records = k.records ++ t ∷ [];
   after_other = bits_after (length k.records) k.is_before_other k.after_other;
   is_before_other = false;
@@ -56,12 +56,12 @@ with_one t k = record {
 
 -- The state after a rejected subtitle. The times of the next subtitle are not compared with those
 -- of a rejected one.
-abbrev pub refused_one : KeptRecords → KeptRecords
-refused_one k = record k { is_before_other = true }
+abbrev pub with_rejected : KeptRecords → KeptRecords
+with_rejected k = record k { is_before_other = true }
 
 -- The state after a subtitle with a fault, which is not kept.
-abbrev pub broken_one : KeptRecords → KeptRecords
-broken_one k = record k { is_before_other = true; is_latest = false }
+abbrev pub with_faulty : KeptRecords → KeptRecords
+with_faulty k = record k { is_before_other = true; is_latest = false }
 
 -- The state without the last kept subtitle, which is not reliable.
 abbrev pub without_last : KeptRecords → KeptRecords
@@ -73,11 +73,11 @@ without_last k = record k {
 -- The state after the next subtitle. `clean`: the subtitle has no fault. `in_order`: its times are
 -- in order with those of the previous subtitle; if they are not, the previous subtitle is not
 -- reliable either.
-abbrev pub kept_after : Bool → Bool → SubtitleValue → KeptRecords → KeptRecords
-kept_after in_order clean t k =
-    if clean then with_one t k
-    else if k.is_latest && not in_order then broken_one (without_last k)
-    else broken_one k
+abbrev pub records_after : Bool → Bool → SubtitleValue → KeptRecords → KeptRecords
+records_after in_order clean t k =
+    if clean then with_kept t k
+    else if k.is_latest && not in_order then with_faulty (without_last k)
+    else with_faulty k
 
 -- ---- the kept subtitles at the end of the file
 
@@ -110,6 +110,6 @@ LoadsAll drawing file IsReported old new has_stopped (Ok (Some kept)) =
     (faults drawing file)
 LoadsAll drawing file IsReported old new has_stopped (Ok None) =
     ReportsFaults IsReported old new has_stopped (faults drawing file)
-    × ((has_stopped ≡ true) ⊎ (judges drawing file ≡ false))
+    × ((has_stopped ≡ true) ⊎ (can_judge drawing file ≡ false))
 LoadsAll drawing file IsReported old new has_stopped (Err f) =
     f.kind ≡ Memory → WantsMemory drawing file IsReported old new f.block

@@ -9,7 +9,7 @@ use Rattle.stl_file.specs.File.{IsFileFor}
 use Rattle.stl_file.specs.Gsi.{gsi_size}
 use Rattle.stl_file.specs.Reader.{block_of_byte, findings_for}
 use Rattle.stl_file.specs.SubtitleBlocks.{IsBlock}
-use Rattle.stl_file.specs.TakenOut.{all_day, is_read_to_the_end, taken_out}
+use Rattle.stl_file.specs.KeptBlocks.{all_day, is_read_to_the_end, kept_blocks}
 use Rattle.stl_file.specs.Subtitle.{SubtitleValue}
 use Rattle.stl_file.specs.Reading.{Findings, breaks, finds, no_more, refuses}
 use Rattle.stl_rows.specs.declared.layout.Drawing.{Drawing}
@@ -64,8 +64,8 @@ ReportsFault drawing file block kind = loaded drawing file ≡ Err (load_fault b
 -- No fault of the file comes before this block. A file that ends within a subtitle is the
 -- exception: the fault names the last complete block, but is found only when the next block is
 -- read.
-abbrev pub NoneBefore : Drawing → List ℕ → ℕ → Type 0
-NoneBefore drawing file block =
+abbrev pub NoFaultBefore : Drawing → List ℕ → ℕ → Type 0
+NoFaultBefore drawing file block =
     (fault : LoadFault)
     → loaded drawing file ≡ Err fault
     → (fault.kind ≡ File Unfinished) ⊎ (block ≤ fault.block)
@@ -75,8 +75,8 @@ NoneBefore drawing file block =
 pub record FailsLoading (drawing : Drawing) (old new : Option (List ℕ)) (block : ℕ) : Type 0 where
   pub bytes : List ℕ
   pub consumed : Consumes old new bytes
-  pub block_is : block ≡ block_of_byte (length bytes)
-  pub none : IfKnown old (λ all. NoneBefore drawing all block)
+  pub block_eq : block ≡ block_of_byte (length bytes)
+  pub none : IfKnown old (λ all. NoFaultBefore drawing all block)
 
 -- Bytes are loaded as a programme if and only if they are a subtitle file whose subtitles do not
 -- overlap and can all be drawn, and the programme consists of these subtitles. So `load` accepts
@@ -107,7 +107,7 @@ LawOfParts =
     → AllByRecursion IsBlock blocks
     → is_read_to_the_end (findings_for drawing.scope (gsi ++ concat blocks)) ≡ true
     → (kinds_of (faults drawing (gsi ++ concat blocks))
-    ≡ kinds_of (faults (of_day drawing) (gsi ++ concat (taken_out drawing.scope None blocks))))
+    ≡ kinds_of (faults (of_day drawing) (gsi ++ concat (kept_blocks drawing.scope None blocks))))
     × (records_of (findings_for drawing.scope (gsi ++ concat blocks))
     ≡ records_of (findings_for (all_day drawing.scope)
-    (gsi ++ concat (taken_out drawing.scope None blocks))))
+    (gsi ++ concat (kept_blocks drawing.scope None blocks))))

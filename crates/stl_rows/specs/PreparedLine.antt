@@ -101,8 +101,8 @@ jc_read items jc = if jc == 0 then items.free else jc
 
 -- The layout items `left`, `right` and `up`: the column at which a line should start, at least 0,
 -- if `width` cells of the line count, after `ahead` cells that do not.
-abbrev pub wanted_column : LayoutItems → ℕ → ℕ → ℕ → ℕ
-wanted_column items jc ahead width =
+abbrev pub start_column_for : LayoutItems → ℕ → ℕ → ℕ → ℕ
+start_column_for items jc ahead width =
     if jc == 2 then (columns - width + (if items.up then 1 else 0)) / 2 - ahead
     else (if jc == 3 then columns - (items.right + width + ahead)
     else items.left - ahead)
@@ -112,7 +112,7 @@ wanted_column items jc ahead width =
 unfoldable pub start_by : LayoutItems → ℕ → List ℕ → ℕ
 start_by items jc line =
     let free : ℕ × ℕ = uncounted items line in
-    min (wanted_column items (jc_read items jc) free.0 (length line - (free.0 + free.1)))
+    min (start_column_for items (jc_read items jc) free.0 (length line - (free.0 + free.1)))
     (columns - length line)
 
 -- The 40 codes of the row that shows a line from column `start` on.

@@ -32,12 +32,12 @@ pub record IsProgramme (drawing : Drawing) (records : List SubtitleValue) : Type
   pub drawable : All (λ t. IsOk (drawn drawing t)) records
 
 -- The TCI of the first subtitle, as a frame of the day.
-abbrev pub first_in : List SubtitleValue → Option ℕ
-first_in records = option_map (λ t. t.tci) (slice_get records 0)
+abbrev pub first_tci : List SubtitleValue → Option ℕ
+first_tci records = option_map (λ t. t.tci) (slice_get records 0)
 
 -- The TCO of the last subtitle, as a frame of the day.
-abbrev pub last_out : List SubtitleValue → Option ℕ
-last_out records = option_map (λ t. t.tco) (slice_get records (length records - 1))
+abbrev pub last_tco : List SubtitleValue → Option ℕ
+last_tco records = option_map (λ t. t.tco) (slice_get records (length records - 1))
 
 -- The last element of a list; `None` if the list is empty.
 abbrev pub last_of : {A : Type 0} → List A → Option A

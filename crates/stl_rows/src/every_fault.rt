@@ -13,7 +13,7 @@ ghost use Rattle.stl_rows.specs.EveryFault.{ReportsFaults};
 ghost use Rattle.stl_rows.specs.EveryFault.{ReportsByAnswer, ReportsOfFile, WantsMemory, faults};
 ghost use Rattle.stl_rows.specs.EveryFault.{load_fault};
 ghost use Rattle.stl_rows.specs.Fault.{is_load_read};
-ghost use Rattle.stl_rows.specs.Judged.{JudgesBy, judges};
+ghost use Rattle.stl_rows.specs.Judged.{JudgesBy, can_judge};
 ghost use Rattle.stl_rows.specs.Keeping.{LoadsAll};
 ghost use Rattle.stl_rows.specs.Programme.{IsProgramme, follow_faults, row_faults};
 ghost use Rattle.stl_rows.specs.DrawnPage.{drawn};
@@ -75,7 +75,7 @@ pub fn load_all<S: Source, D: Audience<LoadFault>>(
         (faults (drawing_within national layout scope) bytes)) }
     ensures not_judged { IfKnown (S.remaining source.old) (λ bytes. result ≡ Ok None →
         (D.has_stopped audience.new ≡ true)
-        ⊎ (judges (drawing_within national layout scope) bytes ≡ false)) }
+        ⊎ (can_judge (drawing_within national layout scope) bytes ≡ false)) }
     ensures memory { IfKnown (S.remaining source.old) (λ bytes. IfErr result (λ f.
         f.kind ≡ Memory → WantsMemory (drawing_within national layout scope) bytes
         D.is_reported audience.old audience.new f.block)) }

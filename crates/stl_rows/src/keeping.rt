@@ -2,9 +2,9 @@
 
 ghost use Rattle.std.specs.Prelude.{◌≡◌, [], true, if◌then◌else◌, IfErr, IfSome, None, OnOk, Some};
 ghost use Rattle.stl_rows.specs.Judged.{are_in_order, with_bits};
-ghost use Rattle.stl_rows.specs.Keeping.{bits_after, is_enough, are_all_kept, kept_after};
-ghost use Rattle.stl_rows.specs.Keeping.{nothing_kept};
-ghost use Rattle.stl_rows.specs.Keeping.{refused_one, broken_one, without_last, with_one};
+ghost use Rattle.stl_rows.specs.Keeping.{bits_after, is_enough, are_all_kept, records_after};
+ghost use Rattle.stl_rows.specs.Keeping.{no_subtitles_yet};
+ghost use Rattle.stl_rows.specs.Keeping.{with_rejected, with_faulty, without_last, with_kept};
 ghost use Rattle.stl_rows.specs.declared.fault.LoadFaultKind.TheVariants.{Memory};
 
 use crate::cues::Cues;
@@ -76,7 +76,7 @@ fn are_in_order<A: Allocator + Copy>(subtitles: &Cues<A>) -> bool
 impl<A: Allocator + Copy> Kept<A> {
     // Creates the state before the first subtitle of a file.
     pub(crate) fn new(alloc: A) -> Kept<A>
-        ensures { result ≡ nothing_kept }
+        ensures { result ≡ no_subtitles_yet }
     {
         Kept {
             subtitles: Cues::new(alloc),
@@ -88,14 +88,14 @@ impl<A: Allocator + Copy> Kept<A> {
 
     // Notes that the file has a rejected subtitle at this point.
     pub(crate) fn refuse(&mut self)
-        ensures { self.new ≡ refused_one self.old }
+        ensures { self.new ≡ with_rejected self.old }
     {
         self.is_before_other = true;
     }
 
     // Appends a reliable subtitle.
     fn push(&mut self, subtitle: &Subtitle) -> Result<(), LoadFaultKind>
-        ensures kept { OnOk result (self.new ≡ with_one subtitle.now self.old) }
+        ensures kept { OnOk result (self.new ≡ with_kept subtitle.now self.old) }
         ensures memory { IfErr result (λ kind. kind ≡ Memory) }
     {
         if self.is_before_other {
@@ -127,7 +127,7 @@ impl<A: Allocator + Copy> Kept<A> {
         clean: bool,
         subtitle: &Subtitle,
     ) -> Result<(), LoadFaultKind>
-        ensures kept { OnOk result (self.new ≡ kept_after in_order clean subtitle.now self.old) }
+        ensures kept { OnOk result (self.new ≡ records_after in_order clean subtitle.now self.old) }
         ensures memory { IfErr result (λ kind. (kind ≡ Memory) × (clean ≡ true)) }
     {
         if clean {

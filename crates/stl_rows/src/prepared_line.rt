@@ -6,7 +6,7 @@ ghost use Rattle.std.specs.List.{list_any};
 ghost use Rattle.stl_rows.specs.Layout.{codes_of_places};
 ghost use Rattle.stl_rows.specs.Line.{is_double};
 ghost use Rattle.stl_rows.specs.PreparedLine.{framed, headed, leading, prepared_by, start_by};
-ghost use Rattle.stl_rows.specs.PreparedLine.{trailing, trimmed, uncounted, wanted_column};
+ghost use Rattle.stl_rows.specs.PreparedLine.{trailing, trimmed, uncounted, start_column_for};
 ghost use Rattle.stl_rows.specs.PreparedLine.{jc_read};
 ghost use Rattle.stl_rows.specs.TextCode.{is_within};
 
@@ -187,10 +187,10 @@ fn jc_read(items: &LayoutItems, jc: u8) -> u8
 
 // Returns the column at which a line should start, if `width` cells of the line count, after
 // `ahead` cells that do not.
-fn wanted_column(items: &LayoutItems, jc: u8, ahead: usize, width: usize) -> usize
+fn start_column_for(items: &LayoutItems, jc: u8, ahead: usize, width: usize) -> usize
     requires ahead { ahead ≤ 40 }
     requires width { width ≤ 40 }
-    ensures { result ≡ wanted_column items.now jc ahead width }
+    ensures { result ≡ start_column_for items.now jc ahead width }
 {
     let rounding = if items.up { 1 } else { 0 };
     match jc {
@@ -210,6 +210,6 @@ pub(crate) fn start_by(items: &LayoutItems, jc: u8, line: &[u8]) -> usize
 {
     let (ahead, following) = uncounted(items, line);
     let width = line.len().saturating_sub(ahead + following);
-    let wanted = wanted_column(items, jc_read(items, jc), ahead, width);
-    wanted.min(40 - line.len())
+    let expected = start_column_for(items, jc_read(items, jc), ahead, width);
+    expected.min(40 - line.len())
 }

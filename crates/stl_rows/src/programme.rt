@@ -10,7 +10,7 @@ ghost use Rattle.stl_rows.specs.DuePage.{LawOfLastRow};
 ghost use Rattle.stl_rows.specs.DuePage.{LawOfEdges, ReportsLastEdge, ReportsNextEdge};
 ghost use Rattle.stl_rows.specs.DuePage.{tci_of_ending};
 ghost use Rattle.stl_rows.specs.Judged.{is_undecided_from, is_undecided_in, with_bits};
-ghost use Rattle.stl_rows.specs.Programme.{IsProgramme, first_in, last_out};
+ghost use Rattle.stl_rows.specs.Programme.{IsProgramme, first_tci, last_tco};
 
 use crate::cues::Cues;
 use crate::drawing::draw_on;
@@ -77,7 +77,7 @@ fn is_first_after(drawing: &Drawing, subtitles: &Cues<Global>, frame: u32, at: u
 
 // Returns the index of the first subtitle whose TCO is after a frame. Tries `guess` and the next
 // index before a binary search.
-fn first_after_near(drawing: &Drawing, subtitles: &Cues<Global>, frame: u32, guess: usize) -> usize
+fn find_first_after(drawing: &Drawing, subtitles: &Cues<Global>, frame: u32, guess: usize) -> usize
     requires { IsProgramme drawing.now subtitles.now }
     ensures bound { result ≤ length subtitles.now }
     ensures before { (k : ℕ) (d : SubtitleValue)
@@ -99,7 +99,7 @@ fn first_after_near(drawing: &Drawing, subtitles: &Cues<Global>, frame: u32, gue
 
 // Draws the expected page at a frame. Returns the next cue after the frame, and the index of the
 // subtitle found.
-fn draw_near(
+fn draw_expected(
     drawing: &Drawing,
     subtitles: &Cues<Global>,
     frame: u32,
@@ -110,7 +110,7 @@ fn draw_near(
     ensures page { page.new ≡ due drawing.now subtitles.now frame }
     ensures edge { ReportsNextEdge subtitles.now frame result.0 }
 {
-    let at = first_after_near(drawing, subtitles, frame, guess);
+    let at = find_first_after(drawing, subtitles, frame, guess);
     if at == subtitles.len() {
         *page = Page::blank();
         return (None, at);
@@ -127,7 +127,7 @@ fn draw_near(
 }
 
 // Returns the next cue (TCI or TCO) after a frame.
-fn edge_after(drawing: &Drawing, subtitles: &Cues<Global>, frame: u32) -> Option<u32>
+fn cue_after(drawing: &Drawing, subtitles: &Cues<Global>, frame: u32) -> Option<u32>
     requires { IsProgramme drawing.now subtitles.now }
     ensures { ReportsNextEdge subtitles.now frame result }
 {
@@ -159,7 +159,7 @@ fn tco_before(subtitles: &Cues<Global>, at: usize) -> Option<u32>
 }
 
 // Returns the last cue (TCI or TCO) at or before a frame.
-fn edge_until(drawing: &Drawing, subtitles: &Cues<Global>, frame: u32) -> Option<u32>
+fn cue_until(drawing: &Drawing, subtitles: &Cues<Global>, frame: u32) -> Option<u32>
     requires { IsProgramme drawing.now subtitles.now }
     ensures { ReportsLastEdge subtitles.now frame result }
 {
@@ -266,8 +266,8 @@ impl Programme {
 
     /// Returns the TCI of the first subtitle as a frame of the day, or `None` if the programme has
     /// no subtitle.
-    pub fn first_in(&self) -> Option<u32>
-        ensures value { result ≡ first_in self.now.records }
+    pub fn first_tci(&self) -> Option<u32>
+        ensures value { result ≡ first_tci self.now.records }
         ensures programme { IsProgramme self.now.drawing self.now.records }
     {
         Some(self.subtitles.first()?.tci().frame())
@@ -275,8 +275,8 @@ impl Programme {
 
     /// Returns the TCO of the last subtitle as a frame of the day, or `None` if the programme has
     /// no subtitle.
-    pub fn last_out(&self) -> Option<u32>
-        ensures value { result ≡ last_out self.now.records }
+    pub fn last_tco(&self) -> Option<u32>
+        ensures value { result ≡ last_tco self.now.records }
         ensures programme { IsProgramme self.now.drawing self.now.records }
     {
         Some(self.subtitles.last()?.tco().frame())
@@ -322,7 +322,7 @@ impl Programme {
         ensures edge { ReportsNextEdge self.now.records frame result.0 }
         ensures programme { IsProgramme self.now.drawing self.now.records }
     {
-        draw_near(&self.drawing, &self.subtitles, frame, guess, page)
+        draw_expected(&self.drawing, &self.subtitles, frame, guess, page)
     }
 
     /// Returns the first TCI or TCO after a frame, by binary search.
@@ -332,7 +332,7 @@ impl Programme {
         ensures value { ReportsNextEdge self.now.records frame result }
         ensures programme { IsProgramme self.now.drawing self.now.records }
     {
-        edge_after(&self.drawing, &self.subtitles, frame)
+        cue_after(&self.drawing, &self.subtitles, frame)
     }
 
     /// Returns the last TCI or TCO at or before a frame, by binary search. The expected page does
@@ -343,7 +343,7 @@ impl Programme {
         ensures value { ReportsLastEdge self.now.records frame result }
         ensures programme { IsProgramme self.now.drawing self.now.records }
     {
-        edge_until(&self.drawing, &self.subtitles, frame)
+        cue_until(&self.drawing, &self.subtitles, frame)
     }
 
     /// Finds the subtitle whose TCO is the frame, by binary search, and returns its TCI.

@@ -9,7 +9,7 @@ use Rattle.std.specs.Prelude.{◌↔◌, IfErr, is_none, ◌<◌}
 use Rattle.std.specs.Io.KnownBytes.{Appends}
 use Rattle.std.proofs.KnownBytes.{Appends-trans}
 use Rattle.sub_io.proofs.DeviceLemmas.{AppendsPrefix-first, AppendsPrefix-second}
-use Rattle.sub_io.specs.Device.{AppendsPrefix, RisesIf, failed}
+use Rattle.sub_io.specs.Device.{AppendsPrefix, CountRisesIf, failed}
 use Rattle.sub_io.specs.Reading.{IfKnown}
 use Rattle.stl_rows.specs.EveryFault.{faults, load_fault}
 use Rattle.stl_rows.specs.Judged.{JudgedValue}
@@ -35,7 +35,7 @@ use Rattle.sub_listing.specs.FirstPacket.{FirstNumber}
 use Rattle.sub_listing.specs.DeviceCall.{Counts, SinkCall, SourceCall}
 use Rattle.sub_answer.specs.EveryFault.{AnswersAll, AreListed, PrintsMemoryLast, ReportsBoth}
 use Rattle.sub_answer.specs.FaultListing.{all_listing, last_listing}
-use Rattle.sub_listing.specs.EventLines.{event_lines, most_counted, refusals, subtitle_events}
+use Rattle.sub_listing.specs.EventLines.{event_lines, max_count, refusals, subtitle_events}
 use Rattle.sub_listing.specs.Faults.{kind_by}
 use Rattle.sub_listing.specs.Listing.{Listing, PrintsOrFails, followed}
 use Rattle.sub_listing.specs.Printer.{PrinterValue, counted}
@@ -43,7 +43,7 @@ use Rattle.sub_listing.specs.FaultLine.{status_of}
 use Rattle.sub_listing.specs.declared.status.Status.{Status}
 use Rattle.sub_listing.specs.declared.status.Status.TheVariants.{Done, Fault, Refused}
 use Rattle.sub_listing.proofs.PrintingLemmas.{printed-status}
-use Rattle.sub_answer.proofs.BothFilesLemmas.{Exactly, exactly-accepted, exactly-accepted_by}
+use Rattle.sub_answer.proofs.BothFilesLemmas.{AcceptsExactly, exactly-accepted, exactly-accepted_by}
 use Rattle.sub_answer.proofs.BothFilesLemmas.{pes-fails, status-reported, stl-fails}
 
 abbrev sink : Option (List ℕ) → ℕ → Option (List ℕ) → ℕ → SinkCall
@@ -79,29 +79,30 @@ printed-cut old new m n text listing part risen =
     inr (risen, AppendsPrefix-first old new text listing.text part, refl)
 
 none-first : (events : List Event)
-    → (min (refusals events) most_counted == 0) ≡ is_none (first_reported events)
+    → (min (refusals events) max_count == 0) ≡ is_none (first_reported events)
 none-first [] = refl
 none-first (Reported f ∷ events) = grind (arith, nat_tests)
 none-first (Ended rule frame ∷ events) = let rest = none-first events in grind (arith, nat_tests)
 none-first (SkippedUntil f ∷ events) = let rest = none-first events in grind (arith, nat_tests)
 none-first (Trusted from to ∷ events) = let rest = none-first events in grind (arith, nat_tests)
 
-abbrev by_first : Option CheckFault → Status
-by_first None = Done
-by_first (Some f) = Refused
+abbrev status_by_first_fault : Option CheckFault → Status
+status_by_first_fault None = Done
+status_by_first_fault (Some f) = Refused
 
 last-status : (first n : ℕ) (a : Accepted) (o : Option CheckFault) → (n == 0) ≡ is_none o
-    → (last_listing first n (Ok (Some a))).status ≡ by_first o
+    → (last_listing first n (Ok (Some a))).status ≡ status_by_first_fault o
 last-status first n a None is = rw is refl
 last-status first n a (Some f) is = rw is refl
 
 read-status : (first : ℕ) (events : List Event) (a : Accepted)
-    → (all_listing first events (Ok (Some a))).status ≡ by_first (first_reported events)
+    → (all_listing first events (Ok (Some a))).status ≡ status_by_first_fault
+    (first_reported events)
 read-status first events a =
-    last-status first (min (refusals events) most_counted) a (first_reported events)
+    last-status first (min (refusals events) max_count) a (first_reported events)
     (none-first events)
 
-never-fault : (o : Option CheckFault) → by_first o ≢ Fault
+never-fault : (o : Option CheckFault) → status_by_first_fault o ≢ Fault
 never-fault None e = cc
 never-fault (Some f) e = cc
 
@@ -141,7 +142,7 @@ done-exactly :
     → IfErr answer (λ f. is_failure f ≡ true)
     → AreListed drawing options file pes events answer
     → ((a : Accepted) → answer ≡ Ok (Some a)
-    → Exactly drawing file (first_answer events a) Means)
+    → AcceptsExactly drawing file (first_answer events a) Means)
     → (Means → (programme : ProgrammeValue) × (loaded drawing file ≡ Ok programme))
     → ((all_listing first events answer).status ≡ Done) ↔ Means
 done-exactly drawing options file bytes pes first events (Err f) Means known runs ended are exact
@@ -162,8 +163,8 @@ done-exactly drawing options file bytes pes first events (Ok (Some a)) Means kno
     rw (read-status first events a) (go (first_reported events) refl (exact a refl))
   where
     go : (o : Option CheckFault) → first_reported events ≡ o
-        → Exactly drawing file (answer_by o a) Means
-        → (by_first o ≡ Done) ↔ Means
+        → AcceptsExactly drawing file (answer_by o a) Means
+        → (status_by_first_fault o ≡ Done) ↔ Means
     go None is exactly = (
       λ done.
           let none = unreported (faults drawing file) are.more (ap first_reported (sym are.both) ∙
@@ -219,17 +220,17 @@ unfolding counted
 answers_end
     drawing options stl pes first Untouched old new given end end_count status loading t holds none
     last =
-    let refused : new.refused ≡ min (refusals t.events) most_counted =
-    t.prints.put_refused holds ∙ ap (λ n. min (n + refusals t.events) most_counted) none
+    let refused : new.refused ≡ min (refusals t.events) max_count =
+    t.prints.put_refused holds ∙ ap (λ n. min (n + refusals t.events) max_count) none
     ∙ (let none_before : 0 + refusals t.events ≡ refusals t.events = omega arith in
-    ap (λ n. min n most_counted) none_before) in
+    ap (λ n. min n max_count) none_before) in
     let line : PrintsOrFails (sink new.contents new.count end end_count)
-    (last_listing t.number (min (refusals t.events) most_counted) t.answer) status =
+    (last_listing t.number (min (refusals t.events) max_count) t.answer) status =
     rw (sym refused, t.same holds, sym t.prints.counts_from) last in
     let printed =
     printed-after old.contents new.contents end old.count new.count end_count
     (event_lines t.number t.events)
-    (last_listing t.number (min (refusals t.events) most_counted) t.answer) status
+    (last_listing t.number (min (refusals t.events) max_count) t.answer) status
     (t.prints.put holds)
     (t.prints.put_count holds) line in
     record {
@@ -279,7 +280,7 @@ answers_at drawing options stl pes first Untouched old mid new m n p status answ
     rw (same, counted) answers
 
 pub counted_by : (b : Bool) (old new : ℕ) (status : Status)
-    → RisesIf old b new
+    → CountRisesIf old b new
     → (b ≡ true → status ≢ Fault → ⊥)
     → Counts old status new
 counted_by true old new status rises is = grind (arith, is)

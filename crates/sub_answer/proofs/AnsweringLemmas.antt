@@ -1,11 +1,11 @@
--- The answer of a check follows from the contract of `check_files` (as_answered), and its status is
--- Done exactly if the files are accepted (`done-exactly`).
+-- The answer of a check follows from the contract of `check_files` (answer_of_check_files), and its
+-- status is Done exactly if the files are accepted (`done-exactly`).
 use Rattle.std.proofs.lemmas.Bool.Decides.{nat_tests}
 use Rattle.std.proofs.Common.{◌≡◌, ◌≢◌, ◌↔◌, ℕ, List, Some, Result, Ok, Err, true, false}
 use Rattle.std.proofs.Common.{ap, arith, refl, sym, subst, Bool}
 use Rattle.std.proofs.lemmas.Bool.{true≢false}
 use Rattle.std.specs.Io.KnownBytes.{Appends}
-use Rattle.sub_io.specs.Device.{RisesIf, failed}
+use Rattle.sub_io.specs.Device.{CountRisesIf, failed}
 use Rattle.sub_io.specs.Reading.{IfKnown}
 use Rattle.ttx_pes.specs.Reader.{FailsAtPacket}
 use Rattle.stl_file.specs.declared.fault.StlFault.TheVariants as stl
@@ -36,7 +36,7 @@ use Rattle.sub_listing.specs.FirstPacket.{FirstNumber, StartsAt}
 use Rattle.sub_listing.specs.Listing.{PrintsOrFails}
 use Rattle.sub_listing.specs.declared.status.Status.{Status}
 use Rattle.sub_listing.specs.declared.status.Status.TheVariants.{Done, Fault}
-use Rattle.sub_answer.proofs.BothFilesLemmas.{Exactly, exactly-accepted, exactly-accepted_by}
+use Rattle.sub_answer.proofs.BothFilesLemmas.{AcceptsExactly, exactly-accepted, exactly-accepted_by}
 use Rattle.sub_answer.proofs.BothFilesLemmas.{status-reported}
 use Rattle.sub_answer.proofs.BothFilesLemmas.{reported-fails, reported-not_done, reported-runs}
 
@@ -78,7 +78,7 @@ done-exactly :
     (drawing : Drawing) (options : OptionsValue) (file bytes : List ℕ)
     (first : ℕ) (answer : Result Accepted CheckFault) (Means : Type 0)
     → AreChecked drawing options file (Some bytes) answer
-    → Exactly drawing file answer Means
+    → AcceptsExactly drawing file answer Means
     → (verdict first answer).status ≢ Fault
     → ((verdict first answer).status ≡ Done) ↔ Means
 done-exactly drawing options file bytes first (Ok a) Means are exact other =
@@ -100,7 +100,7 @@ answer-fails : (first : ℕ) (answer : Result Accepted CheckFault)
 answer-fails first (Ok a) is = cc
 answer-fails first (Err f) is = reported-fails (is_failure f) is
 
-pub as_answered :
+pub answer_of_check_files :
     (drawing : Drawing) (options : OptionsValue) (stl pes : SourceCall) (first : FirstNumber)
     (Untouched : Type 0) (out : SinkCall) (status : Status) (number : ℕ)
     (answer : Result Accepted CheckFault)
@@ -112,7 +112,7 @@ pub as_answered :
     Untouched (failed is_subtitle_fault answer) stl pes answer
     → IfKnown stl.known (λ file. AreChecked drawing options file pes.known answer)
     → AnswersCheck drawing options stl pes first Untouched out status
-as_answered
+answer_of_check_files
     drawing options stl pes first Untouched out status number answer loading printed starts
     sources checked = record {
       answer = answer;
@@ -159,7 +159,7 @@ pub source_counts : (is_one : CheckFault → Bool)
     → ((f : CheckFault) → is_one f ≡ true → is_failure f ≡ true)
     → (out : SinkCall) (status : Status) (first old new : ℕ) (answer : Result Accepted CheckFault)
     → PrintsOrFails out (verdict first answer) status
-    → RisesIf old (failed is_one answer) new
+    → CountRisesIf old (failed is_one answer) new
     → Counts old status new
 source_counts is_one fails out status first old new answer printed counted =
     grind (arith, nat_tests, counted_by, printed-status, verdict-fault)

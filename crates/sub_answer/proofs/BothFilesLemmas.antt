@@ -75,7 +75,7 @@ memory-fault (Err f) fails read fine = cc
 
 -- If the subtitle file gives a programme, an answer without a failed device is `Ok` exactly if the
 -- files are accepted.
-pub record Exactly
+pub record AcceptsExactly
     (drawing : Drawing) (file : List ℕ) (answer : Result Accepted CheckFault) (Means : Type 0)
     : Type 0 where
   pub exactly :
@@ -93,7 +93,7 @@ pub exactly-accepted :
     → ((programme : ProgrammeValue)
     → loaded drawing file ≡ Ok programme
     → IsChecked programme options bytes answer)
-    → Exactly drawing file answer (IsAccepted drawing options file bytes)
+    → AcceptsExactly drawing file answer (IsAccepted drawing options file bytes)
 exactly-accepted drawing options file bytes answer loading checked = record {
   exactly = λ p loads looked fine.
       let exact = (checked p loads).accepted looked fine in (
@@ -110,7 +110,7 @@ pub exactly-accepted_by :
     → ((programme : ProgrammeValue)
     → loaded drawing file ≡ Ok programme
     → IsCheckedBy programme options bytes answer)
-    → Exactly drawing file answer (IsAcceptedBy drawing options file bytes)
+    → AcceptsExactly drawing file answer (IsAcceptedBy drawing options file bytes)
 exactly-accepted_by drawing options file bytes answer loading checked = record {
   exactly = λ p loads looked fine.
       let exact = (checked p loads).accepted looked fine in (
@@ -154,11 +154,11 @@ status-reported drawing options stl pes out listing status answer PrintsMemory p
           rw is (done_by (λ failing. other (is ∙ failing)) file reported bytes heard);
       fault = λ is stl_same pes_same out_same.
           let whole = printed-whole out listing status printed out_same in
-          let wanted =
+          let expected =
           memory-fault answer (fails (sym whole.1 ∙ is))
           (did_not_rise (failed is_stl_read answer) _ _ sources.stl_count stl_same)
           (did_not_rise (failed is_pes_read answer) _ _ sources.pes_count pes_same) in
-          memory wanted.0 wanted.1 whole.0;
+          memory expected.0 expected.1 whole.0;
     }
 
 pub sources-untouched :

@@ -82,57 +82,60 @@ nothing = record {
   number = record { known = Some 0; left = Some 0; skipped = 0 };
 }
 
-any_second :
+answer_ignores_second :
     (request : Request) (first second other : InputCall) (Untouched Other : Type 0)
     (file out : SinkCall) (status : Status)
     → reads_pes_packets request ≡ true
     → Answers request first second Untouched file out status
     → Answers request first other Other file out status
-any_second (ask.Packets pes) first second other U V file out status reads is = is
-any_second (ask.Listen pes listening) first second other U V file out status reads is = is
-any_second (ask.Extract recording pes stream) first second other U V file out status reads is = is
-any_second ask.Help first second other U V file out status reads is =
+answer_ignores_second (ask.Packets pes) first second other U V file out status reads is = is
+answer_ignores_second (ask.Listen pes listening) first second other U V file out status reads
+    is = is
+answer_ignores_second (ask.Extract recording pes stream) first second other U V file out status
+    reads is = is
+answer_ignores_second ask.Help first second other U V file out status reads is =
     absurd (true≢false (sym reads))
-any_second ask.Version first second other U V file out status reads is =
+answer_ignores_second ask.Version first second other U V file out status reads is =
     absurd (true≢false (sym reads))
-any_second (ask.Packet bytes) first second other U V file out status reads is =
+answer_ignores_second (ask.Packet bytes) first second other U V file out status reads is =
     absurd (true≢false (sym reads))
-any_second (ask.Show stl) first second other U V file out status reads is =
+answer_ignores_second (ask.Show stl) first second other U V file out status reads is =
     absurd (true≢false (sym reads))
-any_second (ask.Normal input output) first second other U V file out status reads is =
+answer_ignores_second (ask.Normal input output) first second other U V file out status reads is =
     absurd (true≢false (sym reads))
-any_second
+answer_ignores_second
     (ask.Schedule stl pes options serial national layout scope) first second other U V file out
     status reads is =
     absurd (true≢false (sym reads))
-any_second
+answer_ignores_second
     (ask.Check stl pes options national layout scope all) first second other U V file out status
     reads is =
     absurd (true≢false (sym reads))
-any_second (ask.Survey recording options) first second other U V file out status reads is =
+answer_ignores_second (ask.Survey recording options) first second other U V file out status reads
+    is =
     absurd (true≢false (sym reads))
 
-any_second_followed :
+flush_ignores_second :
     (request : Request) (First Second Other IsAlone : Type 0)
     → reads_pes_packets request ≡ true
     → FlushesBefore request First Second IsAlone
     → FlushesBefore request First Other IsAlone
-any_second_followed (ask.Packets pes) First Second Other IsAlone reads is = is
-any_second_followed (ask.Listen pes listening) First Second Other IsAlone reads is = tt
-any_second_followed (ask.Extract recording pes stream) First Second Other IsAlone reads is = tt
-any_second_followed ask.Help First Second Other IsAlone reads is = tt
-any_second_followed ask.Version First Second Other IsAlone reads is = tt
-any_second_followed (ask.Packet bytes) First Second Other IsAlone reads is = tt
-any_second_followed (ask.Show stl) First Second Other IsAlone reads is = tt
-any_second_followed (ask.Normal input output) First Second Other IsAlone reads is = tt
-any_second_followed
+flush_ignores_second (ask.Packets pes) First Second Other IsAlone reads is = is
+flush_ignores_second (ask.Listen pes listening) First Second Other IsAlone reads is = tt
+flush_ignores_second (ask.Extract recording pes stream) First Second Other IsAlone reads is = tt
+flush_ignores_second ask.Help First Second Other IsAlone reads is = tt
+flush_ignores_second ask.Version First Second Other IsAlone reads is = tt
+flush_ignores_second (ask.Packet bytes) First Second Other IsAlone reads is = tt
+flush_ignores_second (ask.Show stl) First Second Other IsAlone reads is = tt
+flush_ignores_second (ask.Normal input output) First Second Other IsAlone reads is = tt
+flush_ignores_second
     (ask.Schedule stl pes options serial national layout scope) First Second Other IsAlone reads
     is =
     tt
-any_second_followed
+flush_ignores_second
     (ask.Check stl pes options national layout scope all) First Second Other IsAlone reads is =
     absurd (true≢false (sym reads))
-any_second_followed (ask.Survey recording options) First Second Other IsAlone reads is = is
+flush_ignores_second (ask.Survey recording options) First Second Other IsAlone reads is = is
 
 pub ends_alone :
     {IsAlone : Lines → Type 0} (request : Request)
@@ -153,11 +156,12 @@ ends_alone
       status = is.status;
       printed = is.printed;
       answers =
-          any_second request is.first is.second nothing Untouched ⊤ is.file _ is.status reads
+          answer_ignores_second request is.first is.second nothing Untouched ⊤ is.file _ is.status
+          reads
           is.answers;
       followed =
           λ none.
-          any_second_followed request (fails is.first) (fails is.second) (fails nothing) _ reads
+          flush_ignores_second request (fails is.first) (fails is.second) (fails nothing) _ reads
           (is.followed none);
       flushed = is.flushed;
     }
@@ -191,57 +195,59 @@ ends_weaker
       flushed = is.flushed;
     }
 
-none_of : (buffered : List ℕ) → length buffered ≡ 0 → buffered ≡ []
-none_of [] is = refl
-none_of (byte ∷ more) is = grind (arith, nat_tests)
+empty_of_length : (buffered : List ℕ) → length buffered ≡ 0 → buffered ≡ []
+empty_of_length [] is = refl
+empty_of_length (byte ∷ more) is = grind (arith, nat_tests)
 
-flushes_so :
+flushes_before_implies :
     (request : Request) (First First' Second Second' IsAlone IsAlone' : Type 0)
     → (First' → First)
     → (Second' → Second)
     → (IsAlone → IsAlone')
     → FlushesBefore request First Second IsAlone
     → FlushesBefore request First' Second' IsAlone'
-flushes_so (ask.Packets pes) F F' S S' A A' first second alone is =
+flushes_before_implies (ask.Packets pes) F F' S S' A A' first second alone is =
     λ fails. alone (is (first fails))
-flushes_so (ask.Survey recording options) F F' S S' A A' first second alone is =
+flushes_before_implies (ask.Survey recording options) F F' S S' A A' first second alone is =
     λ fails. alone (is (first fails))
-flushes_so
+flushes_before_implies
     (ask.Check stl pes options national layout scope true) F F' S S' A A' first second alone is =
     λ fails. alone (is (second fails))
-flushes_so
+flushes_before_implies
     (ask.Check stl pes options national layout scope false) F F' S S' A A' first second alone is =
     tt
-flushes_so ask.Help F F' S S' A A' first second alone is = tt
-flushes_so ask.Version F F' S S' A A' first second alone is = tt
-flushes_so (ask.Packet bytes) F F' S S' A A' first second alone is = tt
-flushes_so (ask.Show stl) F F' S S' A A' first second alone is = tt
-flushes_so (ask.Normal input output) F F' S S' A A' first second alone is = tt
-flushes_so
+flushes_before_implies ask.Help F F' S S' A A' first second alone is = tt
+flushes_before_implies ask.Version F F' S S' A A' first second alone is = tt
+flushes_before_implies (ask.Packet bytes) F F' S S' A A' first second alone is = tt
+flushes_before_implies (ask.Show stl) F F' S S' A A' first second alone is = tt
+flushes_before_implies (ask.Normal input output) F F' S S' A A' first second alone is = tt
+flushes_before_implies
     (ask.Schedule stl pes options serial national layout scope) F F' S S' A A' first second alone
     is =
     tt
-flushes_so (ask.Listen pes listening) F F' S S' A A' first second alone is = tt
-flushes_so (ask.Extract recording pes stream) F F' S S' A A' first second alone is = tt
+flushes_before_implies (ask.Listen pes listening) F F' S S' A A' first second alone is = tt
+flushes_before_implies (ask.Extract recording pes stream) F F' S S' A A' first second alone is = tt
 
-writes_so :
+writes_before_implies :
     (request : Request) (First First' None None' : Type 0)
     → (First' → First)
     → (None → None')
     → WritesBefore request First None
     → WritesBefore request First' None'
-writes_so (ask.Extract recording pes stream) F F' N N' first none is =
+writes_before_implies (ask.Extract recording pes stream) F F' N N' first none is =
     λ fails. none (is (first fails))
-writes_so ask.Help F F' N N' first none is = tt
-writes_so ask.Version F F' N N' first none is = tt
-writes_so (ask.Packet bytes) F F' N N' first none is = tt
-writes_so (ask.Packets pes) F F' N N' first none is = tt
-writes_so (ask.Show stl) F F' N N' first none is = tt
-writes_so (ask.Normal input output) F F' N N' first none is = tt
-writes_so (ask.Schedule stl pes options serial national layout scope) F F' N N' first none is = tt
-writes_so (ask.Check stl pes options national layout scope all) F F' N N' first none is = tt
-writes_so (ask.Listen pes listening) F F' N N' first none is = tt
-writes_so (ask.Survey recording options) F F' N N' first none is = tt
+writes_before_implies ask.Help F F' N N' first none is = tt
+writes_before_implies ask.Version F F' N N' first none is = tt
+writes_before_implies (ask.Packet bytes) F F' N N' first none is = tt
+writes_before_implies (ask.Packets pes) F F' N N' first none is = tt
+writes_before_implies (ask.Show stl) F F' N N' first none is = tt
+writes_before_implies (ask.Normal input output) F F' N N' first none is = tt
+writes_before_implies (ask.Schedule stl pes options serial national layout scope) F F' N N' first
+    none is = tt
+writes_before_implies (ask.Check stl pes options national layout scope all) F F' N N' first none
+    is = tt
+writes_before_implies (ask.Listen pes listening) F F' N N' first none is = tt
+writes_before_implies (ask.Survey recording options) F F' N N' first none is = tt
 
 pub written_before :
     (request : Request) (Fails : Type 0) (old new : List ℕ)
@@ -249,10 +255,11 @@ pub written_before :
     → WritesBefore request Fails (length old ≡ 0 → length new ≡ 0)
     → WritesBefore request Fails (new ≡ [])
 written_before request Fails old new none is =
-    writes_so request Fails Fails _ _ (λ f. f) (λ so. none_of new (so (ap length none))) is
+    writes_before_implies request Fails Fails _ _ (λ f. f) (λ so. empty_of_length new
+    (so (ap length none))) is
 
-fails_so : (input other : InputCall) → input ≡ other → fails other → fails input
-fails_so input other same is = subst (λ (i : InputCall). fails i) (sym same) is
+fails_same_input : (input other : InputCall) → input ≡ other → fails other → fails input
+fails_same_input input other same is = subst (λ (i : InputCall). fails i) (sym same) is
 
 pub followed_with_file :
     (request : Request) (first pes_packets : InputCall) (SecondFails None IsAlone : Type 0)
@@ -263,7 +270,8 @@ pub followed_with_file :
     → None
     → FlushesBefore request (fails first) SecondFails IsAlone
 followed_with_file request first pes_packets SecondFails None IsAlone source second is none =
-    flushes_so request _ _ _ _ _ _ (fails_so _ _ (first_source request first pes_packets source))
+    flushes_before_implies request
+    _ _ _ _ _ _ (fails_same_input _ _ (first_source request first pes_packets source))
     second (λ so. so none) is
 
 pub written_with_file :
@@ -273,7 +281,8 @@ pub written_with_file :
     → Before
     → WritesBefore request (fails first) None
 written_with_file request first pes_packets Before None source is none =
-    writes_so request _ _ _ _ (fails_so _ _ (first_source request first pes_packets source))
+    writes_before_implies request
+    _ _ _ _ (fails_same_input _ _ (first_source request first pes_packets source))
     (λ so. so none) is
 
 followed_pes_packets :
@@ -283,8 +292,9 @@ followed_pes_packets :
     → None
     → FlushesBefore request First Other IsAlone
 followed_pes_packets request Second Other None IsAlone First reads is none =
-    flushes_so request First First Other Other (None → IsAlone) IsAlone (λ f. f) (λ f. f)
-    (λ so. so none) (any_second_followed request First Second Other (None → IsAlone) reads is)
+    flushes_before_implies request First First Other Other (None → IsAlone) IsAlone (λ f. f)
+    (λ f. f)
+    (λ so. so none) (flush_ignores_second request First Second Other (None → IsAlone) reads is)
 
 pub followed_of_pes_packets :
     (request : Request) (source pes_packets : InputCall) (FirstFails Second None IsAlone : Type 0)
@@ -297,8 +307,9 @@ pub followed_of_pes_packets :
 followed_of_pes_packets request source pes_packets FirstFails Second None IsAlone reads first is
     none =
     followed_pes_packets request (fails pes_packets) Second None IsAlone FirstFails reads
-    (flushes_so request _ _ _ _ _ _
-    (λ f. fails_so _ _ (first_pes_packets request source pes_packets reads) (first f)) (λ f. f)
+    (flushes_before_implies request _ _ _ _ _ _
+    (λ f. fails_same_input _ _ (first_pes_packets request source pes_packets reads) (first f))
+    (λ f. f)
     (λ so. so) is)
     none
 
@@ -310,8 +321,8 @@ pub written_of_pes_packets :
     → Before
     → WritesBefore request FirstFails None
 written_of_pes_packets request source pes_packets FirstFails Before None reads first is none =
-    writes_so request _ _ _ _
-    (λ f. fails_so _ _ (first_pes_packets request source pes_packets reads) (first f))
+    writes_before_implies request _ _ _ _
+    (λ f. fails_same_input _ _ (first_pes_packets request source pes_packets reads) (first f))
     (λ so. so none) is
 
 pub followed_before :
@@ -328,7 +339,7 @@ pub followed_before :
     (lines_in contents buffer_state failure_count new))
 followed_before
     contents buffer_state buffered failure_count IsPush old new law request First Second is none =
-    flushes_so request First First Second Second _ _ (λ f. f) (λ f. f)
+    flushes_before_implies request First First Second Second _ _ (λ f. f) (λ f. f)
     (λ so.
     let last = so (law old ∙ ap length none) in
     record {

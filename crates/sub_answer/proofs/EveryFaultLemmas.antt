@@ -7,7 +7,7 @@ use Rattle.std.proofs.Common.{Some, None, Result, Ok, Err, ◌++◌}
 use Rattle.std.proofs.lemmas.Bool.{true≢false}
 use Rattle.std.specs.Prelude.{◌⊎◌, ◌||◌, not, is_err, IfErr}
 use Rattle.std.specs.List.{filter}
-use Rattle.sub_io.specs.Device.{RisesIf}
+use Rattle.sub_io.specs.Device.{CountRisesIf}
 use Rattle.sub_io.specs.Reading.{IfKnown}
 use Rattle.sub_io.specs.Reporting.{Reports, ReportsInOrder, ReportsSome}
 use Rattle.ttx_pes.specs.declared.fault.PesFault.TheVariants as pes_fault
@@ -15,7 +15,7 @@ use Rattle.stl_file.specs.declared.fault.StlFault.TheVariants as stl_fault
 use Rattle.stl_rows.specs.EveryFault.{FailsReporting, ReportsFaults, ReportsOfFile, WantsMemory}
 use Rattle.stl_rows.specs.EveryFault.{faults}
 use Rattle.stl_rows.specs.EveryFault.{is_reported_before, load_fault}
-use Rattle.stl_rows.specs.Judged.{JudgedValue, JudgesBy, judges, known}
+use Rattle.stl_rows.specs.Judged.{JudgedValue, JudgesBy, can_judge, known}
 use Rattle.stl_rows.proofs.LoadingLaw.{none_of_loaded}
 use Rattle.stl_rows.specs.Fault.{is_load_read, is_read_kind}
 use Rattle.stl_rows.specs.Loading.{loaded}
@@ -36,10 +36,10 @@ use Rattle.sub_listing.specs.FirstPacket.{FirstNumber}
 use Rattle.sub_listing.specs.DeviceCall.{SourceCall}
 use Rattle.sub_answer.specs.EveryFault.{AreListedBefore, AreListedOfPes, FailsAtBlock, IsAnswer}
 use Rattle.sub_answer.specs.EveryFault.{IsListedOf, ReportsBoth, ReportsPes, read_answer}
-use Rattle.sub_listing.specs.EventLines.{most_counted, refusals, subtitle_event, subtitle_events}
+use Rattle.sub_listing.specs.EventLines.{max_count, refusals, subtitle_event, subtitle_events}
 use Rattle.sub_listing.specs.Printer.{PrinterValue, PrintsEvent, PrintsEvents, can_fail}
 use Rattle.sub_listing.proofs.PrinterLemmas.{prints-renumbered, prints-taken, prints-two}
-use Rattle.sub_listing.proofs.PrinterLemmas.{prints_all, still_goes}
+use Rattle.sub_listing.proofs.PrinterLemmas.{prints_all, continues_without_failure}
 use Rattle.sub_answer.proofs.PesEventLemmas.{decided}
 
 refusals-subtitles : (fs : List LoadFault) → refusals (subtitle_events fs) ≡ length fs
@@ -57,8 +57,8 @@ module _ {D : Type 0} (IsReported : D → LoadFault → D → Type 0) (value : D
     → PrintsEvent (value s) (subtitle_event x) (value t))
     (drawing : Drawing) (options : OptionsValue) (stl pes : SourceCall) (first : FirstNumber)
     (Untouched : Type 0) (old new : D)
-    (goes : (value old).failed ≡ false) (few : (value old).refused ≤ most_counted)
-    (untouched : Untouched) (pes_count : RisesIf pes.old_count false pes.new_count) where
+    (goes : (value old).failed ≡ false) (few : (value old).refused ≤ max_count)
+    (untouched : Untouched) (pes_count : CountRisesIf pes.old_count false pes.new_count) where
   abbrev printed : (items : List LoadFault) → Reports IsReported old new items
       → PrintsEvents (value old) (subtitle_events items) (value new)
   printed items reported = prints_all IsReported value subtitle_event one old new items goes few
@@ -67,7 +67,7 @@ module _ {D : Type 0} (IsReported : D → LoadFault → D → Type 0) (value : D
   ended_at : (block : ℕ) (kind : LoadFaultKind) (items : List LoadFault)
       → (value new).failed ≡ false
       → Reports IsReported old new items
-      → RisesIf stl.old_count (is_read_kind kind) stl.new_count
+      → CountRisesIf stl.old_count (is_read_kind kind) stl.new_count
       → (is_read_kind kind ≡ true → FailsAtBlock stl.known stl.left block)
       → is_failure_kind kind ≡ true
       → IfKnown stl.known (λ file.
@@ -100,7 +100,7 @@ module _ {D : Type 0} (IsReported : D → LoadFault → D → Type 0) (value : D
   at_memory : (block : ℕ)
       → (value new).failed ≡ false
       → ReportsSome IsReported old new
-      → RisesIf stl.old_count (is_load_read (load_fault block load.Memory)) stl.new_count
+      → CountRisesIf stl.old_count (is_load_read (load_fault block load.Memory)) stl.new_count
       → IfKnown stl.known (λ file. WantsMemory drawing file IsReported old new block)
       → ReportsBoth drawing options stl pes first Untouched (value old) (value new)
       (Err (fault.Subtitles (load_fault block load.Memory)))
@@ -116,7 +116,7 @@ module _ {D : Type 0} (IsReported : D → LoadFault → D → Type 0) (value : D
   at_read : (block : ℕ)
       → (value new).failed ≡ false
       → ReportsSome IsReported old new
-      → RisesIf stl.old_count (is_load_read (load_fault block (load.File stl_fault.Read)))
+      → CountRisesIf stl.old_count (is_load_read (load_fault block (load.File stl_fault.Read)))
       stl.new_count
       → FailsReporting drawing stl.known stl.left IsReported old new block
       → ReportsBoth drawing options stl pes first Untouched (value old) (value new)
@@ -127,14 +127,14 @@ module _ {D : Type 0} (IsReported : D → LoadFault → D → Type 0) (value : D
       (λ file. filter (is_reported_before block) (faults drawing file)) some.items some.reported
       f.reported in
       ended_at block (load.File stl_fault.Read) items.0 fault_free items.1 count
-      (λ is. record { bytes = f.bytes; consumed = f.consumed; block_is = f.block_is }) refl
+      (λ is. record { bytes = f.bytes; consumed = f.consumed; block_eq = f.block_eq }) refl
       (λ file reported. ap subtitle_events (items.2 file reported))
 
   pub after_error : (block : ℕ) (kind : LoadFaultKind)
       → (value new).failed ≡ false
       → (kind ≡ load.Memory) ⊎ (kind ≡ load.File stl_fault.Read)
       → ReportsSome IsReported old new
-      → RisesIf stl.old_count (is_load_read (load_fault block kind)) stl.new_count
+      → CountRisesIf stl.old_count (is_load_read (load_fault block kind)) stl.new_count
       → IfKnown stl.known (λ file.
       kind ≡ load.Memory → WantsMemory drawing file IsReported old new block)
       → (is_load_read (load_fault block kind) ≡ true
@@ -167,8 +167,8 @@ module _ {D : Type 0} (IsReported : D → LoadFault → D → Type 0) (value : D
       → ((value new).failed ≡ false → (value new).count ≡ (value old).count → stopped ≡ false)
       → ReportsOfFile IsReported old new
       → IfKnown stl.known (λ file. ReportsFaults IsReported old new stopped (faults drawing file))
-      → IfKnown stl.known (λ file. (stopped ≡ true) ⊎ (judges drawing file ≡ false))
-      → RisesIf stl.old_count false stl.new_count
+      → IfKnown stl.known (λ file. (stopped ≡ true) ⊎ (can_judge drawing file ≡ false))
+      → CountRisesIf stl.old_count false stl.new_count
       → ReportsBoth drawing options stl pes first Untouched (value old) (value new) (Ok None)
   after_faults stopped fault_free some reported unjudged count =
       let here = printed some.faults some.reported in
@@ -208,7 +208,7 @@ module _ {D : Type 0} (IsReported : D → LoadFault → D → Type 0) (value : D
       → Reports IsReported old new fs
       → 0 < length fs
       → IfKnown stl.known (λ file. fs ≡ faults drawing file)
-      → RisesIf stl.old_count false stl.new_count
+      → CountRisesIf stl.old_count false stl.new_count
       → ReportsBoth drawing options stl pes first Untouched (value old) (value new) (Ok None)
   after_unhanded fs failing reported some are count = record {
     events = subtitle_events fs;
@@ -237,7 +237,8 @@ pub stops_failed : (old new : PrinterValue) (events : List Event)
     → old.count < 0xFFFF_FFFF_FFFF_FFFF
     → (new.failed || not (can_fail new.count)) ≡ true
     → new.failed ≡ true
-stops_failed old new events prints room stopped = grind (arith, nat_tests, still_goes)
+stops_failed old new events prints room stopped = grind
+    (arith, nat_tests, continues_without_failure)
 
 pub some_reported : {D : Type 0} (IsReported : D → LoadFault → D → Type 0) (has_pending : D → Bool)
     (old new : D) (fs : List LoadFault)
@@ -272,7 +273,7 @@ module _ (drawing : Drawing) (options : OptionsValue) (stl pes : SourceCall) (fi
     (fs : List LoadFault)
     (goes : mid.failed ≡ false)
     (before : PrintsEvents old (subtitle_events fs) mid)
-    (stl_count : RisesIf stl.old_count false stl.new_count)
+    (stl_count : CountRisesIf stl.old_count false stl.new_count)
     (by : IfKnown stl.known (λ file. JudgesBy drawing file judged))
     (are : IfKnown stl.known (λ file. fs ≡ faults drawing file)) where
   both_printed : (number : ℕ) (events : List Event)

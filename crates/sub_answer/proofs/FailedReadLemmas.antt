@@ -6,7 +6,7 @@ use Rattle.std.proofs.Common.{List, [], Bool, true, Option}
 use Rattle.std.proofs.Common.{Result, Ok, Err}
 use Rattle.std.proofs.lemmas.Bool.{true≢false}
 use Rattle.std.specs.Prelude.{IfErr, IsOk, is_err, is_ok, not}
-use Rattle.sub_io.specs.Device.{RisesIf, failed}
+use Rattle.sub_io.specs.Device.{CountRisesIf, failed}
 use Rattle.ttx_pes.specs.declared.fault.PesFault.TheVariants as pes_fault
 use Rattle.stl_rows.specs.Judged.{JudgedValue}
 use Rattle.stl_rows.specs.Programme.{ProgrammeValue}
@@ -57,7 +57,7 @@ error_fails Q is_one (Err e) holds is = holds
 
 ok_keeps : (answer : Result (Option Accepted) CheckFault) (old new : ℕ)
     → IsOk answer
-    → RisesIf old (failed is_pes_read answer) new
+    → CountRisesIf old (failed is_pes_read answer) new
     → old < new
     → ⊥
 ok_keeps (Ok a) old new ok same risen = omega (arith, same, risen)

@@ -16,12 +16,13 @@ use Rattle.sub_listing.specs.FirstPacket.{FirstNumber}
 use Rattle.sub_listing.specs.Faults.{check_line}
 use Rattle.sub_listing.specs.Listing.{PrintsOrFails, fault_listing}
 use Rattle.sub_listing.specs.FaultLine.{counted_from}
-use Rattle.sub_listing.proofs.FirstPacketLemmas.{fails_first_packet, fails_packet_kept, known_kept}
+use Rattle.sub_listing.proofs.FirstPacketLemmas.{fails_first_packet, fails_packet_kept}
+use Rattle.sub_listing.proofs.FirstPacketLemmas.{known_bytes_kept}
 use Rattle.sub_answer.specs.Answering.{AnswersListen, PrintsHeard}
 use Rattle.sub_listing.specs.DeviceCall.{SinkCall, SourceCall}
 use Rattle.sub_listing.specs.declared.status.Status.{Status}
 use Rattle.sub_answer.specs.ListenListing.{IsOldPage, Listens, listing_of, tuned_with}
-use Rattle.sub_listing.specs.DisplayLines.{IsSeenComplete}
+use Rattle.sub_listing.specs.DisplayLines.{PrintsCompletePage}
 use Rattle.ttx_page.specs.Page.{Rows}
 use Rattle.sub_listen.specs.declared.listening.ListenFault.{ListenFault}
 use Rattle.sub_request.specs.declared.listening.Listening.{Listening}
@@ -35,19 +36,20 @@ pub listens_from : (leaves : ℕ → ℕ) (l : Listening) (first : ℕ) (frames 
     → old ≡ tuned_with page
     → IsOldPage page
     → HearsFile leaves l frames unread reported left w old end result
-    → IfOk result (λ _. IsSeenComplete asks_complete end)
+    → IfOk result (λ _. PrintsCompletePage asks_complete end)
     → Listens leaves l first frames unread reported left (listing_of first asks_complete end result)
 listens_from
     leaves l first frames unread reported left w old end result page asks_complete asks tuned start
     is_old hears seen =
     grind (arith, nat_tests)
 
-pub answers_as : (leaves left : ℕ → ℕ) (l : Listening) (pes : SourceCall) (first : FirstNumber)
+pub answers_listen_same : (leaves left : ℕ → ℕ) (l : Listening) (pes : SourceCall)
+    (first : FirstNumber)
     → (out : SinkCall) (status : Status)
     → leaves ≡ left
     → AnswersListen left l pes first out status
     → AnswersListen leaves l pes first out status
-answers_as leaves left l pes first out status same answers = rw same answers
+answers_listen_same leaves left l pes first out status same answers = rw same answers
 
 pub heard_kept : (leaves : ℕ → ℕ) (l : Listening) (number : ℕ) (old mid left : Option (List ℕ))
     (old_count mid_count new_count : ℕ) (out : SinkCall) (status : Status)
@@ -60,7 +62,7 @@ pub heard_kept : (leaves : ℕ → ℕ) (l : Listening) (number : ℕ) (old mid 
 heard_kept leaves l number old mid left old_count mid_count new_count out status kept same heard =
     record {
       exact = λ frames unread bytes reported reads none.
-          let known = known_kept old mid bytes kept reported in
+          let known = known_bytes_kept old mid bytes kept reported in
           let printed = heard.exact frames unread bytes known reads (none ∙ sym same) in (
             printed.0,
             subst (λ (t : Option (List ℕ)).
@@ -76,7 +78,7 @@ heard_kept leaves l number old mid left old_count mid_count new_count out status
               is = failed.1.is;
               place = fails_packet_kept failed.1.index old mid left kept failed.1.place;
               heard = λ frames unread bytes reported.
-                  failed.1.heard frames unread bytes (known_kept old mid bytes kept reported);
+                  failed.1.heard frames unread bytes (known_bytes_kept old mid bytes kept reported);
             },
             failed.2,
           );

@@ -20,9 +20,10 @@ use Rattle.sub_listing.specs.DeviceCall.{SinkCall}
 use Rattle.sub_listing.specs.declared.status.Status.{Status}
 use Rattle.sub_listing.specs.declared.status.Status.TheVariants.{Done, Fault}
 use Rattle.sub_answer.specs.Answering.{InputCall}
-use Rattle.sub_answer.specs.Ending.{EndsOver, EndsWith, FilesLeft, FlushesBufferedLines, IsSourceOf}
-use Rattle.sub_answer.specs.Ending.{Lines, devices_of, let_go}
-use Rattle.sub_answer.specs.FilesInMemory.{LawOfFilesInMemory, known_of_memory}
+use Rattle.sub_answer.specs.Ending.{EndsOverFiles, EndsWith, FilesLeft, FlushesBufferedLines}
+use Rattle.sub_answer.specs.Ending.{IsSourceOf}
+use Rattle.sub_answer.specs.Ending.{Lines, devices_of, release}
+use Rattle.sub_answer.specs.FilesInMemory.{LawOfFilesInMemory, memory_observations}
 use Rattle.sub_answer.specs.Part.{part_requested, through_range, through_stream, entire_file}
 use Rattle.sub_answer.specs.declared.part.Part.{Part}
 
@@ -31,7 +32,7 @@ record BothOpened
     : Type 0 where
   pub first : List ℕ
   pub second : List ℕ
-  pub opened_is : opened ≡ ReadBoth first second
+  pub opened_eq : opened ≡ ReadBoth first second
   pub first_is : bytes_at stl files ≡ Some first
   pub second_is : bytes_at pes files ≡ Some second
 
@@ -46,7 +47,7 @@ both_opened stl pes before after calls more opened made opens = grind (arith, na
 
 -- An input that reads a file in memory, or a part of it, has the bytes of the file or of that part.
 read_reported : (part : Part) (file : List ℕ) (left : Option (List ℕ)) (input : InputCall)
-    → IsSourceOf known_of_memory part (Some file) left input
+    → IsSourceOf memory_observations part (Some file) left input
     → input.call.known ≡ through_range part.range (through_stream part.stream (Some file))
 read_reported part file None input is = absurd is
 read_reported part file (Some left) input is = is.is_part.reported
@@ -69,8 +70,8 @@ reports :
     (request : Request) (file bytes : List ℕ) (stl_left pes_left : Option (List ℕ))
     (Untouched : Type 0) (IsFile : InputCall → SinkCall → Type 0) (IsAlone : Lines → Type 0)
     (old new : Lines) (result : Status)
-    → EndsWith request (IsSourceOf known_of_memory entire_file (Some file) stl_left)
-    (IsSourceOf known_of_memory (part_requested request) (Some bytes) pes_left) Untouched IsFile
+    → EndsWith request (IsSourceOf memory_observations entire_file (Some file) stl_left)
+    (IsSourceOf memory_observations (part_requested request) (Some bytes) pes_left) Untouched IsFile
     IsAlone
     old new result
     → result ≢ Fault
@@ -111,12 +112,13 @@ over_both :
     (left : FilesLeft (List ℕ) Written) (IsAlone : Lines → Type 0) (old new : Lines)
     (result : Status)
     → opened ≡ ReadBoth first second
-    → EndsOver known_of_memory (λ was is. is ≡ was) request (devices_of (part_requested request)
+    → EndsOverFiles memory_observations (λ was is. is ≡ was) request
+    (devices_of (part_requested request)
     opened)
     left IsAlone old new result
-    → EndsOver known_of_memory (λ was is. is ≡ was) request
+    → EndsOverFiles memory_observations (λ was is. is ≡ was) request
     (devices_of (part_requested request) (ReadBoth first second)) left IsAlone old new result
-over_both request opened first second left IsAlone old new result opened_is ends =
+over_both request opened first second left IsAlone old new result opened_eq ends =
     grind (arith, nat_tests)
 
 same_bytes :
@@ -127,7 +129,7 @@ pub law_of_files_in_memory : (IsAlone : Lines → Type 0) → LawOfFilesInMemory
 law_of_files_in_memory IsAlone
     (ask.Check stl pes options national layout scope all) before after old new status h runs =
     λ file bytes read file_is bytes_is read_is.
-    let o = both_opened stl.now pes.name.now before after h.opened.calls (let_go h.left) h.files
+    let o = both_opened stl.now pes.name.now before after h.opened.calls (release h.left) h.files
     h.opened.are_made h.opened.opens in
     subst
     (λ f. (status ≡ Done) ↔ IsAcceptedBy (drawing_within national layout scope) options f read)
@@ -135,7 +137,7 @@ law_of_files_in_memory IsAlone
     (reports (ask.Check stl pes options national layout scope all) o.first o.second h.left.first
     h.left.second _ _ IsAlone old new status
     (over_both (ask.Check stl pes options national layout scope all) h.files o.first o.second h.left
-    IsAlone old new status o.opened_is h.ends)
+    IsAlone old new status o.opened_eq h.ends)
     runs read
     (ap (λ b. through_range pes.range (through_stream pes.stream (Some b)))
     (same_bytes _ o.second bytes o.second_is bytes_is)

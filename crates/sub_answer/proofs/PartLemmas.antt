@@ -38,7 +38,7 @@ module _ {D : Type 0} (remaining : D → Option (List ℕ)) (failure_count : D �
     number = rw stream (is.number ∙ ap (number_in p.range) gives);
     old_count = is.old_count ∙ first;
     new_count = is.new_count ∙ last;
-    left_is = λ whole. is.left_is (ap (λ (q : Part). q.range) whole) ∙ leaves;
+    left_eq = λ whole. is.left_eq (ap (λ (q : Part). q.range) whole) ∙ leaves;
   }
 
   pub stream_of_source : {P : Type 0} (given following : P → Option (List ℕ)) (count : P → ℕ)
@@ -54,7 +54,7 @@ module _ {D : Type 0} (remaining : D → Option (List ℕ)) (failure_count : D �
     number = rw stream (is.number ∙ ap (number_in p.range) carries);
     old_count = is.old_count ∙ first;
     new_count = is.new_count ∙ last;
-    left_is = λ whole. let none = ap (λ (q : Part). q.stream) whole in absurd cc;
+    left_eq = λ whole. let none = ap (λ (q : Part). q.stream) whole in absurd cc;
   }
 
 module _ {P : Type 0} (given following : P → Option (List ℕ)) (count : P → ℕ) (before after : P)
@@ -68,7 +68,7 @@ module _ {P : Type 0} (given following : P → Option (List ℕ)) (count : P →
     number = ap (λ (i : InputCall). i.number.known) is ∙ start;
     old_count = ap (λ (i : InputCall). i.call.old_count) is;
     new_count = ap (λ (i : InputCall). i.call.new_count) is;
-    left_is = λ none. ap (λ (i : InputCall). i.call.left) is;
+    left_eq = λ none. ap (λ (i : InputCall). i.call.left) is;
   }
 
   pub range_of_pes_packets : (part : InputCall) (r : PesPacketRangeValue)
@@ -83,5 +83,5 @@ module _ {P : Type 0} (given following : P → Option (List ℕ)) (count : P →
     number = ap (λ (i : InputCall). i.number.known) is ∙ number;
     old_count = ap (λ (i : InputCall). i.call.old_count) is ∙ old_count;
     new_count = ap (λ (i : InputCall). i.call.new_count) is ∙ new_count;
-    left_is = λ none. absurd cc;
+    left_eq = λ none. absurd cc;
   }

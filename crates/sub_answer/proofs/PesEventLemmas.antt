@@ -6,7 +6,7 @@ use Rattle.std.proofs.Common.{Some, None, Result, Ok, Err, ◌-◌}
 use Rattle.std.proofs.lemmas.Bool.{true≢false}
 use Rattle.std.proofs.lemmas.Bool.Decides.{nat_tests}
 use Rattle.std.specs.Prelude.{IfOk, IfErr, IfSome, IsFalse, is_none}
-use Rattle.sub_io.specs.Device.{RisesIf, failed}
+use Rattle.sub_io.specs.Device.{CountRisesIf, failed}
 use Rattle.sub_io.specs.Reading.{IfKnown}
 use Rattle.sub_io.specs.Reporting.{Reports, ReportsSome}
 use Rattle.ttx_packet.specs.PageId.{PageIdValue}
@@ -34,7 +34,7 @@ use Rattle.sub_listing.specs.DeviceCall.{SourceCall}
 use Rattle.sub_listing.specs.FirstPacket.{FirstNumber, StartsAt}
 use Rattle.sub_answer.specs.EveryFault.{IsAnswer}
 use Rattle.sub_answer.specs.EveryFault.{ReportsPes}
-use Rattle.sub_listing.specs.EventLines.{most_counted}
+use Rattle.sub_listing.specs.EventLines.{max_count}
 use Rattle.sub_listing.specs.Printer.{PrinterValue, PrintsEvent, PrintsEvents}
 use Rattle.sub_listing.proofs.PrinterLemmas.{as_reported, prints-taken}
 use Rattle.sub_listing.proofs.PrinterLemmas.{prints_all}
@@ -69,7 +69,7 @@ some_counts page frames zero is = (
   record {
     none = λ none. refl;
     frames_are = λ some. absurd (omega (arith, is, some));
-    transmissions_are = refl;
+    transmissions_eq = refl;
   },
 )
 some_counts page frames (suc n) is =
@@ -81,7 +81,7 @@ some_counts page frames (suc n) is =
       record {
         none = λ none. absurd (omega (arith, is, none));
         frames_are = λ some. rw is (omega (arith, first));
-        transmissions_are = refl;
+        transmissions_eq = refl;
       },
     )
 
@@ -128,7 +128,7 @@ module _ {D : Type 0} (IsReported : D → Event → D → Type 0) (value : D →
     (one : (s t : D) (x : Event) → IsReported s x t → PrintsEvent (value s) x (value t))
     (judged : JudgedValue) (options : OptionsValue) (pes : SourceCall) (first : FirstNumber)
     (old new : D)
-    (goes : (value old).failed ≡ false) (few : (value old).refused ≤ most_counted)
+    (goes : (value old).failed ≡ false) (few : (value old).refused ≤ max_count)
     (starts : StartsAt first pes (value old).first) where
   put : (items : List Event) → Reports IsReported old new items
       → PrintsEvents (value old) items (value new)
@@ -141,7 +141,7 @@ module _ {D : Type 0} (IsReported : D → Event → D → Type 0) (value : D →
       → (value new).failed ≡ false
       → ReportsSome IsReported old new
       → IfKnown pes.known (λ bytes. ReportsEvents judged options bytes IsReported old new (Err f))
-      → RisesIf pes.old_count (is_pes_read f) pes.new_count
+      → CountRisesIf pes.old_count (is_pes_read f) pes.new_count
       → ((index : ℕ)
       → (let r : Result (Option Accepted) CheckFault = Err f in r)
       ≡ Err (fault.Pes index pes_fault.Read)
@@ -178,7 +178,8 @@ module _ {D : Type 0} (IsReported : D → Event → D → Type 0) (value : D →
             starts = starts;
             prints = put events.0 events.1;
             count =
-                subst (λ (g : CheckFault). RisesIf pes.old_count (is_pes_read g) pes.new_count) same
+                subst (λ (g : CheckFault). CountRisesIf pes.old_count (is_pes_read g) pes.new_count)
+                same
                 count;
             read = λ m e.
                 let at : n ≡ m = cc in
@@ -193,7 +194,7 @@ module _ {D : Type 0} (IsReported : D → Event → D → Type 0) (value : D →
   read_pes : (items : List Event) (a : Accepted) (given : Result (Option Accepted) CheckFault)
       → PrintsEvents (value old) items (value new)
       → ((value new).failed ≡ false → Ok (Some a) ≡ given)
-      → RisesIf pes.old_count false pes.new_count
+      → CountRisesIf pes.old_count false pes.new_count
       → IfKnown pes.known (λ bytes. (items ≡ all_events_by judged options bytes)
       × CountsRead options.page (frames_read options bytes) a)
       → ((value new).failed ≡ false
@@ -228,7 +229,7 @@ module _ {D : Type 0} (IsReported : D → Event → D → Type 0) (value : D →
       → judged ≡ known programme
       → IsAnswer programme options bytes
       (first_answer (all_events_of programme options bytes) given))
-      → RisesIf pes.old_count false pes.new_count
+      → CountRisesIf pes.old_count false pes.new_count
       → ReportsPes judged options pes first (value old) (value new) (Ok (Some given))
   after_all given some reported first_is count =
       let events =
@@ -246,7 +247,7 @@ module _ {D : Type 0} (IsReported : D → Event → D → Type 0) (value : D →
   after_stop : (value new).failed ≡ true
       → ReportsSome IsReported old new
       → IfKnown pes.known (λ bytes. ReportsEvents judged options bytes IsReported old new (Ok None))
-      → RisesIf pes.old_count false pes.new_count
+      → CountRisesIf pes.old_count false pes.new_count
       → ReportsPes judged options pes first (value old) (value new) (Ok None)
   after_stop failing some reported count =
       let counts = λ (bytes : List ℕ).
@@ -282,27 +283,28 @@ module _ {D : Type 0} (IsReported : D → Event → D → Type 0) (value : D →
       → IfOk r (λ counts. stopped ≡ is_none counts)
       → IfErr r (λ f. stopped ≡ false)
       → IfErr r (λ f. is_pes_read f ≡ true)
-      → RisesIf pes.old_count (failed is_pes_read r) pes.new_count
+      → CountRisesIf pes.old_count (failed is_pes_read r) pes.new_count
       → ((index : ℕ)
       → r ≡ Err (fault.Pes index pes_fault.Read)
       → FailsAtPesPacket index pes.known pes.left)
       → ReportsPes judged options pes first (value old) (value new) r
-  after_pes (Ok (Some a)) stopped stops fault_free some reported first_is is goes_on only count
+  after_pes (Ok (Some a)) stopped stops fault_free some reported first_is is continues only count
       fails =
       after_all a some reported first_is count
-  after_pes (Ok None) stopped stops fault_free some reported first_is is goes_on only count fails =
+  after_pes (Ok None) stopped stops fault_free some reported first_is is continues only count
+      fails =
       after_stop (failing (value new).failed refl) some reported count
     where
       failing : (b : Bool) → (value new).failed ≡ b → (value new).failed ≡ true
       failing true e = e
       failing false e =
           absurd (true≢false (sym is ∙ fault_free e ((put some.items some.reported).put_count e)))
-  after_pes (Err f) stopped stops fault_free some reported first_is is goes_on only count fails =
-      after_pes_error f only (calm (value new).failed refl) some reported count fails
+  after_pes (Err f) stopped stops fault_free some reported first_is is continues only count fails =
+      after_pes_error f only (has_not_failed (value new).failed refl) some reported count fails
     where
-      calm : (b : Bool) → (value new).failed ≡ b → (value new).failed ≡ false
-      calm true e = absurd (true≢false (sym (stops e) ∙ goes_on))
-      calm false e = e
+      has_not_failed : (b : Bool) → (value new).failed ≡ b → (value new).failed ≡ false
+      has_not_failed true e = absurd (true≢false (sym (stops e) ∙ continues))
+      has_not_failed false e = e
 
 pub with_first : (judged : JudgedValue) (options : OptionsValue) (pes : SourceCall)
     (first : FirstNumber) (old new : PrinterValue) (number : ℕ)

@@ -38,7 +38,7 @@ use Rattle.sub_answer.specs.SurveyListing.{Surveys}
 use Rattle.sub_listing.specs.FaultLine.{counted_from}
 use Rattle.sub_listing.specs.ShowListing.{ListsSubtitles}
 use Rattle.sub_listing.specs.Writing.{EndsWork, Normalizes, PrintsMemory, Schedules}
-use Rattle.sub_request.specs.Files.{files_of, reads_one, reads_two, writes_one}
+use Rattle.sub_request.specs.Files.{files_of, reads_input, reads_two, writes_file}
 use Rattle.sub_request.specs.declared.request.Request.{Request}
 use Rattle.sub_request.specs.declared.request.Request.TheVariants as ask
 use Rattle.sub_listing.specs.declared.status.Status.{Status}
@@ -177,7 +177,7 @@ reads_pes_packets _ = false
 
 -- The first input of the request is a source that does not give PES packets.
 abbrev pub reads_source : Request → Bool
-reads_source request = reads_one (files_of request) && not (reads_pes_packets request)
+reads_source request = reads_input (files_of request) && not (reads_pes_packets request)
 
 -- An input of the request gives PES packets: the first input, or the second input of a check.
 abbrev pub reads_some_pes_packets : Request → Bool
@@ -240,12 +240,12 @@ pub record CountsFaults
 -- If the status is `Done`, the buffer of an output file is empty.
 abbrev pub FlushesWritten : Request → Status → ℕ → Type 0
 FlushesWritten request status buffered =
-    writes_one (files_of request) ≡ true → status ≡ Done → buffered ≡ 0
+    writes_file (files_of request) ≡ true → status ≡ Done → buffered ≡ 0
 
 -- If the status is `Done`, an output file is stored.
 abbrev pub StoresWritten : Request → Status → Bool → Type 0
 StoresWritten request status is_stored =
-    writes_one (files_of request) ≡ true → status ≡ Done → is_stored ≡ true
+    writes_file (files_of request) ≡ true → status ≡ Done → is_stored ≡ true
 
 -- For a request whose output can be followed while its PES file or recording arrives: `IsAlone`
 -- holds if the source failed. The source is the first input of `packets` and `survey`, and the

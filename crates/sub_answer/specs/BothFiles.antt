@@ -1,6 +1,6 @@
 -- The parts of the answers of `check` and of `check --all` about both files that are the same.
 use Rattle.std.specs.Prelude.{◌≡◌, ◌≢◌, ◌↔◌, ℕ, Bool, true, IsFalse, Result, Err}
-use Rattle.sub_io.specs.Device.{RisesIf, failed}
+use Rattle.sub_io.specs.Device.{CountRisesIf, failed}
 use Rattle.sub_io.specs.Reading.{IfKnown}
 use Rattle.ttx_pes.specs.declared.fault.PesFault.TheVariants.{Read}
 use Rattle.stl_rows.specs.Fault.{is_load_read}
@@ -22,8 +22,8 @@ pub record ReportsSources
     (is_of_subtitles : Bool) (stl pes : SourceCall) (answer : Result Counts CheckFault)
     : Type 0 where
   -- The answer shows which of the two sources failed.
-  pub stl_count : RisesIf stl.old_count (failed is_stl_read answer) stl.new_count
-  pub pes_count : RisesIf pes.old_count (failed is_pes_read answer) pes.new_count
+  pub stl_count : CountRisesIf stl.old_count (failed is_stl_read answer) stl.new_count
+  pub pes_count : CountRisesIf pes.old_count (failed is_pes_read answer) pes.new_count
   -- A failed source is reported at the block or PES packet in which it failed.
   pub stl_read :
       (f : LoadFault) → answer ≡ Err (Subtitles f) → is_load_read f ≡ true → FailsAtBlock f.block

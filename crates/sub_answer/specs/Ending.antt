@@ -11,7 +11,7 @@ use Rattle.sub_request.specs.declared.files.FileNames.TheVariants as names
 use Rattle.sub_request.specs.declared.request.Request.{Request}
 use Rattle.sub_request.specs.declared.request.UsageFault.{UsageFault}
 use Rattle.sub_files.specs.FileCalls.{FileCall}
-use Rattle.sub_files.specs.FileCalls.FileCall.{LetGoInput, LetGoOutput}
+use Rattle.sub_files.specs.FileCalls.FileCall.{ReleaseInput, ReleaseOutput}
 use Rattle.sub_files.specs.Opening.{OpensBy}
 use Rattle.sub_files.specs.declared.opening.Opened.{Opened}
 use Rattle.sub_files.specs.declared.opening.Opened.TheVariants.{Extract, Nothing, ReadBoth}
@@ -154,10 +154,10 @@ pub record IsClosedAfter
     (request : Request) (old new : BufferState D) (first : InputCall) (call : SinkCall)
     : Type 0 where
   pub left : BufferState D
-  pub call_is : call ≡ buffered_call contents failure_count old left
+  pub call_eq : call ≡ buffered_call contents failure_count old left
   pub closed : IsClose left.device new.device
   -- The bytes in the buffer are unchanged.
-  pub buffered_is : new.buffered ≡ left.buffered
+  pub buffered_eq : new.buffered ≡ left.buffered
   -- All bytes written have reached the device of the file before the source of a recording may ask
   -- its device, which may fail. So if the source failed, the buffer of the file is empty.
   pub written : WritesBefore request (first.call.old_count < first.call.new_count)
@@ -171,7 +171,7 @@ pub record IsReadFrom
     : Type 0 where
   pub room : ℕ
   pub new : ReadAhead I
-  pub left_is : left ≡ new.device
+  pub left_eq : left ≡ new.device
   pub is_part :
       IsPartOf part (λ s. prepend_known s.buffered (remaining s.device))
       (λ s. failure_count s.device)
@@ -189,7 +189,7 @@ pub record IsWrittenTo
     : Type 0 where
   pub room : ℕ
   pub new : BufferState O
-  pub left_is : left ≡ new.device
+  pub left_eq : left ≡ new.device
   pub closed :
       IsClosedAfter contents failure_count IsClose request
       (record { device = file; buffered = []; room = room; failed = false; refused = 0 }) new first
@@ -203,7 +203,7 @@ pub record IsWrittenTo
 -- The known properties of input and output files: the bytes that are still to be read, and the
 -- bytes that were written; their counts of failures; and whether the system has stored the written
 -- bytes.
-pub record KnownOfFiles (I O : Type 0) : Type 0 where
+pub record FileObservations (I O : Type 0) : Type 0 where
   pub remaining : I → Option (List ℕ)
   pub reads_failed : I → ℕ
   pub contents : O → Option (List ℕ)
@@ -211,11 +211,11 @@ pub record KnownOfFiles (I O : Type 0) : Type 0 where
   pub stored : O → Bool
 
 -- The known properties of input and output files, one by one.
-abbrev pub known_of_files :
+abbrev pub file_observations :
     {I O : Type 0}
     → (I → Option (List ℕ)) → (I → ℕ) → (O → Option (List ℕ)) → (O → ℕ) → (O → Bool)
-    → KnownOfFiles I O
-known_of_files remaining reads_failed contents writes_failed stored = record {
+    → FileObservations I O
+file_observations remaining reads_failed contents writes_failed stored = record {
   remaining = remaining;
   reads_failed = reads_failed;
   contents = contents;
@@ -226,7 +226,7 @@ known_of_files remaining reads_failed contents writes_failed stored = record {
 -- The input reads part `part` of the opened file, which is left in the state `left`; or it is empty
 -- if no file was opened.
 abbrev pub IsSourceOf :
-    {I O : Type 0} → KnownOfFiles I O → Part → (opened left : Option I) → InputCall → Type 0
+    {I O : Type 0} → FileObservations I O → Part → (opened left : Option I) → InputCall → Type 0
 IsSourceOf known part (Some file) (Some left) =
     IsReadFrom part known.remaining known.reads_failed file left
 IsSourceOf known part None None = IsEmptySource
@@ -236,7 +236,8 @@ IsSourceOf known part opened left = λ input. ⊥
 -- no file was created.
 abbrev pub IsSinkOf :
     {I O : Type 0}
-    → KnownOfFiles I O → (O → O → Type 0) → Request → Status → (created left : Option O) → InputCall
+    → FileObservations I O → (O → O → Type 0) → Request → Status → (created left : Option O) →
+    InputCall
     → SinkCall → Type 0
 IsSinkOf known IsClose request result (Some file) (Some left) =
     IsWrittenTo known.contents known.writes_failed known.stored IsClose request result file left
@@ -289,26 +290,26 @@ pub record FilesLeft (I O : Type 0) : Type 0 where
 -- The calls after an input file was released, if there was one.
 abbrev pub input_before :
     {I O : Type 0} → Option I → List (FileCall I O) → List (FileCall I O)
-input_before (Some file) calls = LetGoInput file ∷ calls
+input_before (Some file) calls = ReleaseInput file ∷ calls
 input_before None calls = calls
 
 -- The call that releases an output file, if there is one.
 abbrev pub output_alone : {I O : Type 0} → Option O → List (FileCall I O)
-output_alone (Some file) = LetGoOutput file ∷ []
+output_alone (Some file) = ReleaseOutput file ∷ []
 output_alone None = []
 
 -- The calls that release each file once, as it was left.
-abbrev pub let_go : {I O : Type 0} → FilesLeft I O → List (FileCall I O)
-let_go left = input_before left.first (input_before left.second (output_alone left.file))
+abbrev pub release : {I O : Type 0} → FilesLeft I O → List (FileCall I O)
+release left = input_before left.first (input_before left.second (output_alone left.file))
 
 -- A request was answered with devices, which are left in the state `left`; and then the lines were
 -- flushed. A second source is the PES file, of which the request reads a part; if no byte of it was
 -- read, it is left as it was opened.
-abbrev pub EndsOver :
+abbrev pub EndsOverFiles :
     {I O : Type 0}
-    → KnownOfFiles I O → (O → O → Type 0) → Request → Devices I O → FilesLeft I O
+    → FileObservations I O → (O → O → Type 0) → Request → Devices I O → FilesLeft I O
     → (Lines → Type 0) → Lines → Lines → Status → Type 0
-EndsOver known IsClose request devices left IsAlone old new result =
+EndsOverFiles known IsClose request devices left IsAlone old new result =
     EndsWith request (IsSourceOf known devices.part devices.first left.first)
     (IsSourceOf known (part_requested request) devices.second left.second)
     (left.second ≡ devices.second)
@@ -316,28 +317,29 @@ EndsOver known IsClose request devices left IsAlone old new result =
 
 -- A request was answered with devices, and then the files were released as they were left, by the
 -- calls that were made.
-pub record EndsAndLetsGo
-    {I O : Type 0} (AreMade : List (FileCall I O) → Type 0) (known : KnownOfFiles I O)
+pub record EndsAndReleases
+    {I O : Type 0} (AreMade : List (FileCall I O) → Type 0) (known : FileObservations I O)
     (IsClose : O → O → Type 0) (request : Request) (devices : Devices I O)
     (IsAlone : Lines → Type 0) (old new : Lines) (result : Status)
     : Type 0 where
   pub left : FilesLeft I O
-  pub are_let_go : AreMade (let_go left)
-  pub ends : EndsOver known IsClose request devices left IsAlone old new result
+  pub are_released : AreMade (release left)
+  pub ends : EndsOverFiles known IsClose request devices left IsAlone old new result
 
 -- The files that a request names were opened, the request was answered with them, and the lines
 -- were flushed; then the files were released as they were left. No other calls were made.
 pub record Ends
-    {I O : Type 0} (AreMade : List (FileCall I O) → Type 0) (known : KnownOfFiles I O)
+    {I O : Type 0} (AreMade : List (FileCall I O) → Type 0) (known : FileObservations I O)
     (IsClose : O → O → Type 0) (request : Request) (IsAlone : Lines → Type 0) (old new : Lines)
     (result : Status)
     : Type 0 where
   pub files : Opened I O
   pub left : FilesLeft I O
   pub opened :
-      OpensBy (λ calls. AreMade (calls ++ let_go left)) (files_of request) (Some files)
+      OpensBy (λ calls. AreMade (calls ++ release left)) (files_of request) (Some files)
   pub ends :
-      EndsOver known IsClose request (devices_of (part_requested request) files) left IsAlone old
+      EndsOverFiles known IsClose request (devices_of (part_requested request) files) left IsAlone
+      old
       new
       result
 

@@ -3,12 +3,12 @@ use Rattle.std.specs.Prelude.{◌≡◌, ◌≢◌, ⊤, ℕ, ◌<◌, ◌≤◌
 use Rattle.std.specs.Prelude.{Option, Some, None, Result, Ok, Err, IfErr, IsFalse, IsOk, is_err}
 use Rattle.std.specs.List.{filter}
 use Rattle.std.specs.Io.KnownBytes.{Appends, Consumes}
-use Rattle.sub_io.specs.Device.{RisesIf}
+use Rattle.sub_io.specs.Device.{CountRisesIf}
 use Rattle.sub_io.specs.Reading.{IfKnown}
 use Rattle.ttx_pes.specs.declared.fault.PesFault.TheVariants.{Read}
 use Rattle.stl_file.specs.Reader.{block_of_byte, findings_for}
 use Rattle.stl_rows.specs.EveryFault.{EndsSubtitleAfter, faults, is_reported_before}
-use Rattle.stl_rows.specs.Judged.{JudgedValue, JudgesBy, judges, known}
+use Rattle.stl_rows.specs.Judged.{JudgedValue, JudgesBy, can_judge, known}
 use Rattle.stl_rows.specs.Loading.{loaded}
 use Rattle.stl_rows.specs.Programme.{ProgrammeValue}
 use Rattle.stl_rows.specs.declared.fault.LoadFaultKind.{LoadFaultKind}
@@ -99,7 +99,7 @@ AreListed drawing options file pes events (Err f) = ⊥
 pub record FailsAtBlock (known left : Option (List ℕ)) (block : ℕ) : Type 0 where
   pub bytes : List ℕ
   pub consumed : Consumes known left bytes
-  pub block_is : block ≡ block_of_byte (length bytes)
+  pub block_eq : block ≡ block_of_byte (length bytes)
 
 -- The answer is that of `check` for the bytes of a PES file, with any options; and if each header
 -- of the page has to erase it, and the page has to be right at the end of each frame, also in terms
@@ -149,7 +149,7 @@ pub record ReportsPes
   pub number : ℕ
   pub starts : StartsAt first pes number
   pub prints : PrintsEvents (record old { first = number }) events new
-  pub count : RisesIf pes.old_count (is_err answer) pes.new_count
+  pub count : CountRisesIf pes.old_count (is_err answer) pes.new_count
   pub read : (n : ℕ) → answer ≡ Err n → FailsAtPesPacket n pes.known pes.left
   pub cut : new.failed ≡ true → IsOk answer
   -- If no subtitle was refused, the first event decides the answer of `check`.
@@ -190,7 +190,7 @@ pub record ReportsBoth
   pub unjudged :
       new.failed ≡ false
       → answer ≡ Ok None
-      → IfKnown stl.known (λ file. judges drawing file ≡ false)
+      → IfKnown stl.known (λ file. can_judge drawing file ≡ false)
   pub checked :
       new.failed ≡ false
       → IfKnown stl.known (λ file.
@@ -221,7 +221,7 @@ pub record AnswersAll
   pub unjudged :
       status ≢ Fault
       → answer ≡ Ok None
-      → IfKnown stl.known (λ file. judges drawing file ≡ false)
+      → IfKnown stl.known (λ file. can_judge drawing file ≡ false)
   -- Unless a device fails or an allocation is refused, the answer of `check` that belongs to the
   -- events fits the bytes of both files.
   pub checked :

@@ -5,7 +5,7 @@ use Rattle.std.specs.Prelude.{Result, Ok, Err, if◌then◌else◌}
 use Rattle.sub_checker.specs.declared.accepted.Accepted.{Accepted}
 use Rattle.sub_rules.specs.declared.event.Event.{Event}
 use Rattle.sub_rules.specs.declared.fault.CheckFault.{CheckFault}
-use Rattle.sub_listing.specs.EventLines.{event_lines, most_counted, refusals}
+use Rattle.sub_listing.specs.EventLines.{event_lines, max_count, refusals}
 use Rattle.sub_listing.specs.Faults.{check_line}
 use Rattle.sub_listing.specs.Listing.{Listing, done, followed, fault_listing}
 use Rattle.sub_listing.specs.FaultLine.{counted_from}
@@ -35,4 +35,4 @@ last_listing first refused (Ok (Some a)) =
 abbrev pub all_listing : ℕ → List Event → Result (Option Accepted) CheckFault → Listing
 all_listing first events answer =
     followed (event_lines first events)
-    (last_listing first (min (refusals events) most_counted) answer)
+    (last_listing first (min (refusals events) max_count) answer)

@@ -10,13 +10,13 @@ use Rattle.sub_files.specs.MemoryFiles.{IsMemoryCall, MemFilesValue, bytes_at}
 use Rattle.sub_check.specs.CheckedFiles.{IsAcceptedBy}
 use Rattle.sub_listing.specs.declared.status.Status.{Status}
 use Rattle.sub_listing.specs.declared.status.Status.TheVariants.{Done, Fault}
-use Rattle.sub_answer.specs.Ending.{Ends, KnownOfFiles, Lines, known_of_files}
+use Rattle.sub_answer.specs.Ending.{Ends, FileObservations, Lines, file_observations}
 use Rattle.sub_answer.specs.Part.{through_range, through_stream}
 
 -- The known properties of files in memory: all their bytes.
-abbrev pub known_of_memory : KnownOfFiles (List ℕ) Written
-known_of_memory =
-    known_of_files (λ left. Some left) (λ left. 0) (λ file. Some file.bytes)
+abbrev pub memory_observations : FileObservations (List ℕ) Written
+memory_observations =
+    file_observations (λ left. Some left) (λ left. 0) (λ file. Some file.bytes)
     (λ file. file.failure_count) (λ file. true)
 
 -- The status of a check is `Done` exactly if the bytes of the subtitle file that it names, and
@@ -37,7 +37,7 @@ DecidesAccepted _ files status = ⊤
 abbrev pub LawOfFilesInMemory : (Lines → Type 0) → Type 0
 LawOfFilesInMemory IsAlone =
     (request : Request) (before after : MemFilesValue) (old new : Lines) (status : Status)
-    → Ends (CallsInOrder IsMemoryCall before after) known_of_memory (λ was is. is ≡ was) request
+    → Ends (CallsInOrder IsMemoryCall before after) memory_observations (λ was is. is ≡ was) request
     IsAlone old new status
     → status ≢ Fault
     → DecidesAccepted request before status

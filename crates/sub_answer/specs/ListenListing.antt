@@ -7,7 +7,7 @@ use Rattle.sub_listen.specs.Run.{HearsFile}
 use Rattle.sub_rules.specs.Transmission.{Transmission}
 use Rattle.sub_request.specs.declared.listening.Listening.{Listening}
 use Rattle.sub_listen.specs.declared.listening.ListenFault.{ListenFault}
-use Rattle.sub_listing.specs.DisplayLines.{IsSeenComplete, display_text}
+use Rattle.sub_listing.specs.DisplayLines.{PrintsCompletePage, display_text}
 use Rattle.sub_listing.specs.Faults.{check_line}
 use Rattle.sub_listing.specs.Listing.{Listing, done, fault_listing}
 use Rattle.sub_listing.specs.FaultLine.{line_as, counted_from}
@@ -53,5 +53,5 @@ pub record Listens
   pub result : Result (Unit {0}) ListenFault
   pub hears :
       HearsFile leaves l frames unread known left l.options.page (tuned_with old_page) end result
-  pub listing_is : listing ≡ listing_of first l.options.asks_complete end result
-  pub page_is : IfOk result (λ _. IsSeenComplete l.options.asks_complete end)
+  pub listing_eq : listing ≡ listing_of first l.options.asks_complete end result
+  pub page_is : IfOk result (λ _. PrintsCompletePage l.options.asks_complete end)

@@ -54,7 +54,7 @@ pub record IsPartOf
   pub old_count : input.call.old_count ≡ failure_count whole
   pub new_count : input.call.new_count ≡ failure_count left
   -- If the input is the complete file, both have the same remaining bytes.
-  pub left_is : part ≡ entire_file → input.call.left ≡ remaining left
+  pub left_eq : part ≡ entire_file → input.call.left ≡ remaining left
 
 -- The input is a range, or all, of the PES packets that another input gives, in a call that leaves
 -- this other input in the state `new`. The other input is given by the bytes of the PES packets to
@@ -67,4 +67,4 @@ pub record IsRangeOf
   pub number : input.number.known ≡ number_in range (remaining old)
   pub old_count : input.call.old_count ≡ failure_count old
   pub new_count : input.call.new_count ≡ failure_count new
-  pub left_is : range ≡ None → input.call.left ≡ left new
+  pub left_eq : range ≡ None → input.call.left ≡ left new

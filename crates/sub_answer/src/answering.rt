@@ -19,7 +19,7 @@ ghost use Rattle.sub_answer.specs.Answering.{reads_source, entire_call};
 ghost use Rattle.sub_listing.specs.DeviceCall.{CanFail, CountsFault, read_call, sink_call};
 ghost use Rattle.sub_listing.specs.DeviceCall.{source_call};
 ghost use Rattle.sub_listing.specs.Faults.{usage_line};
-ghost use Rattle.sub_request.specs.Files.{files_of, reads_one, reads_two, writes_one};
+ghost use Rattle.sub_request.specs.Files.{files_of, reads_input, reads_two, writes_file};
 ghost use Rattle.sub_listing.specs.LastLine.{BuffersLastLineOnly};
 ghost use Rattle.sub_listing.specs.Listing.{PrintsOrFails, fault_listing};
 
@@ -66,9 +66,9 @@ pub fn answer<S: Source, T: Source, F: Close, K: Flush>(
         (sink_call K.contents K.failure_count out.old out.new) result }
 
     // Devices that the request does not name are unchanged.
-    ensures first { reads_one (files_of request.now) ≡ false → first.new ≡ first.old }
+    ensures first { reads_input (files_of request.now) ≡ false → first.new ≡ first.old }
     ensures second { reads_two (files_of request.now) ≡ false → second.new ≡ second.old }
-    ensures file { writes_one (files_of request.now) ≡ false → file.new ≡ file.old }
+    ensures file { writes_file (files_of request.now) ≡ false → file.new ≡ file.old }
 
     // Each device fails at most once, and only if the status is `Fault`. A command that needs no
     // memory has the status `Fault` only if a device failed.
@@ -150,7 +150,7 @@ pub fn answer_over<S: Source, P: NumberedPesPackets, F: Close, K: Flush>(
     ensures first { reads_source request.now ≡ false → first.new ≡ first.old }
     ensures pes { reads_some_pes_packets request.now ≡ false → pes.new ≡ pes.old }
     ensures device { P.device pes.new ≡ P.device pes.old }
-    ensures file { writes_one (files_of request.now) ≡ false → file.new ≡ file.old }
+    ensures file { writes_file (files_of request.now) ≡ false → file.new ≡ file.old }
 
     // How often each device fails, given the status.
     ensures fault { CountsFaults request.now
@@ -210,7 +210,7 @@ fn drawing_of(request: &Request<'_>) -> Drawing
 /// Prints the line for a fault of the arguments, or for a file that can't be opened.
 ///
 /// The status is `Fault`. If `out` fails, a prefix of the line has been printed.
-pub fn say<K: Sink>(fault: &UsageFault, out: &mut K) -> Status
+pub fn print_usage_fault<K: Sink>(fault: &UsageFault, out: &mut K) -> Status
     requires { CanFail (K.failure_count out.old) }
     ensures printed { PrintsOrFails (sink_call K.contents K.failure_count out.old out.new)
         (fault_listing (usage_line fault.now)) result }

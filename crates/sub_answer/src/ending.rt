@@ -13,7 +13,7 @@ ghost use Rattle.sub_answer.specs.Ending.{BuffersOneLineOnly, BuffersNothing, Is
 ghost use Rattle.sub_answer.specs.Ending.{IsEmptyFile, IsEmptySource, PrintsFault, lines_in};
 ghost use Rattle.sub_answer.specs.Ending.{lines_of};
 
-use crate::answering::{answer_over, say};
+use crate::answering::{answer_over, print_usage_fault};
 use crate::flushing::{FlushPending, flush_all};
 use std::alloc::Global;
 use sub_io::{BufferedSink, Close, MemSink, MemSource, Sink, Source};
@@ -172,11 +172,14 @@ fn answer_and_flush<S: Source, P: NumberedPesPackets, F: Close, O: FlushPending<
 }
 
 /// Prints the line of a fault if no request is answered, and flushes the line.
-pub fn say_and_flush<K: Sink>(fault: &UsageFault, out: &mut BufferedSink<'_, K>) -> Status
+pub fn print_and_flush_usage_fault<K: Sink>(
+    fault: &UsageFault,
+    out: &mut BufferedSink<'_, K>,
+) -> Status
     requires { failures_and_refused (K.failure_count out.old.device) out.old.refused ≡ 0 }
     ensures says { PrintsFault fault.now (lines_of K.contents K.failure_count out.old)
         (lines_of K.contents K.failure_count out.new) result }
     ensures status { result ≡ Status.Fault }
 {
-    flush_all(say(fault, out), out)
+    flush_all(print_usage_fault(fault, out), out)
 }

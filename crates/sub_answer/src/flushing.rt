@@ -32,13 +32,13 @@ pub trait FlushPending<F: Close>: Flush {
             (lines_in Self.contents buffer_state Self.failure_count self.new) result };
 
     // `buffered` counts the bytes in the buffer of the lines.
-    ghost buffered_is: { CountsBuffered Self.buffered buffer_state };
+    ghost buffered_eq: { CountsBuffered Self.buffered buffer_state };
 }
 
 impl<F: Close, K: Sink> FlushPending<F> for BufferedSink<'_, K> {
     ghost buffer_state = { λ k. k.buffered };
 
-    ghost buffered_is = { λ k. refl };
+    ghost buffered_eq = { λ k. refl };
 
     ghost is_flushed = { λ old file status new result.
         F.is_closed file.device ≡ true };

@@ -1,9 +1,9 @@
 //! The program's answer to a request: its output, the file that it writes, and its status.
 //!
-//! `answer` answers a `Request` of `sub_request` with any devices, and `say` prints why arguments
-//! make no request. `open_and_answer` opens the files that the request names, answers the request,
-//! and flushes the output. This crate uses all lower libraries except `sub_words`, which parses
-//! requests.
+//! `answer` answers a `Request` of `sub_request` with any devices, and `print_usage_fault` prints
+//! why arguments make no request. `open_and_answer` opens the files that the request names, answers
+//! the request, and flushes the output. This crate uses all lower libraries except `sub_words`,
+//! which parses requests.
 //!
 //! ```text
 //! let words = ["subttx", "check", "film.stl", "air.ts", "--pid", "257"];
@@ -20,8 +20,8 @@ mod over_files;
 mod part;
 mod parts;
 
-pub use answering::{answer, answer_over, say};
-pub use ending::say_and_flush;
+pub use answering::{answer, answer_over, print_usage_fault};
+pub use ending::print_and_flush_usage_fault;
 pub use laws::law_of_files_in_memory;
 pub use over_files::open_and_answer;
 pub use sub_listing::{InputFault, Status, read_input};

@@ -6,16 +6,16 @@ ghost use Rattle.sub_request.specs.Files.{files_of};
 ghost use Rattle.sub_files.specs.FileCalls.{CallsInOrder};
 ghost use Rattle.sub_files.specs.Opening.{AreUnused, IsUnopened};
 ghost use Rattle.sub_answer.specs.Answering.{reads_pes_packets};
-ghost use Rattle.sub_answer.specs.Ending.{BufferHoldsOneLineOnly, Ends, EndsAndLetsGo, EndsWith};
+ghost use Rattle.sub_answer.specs.Ending.{BufferHoldsOneLineOnly, Ends, EndsAndReleases, EndsWith};
 ghost use Rattle.sub_answer.specs.Ending.{Fits, IsEmptyFile, IsEmptySource, devices_of};
-ghost use Rattle.sub_answer.specs.Ending.{known_of_files, lines_of, source_and_file, sources};
+ghost use Rattle.sub_answer.specs.Ending.{file_observations, lines_of, source_and_file, sources};
 ghost use Rattle.sub_answer.specs.Part as specs;
 
 use crate::ending::{answer_alone, answer_source};
 use crate::part::{Part, entire_file, part_requested};
 use crate::parts::{answer_part, answer_second_part};
 use std::alloc::Global;
-use sub_files::{CreatedFile, FileSystem, Opened, PesFile, StlFile, open, room, size_of_rooms};
+use sub_files::{CreatedFile, FileSystem, Opened, PesFile, StlFile, open, room, size_of_buffers};
 use sub_io::{BufferedSink, BufferedSource, MemSink, Sink};
 use sub_listing::Status;
 use sub_request::{Request, UsageFault};
@@ -36,7 +36,7 @@ pub fn open_and_answer<D: FileSystem, K: Sink>(
 ) -> Result<Status, UsageFault>
     requires { failures_and_refused (K.failure_count out.old.device) out.old.refused ≡ 0 }
     ensures ends { IfOk result (Ends (CallsInOrder D.is_call files.old files.new)
-        (known_of_files D.Input.remaining D.Input.failure_count
+        (file_observations D.Input.remaining D.Input.failure_count
         D.Output.contents D.Output.failure_count D.Output.is_stored)
         D.Output.is_close request.now
         (BufferHoldsOneLineOnly K.contents K.failure_count K.is_push)
@@ -47,13 +47,13 @@ pub fn open_and_answer<D: FileSystem, K: Sink>(
         (files_of request.now)) }
 {
     let names = request.files();
-    let Some(mut rooms) = room(alloc, size_of_rooms(&names)) else {
+    let Some(mut buffers) = room(alloc, size_of_buffers(&names)) else {
         return Err(UsageFault::Memory);
     };
     match open(files, &names) {
         Some(opened) => {
-            let rooms = rooms.as_mut_slice();
-            Ok(answer_opened(alloc, files, request, opened, rooms, out))
+            let buffers = buffers.as_mut_slice();
+            Ok(answer_opened(alloc, files, request, opened, buffers, out))
         }
         None => Err(UsageFault::Open),
     }
@@ -66,15 +66,15 @@ fn answer_opened<D: FileSystem, K: Sink>(
     files: &mut D,
     request: &Request<'_>,
     opened: Opened<D::Input, D::Output>,
-    rooms: &mut [u8],
+    buffers: &mut [u8],
     out: &mut BufferedSink<'_, K>,
 ) -> Status
-    requires rooms { 2 ≤ length rooms.old }
+    requires buffers { 2 ≤ length buffers.old }
     requires out { failures_and_refused (K.failure_count out.old.device) out.old.refused ≡ 0 }
     requires unused { AreUnused D.Input.failure_count D.Output.failure_count opened }
     requires fits { Fits (files_of request.now) opened }
-    ensures { EndsAndLetsGo (CallsInOrder D.is_call files.old files.new)
-        (known_of_files D.Input.remaining D.Input.failure_count
+    ensures { EndsAndReleases (CallsInOrder D.is_call files.old files.new)
+        (file_observations D.Input.remaining D.Input.failure_count
         D.Output.contents D.Output.failure_count D.Output.is_stored)
         D.Output.is_close request.now (devices_of (specs.part_requested request.now) opened)
         (BufferHoldsOneLineOnly K.contents K.failure_count K.is_push)
@@ -85,18 +85,18 @@ fn answer_opened<D: FileSystem, K: Sink>(
         Opened::Nothing => read_nothing(alloc, request, out),
         Opened::ReadStl(stl) => {
             let whole = entire_file();
-            read_one(alloc, files, request, whole, stl.into_file(), rooms, out)
+            answer_one_file(alloc, files, request, whole, stl.into_file(), buffers, out)
         }
         Opened::ReadPes(pes) => {
             let part = part_requested(request);
-            read_one(alloc, files, request, part, pes.into_file(), rooms, out)
+            answer_one_file(alloc, files, request, part, pes.into_file(), buffers, out)
         }
-        Opened::ReadBoth(stl, pes) => read_both(alloc, files, request, stl, pes, rooms, out),
+        Opened::ReadBoth(stl, pes) => read_both(alloc, files, request, stl, pes, buffers, out),
         Opened::Write(stl, output) => {
-            read_and_write(alloc, files, request, stl, output, rooms, out)
+            read_and_write(alloc, files, request, stl, output, buffers, out)
         }
         Opened::Extract(recording, output) => {
-            read_and_extract(alloc, files, request, recording, output, rooms, out)
+            read_and_extract(alloc, files, request, recording, output, buffers, out)
         }
     }
 }
@@ -117,7 +117,7 @@ fn read_nothing<K: Sink>(
 }
 
 // Answers a request that reads a part of one file.
-fn read_one<D: FileSystem, K: Sink>(
+fn answer_one_file<D: FileSystem, K: Sink>(
     alloc: Global,
     files: &mut D,
     request: &Request<'_>,
@@ -130,8 +130,8 @@ fn read_one<D: FileSystem, K: Sink>(
     requires room { 2 ≤ length room.old }
     requires out { failures_and_refused (K.failure_count out.old.device) out.old.refused ≡ 0 }
     requires unused { D.Input.failure_count file ≡ 0 }
-    ensures { EndsAndLetsGo (CallsInOrder D.is_call files.old files.new)
-        (known_of_files D.Input.remaining D.Input.failure_count
+    ensures { EndsAndReleases (CallsInOrder D.is_call files.old files.new)
+        (file_observations D.Input.remaining D.Input.failure_count
         D.Output.contents D.Output.failure_count D.Output.is_stored)
         D.Output.is_close request.now (sources part (Some file) None)
         (BufferHoldsOneLineOnly K.contents K.failure_count K.is_push)
@@ -142,7 +142,7 @@ fn read_one<D: FileSystem, K: Sink>(
     let mut none = BufferedSink::new(MemSink::new(&mut nowhere), &mut little);
     let whole = BufferedSource::new(file, room);
     let (status, whole) = answer_part(alloc, request, part, whole, &mut none, out);
-    files.let_go_input(whole.into_inner());
+    files.release_input(whole.into_inner());
     status
 }
 
@@ -153,23 +153,23 @@ fn read_both<D: FileSystem, K: Sink>(
     request: &Request<'_>,
     stl: StlFile<D::Input>,
     pes: PesFile<D::Input>,
-    rooms: &mut [u8],
+    buffers: &mut [u8],
     out: &mut BufferedSink<'_, K>,
 ) -> Status
     requires reads { reads_pes_packets request.now ≡ false }
-    requires rooms { 2 ≤ length rooms.old }
+    requires buffers { 2 ≤ length buffers.old }
     requires out { failures_and_refused (K.failure_count out.old.device) out.old.refused ≡ 0 }
     requires unused { (D.Input.failure_count stl ≡ 0) × (D.Input.failure_count pes ≡ 0) }
-    ensures { EndsAndLetsGo (CallsInOrder D.is_call files.old files.new)
-        (known_of_files D.Input.remaining D.Input.failure_count
+    ensures { EndsAndReleases (CallsInOrder D.is_call files.old files.new)
+        (file_observations D.Input.remaining D.Input.failure_count
         D.Output.contents D.Output.failure_count D.Output.is_stored)
         D.Output.is_close request.now (sources specs.entire_file (Some stl) (Some pes))
         (BufferHoldsOneLineOnly K.contents K.failure_count K.is_push)
         (lines_of K.contents K.failure_count out.old)
         (lines_of K.contents K.failure_count out.new) result }
 {
-    let half = rooms.len() / 2;
-    let (room, other) = rooms.split_at_mut(half);
+    let half = buffers.len() / 2;
+    let (room, other) = buffers.split_at_mut(half);
     let mut first = BufferedSource::new(stl.into_file(), room);
     let second = BufferedSource::new(pes.into_file(), other);
     let (status, second) = answer_second_part(
@@ -180,8 +180,8 @@ fn read_both<D: FileSystem, K: Sink>(
         second,
         out,
     );
-    files.let_go_input(first.into_inner());
-    files.let_go_input(second.into_inner());
+    files.release_input(first.into_inner());
+    files.release_input(second.into_inner());
     status
 }
 
@@ -192,28 +192,28 @@ fn read_and_write<D: FileSystem, K: Sink>(
     request: &Request<'_>,
     stl: StlFile<D::Input>,
     output: CreatedFile<D::Output>,
-    rooms: &mut [u8],
+    buffers: &mut [u8],
     out: &mut BufferedSink<'_, K>,
 ) -> Status
     requires reads { reads_pes_packets request.now ≡ false }
-    requires rooms { 2 ≤ length rooms.old }
+    requires buffers { 2 ≤ length buffers.old }
     requires out { failures_and_refused (K.failure_count out.old.device) out.old.refused ≡ 0 }
     requires unused { (D.Input.failure_count stl ≡ 0) × (D.Output.failure_count output ≡ 0) }
-    ensures { EndsAndLetsGo (CallsInOrder D.is_call files.old files.new)
-        (known_of_files D.Input.remaining D.Input.failure_count
+    ensures { EndsAndReleases (CallsInOrder D.is_call files.old files.new)
+        (file_observations D.Input.remaining D.Input.failure_count
         D.Output.contents D.Output.failure_count D.Output.is_stored)
         D.Output.is_close request.now (source_and_file specs.entire_file stl output)
         (BufferHoldsOneLineOnly K.contents K.failure_count K.is_push)
         (lines_of K.contents K.failure_count out.old)
         (lines_of K.contents K.failure_count out.new) result }
 {
-    let half = rooms.len() / 2;
-    let (room, other) = rooms.split_at_mut(half);
+    let half = buffers.len() / 2;
+    let (room, other) = buffers.split_at_mut(half);
     let mut first = BufferedSource::new(stl.into_file(), room);
     let mut file = BufferedSink::new(output.into_file(), other);
     let status = answer_source(alloc, request, &mut first, &mut file, out);
-    files.let_go_input(first.into_inner());
-    files.let_go_output(file.into_inner());
+    files.release_input(first.into_inner());
+    files.release_output(file.into_inner());
     status
 }
 
@@ -224,15 +224,15 @@ fn read_and_extract<D: FileSystem, K: Sink>(
     request: &Request<'_>,
     recording: PesFile<D::Input>,
     output: CreatedFile<D::Output>,
-    rooms: &mut [u8],
+    buffers: &mut [u8],
     out: &mut BufferedSink<'_, K>,
 ) -> Status
     requires reads { reads_pes_packets request.now ≡ true }
-    requires rooms { 2 ≤ length rooms.old }
+    requires buffers { 2 ≤ length buffers.old }
     requires out { failures_and_refused (K.failure_count out.old.device) out.old.refused ≡ 0 }
     requires unused { (D.Input.failure_count recording ≡ 0) × (D.Output.failure_count output ≡ 0) }
-    ensures { EndsAndLetsGo (CallsInOrder D.is_call files.old files.new)
-        (known_of_files D.Input.remaining D.Input.failure_count
+    ensures { EndsAndReleases (CallsInOrder D.is_call files.old files.new)
+        (file_observations D.Input.remaining D.Input.failure_count
         D.Output.contents D.Output.failure_count D.Output.is_stored)
         D.Output.is_close request.now
         (source_and_file (specs.part_requested request.now) recording output)
@@ -240,13 +240,13 @@ fn read_and_extract<D: FileSystem, K: Sink>(
         (lines_of K.contents K.failure_count out.old)
         (lines_of K.contents K.failure_count out.new) result }
 {
-    let half = rooms.len() / 2;
-    let (room, other) = rooms.split_at_mut(half);
+    let half = buffers.len() / 2;
+    let (room, other) = buffers.split_at_mut(half);
     let first = BufferedSource::new(recording.into_file(), room);
     let mut file = BufferedSink::new(output.into_file(), other);
     let part = part_requested(request);
     let (status, first) = answer_part(alloc, request, part, first, &mut file, out);
-    files.let_go_input(first.into_inner());
-    files.let_go_output(file.into_inner());
+    files.release_input(first.into_inner());
+    files.release_output(file.into_inner());
     status
 }

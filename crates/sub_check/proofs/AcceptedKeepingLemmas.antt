@@ -13,8 +13,8 @@ use Rattle.sub_check.specs.AcceptedKeeping.{LawOfAcceptedKeeping, LawOfAcceptedN
 use Rattle.sub_check.specs.CheckedFiles.{MeanWithin}
 use Rattle.sub_check.proofs.AcceptedWithinLemmas.{none_failed}
 
-abbrev by_keeps : Bool → OptionsValue → OptionsValue
-by_keeps may options = record options { keeps = may }
+abbrev options_with_keeps : Bool → OptionsValue → OptionsValue
+options_with_keeps may options = record options { keeps = may }
 
 -- The contents of the files depend only on the clock of the options, not on whether repeats may
 -- keep the page.
@@ -22,7 +22,7 @@ mean-keeps :
     (may : Bool) (drawing : Drawing) (options : OptionsValue) (stl pes : List ℕ)
     (subtitles : List SubtitleValue) (t : Transmission)
     → MeanWithin drawing options stl pes subtitles t
-    → MeanWithin drawing (by_keeps may options) stl pes subtitles t
+    → MeanWithin drawing (options_with_keeps may options) stl pes subtitles t
 mean-keeps may drawing options stl pes subtitles t mean = record {
   gsi = mean.gsi;
   subtitle_file = mean.subtitle_file;
@@ -35,16 +35,16 @@ module _ (keeps may : Bool) (programme : ProgrammeValue) (t : Transmission)
     (options : OptionsValue) where
   finished-keeps : (f : ℕ)
       → IsFinishedBy keeps programme t options f
-      → IsFinishedBy keeps programme t (by_keeps may options) f
+      → IsFinishedBy keeps programme t (options_with_keeps may options) f
   finished-keeps f is = record { whole = is.whole; ended = is.ended }
 
   some_finished-keeps : (a b : ℕ)
       → SomeFinishedBy keeps programme t options a b
-      → SomeFinishedBy keeps programme t (by_keeps may options) a b
+      → SomeFinishedBy keeps programme t (options_with_keeps may options) a b
   some_finished-keeps a b (f, from, to, is) = (f, from, to, finished-keeps f is)
 
   good-keeps :
-      GoodBy keeps programme t options → GoodBy keeps programme t (by_keeps may options)
+      GoodBy keeps programme t options → GoodBy keeps programme t (options_with_keeps may options)
   good-keeps good = record {
     rules = assumption good.rules;
     codes = good.codes;

@@ -21,7 +21,7 @@ use Rattle.sub_checker.specs.declared.accepted.Accepted.{Accepted}
 use Rattle.sub_check.specs.CheckedFiles.{IsChecked, IsCheckedBy, ReportsEvents, all_events_of}
 use Rattle.sub_check.specs.CheckedFiles.{answer_by, first_answer}
 use Rattle.sub_check.specs.FirstReported.{IsRuleFault}
-use Rattle.sub_check.proofs.FirstReportedLemmas.{no_read, of_rule}
+use Rattle.sub_check.proofs.FirstReportedLemmas.{failed_read_breaks_no_rule, of_rule}
 use Rattle.sub_check.proofs.RuleReportedLemmas.{first_of_rule}
 use Rattle.sub_check.proofs.VerdictLemmas.{Decides, IsAllRead, ReadsSoFar, checked_at_once}
 use Rattle.sub_check.proofs.VerdictLemmas.{checked_by}
@@ -61,7 +61,7 @@ module _ (programme : ProgrammeValue) (options : OptionsValue) (fine : IsOptions
       → IsAnswered programme options bytes (Err f)
   refused_first f first =
       let own : IsRuleFault f = of_rule f (first_of_rule programme options bytes f first) in
-      answered (Err f) (λ fine. first) (λ pes is. absurd (no_read f pes own is))
+      answered (Err f) (λ fine. first) (λ pes is. absurd (failed_read_breaks_no_rule f pes own is))
 
   pub answered_first :
       (a : Accepted)

@@ -34,12 +34,12 @@ pub same_programme :
 same_programme a b r e f = let both = sym e ∙ f in cc
 
 -- After the subtitle file was loaded, an answer that is no failure is no failed read.
-looked_at :
+answer_after_loading :
     (answer : Result Accepted CheckFault)
     → failed is_subtitle_fault answer ≡ false
     → failed is_failure answer ≡ false
     → failed is_pes_read answer ≡ false
-looked_at answer looked fine = grind (arith, nat_tests)
+answer_after_loading answer looked fine = grind (arith, nat_tests)
 
 one_given : (faults : List LoadFault) (p q : ProgrammeValue) → unless_reported faults p ≡ Ok q → p ≡
     q
@@ -83,10 +83,10 @@ module _ (drawing : Drawing) (options : OptionsValue) (stl pes : List ℕ)
   )
 
   module _ (programme : ProgrammeValue) (given : loaded drawing stl ≡ Ok programme) where
-    programme_is : (subtitles : List SubtitleValue)
+    programme_eq : (subtitles : List SubtitleValue)
         → loaded drawing stl ≡ Ok (record { drawing = drawing; records = subtitles })
         → programme ≡ record { drawing = drawing; records = subtitles }
-    programme_is subtitles read = same_programme programme _ (loaded drawing stl) given read
+    programme_eq subtitles read = same_programme programme _ (loaded drawing stl) given read
 
     of : programme ≡ record { drawing = drawing; records = programme.records }
     of =
@@ -120,7 +120,7 @@ module _ (drawing : Drawing) (options : OptionsValue) (stl pes : List ℕ)
         × Good programme t options
         × (IsTrue options.asks_complete → Complete t options)
     of_accepted is =
-        let same = programme_is is.subtitles (loads is.subtitles is.transmission is.mean) in (
+        let same = programme_eq is.subtitles (loads is.subtitles is.transmission is.mean) in (
           is.transmission,
           is.mean.carries,
           subst (λ (p : ProgrammeValue). Good p is.transmission options) (sym same) is.good,
@@ -152,7 +152,7 @@ module _ (drawing : Drawing) (options : OptionsValue) (stl pes : List ℕ)
         × GoodBy options.keeps programme t options
     of_accepted_by is =
         let same =
-        programme_is is.subtitles (loads_within is.subtitles is.transmission is.mean) in (
+        programme_eq is.subtitles (loads_within is.subtitles is.transmission is.mean) in (
           is.transmission,
           is.mean.carries,
           subst (λ (p : ProgrammeValue). GoodBy options.keeps p is.transmission options) (sym same)
@@ -165,12 +165,12 @@ module _ (drawing : Drawing) (options : OptionsValue) (stl pes : List ℕ)
           → AreAccepted drawing options stl pes answer
       files_accepted checked = record {
         accepted = λ fine.
-            let exactly = checked.accepted looked (looked_at answer looked fine) in
+            let exactly = checked.accepted looked (answer_after_loading answer looked fine) in
             (λ ok. as_accepted (exactly.0 ok), λ is. exactly.1 (of_accepted is));
         serves = λ subtitles t mean ok.
             let (promises, complete) = checked.serves t mean.carries ok in (
               subst (λ (p : ProgrammeValue). HasPromises p t options)
-                  (programme_is subtitles (loads subtitles t mean)) promises,
+                  (programme_eq subtitles (loads subtitles t mean)) promises,
               complete,
             );
       }
@@ -179,11 +179,11 @@ module _ (drawing : Drawing) (options : OptionsValue) (stl pes : List ℕ)
           → AreAcceptedBy drawing options stl pes answer
       files_accepted_by checked = record {
         accepted = λ fine.
-            let exactly = checked.accepted looked (looked_at answer looked fine) in
+            let exactly = checked.accepted looked (answer_after_loading answer looked fine) in
             (λ ok. as_accepted_by (exactly.0 ok), λ is. exactly.1 (of_accepted_by is));
         serves = λ subtitles t mean ok.
             subst (λ (p : ProgrammeValue). HasPromisesBy options.keeps p t options)
-            (programme_is subtitles (loads_within subtitles t mean))
+            (programme_eq subtitles (loads_within subtitles t mean))
             (checked.serves t mean.carries ok).1;
       }
 

@@ -24,7 +24,7 @@ use Rattle.sub_rules.specs.FrameRules.{criteria_of}
 use Rattle.sub_rules.specs.PesPackets.{pes_packet_file_of}
 use Rattle.sub_checker.specs.declared.accepted.Accepted.{Accepted}
 use Rattle.sub_rules.specs.declared.fault.CheckFault.{CheckFault}
-use Rattle.sub_check.proofs.FirstReportedLemmas.{kept_is}
+use Rattle.sub_check.proofs.FirstReportedLemmas.{kept_eq}
 use Rattle.sub_check.proofs.ReadOnLemmas.{all_are_sent, first_of_taken}
 use Rattle.sub_check.proofs.RuleReportedLemmas.{first_of_rule, prefix_of_rule}
 use Rattle.sub_rules.specs.Fault.{is_pes_read}
@@ -56,7 +56,7 @@ module _ (programme : ProgrammeValue) (options : OptionsValue) (bytes : List ℕ
       subst (λ (m : ℕ). (m ≤ length file.pes_packets)
       × (first_reported (events_of_first_pes_packets programme options bytes m) ≡ None)) at (
         l,
-        kept_is None (events_of_first_pes_packets programme options bytes n)
+        kept_eq None (events_of_first_pes_packets programme options bytes n)
             (λ g h. prefix_of_rule programme options bytes n g h) first.one_by_one,
       )
 
@@ -71,7 +71,7 @@ module _ (programme : ProgrammeValue) (options : OptionsValue) (bytes : List ℕ
   none_reported None (Some x) a e fault_free reported = cc
   none_reported None None a e fault_free reported =
       let file = pes_packet_file_of (clock_of options) bytes in
-      kept_is None (all_events_of programme options bytes) (first_of_rule programme options bytes)
+      kept_eq None (all_events_of programme options bytes) (first_of_rule programme options bytes)
       (reported file.pes_packets file.unread refl).0.one_by_one
 
   fault_reported : (empty kept : Option CheckFault) (f : CheckFault)
@@ -85,7 +85,7 @@ module _ (programme : ProgrammeValue) (options : OptionsValue) (bytes : List ℕ
       let all = all_events_of programme options bytes in
       let (n, l, part) = reported file.pes_packets file.unread refl in
       first_of_taken n all f
-      (kept_is kept (take n all)
+      (kept_eq kept (take n all)
       (λ g h. first_of_rule programme options bytes g (first_of_taken n all g h)) part.one_by_one
       ∙ is)
 

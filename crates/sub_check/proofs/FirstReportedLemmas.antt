@@ -1,5 +1,5 @@
 -- An audience that stores the first fault of a rule stores the first fault among the events
--- (`kept_is`); if this fault is a wrong cell, receivers show the kept code in the cell
+-- (`kept_eq`); if this fault is a wrong cell, receivers show the kept code in the cell
 -- (`different_of_first`).
 use Rattle.std.proofs.lemmas.Bool.Decides.{nat_tests}
 use Rattle.std.proofs.Common.{◌≡◌, ℕ, List, [], ◌∷◌, length, Option, Some, None, Result, Err, refl}
@@ -31,7 +31,7 @@ use Rattle.sub_laws.specs.UnexpectedContent.{IsDifferentEverywhere}
 use Rattle.sub_laws.proofs.ContentLemmas.{different_everywhere}
 use Rattle.sub_laws.proofs.EventLemmas.{FirstOf, all_reported, is_plain}
 use Rattle.sub_laws.proofs.FirstContentLemmas.{content_first}
-use Rattle.sub_laws.proofs.FrameByFrame.{AllOk, IsReadTo}
+use Rattle.sub_laws.proofs.FrameByFrame.{MeetsRequirements, IsReadTo}
 use Rattle.sub_laws.proofs.ReadFileLemmas.{file_sound}
 use Rattle.sub_check.specs.CheckedFiles.{all_events_of}
 use Rattle.sub_rules.proofs.FrameEvents.{events}
@@ -47,33 +47,33 @@ each_complete (s ∷ frames) h =
 pub of_rule : (f : CheckFault) → is_of_rule f ≡ true → IsRuleFault f
 of_rule f e = grind (arith, nat_tests)
 
-pub no_read : (f : CheckFault) (pes : ℕ)
+pub failed_read_breaks_no_rule : (f : CheckFault) (pes : ℕ)
     → IsRuleFault f
     → (let r : Result Accepted CheckFault = Err f in r) ≡ Err (fault.Pes pes Read)
     → ⊥
-no_read f pes own is =
+failed_read_breaks_no_rule f pes own is =
     grind (arith, nat_tests, true≢false)
 
-kept_last : (f : CheckFault) (new : Option CheckFault) (xs : List Event)
+nothing_after_first_fault : (f : CheckFault) (new : Option CheckFault) (xs : List Event)
     → ReportsInOrder KeepsFirstFault (Some f) new xs → new ≡ Some f
-kept_last f new [] reported = reported
-kept_last f new (x ∷ xs) (mid, keeps, rest) = let none = keeps.0 in cc
+nothing_after_first_fault f new [] reported = reported
+nothing_after_first_fault f new (x ∷ xs) (mid, keeps, rest) = let none = keeps.0 in cc
 
 -- An audience that stores the first fault of a rule stores the first fault among the events, if it
 -- is one of a rule.
-pub kept_is : (new : Option CheckFault) (xs : List Event)
+pub kept_eq : (new : Option CheckFault) (xs : List Event)
     → ((f : CheckFault) → first_reported xs ≡ Some f → is_of_rule f ≡ true)
     → ReportsInOrder KeepsFirstFault None new xs
     → first_reported xs ≡ new
-kept_is new [] named reported = sym reported
-kept_is new (Reported f ∷ xs) named (mid, keeps, rest) =
-    grind (arith, nat_tests, kept_last)
-kept_is new (Trusted from to ∷ xs) named (mid, keeps, rest) =
-    kept_is new xs named (subst (λ m. ReportsInOrder KeepsFirstFault m new xs) keeps.1 rest)
-kept_is new (Ended rule f ∷ xs) named (mid, keeps, rest) =
-    kept_is new xs named (subst (λ m. ReportsInOrder KeepsFirstFault m new xs) keeps.1 rest)
-kept_is new (SkippedUntil f ∷ xs) named (mid, keeps, rest) =
-    kept_is new xs named (subst (λ m. ReportsInOrder KeepsFirstFault m new xs) keeps.1 rest)
+kept_eq new [] named reported = sym reported
+kept_eq new (Reported f ∷ xs) named (mid, keeps, rest) =
+    grind (arith, nat_tests, nothing_after_first_fault)
+kept_eq new (Trusted from to ∷ xs) named (mid, keeps, rest) =
+    kept_eq new xs named (subst (λ m. ReportsInOrder KeepsFirstFault m new xs) keeps.1 rest)
+kept_eq new (Ended rule f ∷ xs) named (mid, keeps, rest) =
+    kept_eq new xs named (subst (λ m. ReportsInOrder KeepsFirstFault m new xs) keeps.1 rest)
+kept_eq new (SkippedUntil f ∷ xs) named (mid, keeps, rest) =
+    kept_eq new xs named (subst (λ m. ReportsInOrder KeepsFirstFault m new xs) keeps.1 rest)
 
 module _ (g : Criteria) (frames : Transmission) (packets_complete : EachPacket IsPacket frames)
     (IsSo : ℕ → ℕ → ℕ → Type 0)
@@ -107,7 +107,7 @@ module _ (g : Criteria) (frames : Transmission) (packets_complete : EachPacket I
       frame
       row column refl
     where
-      go : (xs : List Event) → FirstOf Named (AllOk g frames) xs
+      go : (xs : List Event) → FirstOf Named (MeetsRequirements g frames) xs
           → first_reported xs ≡ Some (fault.Content frame row column)
           → Named (fault.Content frame row column)
       go [] reported e = cc

@@ -30,7 +30,7 @@ use Rattle.sub_rules.specs.declared.event.Event.TheVariants.{Reported}
 use Rattle.sub_rules.specs.declared.fault.CheckFault.{CheckFault}
 use Rattle.sub_rules.specs.declared.packet_rule.PacketRule.{PacketRule}
 use Rattle.sub_rules.proofs.EndRuleLemmas.{end_any}
-use Rattle.sub_rules.proofs.PesPacketEventLemmas.{all_first, announced_first}
+use Rattle.sub_rules.proofs.PesPacketEventLemmas.{first_of_all_announced, announced_first}
 use Rattle.sub_laws.proofs.StepTestLemmas.{FramesPass, SkippedPass, Passes, before_passes}
 use Rattle.sub_laws.proofs.StepTestLemmas.{both_pass}
 use Rattle.sub_laws.proofs.StepTestLemmas.{each_passes, first_fine, emits_bad, emits_pass}
@@ -187,7 +187,7 @@ module _ (programme : ProgrammeValue) (options : OptionsValue) (bytes : List ℕ
       not_foreign f
       (first_fine is_foreign at_any (reported_of_pes_packets g file.pes_packets) f
       (pes_packets_own g sound.fault file.pes_packets sound.each)
-      (sym (all_first (reported_of_pes_packets g file.pes_packets)) ∙ is))
+      (sym (first_of_all_announced (reported_of_pes_packets g file.pes_packets)) ∙ is))
 
   pub prefix_of_rule : (n : ℕ) (f : CheckFault)
       → first_reported (events_of_first_pes_packets programme options bytes n) ≡ Some f

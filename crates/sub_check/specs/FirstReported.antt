@@ -20,12 +20,12 @@ abbrev pub is_of_rule : CheckFault → Bool
 is_of_rule f = not (is_pes_read f || is_pes_write f || is_subtitle_fault f)
 
 -- The fault of an event, if the event reports a broken rule.
-abbrev pub kept_of : Event → Option CheckFault
-kept_of (Reported f) = if is_of_rule f then Some f else None
-kept_of (Ended rule frame) = None
-kept_of (SkippedUntil f) = None
-kept_of (Trusted from to) = None
+abbrev pub rule_fault_of : Event → Option CheckFault
+rule_fault_of (Reported f) = if is_of_rule f then Some f else None
+rule_fault_of (Ended rule frame) = None
+rule_fault_of (SkippedUntil f) = None
+rule_fault_of (Trusted from to) = None
 
 -- A `FirstFault` stores the first fault, and no event is reported to it afterwards.
 abbrev pub KeepsFirstFault : Option CheckFault → Event → Option CheckFault → Type 0
-KeepsFirstFault old event new = (old ≡ None) × (new ≡ kept_of event)
+KeepsFirstFault old event new = (old ≡ None) × (new ≡ rule_fault_of event)

@@ -76,13 +76,13 @@ fn report_known<P: PesPackets, A: LiveAudience<Event>>(
     audience: &mut A,
 ) -> Result<Option<Accepted>, CheckFault>
     requires failures { CanFail (P.failure_count source.old) }
-    requires goes_on { A.has_stopped audience.old ≡ false }
+    requires continues { A.has_stopped audience.old ≡ false }
     requires still { A.has_pending_reports audience.old ≡ false }
     ensures exact { IfKnown (P.remaining source.old) (λ bytes.
         ReportsFile (criteria_of programme.now options.now) (clock_of options.now) bytes
         A.is_reported audience.old audience.new result) }
     ensures stopped { IfOk result (λ counts. A.has_stopped audience.new ≡ is_none counts) }
-    ensures goes_on { IfErr result (λ _. A.has_stopped audience.new ≡ false) }
+    ensures continues { IfErr result (λ _. A.has_stopped audience.new ≡ false) }
     ensures read { (pes : ℕ) → result ≡ Err (CheckFault.Pes pes PesFault.Read)
         → FailsReadingOn (clock_of options.now) pes (P.remaining source.old) (P.left source.new) }
     ensures only { IfErr result (λ f. is_pes_read f ≡ true) }
@@ -108,7 +108,7 @@ pub fn check_all_pes_packets<P: PesPackets, A: LiveAudience<Event>>(
     audience: &mut A,
 ) -> Result<Option<Accepted>, CheckFault>
     requires failures { CanFail (P.failure_count source.old) }
-    requires goes_on { A.has_stopped audience.old ≡ false }
+    requires continues { A.has_stopped audience.old ≡ false }
     requires still { A.has_pending_reports audience.old ≡ false }
     // If the bytes of the source are known, they decide which events are reported.
     ensures reported { IfKnown (P.remaining source.old) (λ bytes.
@@ -149,7 +149,7 @@ pub fn check_all_pes_packets<P: PesPackets, A: LiveAudience<Event>>(
     // Whatever the source contains, a list of events was reported, and the audience had not stopped
     // the check if the source failed.
     ensures some { ReportsSome A.is_reported audience.old audience.new }
-    ensures goes_on { IfErr result (λ _. A.has_stopped audience.new ≡ false) }
+    ensures continues { IfErr result (λ _. A.has_stopped audience.new ≡ false) }
     // A failure of the source is reported for the PES packet in which it happened; the packets
     // before it were consumed. No other `Err` is returned.
     ensures read { (pes : ℕ) → result ≡ Err (CheckFault.Pes pes PesFault.Read)

@@ -111,7 +111,7 @@ pub fn check_all<S: Source, A: LiveAudience<Event>>(
     audience: &mut A,
 ) -> Result<Option<Accepted>, CheckFault>
     requires failures { CanFail (S.failure_count source.old) }
-    requires goes_on { A.has_stopped audience.old ≡ false }
+    requires continues { A.has_stopped audience.old ≡ false }
     requires still { A.has_pending_reports audience.old ≡ false }
     // If the bytes of the source are known, they decide which events are reported.
     ensures reported { IfKnown (S.remaining source.old) (λ bytes.
@@ -152,7 +152,7 @@ pub fn check_all<S: Source, A: LiveAudience<Event>>(
     // Whatever the source contains, a list of events was reported, and the audience had not stopped
     // the check if the source failed.
     ensures some { ReportsSome A.is_reported audience.old audience.new }
-    ensures goes_on { IfErr result (λ _. A.has_stopped audience.new ≡ false) }
+    ensures continues { IfErr result (λ _. A.has_stopped audience.new ≡ false) }
     // A failure of the source is reported for the PES packet in which it happened; the packets
     // before it were consumed. No other `Err` is returned.
     ensures read { (pes : ℕ) → result ≡ Err (CheckFault.Pes pes PesFault.Read)

@@ -1,5 +1,5 @@
--- The checker's state agrees with the frames after the packets of a frame (`heard_here`) and at the
--- end of the frame (`ending_steps`, `follows_then`).
+-- The checker's state agrees with the frames after the packets of a frame (`state_after_packets`)
+-- and at the end of the frame (`ending_steps`, `follows_then`).
 use Rattle.std.proofs.lemmas.Bool.Decides.{nat_tests}
 use Rattle.std.proofs.Common.{◌≡◌, ℕ, zero, suc, ◌+◌, ◌<◌, Bool, ◌&&◌, ◌||◌, not, nat_le, nat_lt}
 use Rattle.std.proofs.Common.{cond, List, [], ◌∷◌, ◌++◌, length, map, take, refl, sym, ap, ◌∙◌}
@@ -11,7 +11,7 @@ use Rattle.sub_plan.specs.Schedule.{due_in}
 use Rattle.ttx_page.specs.PacketKind.{kind}
 use Rattle.ttx_page.specs.Span.{holds_beginning, holds_header}
 use Rattle.sub_checker.specs.Checker.{CheckerValue, HasHeard, after_end, after_headers, end_steps}
-use Rattle.sub_checker.specs.Checker.{later_by, active_faults_of}
+use Rattle.sub_checker.specs.Checker.{next_repeat_deadline, active_faults_of}
 use Rattle.sub_checker.specs.CheckedFrames.{AfterEnd, AfterPackets, BeforePackets, Remembers}
 use Rattle.sub_rules.specs.Events.{covers, first_header_events, is_gap, packets_reported}
 use Rattle.sub_rules.specs.Events.{first_unfinished_in_frames, active_faults_at}
@@ -26,7 +26,8 @@ use Rattle.sub_rules.specs.declared.event.Event.TheVariants.{Reported}
 use Rattle.sub_rules.specs.declared.fault.CheckFault.TheVariants as fault
 use Rattle.sub_rules.proofs.FrameLists.{joined_more}
 use Rattle.sub_rules.proofs.PacketLists.{header_count-append, holds-count}
-use Rattle.sub_checker.proofs.FrameEndLemmas.{frame_on, first_unfinished_are, first_unfinished_last}
+use Rattle.sub_checker.proofs.FrameEndLemmas.{frame_on, first_unfinished_after_end}
+use Rattle.sub_checker.proofs.FrameEndLemmas.{first_unfinished_last}
 use Rattle.sub_checker.proofs.FrameEndLemmas.{active_faults_are_at}
 use Rattle.sub_checker.proofs.FrameEndLemmas.{steps_are}
 
@@ -39,12 +40,12 @@ pub packets_are :
     (length ps))
 packets_are g frames n last ps c arrives are =
     let watched = ap (λ (t : Criteria). t.watched) arrives.has_pending.known.criteria_are in
-    rw (sym watched, arrives.frame_is, sym are) refl
+    rw (sym watched, arrives.frame_eq, sym are) refl
 
 pub late_core : (due before has : Bool) (late frame every f : ℕ)
     → (due && not before) ≡ nat_le late (f + 1)
     → (due && not (before || (has && nat_lt f (frame + every))))
-    ≡ nat_le (later_by has frame every late) (f + 1)
+    ≡ nat_le (next_repeat_deadline has frame every late) (f + 1)
 late_core due before has late frame every f is = grind (arith, nat_tests)
 
 module _ (g : Criteria) (frames : Transmission) (n : ℕ) (last ps : List (List ℕ))
@@ -69,24 +70,24 @@ module _ (g : Criteria) (frames : Transmission) (n : ℕ) (last ps : List (List 
     abbrev here : CheckerValue
     here = after_headers hears.headers (record c { listener = hears.listener })
 
-    known_then : Remembers g frames (suc n) ps here
-    known_then =
+    remembers_next : Remembers g frames (suc n) ps here
+    remembers_next =
         let known = arrives.has_pending.known in
         let knows = hears.knows in
         let count = hears.count in
         let watched = hears.watched in
         grind (arith, nat_tests, joined, header_count-append)
 
-    any_is : (f : ℕ)
+    any_eq : (f : ℕ)
         → list_any (covers g f) (take (suc n) frames)
         ≡ (list_any (covers g f) (take n frames)
         || (nat_lt 0 hears.headers && nat_lt f (c.frame + c.every)))
-    any_is f =
+    any_eq f =
         let none : SentFrame = record { frame = 0; packets = [] } in
         let next : suc n ≡ n + 1 = omega arith in
         let number = get_or-map (λ (x : SentFrame). x.frame) frames n none 0 there in
         let packets = get_or-map (λ (x : SentFrame). x.packets) frames n none [] there in
-        let at = arrives.frame_is in
+        let at = arrives.frame_eq in
         let every = ap (λ (t : Criteria). t.every) arrives.has_pending.known.criteria_are in
         ap (λ (k : ℕ). list_any (covers g f) (take k frames)) next
         ∙ list_any_more (covers g f) frames n none there
@@ -96,23 +97,23 @@ module _ (g : Criteria) (frames : Transmission) (n : ℕ) (last ps : List (List 
     late_then : (f : ℕ) → is_gap g frames (suc n) f ≡ nat_le here.late_at (f + 1)
     unfolding is_gap
     late_then f =
-        rw (any_is f)
+        rw (any_eq f)
         (late_core (nat_le (frame_at frames 0 + g.every) (f + 1))
         (list_any (covers g f) (take n frames)) (nat_lt 0 hears.headers) c.late_at c.frame c.every f
-        (arrives.has_pending.begun.late_is f))
+        (arrives.has_pending.begun.late_eq f))
 
-    pub heard_here : (e : CheckerValue) → e ≡ record here {
+    pub state_after_packets : (e : CheckerValue) → e ≡ record here {
       counts = record here.counts { frames = suc n };
     } → AfterPackets g frames n ps e
-    heard_here e is =
+    state_after_packets e is =
         rw is (record {
-          known = assumption known_then;
-          begun = record { first_is = arrives.has_pending.begun.first_is; late_is = late_then };
-          active_faults_is = arrives.has_pending.active_faults_is;
+          known = assumption remembers_next;
+          begun = record { first_is = arrives.has_pending.begun.first_is; late_eq = late_then };
+          active_faults_eq = arrives.has_pending.active_faults_eq;
           last_is = arrives.has_pending.last_is;
-          first_unfinished_is = arrives.has_pending.first_unfinished_is;
+          first_unfinished_eq = arrives.has_pending.first_unfinished_eq;
           number = refl;
-          frame_is = arrives.frame_is;
+          frame_eq = arrives.frame_eq;
           latest_is = arrives.latest_is;
           begins =
               hears.begins
@@ -144,7 +145,7 @@ module _ (g : Criteria) (frames : Transmission) (n : ℕ) (last : List (List ℕ
     unfolding first_header_events
     first_reported has lacks holds e =
         let number = is.number in
-        let at = is.frame_is in
+        let at = is.frame_eq in
         go n number at holds
       where
         go : (k : ℕ) → c.counts.frames ≡ suc k → c.frame ≡ frame_at frames k
@@ -157,16 +158,16 @@ module _ (g : Criteria) (frames : Transmission) (n : ℕ) (last : List (List ℕ
     module _ (due : c.listener.comparison.due ≡ due_in c.programme c.frame) where
       pub ending_steps : end_steps c ≡ steps_at_end g frames n (suc n) (frame_at frames n)
       ending_steps =
-          steps_are g frames n (suc n) (frame_at frames n) last c is.known is.begun is.frame_is due
-          is.active_faults_is is.last_is is.first_unfinished_is (frame_on g frames n) (omega arith)
+          steps_are g frames n (suc n) (frame_at frames n) last c is.known is.begun is.frame_eq due
+          is.active_faults_eq is.last_is is.first_unfinished_eq (frame_on g frames n) (omega arith)
           is.latest_is
 
       active_faults_then : active_faults_of c
           ≡ active_faults_at g frames (suc n) (frame_at frames n)
       active_faults_then =
           active_faults_are_at g frames n (suc n) (frame_at frames n) last c is.known is.begun
-          is.frame_is due
-          is.active_faults_is is.last_is is.first_unfinished_is (frame_on g frames n) (omega arith)
+          is.frame_eq due
+          is.active_faults_eq is.last_is is.first_unfinished_eq (frame_on g frames n) (omega arith)
           is.latest_is
 
       pub end_step : (f : ℕ) (begins none : Bool) (d : CheckerValue)
@@ -183,7 +184,7 @@ module _ (g : Criteria) (frames : Transmission) (n : ℕ) (last : List (List ℕ
           let no_faults_before = ap (λ (v : CheckerValue). has_no_active_faults v.active_faults) end
           ∙ ap has_no_active_faults active_faults_then in
           rw (
-            at ∙ ap (λ (v : CheckerValue). v.frame) end ∙ is.frame_is,
+            at ∙ ap (λ (v : CheckerValue). v.frame) end ∙ is.frame_eq,
             holds,
             no_faults_now ∙
                 no_faults_before,
@@ -192,9 +193,9 @@ module _ (g : Criteria) (frames : Transmission) (n : ℕ) (last : List (List ℕ
       first_unfinished_then : 0 < g.within → (after_end c).first_unfinished ≡
           first_unfinished_in_frames g frames (suc n)
       first_unfinished_then l =
-          first_unfinished_are g frames n (suc n) (frame_at frames n) last c is.known is.begun
-          is.frame_is due
-          is.active_faults_is is.last_is is.first_unfinished_is (frame_on g frames n) (omega arith)
+          first_unfinished_after_end g frames n (suc n) (frame_at frames n) last c is.known is.begun
+          is.frame_eq due
+          is.active_faults_eq is.last_is is.first_unfinished_eq (frame_on g frames n) (omega arith)
           is.latest_is l
           ∙ first_unfinished_last g frames n
 
@@ -202,12 +203,12 @@ module _ (g : Criteria) (frames : Transmission) (n : ℕ) (last : List (List ℕ
       follows_then = record {
         known = assumption is.known;
         none = λ e. absurd (omega (arith, e));
-        begun = λ l. record { first_is = is.begun.first_is; late_is = is.begun.late_is };
+        begun = λ l. record { first_is = is.begun.first_is; late_eq = is.begun.late_eq };
         latest_is = λ l. is.latest_is;
-        active_faults_is = λ l. active_faults_then ∙ ap (λ (k : ℕ). active_faults_at g frames
+        active_faults_eq = λ l. active_faults_then ∙ ap (λ (k : ℕ). active_faults_at g frames
             (suc n)
             (frame_at frames k)) (omega arith);
-        last_is = λ l. is.frame_is ∙ ap (frame_at frames) (omega arith);
-        first_unfinished_is = first_unfinished_then;
+        last_is = λ l. is.frame_eq ∙ ap (frame_at frames) (omega arith);
+        first_unfinished_eq = first_unfinished_then;
         number = is.number;
       }

@@ -1,7 +1,7 @@
 -- Between two PES packets the checker's state agrees with the frames sent
 -- (`BetweenPesPackets-closed`, `BetweenPesPackets-open`, `pending_none`, `pending_some`). The
--- checker decides correctly whether a PES packet continues the last frame (`goes_on_is`), takes the
--- right steps (`arrived`, `next_is`), and has the right state afterwards (`more_keeps`,
+-- checker decides correctly whether a PES packet continues the last frame (`continues_eq`), takes
+-- the right steps (`arrived`, `next_eq`), and has the right state afterwards (`more_keeps`,
 -- `next_keeps`).
 use Rattle.std.proofs.lemmas.Bool.Decides.{nat_tests}
 use Rattle.std.proofs.Common.{◌≡◌, ℕ, suc, ◌+◌, ◌-◌, ◌<◌, ◌==◌, Bool, ◌&&◌}
@@ -11,7 +11,7 @@ use Rattle.std.proofs.lemmas.List.{append-nil}
 use Rattle.sub_rules.specs.FrameRules.{Criteria, frame_at, packets_before, packets_of_frame}
 use Rattle.sub_rules.specs.PesPacketEvents.{steps_of_arrival, steps_of_ending, steps_of_more}
 use Rattle.sub_rules.specs.PesPacketEvents.{steps_of_packets, steps_of_sent, steps_of_pending_end}
-use Rattle.sub_rules.specs.PesPackets.{goes_on_with, with_packets}
+use Rattle.sub_rules.specs.PesPackets.{continues_with, with_packets}
 use Rattle.sub_rules.proofs.JoinedLemmas.{with_packets-length}
 use Rattle.sub_rules.specs.Sendings.{IsSentFrame}
 use Rattle.sub_rules.specs.Transmission.{SentFrame, Transmission}
@@ -22,13 +22,13 @@ use Rattle.sub_checker.specs.Checker.{CheckerValue, HasHeard, after_headers}
 use Rattle.sub_checker.specs.CheckedFrames.{AfterEnd, AfterPackets, BeforePackets}
 use Rattle.sub_checker.specs.CheckedFrames.{BetweenPesPackets}
 use Rattle.sub_checker.specs.CheckedFrames.{StaysOpen, back_reporter, next_steps, reaching_steps}
-use Rattle.sub_checker.proofs.FrameEndLemmas.{back_are}
+use Rattle.sub_checker.proofs.FrameEndLemmas.{back_steps_agree}
 use Rattle.sub_checker.specs.Relay.{ReporterRelays, at_step}
 use Rattle.sub_checker.specs.declared.counts.Counts.{Counts}
 use Rattle.sub_checker.specs.declared.reporter.Reporter.{Reporter}
-use Rattle.sub_checker.proofs.AfterPacketsLemmas.{heard_here}
+use Rattle.sub_checker.proofs.AfterPacketsLemmas.{state_after_packets}
 use Rattle.sub_checker.proofs.MorePacketsLemmas.{opens_more}
-use Rattle.sub_checker.proofs.ReporterLemmas.{relays_begun, relays_two}
+use Rattle.sub_checker.proofs.ReporterLemmas.{relays_started, relays_two}
 
 pub BetweenPesPackets-closed : (g : Criteria) (sent : Transmission) (last : List (List ℕ))
     (c : CheckerValue)
@@ -70,12 +70,12 @@ heard_counts : (g : Criteria) (sent : Transmission) (n : ℕ) (last : List (List
     → AfterPackets g sent n last d
 heard_counts g sent n last c d m is frames headers heard = grind (arith, nat_tests)
 
-pub heard_shut : (g : Criteria) (sent : Transmission) (n : ℕ) (last : List (List ℕ))
+pub closed_frame_state : (g : Criteria) (sent : Transmission) (n : ℕ) (last : List (List ℕ))
     (c d : CheckerValue)
     → d ≡ record c { counts = record c.counts { is_open = false } }
     → AfterPackets g sent n last c
     → AfterPackets g sent n last d
-heard_shut g sent n last c d is heard =
+closed_frame_state g sent n last c d is heard =
     heard_counts g sent n last c d (record c.counts { is_open = false }) is refl refl heard
 
 pub more_keeps : (g : Criteria) (sent : Transmission) (last ps : List (List ℕ))
@@ -91,7 +91,7 @@ more_keeps g sent last ps c v e k keeps opened hears is sum =
     let some = keeps.some opened in
     let all : length sent ≡ suc (length sent - 1) = omega (arith, some) in
     let opens = keeps.opens opened in
-    let new = hears.new_is in
+    let new = hears.new_eq in
     let same = is
     ∙ ap (λ (w : CheckerValue). record w { counts = record w.counts { packets = k } }) new in
     BetweenPesPackets-open g (with_packets ps sent) (length sent - 1) ps e
@@ -100,31 +100,31 @@ more_keeps g sent last ps c v e k keeps opened hears is sum =
     (opens_more g sent (length sent - 1) last ps c v opens.heard all hears e k same opens.before
     opens.packets (sum ∙ ap (λ (w : CheckerValue). w.counts.packets + length ps) new))
 
-pub goes_on_is : (g : Criteria) (sent : Transmission) (last : List (List ℕ)) (c : CheckerValue)
+pub continues_eq : (g : Criteria) (sent : Transmission) (last : List (List ℕ)) (c : CheckerValue)
     (s : SentFrame) (same : Bool)
     → BetweenPesPackets g sent last c
     → same ≡ (c.counts.is_open && s.frame == c.frame)
-    → goes_on_with g.within sent s ≡ same
-goes_on_is g sent last c s same keeps is = grind (arith, nat_tests)
+    → continues_with g.within sent s ≡ same
+continues_eq g sent last c s same keeps is = grind (arith, nat_tests)
 
-pub more_is : (g : Criteria) (sent : Transmission) (pes : ℕ) (s : SentFrame)
-    → goes_on_with g.within sent s ≡ true
+pub more_eq : (g : Criteria) (sent : Transmission) (pes : ℕ) (s : SentFrame)
+    → continues_with g.within sent s ≡ true
     → steps_of_sent g sent pes s ≡ AtPes pes ∷ steps_of_more g sent s.packets
 unfolding steps_of_sent
-more_is g sent pes s same = rw same refl
+more_eq g sent pes s same = rw same refl
 
-pub next_is : (g : Criteria) (sent : Transmission) (pes : ℕ) (s : SentFrame)
-    → goes_on_with g.within sent s ≡ false
+pub next_eq : (g : Criteria) (sent : Transmission) (pes : ℕ) (s : SentFrame)
+    → continues_with g.within sent s ≡ false
     → steps_of_sent g sent pes s
     ≡ steps_of_pending_end g sent ++ AtPes pes ∷ next_steps g (sent ++ s ∷ []) (length sent)
 unfolding steps_of_sent
-next_is g sent pes s other = rw other refl
+next_eq g sent pes s other = rw other refl
 
 pub is_sent : (sent : Transmission) (s : SentFrame)
     → IsSentFrame (sent ++ s ∷ []) (length sent) s.frame s.packets
 is_sent sent s = record {
   there = omega (arith, length-append sent (s ∷ []));
-  frame_is = at sent;
+  frame_eq = at sent;
   packets_are = packets sent;
 }
   where
@@ -136,9 +136,9 @@ is_sent sent s = record {
     packets [] = refl
     packets (x ∷ xs) = packets xs
 
-pub one_longer : (sent : Transmission) (s : SentFrame)
+pub length_one_more : (sent : Transmission) (s : SentFrame)
     → length (sent ++ s ∷ []) ≡ suc (length sent)
-one_longer sent s = length-append sent (s ∷ []) ∙ omega arith
+length_one_more sent s = length-append sent (s ∷ []) ∙ omega arith
 
 pub arrived : {D : Type 0} {d : _} {IsReported : D → Event → D → Type 0} {a s t : Reporter D d}
     (g : Criteria) (frames : Transmission) (n : ℕ) (last : List (List ℕ)) (c : CheckerValue)
@@ -148,12 +148,12 @@ pub arrived : {D : Type 0} {d : _} {IsReported : D → Event → D → Type 0} {
     → ReporterRelays IsReported a (steps_of_arrival g frames n) t
 arrived {a = a} {s = s} {t = t} g frames n last c arrives reached begins =
     let back =
-    back_are g frames n n (frame_at frames n) last c arrives.has_pending.known
-    arrives.has_pending.first_unfinished_is in
+    back_steps_agree g frames n n (frame_at frames n) last c arrives.has_pending.known
+    arrives.has_pending.first_unfinished_eq in
     relays_two
     (ap₂ (λ (f : ℕ) (ms : List CheckStep). reaching_steps g frames n ++ Begins f ∷ ms)
-    (sym arrives.frame_is) (sym back))
-    reached (relays_begun s t c begins)
+    (sym arrives.frame_eq) (sym back))
+    reached (relays_started s t c begins)
 
 pub next_each : (g : Criteria) (frames : Transmission) (n : ℕ) → g.within ≡ 0
     → next_steps g frames n
@@ -173,11 +173,11 @@ module _ (g : Criteria) (frames : Transmission) (n : ℕ) (last ps : List (List 
         → e ≡ record v { counts = record v.counts { frames = v.counts.frames + 1 } }
         → AfterPackets g frames n ps e
     next_heard e is =
-        heard_here g frames n last ps c v arrives there are hears e
+        state_after_packets g frames n last ps c v arrives there are hears e
         (is
         ∙ ap (λ (w : CheckerValue). record w {
           counts = record w.counts { frames = w.counts.frames + 1 };
-        }) hears.new_is
+        }) hears.new_eq
         ∙ ap (λ (k : ℕ). let here : CheckerValue =
         after_headers hears.headers (record c { listener = hears.listener }) in
         record here { counts = record here.counts { frames = k } })
@@ -216,15 +216,15 @@ module _ (g : Criteria) (frames : Transmission) (n : ℕ) (last ps : List (List 
               ∙ ap length (sym are);
         })
 
-    pub some_is : (v.within ≡ 0 → ⊥) → 0 < c.within
-    some_is not_each =
-        let same = ap (λ (w : CheckerValue). w.within) hears.new_is in
+    pub within_is_positive : (v.within ≡ 0 → ⊥) → 0 < c.within
+    within_is_positive not_each =
+        let same = ap (λ (w : CheckerValue). w.within) hears.new_eq in
         omega (arith, not_each, same)
 
-    pub each_is : v.within ≡ 0 → g.within ≡ 0
-    each_is e =
+    pub each_eq : v.within ≡ 0 → g.within ≡ 0
+    each_eq e =
         ap (λ (t : Criteria). t.within) arrives.has_pending.known.criteria_are
-        ∙ sym (ap (λ (w : CheckerValue). w.within) hears.new_is)
+        ∙ sym (ap (λ (w : CheckerValue). w.within) hears.new_eq)
         ∙ e
 
 pub follows_all : (g : Criteria) (sent : Transmission) (last : List (List ℕ)) (c : CheckerValue)

@@ -7,30 +7,31 @@ use Rattle.std.proofs.Common.{List, [], ◌∷◌, ◌++◌, length, map, Option
 use Rattle.std.proofs.Common.{subst, arith, ◌⊎◌, inl, inr}
 use Rattle.std.proofs.lemmas.Bool.{cases_lt, true≢false}
 use Rattle.std.proofs.lemmas.List.{append-nil}
-use Rattle.stl_rows.specs.Programme.{first_in}
+use Rattle.stl_rows.specs.Programme.{first_tci}
 use Rattle.sub_plan.specs.Schedule.{due_in}
-use Rattle.sub_checker.specs.Checker.{CheckerValue, after_end, at_first, at_frame, at_next}
-use Rattle.sub_checker.specs.Checker.{end_steps, nothing_counted, active_faults_of}
+use Rattle.sub_checker.specs.Checker.{CheckerValue, after_end, checker_at_first, at_frame}
+use Rattle.sub_checker.specs.Checker.{checker_at_next}
+use Rattle.sub_checker.specs.Checker.{end_steps, no_counts, active_faults_of}
 use Rattle.sub_checker.specs.declared.counts.Counts.{Counts}
 use Rattle.sub_checker.specs.CheckedFrames.{AfterEnd, BeforeEnd, BeforePackets, BetweenPesPackets}
-use Rattle.sub_checker.specs.CheckedFrames.{HasBegun, Remembers, criteria_kept, reaching_steps}
+use Rattle.sub_checker.specs.CheckedFrames.{HasStarted, Remembers, criteria_kept, reaching_steps}
 use Rattle.sub_packets.specs.Listener.{KnowsLast}
 use Rattle.sub_rules.specs.Events.{end_before, gap_length, is_early, is_gap, latest}
 use Rattle.sub_rules.specs.Events.{no_active_faults, order_events, first_unfinished_before}
 use Rattle.sub_rules.specs.Events.{first_unfinished_in_frames}
-use Rattle.sub_rules.specs.Events.{active_faults_at, active_faults_before, unfinished_since}
+use Rattle.sub_rules.specs.Events.{active_faults_at, active_faults_before, unfinished_run_start}
 use Rattle.sub_rules.specs.FrameRules.{Criteria, frame_at}
 use Rattle.sub_rules.specs.PesPacketEvents.{steps_at_end, steps_of_gap}
 use Rattle.sub_rules.specs.Transmission.{Transmission}
 use Rattle.sub_rules.specs.Trusted.CheckStep.{Emits}
 use Rattle.sub_rules.specs.declared.event.Event.TheVariants.{Reported}
 use Rattle.sub_rules.specs.declared.fault.CheckFault.TheVariants as fault
-use Rattle.sub_rules.proofs.EndLemmas.{active_faults_before_is}
+use Rattle.sub_rules.proofs.EndLemmas.{active_faults_before_eq}
 use Rattle.sub_rules.proofs.PrefixEventLemmas.{frame_at-prefix, latest-prefix}
 use Rattle.sub_rules.proofs.PrefixEventLemmas.{packets_before-prefix, active_faults_at-prefix}
-use Rattle.sub_rules.proofs.PrefixEventLemmas.{unfinished_since-prefix}
-use Rattle.sub_checker.proofs.FrameEndLemmas.{end_before_high, end_before_low, gap_on}
-use Rattle.sub_checker.proofs.FrameEndLemmas.{first_unfinished_are}
+use Rattle.sub_rules.proofs.PrefixEventLemmas.{unfinished_run_start-prefix}
+use Rattle.sub_checker.proofs.FrameEndLemmas.{end_before_after_gap, end_before_without_gap, gap_on}
+use Rattle.sub_checker.proofs.FrameEndLemmas.{first_unfinished_after_end}
 use Rattle.sub_checker.proofs.FrameEndLemmas.{first_unfinished_high, first_unfinished_last}
 use Rattle.sub_checker.proofs.FrameEndLemmas.{first_unfinished_low, active_faults_are_at}
 use Rattle.sub_checker.proofs.FrameEndLemmas.{steps_are}
@@ -52,7 +53,7 @@ pub BetweenPesPackets-none :
     (g : Criteria) (last : List (List ℕ)) (c : CheckerValue)
     → g ≡ criteria_kept c g.unread
     → KnowsLast [] last c.listener
-    → c.counts ≡ nothing_counted
+    → c.counts ≡ no_counts
     → c.first_unfinished ≡ None
     → c.active_faults ≡ no_active_faults
     → BetweenPesPackets g [] last c
@@ -77,7 +78,7 @@ pub arrives_first :
     (g : Criteria) (frames : Transmission) (f : ℕ) (last : List (List ℕ)) (c : CheckerValue)
     → AfterEnd g frames 0 last c
     → frame_at frames 0 ≡ f
-    → BeforePackets g frames 0 last (at_first f c)
+    → BeforePackets g frames 0 last (checker_at_first f c)
 unfolding is_gap latest active_faults_before first_unfinished_before first_unfinished_in_frames
 arrives_first g frames f last c follows is = grind (arith, nat_tests, remembers_at)
 
@@ -86,7 +87,7 @@ pub first_reaching :
     (out : Option ℕ) (reported : Bool)
     → AfterEnd g frames 0 last c
     → frame_at frames 0 ≡ f
-    → out ≡ first_in c.programme.records
+    → out ≡ first_tci c.programme.records
     → reported ≡ is_early out f
     → reaching_steps g frames 0 ≡ map Emits (cond reported (Reported (fault.Early f) ∷ []) [])
 unfolding order_events steps_of_gap gap_length
@@ -100,7 +101,7 @@ pub follows_pending :
     → f ≤ c.latest + 1
     → BeforeEnd g frames n f last c
 follows_pending g frames n f last c follows some l =
-    grind (arith, nat_tests, end_before_low, active_faults_before_is, first_unfinished_low)
+    grind (arith, nat_tests, end_before_without_gap, active_faults_before_eq, first_unfinished_low)
 
 pending_lower :
     (g : Criteria) (frames : Transmission) (n f e : ℕ) (last : List (List ℕ)) (c : CheckerValue)
@@ -110,7 +111,7 @@ pending_lower :
     → e ≤ latest frames n + 1
     → BeforeEnd g frames n e last c
 pending_lower g frames n f e last c has_pending some l m =
-    grind (arith, nat_tests, end_before_low, active_faults_before_is, first_unfinished_low)
+    grind (arith, nat_tests, end_before_without_gap, active_faults_before_eq, first_unfinished_low)
 
 module _ (g : Criteria) (frames : Transmission) (n f : ℕ) (last : List (List ℕ))
     (v b : CheckerValue)
@@ -118,69 +119,69 @@ module _ (g : Criteria) (frames : Transmission) (n f : ℕ) (last : List (List �
     (moved : b ≡ at_frame f v) (known : v.latest ≡ latest frames n)
     (due : b.listener.comparison.due ≡ due_in b.programme b.frame)
   where
-    known_there : Remembers g frames n last b
-    known_there =
+    b_remembers : Remembers g frames n last b
+    b_remembers =
         subst (Remembers g frames n last) (sym moved)
         (remembers_at g frames n f last v has_pending.known)
 
-    at_there : b.frame ≡ f
-    at_there = ap (λ (c : CheckerValue). c.frame) moved
+    b_frame : b.frame ≡ f
+    b_frame = ap (λ (c : CheckerValue). c.frame) moved
 
-    latest_there : b.latest ≡ latest frames n
-    latest_there = ap (λ (c : CheckerValue). c.latest) moved ∙ known
+    b_latest : b.latest ≡ latest frames n
+    b_latest = ap (λ (c : CheckerValue). c.latest) moved ∙ known
 
-    begun_there : HasBegun g frames n b
-    begun_there = grind (arith, nat_tests)
+    b_has_started : HasStarted g frames n b
+    b_has_started = grind (arith, nat_tests)
 
-    active_before_there : b.active_faults ≡ active_faults_before g frames n f
-    active_before_there = ap (λ (c : CheckerValue). c.active_faults) moved ∙
-        has_pending.active_faults_is
+    b_active_faults : b.active_faults ≡ active_faults_before g frames n f
+    b_active_faults = ap (λ (c : CheckerValue). c.active_faults) moved ∙
+        has_pending.active_faults_eq
 
-    before_there : 0 < n → b.last ≡ end_before frames n f
-    before_there l = ap (λ (c : CheckerValue). c.last) moved ∙ has_pending.last_is l
+    b_last : 0 < n → b.last ≡ end_before frames n f
+    b_last l = ap (λ (c : CheckerValue). c.last) moved ∙ has_pending.last_is l
 
-    first_unfinished_there : 0 < g.within → b.first_unfinished ≡ first_unfinished_before g frames n
+    b_first_unfinished : 0 < g.within → b.first_unfinished ≡ first_unfinished_before g frames n
         f
-    first_unfinished_there l = ap (λ (c : CheckerValue). c.first_unfinished) moved ∙
-        has_pending.first_unfinished_is l
+    b_first_unfinished l = ap (λ (c : CheckerValue). c.first_unfinished) moved ∙
+        has_pending.first_unfinished_eq l
 
     pub gap_steps : end_steps b ≡ steps_at_end g frames n n f
     gap_steps =
-        steps_are g frames n n f last b known_there begun_there at_there due active_before_there
-        before_there first_unfinished_there (gap_on g frames n f some later) some latest_there
+        steps_are g frames n n f last b b_remembers b_has_started b_frame due b_active_faults
+        b_last b_first_unfinished (gap_on g frames n f some later) some b_latest
 
-    active_faults_there : active_faults_of b ≡ active_faults_at g frames n f
-    active_faults_there =
-        active_faults_are_at g frames n n f last b known_there begun_there at_there due
-        active_before_there
-        before_there first_unfinished_there (gap_on g frames n f some later) some latest_there
+    active_faults_of_b : active_faults_of b ≡ active_faults_at g frames n f
+    active_faults_of_b =
+        active_faults_are_at g frames n n f last b b_remembers b_has_started b_frame due
+        b_active_faults
+        b_last b_first_unfinished (gap_on g frames n f some later) some b_latest
 
     first_unfinished_then : 0 < g.within
-        → (after_end b).first_unfinished ≡ unfinished_since g frames n f
+        → (after_end b).first_unfinished ≡ unfinished_run_start g frames n f
     first_unfinished_then =
-        first_unfinished_are g frames n n f last b known_there begun_there at_there due
-        active_before_there
-        before_there first_unfinished_there (gap_on g frames n f some later) some latest_there
+        first_unfinished_after_end g frames n n f last b b_remembers b_has_started b_frame due
+        b_active_faults
+        b_last b_first_unfinished (gap_on g frames n f some later) some b_latest
 
-    number_there : b.counts.frames ≡ n
-    number_there = ap (λ (c : CheckerValue). c.counts.frames) moved ∙ has_pending.number
+    b_frame_count : b.counts.frames ≡ n
+    b_frame_count = ap (λ (c : CheckerValue). c.counts.frames) moved ∙ has_pending.number
 
     pub gap_pending : (e : ℕ) → e ≡ f + 1
         → BeforeEnd g frames n e last (after_end b)
     gap_pending e is = record {
-      known = assumption known_there;
-      begun = record { first_is = begun_there.first_is; late_is = begun_there.late_is };
-      active_faults_is = grind (
+      known = assumption b_remembers;
+      begun = record { first_is = b_has_started.first_is; late_eq = b_has_started.late_eq };
+      active_faults_eq = grind (
         arith,
         nat_tests,
-        active_faults_there,
-        end_before_high,
-        active_faults_before_is,
+        active_faults_of_b,
+        end_before_after_gap,
+        active_faults_before_eq,
       );
-      last_is = λ l. grind (arith, nat_tests, end_before_high, at_there);
-      first_unfinished_is = λ l. first_unfinished_then l ∙ sym (first_unfinished_high g frames n f e
+      last_is = λ l. grind (arith, nat_tests, end_before_after_gap, b_frame);
+      first_unfinished_eq = λ l. first_unfinished_then l ∙ sym (first_unfinished_high g frames n f e
           some is);
-      number = number_there;
+      number = b_frame_count;
     }
 
 pub gap_more :
@@ -209,13 +210,13 @@ pub gap_ended :
     → to ≤ f
     → (known + 1 < f → f ≤ to)
     → (to - (latest frames n + 1) ≡ f - (latest frames n + 1)) × BeforeEnd g frames n to last c
-gap_ended g frames n f to known last c has_pending some is later done upto =
+gap_ended g frames n f to known last c has_pending some is later done at_most_to =
     by (cases_lt (known + 1) f)
   where
     by : (known + 1 < f) ⊎ (f ≤ known + 1)
         → (to - (latest frames n + 1) ≡ f - (latest frames n + 1)) × BeforeEnd g frames n to last c
     by (inl l) =
-        let same : f ≡ to = omega (arith, upto l, done) in (
+        let same : f ≡ to = omega (arith, at_most_to l, done) in (
           ap (λ (k : ℕ). k - (latest frames n + 1)) (sym same),
           subst (λ (k : ℕ). BeforeEnd g frames n k last c) same has_pending,
         )
@@ -230,7 +231,7 @@ pub arrives_next :
     → BeforeEnd g frames n f last c
     → frame_at frames n ≡ f
     → c.latest ≡ latest frames n
-    → BeforePackets g frames n last (at_next f c)
+    → BeforePackets g frames n last (checker_at_next f c)
 unfolding latest
 arrives_next g frames n f last c has_pending is latest_is = grind (arith, nat_tests, remembers_at)
 
@@ -259,9 +260,9 @@ unfolding first_unfinished_in_frames
 first_unfinished_prefix g done more zero l = refl
 first_unfinished_prefix g done more (suc i) l =
     sym (first_unfinished_last g (done ++ more) i)
-    ∙ ap (unfinished_since g (done ++ more) (suc i))
+    ∙ ap (unfinished_run_start g (done ++ more) (suc i))
     (frame_at-prefix g g.unread done more i (omega arith))
-    ∙ unfinished_since-prefix g g.unread done more (suc i) (frame_at done i) l
+    ∙ unfinished_run_start-prefix g g.unread done more (suc i) (frame_at done i) l
     ∙ first_unfinished_last g done i
 
 pub AfterEnd-prefix : (g : Criteria) (done more : Transmission) (last : List (List ℕ))
@@ -282,18 +283,18 @@ AfterEnd-prefix g done more last c follows =
           let begun = follows.begun l in
           record {
             first_is = begun.first_is ∙ sym (frame_at-prefix g g.unread done more 0 l);
-            late_is = λ f. gap_prefix g done more f l ∙ begun.late_is f;
+            late_eq = λ f. gap_prefix g done more f l ∙ begun.late_eq f;
           };
       latest_is = λ l.
           follows.latest_is l ∙ sym (latest-prefix g g.unread done more n (omega arith));
-      active_faults_is = λ l.
-          follows.active_faults_is l
+      active_faults_eq = λ l.
+          follows.active_faults_eq l
           ∙ sym (active_faults_at-prefix g g.unread done more n _ l (omega arith)
           ∙ ap (active_faults_at g done n)
           (frame_at-prefix g g.unread done more (n - 1) (omega arith)));
       last_is = λ l.
           follows.last_is l ∙ sym (frame_at-prefix g g.unread done more (n - 1) (omega arith));
-      first_unfinished_is = λ l. follows.first_unfinished_is l ∙ sym (first_unfinished_prefix g done
+      first_unfinished_eq = λ l. follows.first_unfinished_eq l ∙ sym (first_unfinished_prefix g done
           more n (omega arith));
       number = follows.number;
     }

@@ -32,14 +32,14 @@ due_until drawing records frame (Some e) (suc k) reports before =
     ∙ ap (due drawing records) (omega arith)
     ∙ due_until drawing records frame (Some e) k reports (grind (arith, nat_tests))
 
-same_edge :
+next_cue_stays :
     (records : List SubtitleValue) (frame f : ℕ) (edge : Option ℕ)
     → ReportsNextEdge records frame edge
     → frame ≤ f
     → is_before f edge ≡ true
     → ReportsNextEdge records f edge
-same_edge records frame f None reports low before = λ e is. let l = reports e is in omega arith
-same_edge records frame f (Some edge) reports low before =
+next_cue_stays records frame f None reports low before = λ e is. let l = reports e is in omega arith
+next_cue_stays records frame f (Some edge) reports low before =
     record {
       is_edge = reports.is_edge;
       after = grind (arith, nat_tests);
@@ -57,16 +57,16 @@ pub IsAtFrame-later :
     → IsAtFrame p every s first latest last f edge
 IsAtFrame-later p every s first latest last frame edge f small is low before =
     let k : frame + (f - frame) ≡ f = omega arith in
-    grind (arith, nat_tests, due_until, same_edge)
+    grind (arith, nat_tests, due_until, next_cue_stays)
 
 -- `IsJudged` stays true until the next change of the due page.
 pub IsJudged-later :
     (j : JudgedValue) (p : ProgrammeValue) (any_refused : Bool) (first within frame : ℕ)
-    (edge : Option ℕ) (known_from f : ℕ)
-    → IsJudged j p any_refused first within frame edge known_from
+    (edge : Option ℕ) (first_known_from f : ℕ)
+    → IsJudged j p any_refused first within frame edge first_known_from
     → frame ≤ f
-    → IsJudged j p any_refused first within f edge known_from
-IsJudged-later j p any_refused first within frame edge known_from f is low = grind
+    → IsJudged j p any_refused first within f edge first_known_from
+IsJudged-later j p any_refused first within frame edge first_known_from f is low = grind
     (arith, nat_tests)
 
 pub at_frame-stays :

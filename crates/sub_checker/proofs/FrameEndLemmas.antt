@@ -1,6 +1,6 @@
 -- The faults and steps that the checker computes at the end of a frame are those of the rules
--- (`steps_are`, `active_faults_are_at`, `first_unfinished_are`); so is the frame from which on the
--- page has been wrong (`gap_on`, `frame_on`). Ends without faults have their own lemmas
+-- (`steps_are`, `active_faults_are_at`, `first_unfinished_after_end`); so is the frame from which
+-- on the page has been wrong (`gap_on`, `frame_on`). Ends without faults have their own lemmas
 -- (`fault_free_once`, `fault_free_within`).
 use Rattle.std.proofs.lemmas.Bool.Decides.{nat_tests}
 use Rattle.std.proofs.Common.{◌≡◌, ℕ, zero, suc, ◌+◌, ◌-◌, ◌<◌, ◌≤◌, Bool, false, ◌||◌}
@@ -15,14 +15,15 @@ use Rattle.sub_checker.specs.Checker.{IsFaultFreeEnd, first_unfinished_now, acti
 use Rattle.sub_checker.specs.Checker.{undecided_now, unexpected_now}
 use Rattle.sub_packets.specs.KeptPage.{is_incomplete_kept}
 use Rattle.sub_packets.proofs.KeptPageLemmas.{incomplete_heard, unexpected_heard, wrong_heard}
-use Rattle.sub_checker.specs.CheckedFrames.{HasBegun, Remembers}
+use Rattle.sub_checker.specs.CheckedFrames.{HasStarted, Remembers}
 use Rattle.sub_rules.specs.Events.{end_before, end_events, end_rules, events_at_end, is_silent}
 use Rattle.sub_rules.specs.Events.{gap_length, no_active_faults, silent_for, is_incomplete, is_late}
 use Rattle.sub_rules.specs.Events.{is_overdue, is_unfinished, latest, first_unfinished_before}
 use Rattle.sub_rules.specs.Events.{first_unfinished_in_frames}
 use Rattle.sub_rules.specs.Events.{first_unfinished_in_gap, active_faults_at, active_faults_before}
 use Rattle.sub_rules.specs.Events.{undecided_within}
-use Rattle.sub_rules.specs.Events.{unexpected_cell, unfinished_from, unfinished_since, wrong_after}
+use Rattle.sub_rules.specs.Events.{unexpected_cell, unfinished_from, unfinished_run_start}
+use Rattle.sub_rules.specs.Events.{wrong_after}
 use Rattle.sub_rules.specs.Events.{wrong_cell}
 use Rattle.sub_rules.specs.FrameRules.{Criteria, frame_at, packets_before}
 use Rattle.sub_rules.specs.PesPacketEvents.{steps_at_end, steps_before}
@@ -37,15 +38,16 @@ pub gap_on :
     (g : Criteria) (frames : Transmission) (n f : ℕ)
     → 0 < n
     → latest frames n < f
-    → unfinished_since g frames n f
+    → unfinished_run_start g frames n f
     ≡ unfinished_from (first_unfinished_before g frames n f) (is_unfinished g frames n f) f
-unfolding unfinished_since first_unfinished_before first_unfinished_in_gap
+unfolding unfinished_run_start first_unfinished_before first_unfinished_in_gap
 gap_on g frames n f some later = grind (arith, nat_tests)
 
 pub first_unfinished_last : (g : Criteria) (frames : Transmission) (n : ℕ)
-    → unfinished_since g frames (suc n) (frame_at frames n) ≡ first_unfinished_in_frames g frames
+    → unfinished_run_start g frames (suc n) (frame_at frames n) ≡ first_unfinished_in_frames g
+    frames
     (suc n)
-unfolding unfinished_since first_unfinished_in_gap latest
+unfolding unfinished_run_start first_unfinished_in_gap latest
 first_unfinished_last g frames n =
     let none : frame_at frames n - latest frames (suc n) ≡ 0 = grind (arith, nat_tests) in
     ap (first_unfinished_in_gap g frames (suc n) (first_unfinished_in_frames g frames (suc n))) none
@@ -54,7 +56,7 @@ before_last : (g : Criteria) (frames : Transmission) (n : ℕ)
     → first_unfinished_in_gap g frames n (first_unfinished_in_frames g frames n)
     (gap_length frames n)
     ≡ first_unfinished_before g frames n (frame_at frames n)
-unfolding first_unfinished_before unfinished_since first_unfinished_in_gap
+unfolding first_unfinished_before unfinished_run_start first_unfinished_in_gap
     first_unfinished_in_frames gap_length
 before_last g frames zero = refl
 before_last g frames (suc n) =
@@ -62,7 +64,7 @@ before_last g frames (suc n) =
     (omega arith)
 
 pub frame_on : (g : Criteria) (frames : Transmission) (n : ℕ)
-    → unfinished_since g frames (suc n) (frame_at frames n)
+    → unfinished_run_start g frames (suc n) (frame_at frames n)
     ≡ unfinished_from (first_unfinished_before g frames n (frame_at frames n))
     (is_unfinished g frames (suc n) (frame_at frames n)) (frame_at frames n)
 unfolding first_unfinished_in_frames
@@ -71,38 +73,38 @@ frame_on g frames n = grind (arith, nat_tests, first_unfinished_last, before_las
 pub first_unfinished_low : (g : Criteria) (frames : Transmission) (n f : ℕ)
     → f ≤ latest frames n + 1
     → first_unfinished_before g frames n f ≡ first_unfinished_in_frames g frames n
-unfolding first_unfinished_before unfinished_since first_unfinished_in_gap
+unfolding first_unfinished_before unfinished_run_start first_unfinished_in_gap
     first_unfinished_in_frames
 first_unfinished_low g frames n f low = grind (arith, nat_tests)
 
 pub first_unfinished_high : (g : Criteria) (frames : Transmission) (n f e : ℕ)
     → 0 < n
     → e ≡ f + 1
-    → first_unfinished_before g frames n e ≡ unfinished_since g frames n f
+    → first_unfinished_before g frames n e ≡ unfinished_run_start g frames n f
 unfolding first_unfinished_before
 first_unfinished_high g frames zero f e some is = absurd (omega arith)
 first_unfinished_high g frames (suc n) f e some is =
-    ap (unfinished_since g frames (suc n)) (omega (arith, is))
+    ap (unfinished_run_start g frames (suc n)) (omega (arith, is))
 
-pub end_before_low : (frames : Transmission) (n f : ℕ) → f ≤ latest frames n + 1
+pub end_before_without_gap : (frames : Transmission) (n f : ℕ) → f ≤ latest frames n + 1
     → end_before frames n f ≡ frame_at frames (n - 1)
-end_before_low frames n f l = grind (arith, nat_tests)
+end_before_without_gap frames n f l = grind (arith, nat_tests)
 
-pub end_before_high : (frames : Transmission) (n f : ℕ) → latest frames n < f
+pub end_before_after_gap : (frames : Transmission) (n f : ℕ) → latest frames n < f
     → end_before frames n (f + 1) ≡ f
-end_before_high frames n f l = grind (arith, nat_tests)
+end_before_after_gap frames n f l = grind (arith, nat_tests)
 
 -- ---- an end
 
-ends_are :
+end_events_agree :
     (g : Criteria) (frames : Transmission) (i n f : ℕ) (old new : ActiveFaults) (last : ℕ)
     → old ≡ active_faults_before g frames i f
     → (0 < i → last ≡ end_before frames i f)
     → new ≡ active_faults_at g frames n f
     → end_events old last new f ≡ events_at_end g frames i n f
 unfolding active_faults_before
-ends_are g frames zero n f old new last is at now = rw (is, now) (end_from_none _ _ _ _)
-ends_are g frames (suc i) n f old new last is at now = rw (is, now, at (omega arith)) refl
+end_events_agree g frames zero n f old new last is at now = rw (is, now) (end_from_none _ _ _ _)
+end_events_agree g frames (suc i) n f old new last is at now = rw (is, now, at (omega arith)) refl
 
 -- After the first PES packet, the maximum distance between PES packets counts from the latest
 -- frame.
@@ -112,47 +114,47 @@ unfolding is_silent
 silent_at g frames zero f some = absurd (omega arith)
 silent_at g frames (suc n) f some = refl
 
-pub overdue_is : (g : Criteria) (c : CheckerValue) (first : ℕ) (first_unfinished : Option ℕ) (f : ℕ)
+pub overdue_eq : (g : Criteria) (c : CheckerValue) (first : ℕ) (first_unfinished : Option ℕ) (f : ℕ)
     (last : List (List ℕ)) (frames : Transmission) (n : ℕ)
     → Remembers g frames n last c
     → is_overdue g first first_unfinished f ≡ is_overdue_at c.programme c.within first
     first_unfinished f
-overdue_is g c first None f last frames n known = refl
-overdue_is g c first (Some s) f last frames n known =
+overdue_eq g c first None f last frames n known = refl
+overdue_eq g c first (Some s) f last frames n known =
     ap (λ (t : Criteria). is_overdue t first (Some s) f) known.criteria_are
 
-pub back_are :
+pub back_steps_agree :
     (g : Criteria) (frames : Transmission) (i n f : ℕ) (last : List (List ℕ)) (c : CheckerValue)
     → Remembers g frames n last c
     → (0 < g.within → c.first_unfinished ≡ first_unfinished_before g frames i f)
     → back_steps c ≡ steps_before g (first_unfinished_before g frames i f)
-back_are g frames i n f last c known first_unfinished = grind (arith, nat_tests)
+back_steps_agree g frames i n f last c known first_unfinished = grind (arith, nat_tests)
 
-pub back_none : (c : CheckerValue) → c.within ≡ 0 → back_steps c ≡ []
-back_none c each = grind (arith, nat_tests)
+pub no_back_steps : (c : CheckerValue) → c.within ≡ 0 → back_steps c ≡ []
+no_back_steps c each = grind (arith, nat_tests)
 
 late_by : (w : ℕ) (a b : Bool) → (0 < w → a ≡ b) → (w == 0 || a) ≡ (w == 0 || b)
 late_by w a b same = grind (arith, nat_tests)
 
 module _ (g : Criteria) (frames : Transmission) (i n f : ℕ) (last : List (List ℕ))
     (c : CheckerValue)
-    (known : Remembers g frames n last c) (begun : HasBegun g frames n c) (at : c.frame ≡ f)
+    (known : Remembers g frames n last c) (begun : HasStarted g frames n c) (at : c.frame ≡ f)
     (due : c.listener.comparison.due ≡ due_in c.programme c.frame)
     (no_faults_before : c.active_faults ≡ active_faults_before g frames i f)
     (before : 0 < i → c.last ≡ end_before frames i f)
     (first_unfinished : 0 < g.within → c.first_unfinished ≡ first_unfinished_before g frames i f)
-    (on : unfinished_since g frames n f
+    (on : unfinished_run_start g frames n f
     ≡ unfinished_from (first_unfinished_before g frames i f) (is_unfinished g frames n f) f)
     (some : 0 < n) (latest_is : c.latest ≡ latest frames n)
   where
     abbrev so_far : List (List ℕ)
     so_far = packets_before frames n
 
-    within_is : g.within ≡ c.within
-    within_is = ap (λ (t : Criteria). t.within) known.criteria_are
+    within_eq : g.within ≡ c.within
+    within_eq = ap (λ (t : Criteria). t.within) known.criteria_are
 
-    wrong_is : differs_now c ≡ wrong_cell g frames n f
-    wrong_is =
+    wrong_eq : differs_now c ≡ wrong_cell g frames n f
+    wrong_eq =
         ap (λ (o : Option (ℕ × ℕ)). cond (is_undecided_by c c.frame) None o)
         (wrong_heard so_far c.listener known.knows.knows)
         ∙ ap (λ (d : Rows). cond (is_undecided_by c c.frame) None
@@ -162,45 +164,45 @@ module _ (g : Criteria) (frames : Transmission) (i n f : ℕ) (last : List (List
         (due_in c.programme k))) at
         ∙ ap (λ (t : Criteria). wrong_cell t frames n f) (sym known.criteria_are)
 
-    incomplete_is : is_incomplete_kept c.listener ≡ is_incomplete g frames n
+    incomplete_eq : is_incomplete_kept c.listener ≡ is_incomplete g frames n
     unfolding is_incomplete
-    incomplete_is =
+    incomplete_eq =
         incomplete_heard so_far c.listener known.knows.knows
         ∙ ap (λ (t : Criteria). is_incomplete t frames n) (sym known.criteria_are)
 
-    unfinished_is : is_unfinished_now c ≡ is_unfinished g frames n f
-    unfinished_is = rw (wrong_is, incomplete_is) refl
+    unfinished_eq : is_unfinished_now c ≡ is_unfinished g frames n f
+    unfinished_eq = rw (wrong_eq, incomplete_eq) refl
 
-    first_unfinished_is : 0 < g.within → first_unfinished_now c ≡ unfinished_since g frames n f
-    first_unfinished_is l = rw (first_unfinished l, unfinished_is, at) (sym on)
+    first_unfinished_eq : 0 < g.within → first_unfinished_now c ≡ unfinished_run_start g frames n f
+    first_unfinished_eq l = rw (first_unfinished l, unfinished_eq, at) (sym on)
 
-    late_is : late_now c ≡ is_late g frames n f
+    late_eq : late_now c ≡ is_late g frames n f
     unfolding is_late
-    late_is =
+    late_eq =
         late_by c.within _ _
         (λ l.
         ap (λ (s : Option ℕ). is_overdue_at c.programme c.within c.first s c.frame)
-        (first_unfinished_is (rw within_is l))
-        ∙ rw (begun.first_is, at) (sym (overdue_is g c (frame_at frames 0)
-        (unfinished_since g frames n f) f last frames n known)))
+        (first_unfinished_eq (rw within_eq l))
+        ∙ rw (begun.first_is, at) (sym (overdue_eq g c (frame_at frames 0)
+        (unfinished_run_start g frames n f) f last frames n known)))
         ∙ ap (λ (w : ℕ). w == 0
-        || is_overdue g (frame_at frames 0) (unfinished_since g frames n f) f) (sym within_is)
+        || is_overdue g (frame_at frames 0) (unfinished_run_start g frames n f) f) (sym within_eq)
 
-    undecided_is : undecided_now c ≡ undecided_within g frames f
-    undecided_is =
+    undecided_eq : undecided_now c ≡ undecided_within g frames f
+    undecided_eq =
         rw (begun.first_is, at)
         (ap (λ (t : Criteria). undecided_within t frames f) (sym known.criteria_are))
 
-    unexpected_is : unexpected_now c ≡ unexpected_cell g frames n f
-    unexpected_is =
+    unexpected_eq : unexpected_now c ≡ unexpected_cell g frames n f
+    unexpected_eq =
         ap (λ (o : Option (ℕ × ℕ)). cond (undecided_now c) None o)
         (unexpected_heard so_far c.listener known.knows.knows (due_in c.programme) c.first c.frame
         c.within)
         ∙ rw (begun.first_is, at)
         (ap (λ (t : Criteria). unexpected_cell t frames n f) (sym known.criteria_are))
 
-    silent_is : silent_for c.pace c.latest c.frame ≡ is_silent g frames n f
-    silent_is =
+    silent_eq : silent_for c.pace c.latest c.frame ≡ is_silent g frames n f
+    silent_eq =
         rw (latest_is, at)
         (ap (λ (t : Criteria). silent_for t.pace (latest frames n) f) (sym known.criteria_are)
         ∙ sym (silent_at g frames n f some))
@@ -209,13 +211,13 @@ module _ (g : Criteria) (frames : Transmission) (i n f : ℕ) (last : List (List
     unfolding active_faults_at
     active_faults_are_at =
         rw (
-          silent_is,
-          late_is,
-          wrong_is,
-          unexpected_is,
-          undecided_is,
-          incomplete_is,
-          begun.late_is f,
+          silent_eq,
+          late_eq,
+          wrong_eq,
+          unexpected_eq,
+          undecided_eq,
+          incomplete_eq,
+          begun.late_eq f,
           at,
         ) refl
 
@@ -223,42 +225,46 @@ module _ (g : Criteria) (frames : Transmission) (i n f : ℕ) (last : List (List
     steps_are =
         ap₂ (λ (back ms : List CheckStep). back ++ ms ++ map Emits (end_events c.active_faults
         c.last
-        (active_faults_of c) c.frame)) (back_are g frames i n f last c known first_unfinished)
+        (active_faults_of c) c.frame))
+        (back_steps_agree g frames i n f last c known first_unfinished)
         firsts
         ∙ ap (λ (es : List Event). steps_before g (first_unfinished_before g frames i f)
         ++ (cond (g.within == 0) []
-        (AtEnd f (unfinished_since g frames n f) (is_late g frames n f) ∷ [])) ++ map Emits es)
+        (AtEnd f (unfinished_run_start g frames n f) (is_late g frames n f) ∷ [])) ++ map Emits es)
         (ap (end_events c.active_faults c.last (active_faults_of c)) at
-        ∙ ends_are g frames i n f c.active_faults (active_faults_of c) c.last
+        ∙ end_events_agree g frames i n f c.active_faults (active_faults_of c) c.last
         no_faults_before before active_faults_are_at)
       where
-        by : (w : ℕ) → (0 < w → first_unfinished_now c ≡ unfinished_since g frames n f)
+        by : (w : ℕ) → (0 < w → first_unfinished_now c ≡ unfinished_run_start g frames n f)
             → cond (w == 0) [] (AtEnd c.frame (first_unfinished_now c) (late_now c) ∷ [])
             ≡ cond (w == 0) []
-            (AtEnd f (unfinished_since g frames n f) (is_late g frames n f) ∷ [])
+            (AtEnd f (unfinished_run_start g frames n f) (is_late g frames n f) ∷ [])
         by zero same = refl
-        by (suc w) same = rw (late_is, same (omega arith), at) refl
+        by (suc w) same = rw (late_eq, same (omega arith), at) refl
 
         firsts : cond (c.within == 0) []
             (AtEnd c.frame (first_unfinished_now c) (late_now c) ∷ [])
             ≡ cond (g.within == 0) []
-            (AtEnd f (unfinished_since g frames n f) (is_late g frames n f) ∷ [])
+            (AtEnd f (unfinished_run_start g frames n f) (is_late g frames n f) ∷ [])
         firsts =
-            by c.within (λ l. first_unfinished_is (rw within_is l))
+            by c.within (λ l. first_unfinished_eq (rw within_eq l))
             ∙ ap (λ (w : ℕ). cond (w == 0) []
-            (AtEnd f (unfinished_since g frames n f) (is_late g frames n f) ∷ [])) (sym within_is)
+            (AtEnd f (unfinished_run_start g frames n f) (is_late g frames n f) ∷ []))
+            (sym within_eq)
 
-    pub first_unfinished_are : 0 < g.within → (after_end c).first_unfinished ≡ unfinished_since g
+    pub first_unfinished_after_end : 0 < g.within → (after_end c).first_unfinished ≡
+        unfinished_run_start g
         frames n f
-    first_unfinished_are l = by c.within (rw (sym within_is) l)
+    first_unfinished_after_end l = by c.within (rw (sym within_eq) l)
       where
         by : (w : ℕ) → 0 < w
-            → cond (w == 0) c.first_unfinished (first_unfinished_now c) ≡ unfinished_since g frames
+            → cond (w == 0) c.first_unfinished (first_unfinished_now c) ≡ unfinished_run_start g
+            frames
             n f
         by zero m = absurd (omega arith)
         by (suc w) m =
             let not_each : (suc w == 0) ≡ false = grind (arith, nat_tests) in
-            rw not_each (first_unfinished_is l)
+            rw not_each (first_unfinished_eq l)
 
 pub once_steps : (d c : CheckerValue) (s : ActiveFaults)
     → d ≡ c
@@ -266,7 +272,7 @@ pub once_steps : (d c : CheckerValue) (s : ActiveFaults)
     → s ≡ active_faults_of c
     → end_steps c
     ≡ map Emits (end_events d.active_faults d.last s d.frame)
-once_steps d c s same each is = grind (arith, nat_tests, back_none)
+once_steps d c s same each is = grind (arith, nat_tests, no_back_steps)
 
 pub within_steps : (d c : CheckerValue) (s : ActiveFaults)
     (first_unfinished : Option ℕ) (late : Bool)
@@ -278,7 +284,7 @@ pub within_steps : (d c : CheckerValue) (s : ActiveFaults)
     → end_steps c
     ≡ (back_steps d ++ AtEnd d.frame first_unfinished late ∷ [])
     ++ map Emits (end_events d.active_faults d.last s d.frame)
-within_steps d c s first_unfinished late same some is first_unfinished_is late_is = grind
+within_steps d c s first_unfinished late same some is first_unfinished_eq late_eq = grind
     (arith, nat_tests)
 
 none_reported : (old new : ActiveFaults) (before f : ℕ)

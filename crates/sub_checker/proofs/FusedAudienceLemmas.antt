@@ -90,7 +90,7 @@ pub flush_stopped : {A D : Type 0} {IsReported : D → A → D → Type 0}
     → FlushesIfPending has_pending_reports IsFlushed old ok new
     → has_stopped old ≡ false
     → has_stopped new ≡ not ok
-flush_stopped {A} {D} {IsReported} {has_stopped} stays old new ok (inl same) goes_on =
-    ap has_stopped same.1 ∙ goes_on ∙ sym (ap not same.0)
-flush_stopped {A} {D} {IsReported} {has_stopped} stays old new ok (inr on) goes_on =
+flush_stopped {A} {D} {IsReported} {has_stopped} stays old new ok (inl same) continues =
+    ap has_stopped same.1 ∙ continues ∙ sym (ap not same.0)
+flush_stopped {A} {D} {IsReported} {has_stopped} stays old new ok (inr on) continues =
     stays.stopped old new ok on.1

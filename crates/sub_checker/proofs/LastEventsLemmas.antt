@@ -1,11 +1,12 @@
 -- The events after the last PES packet, computed from the checker's state, are those of the rules
--- (`closing_are`, `relays_equal`, `closes_are`, `reports_closing`, `closing_parts`).
+-- (`closing_events_agree`, `relays_equal`, `closing_steps_agree`, `reports_closing`,
+-- `closing_parts`).
 use Rattle.std.proofs.lemmas.Bool.Decides.{nat_tests}
 use Rattle.std.proofs.Common.{◌≡◌, ℕ, zero, suc, ◌<◌, Bool, true, false, ◌&&◌, ◌||◌, not}
 use Rattle.std.proofs.Common.{cond, is_some, List, [], ◌∷◌, ◌++◌, length, Option, Some, None, refl}
 use Rattle.std.proofs.Common.{sym, subst, ap, ap₂, ◌∙◌, arith, flat_map, ◌==◌, map}
 use Rattle.std.specs.List.{list_any}
-use Rattle.stl_rows.specs.Programme.{last_out}
+use Rattle.stl_rows.specs.Programme.{last_tco}
 use Rattle.sub_checker.specs.Checker.{CheckerValue, is_overdue_at, is_pending_now}
 use Rattle.sub_checker.specs.CheckedFrames.{AfterEnd}
 use Rattle.sub_io.specs.Reporting.{Reports}
@@ -21,7 +22,7 @@ use Rattle.sub_checker.specs.declared.trust_tracker.TrustTracker.{TrustTracker}
 use Rattle.sub_rules.specs.Events.{broken_at, closing_events, end_events, end_rules, endings}
 use Rattle.sub_rules.specs.Events.{is_late, is_overdue, is_pending, is_short, late_events}
 use Rattle.sub_rules.specs.Events.{no_active_faults, rest_events, rule_events, active_faults_at}
-use Rattle.sub_rules.specs.Events.{unfinished_since, unread_fault}
+use Rattle.sub_rules.specs.Events.{unfinished_run_start, unread_fault}
 use Rattle.sub_rules.specs.FrameRules.{Criteria, Unread, end_frame, frame_at}
 use Rattle.sub_rules.specs.PesPacketEvents.{closing_of_pes_packets}
 use Rattle.sub_rules.specs.Transmission.{Transmission}
@@ -35,7 +36,7 @@ use Rattle.sub_rules.specs.declared.fault.CheckFault.TheVariants as fault
 use Rattle.sub_rules.specs.declared.active_faults.ActiveFaults.{ActiveFaults}
 use Rattle.sub_rules.proofs.EndRuleLemmas.{nothing_at}
 use Rattle.sub_rules.proofs.TrustedLemmas.{reports_none-two}
-use Rattle.sub_checker.proofs.FrameEndLemmas.{overdue_is, first_unfinished_last}
+use Rattle.sub_checker.proofs.FrameEndLemmas.{overdue_eq, first_unfinished_last}
 
 pending_by : (w : ℕ) (s t : Option ℕ) (a b : Bool)
     → (0 < w → s ≡ t)
@@ -46,88 +47,90 @@ pending_by w s t a b same late = grind (arith, nat_tests)
 module _ (g : Criteria) (frames : Transmission) (n : ℕ) (last : List (List ℕ)) (c : CheckerValue)
     (all : length frames ≡ suc n) (follows : AfterEnd g frames (suc n) last c)
   where
-    end_is : end_frame frames ≡ frame_at frames n
-    end_is = ap (frame_at frames) (omega (arith, all))
+    end_eq : end_frame frames ≡ frame_at frames n
+    end_eq = ap (frame_at frames) (omega (arith, all))
 
     last_is : c.last ≡ frame_at frames n
     last_is = follows.last_is (omega arith) ∙ ap (frame_at frames) (omega arith)
 
-    first_unfinished_is : 0 < g.within → c.first_unfinished ≡ unfinished_since g frames (suc n)
+    first_unfinished_eq : 0 < g.within → c.first_unfinished ≡ unfinished_run_start g frames (suc n)
         (frame_at frames n)
-    first_unfinished_is l = follows.first_unfinished_is l ∙ sym (first_unfinished_last g frames n)
+    first_unfinished_eq l = follows.first_unfinished_eq l ∙ sym (first_unfinished_last g frames n)
 
-    within_is : g.within ≡ c.within
-    within_is = ap (λ (t : Criteria). t.within) follows.known.criteria_are
+    within_eq : g.within ≡ c.within
+    within_eq = ap (λ (t : Criteria). t.within) follows.known.criteria_are
 
     -- The page is wrong at frame e but might still become right in a later frame, which the file
     -- does not contain.
     abbrev pends : ℕ → ℕ → ℕ → Bool
     pends w k e =
-        is_some (unfinished_since g frames k e)
-        && not (w == 0 || is_overdue g (frame_at frames 0) (unfinished_since g frames k e) e)
+        is_some (unfinished_run_start g frames k e)
+        && not (w == 0 || is_overdue g (frame_at frames 0) (unfinished_run_start g frames k e) e)
 
-    overdue_are : 0 < c.within
+    overdue_at_eq : 0 < c.within
         → is_overdue_at c.programme c.within c.first c.first_unfinished c.last
-        ≡ is_overdue g (frame_at frames 0) (unfinished_since g frames (suc n) (frame_at frames n))
+        ≡ is_overdue g (frame_at frames 0)
+        (unfinished_run_start g frames (suc n) (frame_at frames n))
         (frame_at frames n)
-    overdue_are l =
-        rw ((follows.begun (omega arith)).first_is, last_is, first_unfinished_is (rw within_is l))
-        (sym (overdue_is g c (frame_at frames 0)
-        (unfinished_since g frames (suc n) (frame_at frames n)) (frame_at frames n) last frames
+    overdue_at_eq l =
+        rw ((follows.begun (omega arith)).first_is, last_is, first_unfinished_eq (rw within_eq l))
+        (sym (overdue_eq g c (frame_at frames 0)
+        (unfinished_run_start g frames (suc n) (frame_at frames n)) (frame_at frames n) last frames
         (suc n) follows.known))
 
-    pub pending_are : is_pending_now c ≡ is_pending g frames
+    pub is_pending_eq : is_pending_now c ≡ is_pending g frames
     unfolding is_pending is_late
-    pending_are =
+    is_pending_eq =
         pending_by c.within c.first_unfinished
-        (unfinished_since g frames (suc n) (frame_at frames n))
+        (unfinished_run_start g frames (suc n) (frame_at frames n))
         (is_overdue_at c.programme c.within c.first c.first_unfinished c.last)
-        (is_overdue g (frame_at frames 0) (unfinished_since g frames (suc n) (frame_at frames n))
+        (is_overdue g (frame_at frames 0)
+        (unfinished_run_start g frames (suc n) (frame_at frames n))
         (frame_at frames n))
-        (λ l. first_unfinished_is (rw within_is l)) overdue_are
-        ∙ ap (λ (w : ℕ). pends w (suc n) (frame_at frames n)) (sym within_is)
+        (λ l. first_unfinished_eq (rw within_eq l)) overdue_at_eq
+        ∙ ap (λ (w : ℕ). pends w (suc n) (frame_at frames n)) (sym within_eq)
         ∙ ap (λ (k : ℕ). pends g.within k (frame_at frames n)) (sym all)
-        ∙ ap (pends g.within (length frames)) (sym end_is)
+        ∙ ap (pends g.within (length frames)) (sym end_eq)
 
-    pub late_are : (pes : ℕ) → late_events g frames ≡ fault_events (last_fault pes None c)
-    late_are pes = by (is_short g.last_out (end_frame frames) || is_pending g frames) late_is
+    pub late_events_eq : (pes : ℕ) → late_events g frames ≡ fault_events (last_fault pes None c)
+    late_events_eq pes = by (is_short g.last_tco (end_frame frames) || is_pending g frames) late_eq
       where
-        late_is : (is_short (last_out c.programme.records) c.last || is_pending_now c)
-            ≡ (is_short g.last_out (end_frame frames) || is_pending g frames)
-        late_is =
-            rw (pending_are, last_is, end_is)
-            (ap (λ (t : Criteria). is_short t.last_out (frame_at frames n) || is_pending g frames)
+        late_eq : (is_short (last_tco c.programme.records) c.last || is_pending_now c)
+            ≡ (is_short g.last_tco (end_frame frames) || is_pending g frames)
+        late_eq =
+            rw (is_pending_eq, last_is, end_eq)
+            (ap (λ (t : Criteria). is_short t.last_tco (frame_at frames n) || is_pending g frames)
             (sym follows.known.criteria_are))
 
         by : (b : Bool)
-            → (is_short (last_out c.programme.records) c.last || is_pending_now c) ≡ b
+            → (is_short (last_tco c.programme.records) c.last || is_pending_now c) ≡ b
             → cond b (Reported (fault.Late (end_frame frames)) ∷ []) []
             ≡ fault_events (last_fault pes None c)
-        by true is = rw (follows.number, is, last_is, end_is) refl
+        by true is = rw (follows.number, is, last_is, end_eq) refl
         by false is = rw (follows.number, is) refl
 
-    pub endings_are :
+    pub endings_eq :
         endings (active_faults_at g frames (suc n) (end_frame frames)) (end_frame frames)
         ≡ endings c.active_faults c.last
-    endings_are =
+    endings_eq =
         let active_faults_of : c.active_faults ≡ active_faults_at g frames (suc n)
         (frame_at frames n) =
-        follows.active_faults_is (omega arith)
+        follows.active_faults_eq (omega arith)
         ∙ ap (λ (k : ℕ). active_faults_at g frames (suc n) (frame_at frames k)) (omega arith) in
-        rw (active_faults_of, last_is, end_is) refl
+        rw (active_faults_of, last_is, end_eq) refl
 
 -- Two lists of events have the same effect. They may differ only in the PES packet that a fault
 -- names, since the tracker sets that itself.
 pub record AreSameReports (es fs : List Event) : Type 0 where
-  pub none_are : reports_none es ≡ reports_none fs
-  pub reported_are : (t : TrustTracker) → reported_by t (map Emits es) ≡ reported_by t
+  pub reports_none_eq : reports_none es ≡ reports_none fs
+  pub reported_by_emits : (t : TrustTracker) → reported_by t (map Emits es) ≡ reported_by t
       (map Emits fs)
   pub kept_are : (t : TrustTracker) → tracker_after t (map Emits es) ≡ tracker_after t
       (map Emits fs)
 
 same_equal : (es fs : List Event) → es ≡ fs → AreSameReports es fs
 same_equal es fs is =
-    rw is (record { none_are = refl; reported_are = λ t. refl; kept_are = λ t. refl })
+    rw is (record { reports_none_eq = refl; reported_by_emits = λ t. refl; kept_are = λ t. refl })
 
 module _ (k n : ℕ) (u : Unread) where
   -- The events, followed by the fault of the unread rest at PES packet i.
@@ -158,14 +161,14 @@ none_ended : (f : ℕ) → endings no_active_faults f ≡ []
 unfolding end_events end_rules
 none_ended f = refl
 
-pub closing_are :
+pub closing_events_agree :
     (g : Criteria) (list : Transmission) (pes : ℕ) (last : List (List ℕ)) (c : CheckerValue)
     (given : Option CheckFault)
     → AfterEnd g list (length list) last c
     → given ≡ ending_fault pes g.unread
     → AreSameReports (closing_of_pes_packets g list pes (length list)) (closing_now pes given c)
 unfolding closing_of_pes_packets closing_events
-closing_are g list pes last c given follows is = rw is (go (length list) refl follows)
+closing_events_agree g list pes last c given follows is = rw is (go (length list) refl follows)
   where
     unsent : (pes : ℕ) (late : Bool) (u : Option Unread) → g.unread ≡ u
         → closing_of_pes_packets g list pes 0
@@ -188,7 +191,7 @@ closing_are g list pes last c given follows is = rw is (go (length list) refl fo
     by n all here None =
         same_equal _ _
         (ap (λ (es : List Event). endings c.active_faults c.last ++ es)
-        (late_are g list n last c all here pes))
+        (late_events_eq g list n last c all here pes))
     by n all here (Some u) = unread_equal (length list) pes u (endings c.active_faults c.last)
 
     go : (n : ℕ) → length list ≡ n → AfterEnd g list n last c
@@ -202,7 +205,7 @@ closing_are g list pes last c given follows is = rw is (go (length list) refl fo
         c))
         (sym (sent pes n
         ∙ ap (λ (es : List Event). es ++ rest_events g list g.unread)
-        (endings_are g list n last c all here)))
+        (endings_eq g list n last c all here)))
         (by n all here g.unread)
 
 -- Events with the same effect on the tracker are relayed in the same way.
@@ -213,9 +216,9 @@ pub relays_equal : {D : Type 0} {d : _} {IsReported : D → Event → D → Type
 unfolding relayed relay_after
 relays_equal {IsReported = IsReported} {a = a} {b = b} es fs alike relays =
     let reported : relayed a.relay (map Emits es) ≡ relayed a.relay (map Emits fs) =
-    rw (alike.reported_are a.relay.tracker) refl in
+    rw (alike.reported_by_emits a.relay.tracker) refl in
     let kept : relay_after a.relay (map Emits es) ≡ relay_after a.relay (map Emits fs) =
-    rw (alike.reported_are a.relay.tracker, alike.kept_are a.relay.tracker) refl in
+    rw (alike.reported_by_emits a.relay.tracker, alike.kept_are a.relay.tracker) refl in
     record {
       reported = subst (Reports (IsFused IsReported) a.fused b.fused) (sym reported)
           relays.reported;
@@ -253,7 +256,7 @@ reports_closing pes given c = grind (arith, nat_tests, reports_none-two, reports
 
 -- Unread bytes follow the last frame if a fault ended reading, and then at least one more event is
 -- reported.
-pub closes_are :
+pub closing_steps_agree :
     (g : Criteria) (list : Transmission) (pes : ℕ) (last : List (List ℕ)) (c : CheckerValue)
     (given : Option CheckFault) (left more : Bool)
     → AfterEnd g list (length list) last c
@@ -263,12 +266,12 @@ pub closes_are :
     → Closes left more
     ≡ Closes (is_some g.unread)
     (g.any_refused || not (reports_none (closing_of_pes_packets g list pes (length list))))
-closes_are g list pes last c given left more follows is left_is more_is =
-    ap₂ Closes (left_is ∙ ap is_some is ∙ some g.unread)
-    (more_is
+closing_steps_agree g list pes last c given left more follows is left_eq more_eq =
+    ap₂ Closes (left_eq ∙ ap is_some is ∙ some g.unread)
+    (more_eq
     ∙ ap₂ (λ (a b : Bool). a || not b)
     (sym (ap (λ (t : Criteria). t.any_refused) follows.known.criteria_are))
-    (sym (closing_are g list pes last c given follows is).none_are))
+    (sym (closing_events_agree g list pes last c given follows is).reports_none_eq))
   where
     some : (u : Option Unread) → is_some (ending_fault pes u) ≡ is_some u
     some None = refl

@@ -1,5 +1,5 @@
 -- If a PES packet has more packets of the last frame, the checker takes the right steps
--- (`more_are`) and has the right state afterwards (`opens_more`).
+-- (`packet_steps_agree`) and has the right state afterwards (`opens_more`).
 use Rattle.std.proofs.lemmas.Bool.Decides.{nat_tests}
 use Rattle.std.proofs.Common.{◌≡◌, ℕ, suc, ◌+◌, ◌-◌, ◌<◌, Bool, ◌&&◌, ◌||◌, nat_le}
 use Rattle.std.proofs.Common.{nat_lt, List, [], ◌∷◌, ◌++◌, length, map, take, refl, sym, ap, ◌∙◌}
@@ -30,14 +30,14 @@ use Rattle.sub_rules.proofs.JoinedLemmas.{with_packets-take}
 use Rattle.sub_rules.proofs.PacketLists.{header_count-append, holds-count}
 use Rattle.sub_checker.proofs.AfterPacketsLemmas.{late_core}
 
-pub more_are :
+pub packet_steps_agree :
     (g : Criteria) (sent : Transmission) (n : ℕ) (last ps : List (List ℕ)) (c : CheckerValue)
     → StaysOpen g sent n last c
     → length sent ≡ suc n
     → steps_of_more g sent ps
     ≡ map Emits (packets_reported c.listener.watched c.frame c.counts.packets
     (packets_before sent (suc n)) ps (length ps))
-more_are g sent n last ps c opens all = grind (arith, nat_tests)
+packet_steps_agree g sent n last ps c opens all = grind (arith, nat_tests)
 
 some_begins : (w : Watched) (ps : List (List ℕ))
     → (nat_lt 0 (length ps) && holds_beginning w.keeps (kind w.page) ps)
@@ -45,8 +45,8 @@ some_begins : (w : Watched) (ps : List (List ℕ))
 some_begins w [] = refl
 some_begins w (p ∷ ps) = grind (arith, nat_tests)
 
-either : (a b h l : Bool) → (a || ((b || h) && l)) ≡ ((a || (b && l)) || (h && l))
-either a b h l = grind (arith, nat_tests)
+headers_regrouped : (a b h l : Bool) → (a || ((b || h) && l)) ≡ ((a || (b && l)) || (h && l))
+headers_regrouped a b h l = grind (arith, nat_tests)
 
 module _ (g : Criteria) (sent : Transmission) (n : ℕ) (last ps : List (List ℕ)) (c d : CheckerValue)
     (is : AfterPackets g sent n last c) (all : length sent ≡ suc n)
@@ -70,9 +70,10 @@ module _ (g : Criteria) (sent : Transmission) (n : ℕ) (last ps : List (List �
     before_same : (f : ℕ) → end_before longer n f ≡ end_before sent n f
     before_same f = rw (latest_is n, at (n - 1)) refl
 
-    active_before_since : (f : ℕ) → first_unfinished_before g longer n f ≡ first_unfinished_before g
+    first_unfinished_before_longer : (f : ℕ) → first_unfinished_before g longer n f ≡
+        first_unfinished_before g
         sent n f
-    active_before_since f = first_unfinished_before-same g longer sent n numbers same n f
+    first_unfinished_before_longer f = first_unfinished_before-same g longer sent n numbers same n f
         (omega arith)
 
     long : length longer ≡ suc n
@@ -102,8 +103,8 @@ module _ (g : Criteria) (sent : Transmission) (n : ℕ) (last ps : List (List �
     abbrev here : CheckerValue
     here = after_headers hears.headers (record c { listener = hears.listener })
 
-    known_then : Remembers g longer (suc n) ps here
-    known_then =
+    remembers_next : Remembers g longer (suc n) ps here
+    remembers_next =
         let known = is.known in
         let knows = hears.knows in
         let count = hears.count in
@@ -124,11 +125,11 @@ module _ (g : Criteria) (sent : Transmission) (n : ℕ) (last ps : List (List �
         ∙ list_any_more (covers g f) xs n none there
         ∙ ap (λ (b : Bool). list_any (covers g f) (take n xs) || b) (grind (arith, nat_tests))
 
-    any_is : (f : ℕ)
+    any_eq : (f : ℕ)
         → list_any (covers g f) (take (suc n) longer)
         ≡ (list_any (covers g f) (take (suc n) sent)
         || (nat_lt 0 hears.headers && nat_lt f (c.frame + c.every)))
-    any_is f =
+    any_eq f =
         let every = ap (λ (t : Criteria). t.every) is.known.criteria_are in
         rw (
           covered f longer (omega (arith, long)),
@@ -136,19 +137,19 @@ module _ (g : Criteria) (sent : Transmission) (n : ℕ) (last ps : List (List �
           same,
           has_header,
           at n,
-          is.frame_is,
+          is.frame_eq,
           sym every,
-        ) (either (list_any (covers g f) (take n sent))
+        ) (headers_regrouped (list_any (covers g f) (take n sent))
         (holds_header (kind g.watched.page) (packets_of_frame sent n)) (nat_lt 0 hears.headers)
         (nat_lt f (frame_at sent n + g.every)))
 
     late_then : (f : ℕ) → is_gap g longer (suc n) f ≡ nat_le here.late_at (f + 1)
     unfolding is_gap
     late_then f =
-        rw (any_is f, at 0)
+        rw (any_eq f, at 0)
         (late_core (nat_le (frame_at sent 0 + g.every) (f + 1))
         (list_any (covers g f) (take (suc n) sent)) (nat_lt 0 hears.headers) c.late_at c.frame
-        c.every f (is.begun.late_is f))
+        c.every f (is.begun.late_eq f))
 
     heard_more : (e : CheckerValue) (k : ℕ)
         → e ≡ record here { counts = record here.counts { packets = k } }
@@ -156,17 +157,18 @@ module _ (g : Criteria) (sent : Transmission) (n : ℕ) (last ps : List (List �
         → AfterPackets g longer n ps e
     heard_more e k e_is packets =
         rw e_is (record {
-          known = assumption known_then;
-          begun = record { first_is = is.begun.first_is ∙ sym (at 0); late_is = late_then };
-          active_faults_is =
-              is.active_faults_is
+          known = assumption remembers_next;
+          begun = record { first_is = is.begun.first_is ∙ sym (at 0); late_eq = late_then };
+          active_faults_eq =
+              is.active_faults_eq
               ∙ sym (active_faults_before-same g longer sent n numbers same n _ (omega arith)
               ∙ ap (active_faults_before g sent n) (at n));
           last_is = λ l. is.last_is l ∙ sym (before_same _ ∙ ap (end_before sent n) (at n));
-          first_unfinished_is = λ l. is.first_unfinished_is l ∙ sym (active_before_since _ ∙ ap
+          first_unfinished_eq = λ l. is.first_unfinished_eq l ∙ sym (first_unfinished_before_longer
+              _ ∙ ap
               (first_unfinished_before g sent n) (at n));
           number = is.number;
-          frame_is = is.frame_is ∙ sym (at n);
+          frame_eq = is.frame_eq ∙ sym (at n);
           latest_is = is.latest_is ∙ sym (latest_is (suc n));
           begins =
               hears.begins

@@ -9,13 +9,13 @@ use Rattle.sub_rules.specs.declared.pes_packet.NextPesPacket.{NextPesPacket}
 use Rattle.sub_rules.specs.declared.pes_packet.NextPesPacket.TheVariants as next
 use Rattle.sub_rules.specs.declared.fault.CheckFault.{CheckFault}
 use Rattle.sub_rules.specs.declared.sending.Sending.{Sending}
-use Rattle.sub_checker.specs.NextPesPackets.{IsAgain, is_skipped, last_with}
+use Rattle.sub_checker.specs.NextPesPackets.{IsRepeatSending, is_skipped, last_with}
 
-pub given_sent : {n : Option NextPesPacket} {r : NextPesPacket} {s : Sending}
+pub result_is_sending : {n : Option NextPesPacket} {r : NextPesPacket} {s : Sending}
     → n ≡ Some r
     → r ≡ next.Sent s
     → (let x : Result (Option NextPesPacket) CheckFault = Ok n in x) ≡ Ok (Some (next.Sent s))
-given_sent is sent =
+result_is_sending is sent =
     ap (λ n. let x : Result (Option NextPesPacket) CheckFault = Ok n in x)
     (is ∙ ap (λ (p : NextPesPacket). Some p) sent)
 
@@ -29,11 +29,11 @@ pub again_is : {old new : List UnitValue} {n : Option NextPesPacket} (r : NextPe
     → new ≡ old)
     → (skipped ≡ false → last ≡ packets_of_units old)
     → skipped ≡ false
-    → IsAgain r
+    → IsRepeatSending r
     → last ≡ packets_of_units new
 again_is (next.Skipped f) skipped last is here was sent same = absurd same
 again_is (next.Sent s) skipped last is here was sent same =
-    was sent ∙ ap packets_of_units (sym (here s (given_sent is refl) same))
+    was sent ∙ ap packets_of_units (sym (here s (result_is_sending is refl) same))
 
 pub last_is : (r : NextPesPacket) (last packets : List (List ℕ)) → is_skipped r ≡ false
     → last_with last r packets ≡ packets

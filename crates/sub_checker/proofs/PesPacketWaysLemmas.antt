@@ -39,16 +39,16 @@ use Rattle.sub_rules.proofs.PesPacketFileLemmas.{pes_packets_at-next, pes_packet
 use Rattle.sub_checker.specs.Checker.{CheckerValue}
 use Rattle.sub_checker.specs.CheckedFrames.{BetweenPesPackets, last_steps}
 use Rattle.sub_checker.specs.NextPesPackets.{frame_with, last_with, sent_with, steps_of_read}
-use Rattle.sub_checker.specs.Relay.{nothing_relayed, relayed, relay_after}
+use Rattle.sub_checker.specs.Relay.{initial_relay, relayed, relay_after}
 use Rattle.sub_checker.specs.PesFileEvents.{IsReadOn, ReportsPesPackets, finished}
 use Rattle.sub_checker.specs.LastEvents.{FinishesReporting}
-use Rattle.sub_checker.specs.ReadCounts.{AreTaken, AreComplete, CountsRead}
+use Rattle.sub_checker.specs.ReadCounts.{CarryFrames, AreComplete, CountsRead}
 use Rattle.sub_checker.specs.declared.reporter.Relay.{Relay}
 use Rattle.sub_checker.specs.declared.accepted.Accepted.{Accepted}
 use Rattle.sub_checker.proofs.RelayLemmas.{after-append, after-none, skipped-append}
 use Rattle.sub_checker.proofs.ReadsOnLemmas.{ReadsOn, reads_on_skipped, reads_on_sent}
-use Rattle.sub_checker.proofs.TrustTrackerLemmas.{reported_is}
-use Rattle.ttx_pes.proofs.ReaderLemmas.{answers_say}
+use Rattle.sub_checker.proofs.TrustTrackerLemmas.{reported_eq}
+use Rattle.ttx_pes.proofs.ReaderLemmas.{answers_hold}
 use Rattle.ttx_pes.specs.Fault.{is_of_pes_packet}
 use Rattle.ttx_pes.specs.PesGrammar.{IsPesValue, PesValue}
 use Rattle.ttx_pes.specs.PesPackets.{rest_after_pes_packet}
@@ -70,19 +70,19 @@ pub record Tracks
     0
   where
     pub keeps : BetweenPesPackets g (frames_sent g done) last c
-    pub relay_is : p ≡ relay_after nothing_relayed (each_steps g done)
+    pub relay_eq : p ≡ relay_after initial_relay (each_steps g done)
 
 pub tracks_none : (g : Criteria) (last : List (List ℕ)) (c : CheckerValue) (p : Relay)
     → BetweenPesPackets g [] last c
-    → p ≡ nothing_relayed
+    → p ≡ initial_relay
     → Tracks g [] last c p
 unfolding steps_of_each frames_of joined_after
 tracks_none g last c p keeps none = grind (arith, nat_tests, after-none)
 
 some_reported : (g : Criteria) (done : List PesPacket)
-    → events_of_pes_packets g done ≡ relayed nothing_relayed (each_steps g done)
+    → events_of_pes_packets g done ≡ relayed initial_relay (each_steps g done)
 unfolding events_of_pes_packets relayed
-some_reported g done = ap (all_announced no_run) (reported_is (each_steps g done))
+some_reported g done = ap (all_announced no_run) (reported_eq (each_steps g done))
 
 sent_more : (g : Criteria) (done : List PesPacket) (s : SentFrame)
     → frames_sent g (done ++ Sent s ∷ []) ≡ sent_after g.within (frames_sent g done) s
@@ -107,15 +107,15 @@ module _ (g : Criteria) (done : List PesPacket) (pes : ℕ) (count : length done
   more_steps p = steps_of_each-append g [] 0 pes done (p ∷ []) (omega (arith, count))
 
   pub more_events : (p : PesPacket) (q : Relay)
-      → q ≡ relay_after nothing_relayed (each_steps g done)
+      → q ≡ relay_after initial_relay (each_steps g done)
       → events_of_pes_packets g (done ++ p ∷ [])
       ≡ events_of_pes_packets g done ++ relayed q (steps_more p)
   more_events p q is = grind (arith, nat_tests, some_reported, more_steps, skipped-append)
 
   pub more_relay : (p : PesPacket) (q new : Relay)
-      → q ≡ relay_after nothing_relayed (each_steps g done)
+      → q ≡ relay_after initial_relay (each_steps g done)
       → new ≡ relay_after q (steps_more p)
-      → new ≡ relay_after nothing_relayed (each_steps g (done ++ p ∷ []))
+      → new ≡ relay_after initial_relay (each_steps g (done ++ p ∷ []))
   more_relay p q new was is = grind (arith, nat_tests, after-append, more_steps)
 
   pub sent_steps : (s : SentFrame)
@@ -129,26 +129,26 @@ module _ (g : Criteria) (done : List PesPacket) (pes : ℕ) (count : length done
   skipped_steps u = refl
 
   tracks_sent : (s : SentFrame) (last : List (List ℕ)) (c : CheckerValue) (q new : Relay)
-      → q ≡ relay_after nothing_relayed (each_steps g done)
+      → q ≡ relay_after initial_relay (each_steps g done)
       → BetweenPesPackets g (sent_after g.within (frames_sent g done) s) last c
       → new ≡ relay_after q (steps_of_sent g (frames_sent g done) pes s)
       → Tracks g (done ++ Sent s ∷ []) last c new
   tracks_sent s last c q new was keeps is = record {
     keeps = subst (λ (l : Transmission). BetweenPesPackets g l last c) (sym (sent_more g done s))
         keeps;
-    relay_is =
+    relay_eq =
         more_relay (Sent s) q new was (is ∙ ap (relay_after q) (sym (sent_steps s)));
   }
 
   tracks_skipped : (u : Unread) (last : List (List ℕ)) (c : CheckerValue) (q new : Relay)
-      → q ≡ relay_after nothing_relayed (each_steps g done)
+      → q ≡ relay_after initial_relay (each_steps g done)
       → BetweenPesPackets g (frames_sent g done) last c
       → new ≡ relay_after q (AtPes pes ∷ Emits (Reported (unread_fault pes (Some u))) ∷ [])
       → Tracks g (done ++ Skipped u ∷ []) last c new
   tracks_skipped u last c q new was keeps is = record {
     keeps = subst (λ (l : Transmission). BetweenPesPackets g l last c) (sym (skipped_more g done u))
         keeps;
-    relay_is =
+    relay_eq =
         more_relay (Skipped u) q new was (is ∙ ap (relay_after q) (sym (skipped_steps u)));
   }
 
@@ -156,13 +156,13 @@ module _ (g : Criteria) (all : List PesPacket) where
   abbrev closing : List CheckStep
   closing = last_steps g (frames_sent g all) (length all)
 
-  all_reported : all_of_pes_packets g all ≡ finished nothing_relayed (each_steps g all ++ closing)
+  all_reported : all_of_pes_packets g all ≡ finished initial_relay (each_steps g all ++ closing)
   unfolding all_of_pes_packets reported_of_pes_packets relayed relay_after
-  all_reported = grind (arith, nat_tests, reported_is, append_assoc)
+  all_reported = grind (arith, nat_tests, reported_eq, append_assoc)
 
   whole : all_of_pes_packets g all
       ≡ events_of_pes_packets g all
-      ++ finished (relay_after nothing_relayed (each_steps g all)) closing
+      ++ finished (relay_after initial_relay (each_steps g all)) closing
   whole = grind (
     arith,
     nat_tests,
@@ -177,7 +177,7 @@ module _ (g : Criteria) (all : List PesPacket) where
   -- device stopped the check, and a prefix of the events was reported.
   reported_end : {D : Type 0} {IsReported : D → Event → D → Type 0} (clock : Clock) (bytes : List ℕ)
       (a b c : D) (r : Option Accepted) (p : Relay)
-      → p ≡ relay_after nothing_relayed (each_steps g all)
+      → p ≡ relay_after initial_relay (each_steps g all)
       → Reports IsReported a b (events_of_pes_packets g all)
       → FinishesReporting IsReported b c (finished p closing) r
       → IfSome r (IsReadOn g clock bytes all)
@@ -196,16 +196,16 @@ pub prefix_of : (g : Criteria) (all done more : List PesPacket)
 prefix_of g all done more parts =
     let each = each_steps g done in
     let next = steps_of_each g (frames_sent g done) (length done) more in
-    let end = finished (relay_after nothing_relayed (each_steps g all)) (closing g all) in (
-      relayed (relay_after nothing_relayed each) next ++ end,
+    let end = finished (relay_after initial_relay (each_steps g all)) (closing g all) in (
+      relayed (relay_after initial_relay each) next ++ end,
       whole g all
           ∙ ap (λ (l : List Event). l ++ end)
           (some_reported g all
-          ∙ ap (relayed nothing_relayed)
+          ∙ ap (relayed initial_relay)
           (ap (each_steps g) parts
           ∙ steps_of_each-append g [] 0 (length done) done more (omega arith))
-          ∙ skipped-append nothing_relayed each next
-          ∙ ap (λ (l : List Event). l ++ relayed (relay_after nothing_relayed each) next)
+          ∙ skipped-append initial_relay each next
+          ∙ ap (λ (l : List Event). l ++ relayed (relay_after initial_relay each) next)
           (sym (some_reported g done)))
           ∙ append_assoc (events_of_pes_packets g done) _ _,
     )
@@ -217,7 +217,7 @@ rest_none : (clock : Clock) (n : ℕ) (rest : List ℕ)
 rest_none clock n rest few reads = by (answer_at n rest) refl
   where
     by : (r : Result (Option PesValue) PesFault) → answer_at n rest ≡ r → rest ≡ []
-    by (Ok None) is = (answers_say n rest).0 is
+    by (Ok None) is = (answers_hold n rest).0 is
     by (Ok (Some v)) is =
         let whole = sym reads ∙ pes_packets_at-next clock n rest (Ok (Some v)) few is in
         let none : [] ≡ pes_packet_of clock (Ok v)
@@ -277,7 +277,7 @@ module _ (judging : JudgedValue) {options : OptionsValue} {bytes : List ℕ}
         ∙ sym (append_assoc done (p ∷ []) more)) in
         subst (ReportsPrefix IsReported a d)
         (sym (prefix.1 ∙ ap (λ (l : List Event). l ++ prefix.0)
-        (more_events g done pes at.count p q tracks.relay_is)))
+        (more_events g done pes at.count p q tracks.relay_eq)))
         (ReportsPrefix-first a d _ _ (ReportsPrefix-second a b d _ _ reported
         (subst (λ (l : List CheckStep). ReportsPrefix IsReported b d (relayed q l)) (sym of) part)))
 
@@ -313,9 +313,9 @@ module _ (judging : JudgedValue) {options : OptionsValue} {bytes : List ℕ}
           ap (last_steps g (frames_sent g done)) (sym long)
           ∙ ap (λ (l : List PesPacket). last_steps g (frames_sent g l) (length all)) is_all
 
-      read_is : (a : Accepted) → CountsRead options.page (frames_sent g done) a
+      counts_read : (a : Accepted) → CountsRead options.page (frames_sent g done) a
           → IsReadOn g clock bytes all a
-      read_is a counts = record {
+      counts_read a counts = record {
         few = omega (arith, long);
         taken = λ sent none.
             let left = subst (λ (l : List PesPacket). ReadsPesPackets clock pes at.rest l unread)
@@ -324,8 +324,8 @@ module _ (judging : JudgedValue) {options : OptionsValue} {bytes : List ℕ}
             (subst (λ (u : Option Unread). ReadsPesPackets clock pes at.rest [] u) none left) in
             let taken = at.taken (ap (λ (l : List PesPacket). length (frames_of l)) is_all ∙ sent
             ∙ ap length (sym is_all)) in
-            subst (λ (l : List ℕ). AreTaken clock bytes (frames_of all) l) gone
-            (subst (λ (l : List PesPacket). AreTaken clock bytes (frames_of l) at.rest) is_all
+            subst (λ (l : List ℕ). CarryFrames clock bytes (frames_of all) l) gone
+            (subst (λ (l : List PesPacket). CarryFrames clock bytes (frames_of l) at.rest) is_all
             taken);
         whole = subst (λ (l : List PesPacket). AreComplete (frames_of l)) is_all at.whole;
         counts = subst (λ (l : List PesPacket). CountsRead options.page (sent_by_pes_packets g l) a)
@@ -337,7 +337,7 @@ module _ (judging : JudgedValue) {options : OptionsValue} {bytes : List ℕ}
           → IfSome r (CountsRead options.page (frames_sent g done))
           → IfSome r (IsReadOn g clock bytes all)
       read_some None counts = tt
-      read_some (Some a) counts = read_is a counts
+      read_some (Some a) counts = counts_read a counts
 
       -- After the last PES packet, all events were reported to the device, or a prefix of the
       -- events if it stopped the check.
@@ -349,8 +349,8 @@ module _ (judging : JudgedValue) {options : OptionsValue} {bytes : List ℕ}
           → ReportsPesPackets g clock bytes all IsReported a d (Ok r)
       reported_whole {D} {IsReported} a b d r first second counts =
           reported_end g all clock bytes a b d r q
-          (tracks.relay_is
-          ∙ ap (λ (l : List PesPacket). relay_after nothing_relayed (each_steps g l)) is_all)
+          (tracks.relay_eq
+          ∙ ap (λ (l : List PesPacket). relay_after initial_relay (each_steps g l)) is_all)
           (subst (λ (l : List PesPacket). Reports IsReported a b (events_of_pes_packets g l)) is_all
           first)
           (subst (λ (l : List CheckStep). FinishesReporting IsReported b d (finished q l) r)
@@ -375,7 +375,7 @@ module _ (judging : JudgedValue) {options : OptionsValue} {bytes : List ℕ}
         → Reports IsReported a d (events_of_pes_packets g (done ++ p ∷ []))
     reported_more {D} {IsReported} p ms a b d of first second =
         subst (Reports IsReported a d)
-        (sym (more_events g done pes at.count p q tracks.relay_is))
+        (sym (more_events g done pes at.count p q tracks.relay_eq))
         (Reports-trans a b d _ _ first
         (subst (λ (l : List CheckStep). Reports IsReported b d (relayed q l)) (sym of) second))
 
@@ -396,7 +396,7 @@ module _ (judging : JudgedValue) {options : OptionsValue} {bytes : List ℕ}
         record {
           reads = reads_on_skipped options bytes all unread remaining after pes done at left u next;
           kept =
-              tracks_skipped g done pes at.count u last e q then tracks.relay_is keeps
+              tracks_skipped g done pes at.count u last e q then tracks.relay_eq keeps
               (kept ∙ ap (relay_after q) same);
           reported =
               reported_more (Skipped u) _ a b d (skipped_steps g done pes at.count u) first
@@ -427,7 +427,7 @@ module _ (judging : JudgedValue) {options : OptionsValue} {bytes : List ℕ}
         record {
           reads = reads_on_sent options bytes all unread remaining after pes done at left v frame
               next of takes value;
-          kept = tracks_sent g done pes at.count s heard e q then tracks.relay_is keeps kept;
+          kept = tracks_sent g done pes at.count s heard e q then tracks.relay_eq keeps kept;
           reported = reported_more (Sent s) _ a b d (sent_steps g done pes at.count s) first second;
         }
 

@@ -14,7 +14,7 @@ use Rattle.ttx_pes.specs.PesPackets.{rest_after_pes_packet}
 use Rattle.sub_rules.specs.Transmission.{SentFrame, Transmission}
 use Rattle.sub_rules.specs.declared.fault.CheckFault.{CheckFault}
 use Rattle.sub_rules.proofs.JoinedLemmas.{frames_of-append}
-use Rattle.sub_checker.specs.ReadCounts.{AreTaken, AreComplete}
+use Rattle.sub_checker.specs.ReadCounts.{CarryFrames, AreComplete}
 use Rattle.std.proofs.lemmas.List.Elements.{All-from_recursion}
 use Rattle.std.proofs.lemmas.Slice.Zip.{AllZip-long, all_zipped_more}
 use Rattle.std.specs.List.{AllByRecursion, AllZip}
@@ -45,11 +45,11 @@ pub record ReadsOn
   pub parts : all ≡ done ++ ahead
   pub count : length done ≡ pes
   pub rest : List ℕ
-  pub rest_is : remaining ≡ Some rest
+  pub rest_eq : remaining ≡ Some rest
   pub left : ReadsPesPackets (clock_of options) pes rest ahead unread
   pub taken :
       length (frames_of done) ≡ length done
-      → AreTaken (clock_of options) bytes (frames_of done) rest
+      → CarryFrames (clock_of options) bytes (frames_of done) rest
   pub whole : AreComplete (frames_of done)
 
 pub reads_on_none : (options : OptionsValue) (all : List PesPacket) (unread : Option Unread)
@@ -63,7 +63,7 @@ reads_on_none options all unread remaining bytes reported reads = record {
   parts = refl;
   count = refl;
   rest = bytes;
-  rest_is = reported;
+  rest_eq = reported;
   left = reads;
   taken = λ e. record { values = []; packets = []; each = tt; read = tt; joined = refl };
   whole = tt;
@@ -78,12 +78,12 @@ frames_few (Skipped u ∷ pes_packets) = let l = frames_few pes_packets in omega
 
 taken_sent : (clock : Clock) (bytes rest : List ℕ) (frames : Transmission) (v : PesValue)
     (frame : ℕ) (old new : Option (List ℕ))
-    → AreTaken clock bytes frames rest
+    → CarryFrames clock bytes frames rest
     → old ≡ Some rest
     → new ≡ Some (rest_after_pes_packet rest)
     → TakesValidPesPacket old new v
     → clock v.pts ≡ Some frame
-    → AreTaken clock bytes
+    → CarryFrames clock bytes
     (frames ++ record { frame = frame; packets = packets_of_units v.units } ∷ [])
     (rest_after_pes_packet rest)
 taken_sent clock bytes rest frames v frame old new taken was is takes of =
@@ -110,7 +110,7 @@ each_packet (v ∷ values) [] each = elim each [ ]
 
 pub packets_taken : {clock : Clock} (bytes : List ℕ) (frames : Transmission) (rest : List ℕ) (n : ℕ)
     (old new : Option (List ℕ))
-    → AreTaken clock bytes frames rest
+    → CarryFrames clock bytes frames rest
     → length frames ≡ n
     → old ≡ Some bytes
     → new ≡ Some rest
@@ -130,11 +130,11 @@ pub named_pes : (f : CheckFault) (n pes : ℕ)
     → pes ≡ n
 named_pes f n pes here is = let same = sym here in cc
 
-complete_sent : (frames : Transmission) (v : PesValue) (frame : ℕ)
+has_complete_packets : (frames : Transmission) (v : PesValue) (frame : ℕ)
     → AreComplete frames
     → IsPesValue v
     → AreComplete (frames ++ record { frame = frame; packets = packets_of_units v.units } ∷ [])
-complete_sent frames v frame before is =
+has_complete_packets frames v frame before is =
     let whole = complete_units v.units is.each in
     grind (arith, nat_tests, Each-push, All-from_recursion)
 
@@ -146,7 +146,7 @@ module _ (options : OptionsValue) (bytes : List ℕ) (all : List PesPacket) (unr
     reads_on_more : (p : PesPacket)
         → ReadsPesPacket (clock_of options) pes at.rest at.ahead unread p
         → (length (frames_of (done ++ p ∷ [])) ≡ length (done ++ p ∷ [])
-        → AreTaken (clock_of options) bytes (frames_of (done ++ p ∷ []))
+        → CarryFrames (clock_of options) bytes (frames_of (done ++ p ∷ []))
         (rest_after_pes_packet at.rest))
         → AreComplete (frames_of (done ++ p ∷ []))
         → ReadsOn options bytes all unread after (pes + 1) (done ++ p ∷ [])
@@ -157,7 +157,7 @@ module _ (options : OptionsValue) (bytes : List ℕ) (all : List PesPacket) (unr
           ∙ sym (append_assoc done (p ∷ []) next.more);
       count = length-append done (p ∷ []) ∙ ap (λ (k : ℕ). k + 1) at.count;
       rest = rest_after_pes_packet at.rest;
-      rest_is = left;
+      rest_eq = left;
       left = next.left;
       taken = taken;
       whole = whole;
@@ -178,7 +178,7 @@ module _ (options : OptionsValue) (bytes : List ℕ) (all : List PesPacket) (unr
         frames_of-append done (Sent s ∷ []) in
         reads_on_more (Sent s) next
         (λ e.
-        subst (λ (fs : Transmission). AreTaken (clock_of options) bytes fs
+        subst (λ (fs : Transmission). CarryFrames (clock_of options) bytes fs
         (rest_after_pes_packet at.rest))
         (sym list)
         (taken_sent (clock_of options) bytes at.rest (frames_of done) v frame before after
@@ -188,8 +188,9 @@ module _ (options : OptionsValue) (bytes : List ℕ) (all : List PesPacket) (unr
           ap length list,
           length-append (frames_of done) (s ∷ []),
           length-append done (Sent s ∷ []),
-        ))) at.rest_is left takes of))
-        (subst AreComplete (sym list) (complete_sent (frames_of done) v frame at.whole value))
+        ))) at.rest_eq left takes of))
+        (subst AreComplete (sym list) (has_complete_packets (frames_of done) v frame at.whole
+        value))
 
     pub reads_on_skipped : (u : Unread)
         → ReadsPesPacket (clock_of options) pes at.rest at.ahead unread (Skipped u)

@@ -73,18 +73,18 @@ module _ {D : Type 0} {g : _} (IsReported : D → Event → D → Type 0) where
         ∙ sym (after-append a.relay xs ys);
   }
 
-one_reported : (p : Relay) (m : CheckStep)
+relayed_one_step : (p : Relay) (m : CheckStep)
     → relayed p (m ∷ []) ≡ all_announced (as_run p.run) (reported_with m p.tracker)
 unfolding relayed reported_by
-one_reported p m = ap (all_announced (as_run p.run)) (append-nil (reported_with m p.tracker))
+relayed_one_step p m = ap (all_announced (as_run p.run)) (append-nil (reported_with m p.tracker))
 
-one_kept : (p : Relay) (m : CheckStep)
+relay_after_one_step : (p : Relay) (m : CheckStep)
     → relay_after p (m ∷ []) ≡ record {
       tracker = after_step m p.tracker;
       run = kept_run (skipped_after_all (as_run p.run) (reported_with m p.tracker));
     }
 unfolding relay_after reported_by tracker_after
-one_kept p m = grind (arith, nat_tests, append-nil)
+relay_after_one_step p m = grind (arith, nat_tests, append-nil)
 
 pub relay_one : {D : Type 0} {g : _} (IsReported : D → Event → D → Type 0) (s t : Reporter D g)
     (m : CheckStep) (es : List Event)
@@ -96,8 +96,8 @@ pub relay_one : {D : Type 0} {g : _} (IsReported : D → Event → D → Type 0)
 relay_one IsReported s t m es is tracker reported run = grind (
   arith,
   nat_tests,
-  one_reported,
-  one_kept,
+  relayed_one_step,
+  relay_after_one_step,
 )
 
 pub both_are : (run : SkippedRun) (mid : SkippedPesPackets) (xs : List Event) (e : Event)
@@ -131,7 +131,7 @@ pub silent : {D : Type 0} {g : _} (IsReported : D → Event → D → Type 0) (s
 unfolding all_announced skipped_after_all
 silent IsReported s t m is none =
     let no = Reports-none {IsReported = IsFused IsReported} s.fused in
-    grind (arith, nat_tests, one_reported, one_kept)
+    grind (arith, nat_tests, relayed_one_step, relay_after_one_step)
 
 module _ {D : Type 0} {g : _} (IsReported : D → Event → D → Type 0) where
   one_by_one : (old new : Reporter D g) (es : List Event)

@@ -59,10 +59,10 @@ module _ {D : Type 0} {g : _} {IsReported : D → Event → D → Type 0} where
       by true at = relays_step refl at refl
       by false at = subst (ReporterRelays IsReported s []) (sym at) (relays_nothing refl)
 
-  pub relays_begun : (s t : Reporter D g) (c : CheckerValue)
+  pub relays_started : (s t : Reporter D g) (c : CheckerValue)
       → t ≡ back_reporter c (at_step (Begins c.frame) s)
       → ReporterRelays IsReported s (Begins c.frame ∷ back_steps c) t
-  relays_begun s t c at =
+  relays_started s t c at =
       relays_two {xs = Begins c.frame ∷ []} refl
       (relays_step {s = s} {t = at_step (Begins c.frame) s} refl refl refl)
       (relays_back (at_step (Begins c.frame) s) t c refl at)

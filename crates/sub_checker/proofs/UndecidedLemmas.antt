@@ -1,5 +1,6 @@
 -- Whether the due page is known does not change between two page changes (`undecided_same`), and
--- the checker computes from which frame on it is known (`known_none`, `known_not`, `known_last`,
+-- the checker computes from which frame on it is known (`due_known_without_refusals`,
+-- `due_unknown_after_day`, `due_known_up_to_last`,
 -- `known_never`).
 use Rattle.std.proofs.lemmas.Bool.Decides.{nat_tests}
 use Rattle.std.proofs.Common.{◌≡◌, ℕ, zero, suc, ◌+◌, ◌-◌, ◌<◌, ◌≤◌, ◌⊎◌, Bool, true, false, ◌&&◌}
@@ -16,17 +17,17 @@ use Rattle.sub_rules.specs.FrameRules.{is_due_undecided}
 use Rattle.sub_checker.specs.Checker.{IsKnownFrom, is_before}
 
 -- No page change occurs after frame f and up to frame g.
-abbrev NoEdge : List SubtitleValue → ℕ → ℕ → Type 0
-NoEdge ts f g = (e : ℕ) → IsEdge ts e → f < e → e ≤ g → ⊥
+abbrev NoPageChange : List SubtitleValue → ℕ → ℕ → Type 0
+NoPageChange ts f g = (e : ℕ) → IsEdge ts e → f < e → e ≤ g → ⊥
 
-fewer : (t : SubtitleValue) (ts : List SubtitleValue) (f g : ℕ) → NoEdge (t ∷ ts) f g
-    → NoEdge ts f g
+fewer : (t : SubtitleValue) (ts : List SubtitleValue) (f g : ℕ) → NoPageChange (t ∷ ts) f g
+    → NoPageChange ts f g
 fewer t ts f g none e edge = none e (suc edge.0, edge.1, omega (arith, edge.2), edge.3, edge.4)
 
 from_same : (ts : List SubtitleValue) (bits : List Bool) (other : Bool) (start f g : ℕ)
     → f ≤ g
     → (f < start → start ≤ g → ⊥)
-    → NoEdge ts f g
+    → NoPageChange ts f g
     → is_undecided_from start (with_bits ts bits) other f
     ≡ is_undecided_from start (with_bits ts bits) other g
 from_same [] bits other start f g le still none = grind (arith, nat_tests)
@@ -43,7 +44,7 @@ from_same (t ∷ ts) (bit ∷ bits) other start f g le still none =
 
 pub undecided_same : (j : JudgedValue) (f g : ℕ)
     → f ≤ g
-    → NoEdge j.programme.records f g
+    → NoPageChange j.programme.records f g
     → is_undecided_in j f ≡ is_undecided_in j g
 unfolding is_undecided_in
 undecided_same j f g le none =
@@ -117,33 +118,34 @@ none_below f = grind (arith, nat_tests)
 
 module _ (j : JudgedValue) (first within frame : ℕ) (edge : Option ℕ)
     (reports : ReportsNextEdge j.programme.records frame edge) where
-  pub known_none : has_refused j ≡ false
+  pub due_known_without_refusals : has_refused j ≡ false
       → IsKnownFrom (is_due_undecided j) first within frame edge 0
-  known_none h1 = grind (arith, nat_tests, none_below, was-none)
+  due_known_without_refusals h1 = grind (arith, nat_tests, none_below, was-none)
 
   module _ (is : has_refused j ≡ true) where
-    any_refused_is : (e : ℕ) → is_due_undecided j e ≡ is_undecided_in j e
-    any_refused_is e = ap (λ b. b && is_undecided_in j e) is
+    any_refused_eq : (e : ℕ) → is_due_undecided j e ≡ is_undecided_in j e
+    any_refused_eq e = ap (λ b. b && is_undecided_in j e) is
 
-    pub known_not : (k : ℕ)
+    pub due_unknown_after_day : (k : ℕ)
         → day ≤ k
         → is_undecided_in j frame ≡ true
         → IsKnownFrom (is_due_undecided j) first within frame edge k
-    known_not k high here f low small before =
+    due_unknown_after_day k high here f low small before =
         let there = was-some (is_due_undecided j) first f within f (inr refl) (omega arith)
-        (omega arith) (any_refused_is f ∙ until_edge j frame f edge reports low before ∙ here) in
+        (omega arith) (any_refused_eq f ∙ until_edge j frame f edge reports low before ∙ here) in
         rw there (grind (arith, nat_tests))
 
-    pub known_last : (last : ℕ)
+    pub due_known_up_to_last : (last : ℕ)
         → first ≤ last
         → last < frame
         → is_undecided_in j last ≡ true
         → ((f : ℕ) → last < f → f ≤ frame → is_undecided_in j f ≡ false)
         → IsKnownFrom (is_due_undecided j) first within frame edge (last + within + 1)
-    known_last last some less here none f low small before = by (cases_lt (last + within) f)
+    due_known_up_to_last last some less here none f low small before = by (cases_lt (last + within)
+        f)
       where
         first_unfinished : (e : ℕ) → last < e → e ≤ f → is_due_undecided j e ≡ false
-        first_unfinished e after until = any_refused_is e ∙ go (cases_lt e frame)
+        first_unfinished e after until = any_refused_eq e ∙ go (cases_lt e frame)
           where
             go : (e < frame) ⊎ (frame ≤ e) → is_undecided_in j e ≡ false
             go (inl l) = none e after (omega arith)
@@ -160,7 +162,7 @@ module _ (j : JudgedValue) (first within frame : ℕ) (edge : Option ℕ)
             (grind (arith, nat_tests))
         by (inr l) =
             rw (was-some (is_due_undecided j) first f within last (inl some) l (omega arith)
-            (any_refused_is last ∙ here))
+            (any_refused_eq last ∙ here))
             (grind (arith, nat_tests))
 
     pub known_never : (least : ℕ)
@@ -174,7 +176,7 @@ module _ (j : JudgedValue) (first within frame : ℕ) (edge : Option ℕ)
       where
         at : (e : ℕ) → frame ≤ e → e ≤ f → is_due_undecided j e ≡ false
         at e l until =
-            any_refused_is e
+            any_refused_eq e
             ∙ until_edge j frame e edge reports l (earlier e f edge until before)
             ∙ here
 
@@ -182,5 +184,5 @@ module _ (j : JudgedValue) (first within frame : ℕ) (edge : Option ℕ)
         each e m reach until = go (cases_lt e frame)
           where
             go : (e < frame) ⊎ (frame ≤ e) → is_due_undecided j e ≡ false
-            go (inl l) = any_refused_is e ∙ none e (counts e m (omega arith)) (omega arith)
+            go (inl l) = any_refused_eq e ∙ none e (counts e m (omega arith)) (omega arith)
             go (inr l) = at e l until

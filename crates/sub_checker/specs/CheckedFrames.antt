@@ -42,9 +42,10 @@ pub record Remembers
 
 -- The state of the checker from the first PES packet on knows the first frame, and when the repeat
 -- bound is exceeded.
-pub record HasBegun (g : Criteria) (frames : Transmission) (n : ℕ) (c : CheckerValue) : Type 0 where
-  pub first_is : c.first ≡ frame_at frames 0
-  pub late_is : (f : ℕ) → is_gap g frames n f ≡ nat_le c.late_at (f + 1)
+pub record HasStarted (g : Criteria) (frames : Transmission) (n : ℕ) (c : CheckerValue) : Type 0
+  where
+    pub first_is : c.first ≡ frame_at frames 0
+    pub late_eq : (f : ℕ) → is_gap g frames n f ≡ nat_le c.late_at (f + 1)
 
 -- The state of the checker after the first n frames, at the end of the last one.
 pub record AfterEnd
@@ -52,12 +53,12 @@ pub record AfterEnd
     : Type 0 where
   pub known : Remembers g frames n last c
   pub none : n ≡ 0 → c.active_faults ≡ no_active_faults
-  pub begun : 0 < n → HasBegun g frames n c
+  pub begun : 0 < n → HasStarted g frames n c
   pub latest_is : 0 < n → c.latest ≡ latest frames n
-  pub active_faults_is :
+  pub active_faults_eq :
       0 < n → c.active_faults ≡ active_faults_at g frames n (frame_at frames (n - 1))
   pub last_is : 0 < n → c.last ≡ frame_at frames (n - 1)
-  pub first_unfinished_is : 0 < g.within → c.first_unfinished ≡ first_unfinished_in_frames g frames
+  pub first_unfinished_eq : 0 < g.within → c.first_unfinished ≡ first_unfinished_in_frames g frames
       n
   pub number : c.counts.frames ≡ n
 
@@ -67,10 +68,10 @@ pub record BeforeEnd
     (g : Criteria) (frames : Transmission) (n f : ℕ) (last : List (List ℕ)) (c : CheckerValue)
     : Type 0 where
   pub known : Remembers g frames n last c
-  pub begun : HasBegun g frames n c
-  pub active_faults_is : c.active_faults ≡ active_faults_before g frames n f
+  pub begun : HasStarted g frames n c
+  pub active_faults_eq : c.active_faults ≡ active_faults_before g frames n f
   pub last_is : 0 < n → c.last ≡ end_before frames n f
-  pub first_unfinished_is : 0 < g.within → c.first_unfinished ≡ first_unfinished_before g frames n f
+  pub first_unfinished_eq : 0 < g.within → c.first_unfinished ≡ first_unfinished_before g frames n f
   pub number : c.counts.frames ≡ n
 
 -- The state of the checker at frame n of the list, before its packets are received.
@@ -78,7 +79,7 @@ pub record BeforePackets
     (g : Criteria) (frames : Transmission) (n : ℕ) (last : List (List ℕ)) (c : CheckerValue)
     : Type 0 where
   pub has_pending : BeforeEnd g frames n (frame_at frames n) last c
-  pub frame_is : c.frame ≡ frame_at frames n
+  pub frame_eq : c.frame ≡ frame_at frames n
   pub latest_is : c.latest ≡ latest frames (suc n)
 
 -- The state of the checker after the packets of frame n of the list, before the end of the frame.
@@ -86,13 +87,13 @@ pub record AfterPackets
     (g : Criteria) (frames : Transmission) (n : ℕ) (last : List (List ℕ)) (c : CheckerValue)
     : Type 0 where
   pub known : Remembers g frames (suc n) last c
-  pub begun : HasBegun g frames (suc n) c
-  pub active_faults_is : c.active_faults ≡ active_faults_before g frames n (frame_at frames n)
+  pub begun : HasStarted g frames (suc n) c
+  pub active_faults_eq : c.active_faults ≡ active_faults_before g frames n (frame_at frames n)
   pub last_is : 0 < n → c.last ≡ end_before frames n (frame_at frames n)
-  pub first_unfinished_is : 0 < g.within → c.first_unfinished ≡ first_unfinished_before g frames n
+  pub first_unfinished_eq : 0 < g.within → c.first_unfinished ≡ first_unfinished_before g frames n
       (frame_at frames n)
   pub number : c.counts.frames ≡ suc n
-  pub frame_is : c.frame ≡ frame_at frames n
+  pub frame_eq : c.frame ≡ frame_at frames n
   pub latest_is : c.latest ≡ latest frames (suc n)
   pub begins :
       c.listener.begun

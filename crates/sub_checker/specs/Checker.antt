@@ -26,8 +26,8 @@ use Rattle.sub_plan.specs.Schedule.{due_in}
 -- ---- counts of PES packets and headers
 
 -- The counts before the first PES packet.
-abbrev pub nothing_counted : Counts
-nothing_counted =
+abbrev pub no_counts : Counts
+no_counts =
     record { frames = 0; headers = 0; headers_before = 0; packets = 0; is_open = false }
 
 -- The counts with `headers` more headers of the page.
@@ -41,7 +41,7 @@ left_open headers packets n =
     record n { headers_before = n.headers - headers; packets = packets; is_open = true }
 
 -- The counts are within the bounds that `pes` PES packets allow, so none can overflow.
-pub record AreFew (pes : ℕ) (n : Counts) : Type 0 where
+pub record FewMissing (pes : ℕ) (n : Counts) : Type 0 where
   pub frames : n.frames ≤ pes
   pub headers : n.headers ≤ 255 * pes
   pub packets : n.packets ≤ 255 * pes
@@ -94,12 +94,12 @@ at_frame f c = record c {
 }
 
 -- The state of the checker moved to the frame of the first PES packet, f.
-abbrev pub at_first : ℕ → CheckerValue → CheckerValue
-at_first f c = record (at_frame f c) { first = f; latest = f; late_at = f + c.every }
+abbrev pub checker_at_first : ℕ → CheckerValue → CheckerValue
+checker_at_first f c = record (at_frame f c) { first = f; latest = f; late_at = f + c.every }
 
 -- The state of the checker moved to the frame of a later PES packet, f.
-abbrev pub at_next : ℕ → CheckerValue → CheckerValue
-at_next f c = record (at_frame f c) { latest = max c.latest f }
+abbrev pub checker_at_next : ℕ → CheckerValue → CheckerValue
+checker_at_next f c = record (at_frame f c) { latest = max c.latest f }
 
 -- The frame comes before the next change of the due page, if the page changes again.
 abbrev pub is_before : ℕ → Option ℕ → Bool
@@ -108,14 +108,15 @@ is_before frame (Some edge) = nat_lt frame edge
 
 -- One more than the first frame at whose end the repeat bound is exceeded. `found`: the current
 -- frame has a header of the page; `before`: the value before this frame.
-abbrev pub later_by : Bool → ℕ → ℕ → ℕ → ℕ
-later_by found frame every before = if found then max before (frame + every + 1) else before
+abbrev pub next_repeat_deadline : Bool → ℕ → ℕ → ℕ → ℕ
+next_repeat_deadline found frame every before = if found then max before (frame + every + 1)
+    else before
 
 -- The state of the checker after `headers` headers of the page in the current frame.
 abbrev pub after_headers : ℕ → CheckerValue → CheckerValue
 after_headers headers c = record c {
   counts = with_headers headers c.counts;
-  late_at = later_by (nat_lt 0 headers) c.frame c.every c.late_at;
+  late_at = next_repeat_deadline (nat_lt 0 headers) c.frame c.every c.late_at;
 }
 
 -- The listener received `packets` after `heard`. The first of them is number `from` of its frame.
@@ -124,7 +125,7 @@ pub record HasHeard
     : Type 0 where
   pub listener : Listener
   pub headers : ℕ
-  pub new_is : new ≡ after_headers headers (record old { listener = listener })
+  pub new_eq : new ≡ after_headers headers (record old { listener = listener })
   pub watched : listener.watched ≡ old.listener.watched
   pub due : listener.comparison.due ≡ old.listener.comparison.due
   pub knows : KnowsLast (heard ++ packets) packets listener
@@ -225,30 +226,31 @@ is_pending_now c =
 -- ---- the invariant of the checker
 
 -- Until the due page changes next, the frames with an unknown due page within the last `within`
--- frames are exactly those below `known_from`. So one number is enough for all these frames.
+-- frames are exactly those below `first_known_from`. So one number is enough for all these frames.
 abbrev pub IsKnownFrom : (ℕ → Bool) → ℕ → ℕ → ℕ → Option ℕ → ℕ → Type 0
-IsKnownFrom undecided first within frame edge known_from =
+IsKnownFrom undecided first within frame edge first_known_from =
     (f : ℕ)
     → frame ≤ f
     → f < day
     → is_before f edge ≡ true
-    → nat_lt f known_from ≡ was_undecided undecided first f within
+    → nat_lt f first_known_from ≡ was_undecided undecided first f within
 
--- The subtitles and the number `known_from` agree with `judging` until the due page changes next.
+-- The subtitles and the number `first_known_from` agree with `judging` until the due page changes
+-- next.
 pub record IsJudged
     (judging : JudgedValue) (programme : ProgrammeValue) (any_refused : Bool)
-    (first within frame : ℕ) (edge : Option ℕ) (known_from : ℕ)
+    (first within frame : ℕ) (edge : Option ℕ) (first_known_from : ℕ)
     : Type 0 where
-  pub programme_is : programme ≡ judging.programme
-  pub any_refused_is : any_refused ≡ has_refused judging
-  pub known_is : IsKnownFrom (is_due_undecided judging) first within frame edge known_from
+  pub programme_eq : programme ≡ judging.programme
+  pub any_refused_eq : any_refused ≡ has_refused judging
+  pub known_is : IsKnownFrom (is_due_undecided judging) first within frame edge first_known_from
 
 -- The due page and its next change are those of `frame`, and no frame number can overflow.
 pub record IsAtFrame
     (programme : ProgrammeValue) (every : ℕ) (listener : Listener) (first latest last frame : ℕ)
     (edge : Option ℕ)
     : Type 0 where
-  pub due_is : listener.comparison.due ≡ due_in programme frame
+  pub due_eq : listener.comparison.due ≡ due_in programme frame
   pub edge_is : ReportsNextEdge programme.records frame edge
   pub first_before : first ≤ latest
   pub in_day : latest < day

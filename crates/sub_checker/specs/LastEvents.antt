@@ -2,7 +2,7 @@
 -- definitions.
 use Rattle.std.specs.Prelude.{◌≡◌, ℕ, zero, suc, ◌+◌, ◌<◌, ◌||◌, Bool, List, [], ◌∷◌, ◌++◌}
 use Rattle.std.specs.Prelude.{Option, Some, None, if◌then◌else◌}
-use Rattle.stl_rows.specs.Programme.{last_out}
+use Rattle.stl_rows.specs.Programme.{last_tco}
 use Rattle.sub_io.specs.Reporting.{Reports, ReportsPrefix}
 use Rattle.sub_checker.specs.Checker.{CheckerValue, is_pending_now}
 use Rattle.sub_checker.specs.declared.accepted.Accepted.{Accepted}
@@ -26,7 +26,7 @@ last_fault_after None (suc n) pes late frame = if late then Some (fault.Late fra
 abbrev pub last_fault : ℕ → Option CheckFault → CheckerValue → Option CheckFault
 last_fault pes given c =
     last_fault_after given c.counts.frames pes
-    (is_short (last_out c.programme.records) c.last || is_pending_now c) c.last
+    (is_short (last_tco c.programme.records) c.last || is_pending_now c) c.last
 
 -- The events that report an optional fault.
 abbrev pub fault_events : Option CheckFault → List Event
@@ -47,7 +47,7 @@ ending_fault pes (Some u) = Some (unread_fault pes (Some u))
 pub record AreCounted (c : CheckerValue) (a : Accepted) : Type 0 where
   pub none : c.counts.frames ≡ 0 → a.frames ≡ 0
   pub frames_are : 0 < c.counts.frames → a.frames + c.first ≡ c.latest + 1
-  pub transmissions_are : a.transmissions ≡ c.counts.headers
+  pub transmissions_eq : a.transmissions ≡ c.counts.headers
 
 -- All events were reported to the device and the counts are returned, or the device stopped the
 -- check and a prefix of the events was reported.

@@ -18,9 +18,9 @@ is_skipped (next.Skipped f) = true
 is_skipped (next.Sent s) = false
 
 -- The PES packet that was read is valid, and its Teletext packets are those of the packet before.
-abbrev pub IsAgain : NextPesPacket → Type 0
-IsAgain (next.Skipped f) = ⊥
-IsAgain (next.Sent s) = s.again ≡ true
+abbrev pub IsRepeatSending : NextPesPacket → Type 0
+IsRepeatSending (next.Skipped f) = ⊥
+IsRepeatSending (next.Sent s) = s.again ≡ true
 
 -- The frame that a valid PES packet with these Teletext packets carries.
 abbrev pub frame_with : Sending → List (List ℕ) → SentFrame

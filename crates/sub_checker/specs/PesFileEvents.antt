@@ -17,7 +17,7 @@ use Rattle.sub_rules.specs.declared.fault.CheckFault.{CheckFault}
 use Rattle.sub_rules.specs.declared.fault.CheckFault.TheVariants as fault
 use Rattle.sub_checker.specs.SkippedPesPackets.{as_run}
 use Rattle.sub_checker.specs.Relay.{relayed, relay_after}
-use Rattle.sub_checker.specs.ReadCounts.{AreTaken, AreComplete, CountsRead}
+use Rattle.sub_checker.specs.ReadCounts.{CarryFrames, AreComplete, CountsRead}
 use Rattle.sub_checker.specs.declared.reporter.Relay.{Relay}
 use Rattle.sub_checker.specs.declared.accepted.Accepted.{Accepted}
 
@@ -30,7 +30,7 @@ pub record IsReadOn
   pub taken :
       length (frames_of pes_packets) ≡ length pes_packets
       → g.unread ≡ None
-      → AreTaken clock bytes (frames_of pes_packets) []
+      → CarryFrames clock bytes (frames_of pes_packets) []
   pub whole : AreComplete (frames_of pes_packets)
   pub counts : CountsRead g.watched.page (sent_by_pes_packets g pes_packets) a
 

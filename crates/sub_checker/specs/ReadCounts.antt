@@ -17,7 +17,7 @@ pub record CountsRead (page : PageIdValue) (frames : Transmission) (a : Accepted
   pub none : length frames ≡ 0 → a.frames ≡ 0
   pub frames_are :
       0 < length frames → a.frames + frame_at frames 0 ≡ latest frames (length frames) + 1
-  pub transmissions_are :
+  pub transmissions_eq :
       a.transmissions ≡ header_count page (packets_before frames (length frames))
 
 -- Each Teletext packet of the frames has 42 bytes.
@@ -27,7 +27,7 @@ AreComplete frames =
 
 -- The bytes are joined PES packets that carry the frames according to the clock, followed by the
 -- rest.
-pub record AreTaken
+pub record CarryFrames
     (clock : Clock) (bytes : List ℕ) (frames : Transmission) (rest : List ℕ)
     : Type 0 where
   pub values : List PesValue

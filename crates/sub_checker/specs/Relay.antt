@@ -13,8 +13,8 @@ use Rattle.sub_checker.specs.declared.reporter.Reporter.{Reporter}
 use Rattle.sub_checker.specs.TrustTracker.{after_step, new_tracker, reported_by, tracker_after}
 
 -- The state of the reporter before the first step.
-abbrev pub nothing_relayed : Relay
-nothing_relayed = record { tracker = new_tracker; run = kept_run no_run }
+abbrev pub initial_relay : Relay
+initial_relay = record { tracker = new_tracker; run = kept_run no_run }
 
 -- The events that the reporter relays for a list of steps.
 unfoldable pub relayed : Relay → List CheckStep → List Event

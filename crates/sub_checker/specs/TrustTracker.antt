@@ -31,9 +31,9 @@ trusted_before run whole back (Some f) = trusted run whole (unwrap_or back f)
 
 -- The run of trusted frames after frame f: the run continues; or it begins with f, if f has a
 -- header of the page.
-abbrev pub run_begun : Option ℕ → Bool → ℕ → Option ℕ
-run_begun (Some from) has_beginning f = Some from
-run_begun None has_beginning f = if has_beginning then Some f else None
+abbrev pub continued_run : Option ℕ → Bool → ℕ → Option ℕ
+continued_run (Some from) has_beginning f = Some from
+continued_run None has_beginning f = if has_beginning then Some f else None
 
 -- The run of trusted frames after an event: the run ends if the event invalidates a frame.
 abbrev pub run_after : Option ℕ → Option ℕ → Option ℕ
@@ -88,7 +88,7 @@ after_step (AtEnd f first_unfinished late) t = record t {
   whole = if is_some t.run then first_correct t.whole first_unfinished f else t.whole;
 }
 after_step (Ends f has_beginning none) t = record t {
-  run = if t.is_clean && none then run_begun t.run has_beginning f else None;
+  run = if t.is_clean && none then continued_run t.run has_beginning f else None;
   whole = first_correct_in t.run t.whole t.first_unfinished f;
 }
 after_step (Closes are_left more) t = record t { run = None }

@@ -13,7 +13,7 @@ ghost use Rattle.sub_rules.specs.PesPackets.{sent_after, with_packets};
 ghost use Rattle.sub_rules.specs.Sendings.{IsSentFrame};
 ghost use Rattle.sub_rules.specs.Transmission.{Transmission};
 ghost use Rattle.sub_rules.specs.Trusted.CheckStep.{Emits};
-ghost use Rattle.sub_checker.specs.Checker.{AreFew, HasHeard, sent_as, with_headers};
+ghost use Rattle.sub_checker.specs.Checker.{FewMissing, HasHeard, sent_as, with_headers};
 ghost use Rattle.sub_checker.specs.CheckedFrames.{AfterEnd, BetweenPesPackets, next_steps};
 ghost use Rattle.sub_checker.specs.Relay.{ReporterRelays};
 
@@ -36,8 +36,8 @@ impl<'a> Checker<'a> {
         requires few { length units.now ≤ most_units }
         requires day { sending.frame < day }
         requires fewer { pes ≤ most_packets }
-        requires room { AreFew pes self.old.counts }
-        ensures room { AreFew (pes + 1) self.new.counts }
+        requires room { FewMissing pes self.old.counts }
+        ensures room { FewMissing (pes + 1) self.new.counts }
         ensures reported { (g : Criteria) (sent : Transmission) (last : List (List ℕ))
             → BetweenPesPackets g sent last self.old
             → (sending.again ≡ true → last ≡ packets_of_units units.now)
@@ -46,7 +46,7 @@ impl<'a> Checker<'a> {
             × BetweenPesPackets g (sent_after g.within sent (sent_as sending units.now))
             (packets_of_units units.now) self.new }
     {
-        if self.goes_on(sending.frame) {
+        if self.continues(sending.frame) {
             reporter.go_to(pes);
             self.take_more(pes, sending.again, units, reporter);
             return;
@@ -58,7 +58,7 @@ impl<'a> Checker<'a> {
 
     // Returns whether a PES packet of `frame` belongs to the last frame, whose end is still open.
     #[inline(always)]
-    fn goes_on(&self, frame: u32) -> bool
+    fn continues(&self, frame: u32) -> bool
         ensures { result ≡ (self.now.counts.is_open && frame == self.now.frame) }
     {
         self.counts.is_open && frame == self.frame
@@ -75,9 +75,9 @@ impl<'a> Checker<'a> {
         requires few { length units.now ≤ most_units }
         requires day { sending.frame < day }
         requires fewer { pes ≤ most_packets }
-        requires room { AreFew pes self.old.counts }
+        requires room { FewMissing pes self.old.counts }
         requires closed { self.old.counts.is_open ≡ false }
-        ensures room { AreFew (pes + 1) self.new.counts }
+        ensures room { FewMissing (pes + 1) self.new.counts }
         ensures reported { (g : Criteria) (frames : Transmission) (n : ℕ) (last : List (List ℕ))
             → AfterEnd g frames n last self.old
             → length frames ≡ suc n
@@ -108,9 +108,9 @@ impl<'a> Checker<'a> {
     )
         requires few { length units.now ≤ most_units }
         requires fewer { pes ≤ most_packets }
-        requires room { AreFew pes self.old.counts }
+        requires room { FewMissing pes self.old.counts }
         requires opened { self.old.counts.is_open ≡ true }
-        ensures room { AreFew (pes + 1) self.new.counts }
+        ensures room { FewMissing (pes + 1) self.new.counts }
         ensures reported { (g : Criteria) (sent : Transmission) (last : List (List ℕ))
             → BetweenPesPackets g sent last self.old
             → (again ≡ true → last ≡ packets_of_units units.now)

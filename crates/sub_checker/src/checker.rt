@@ -9,7 +9,7 @@ ghost use Rattle.sub_plan.specs.Options.{IsOptions};
 use crate::accepted::Accepted;
 use crate::counts::Counts;
 use crate::reporter::Reporter;
-use crate::undecided::known_from;
+use crate::undecided::first_known_from;
 use std::marker::Model;
 use stl_rows::{Judging, Programme};
 use sub_io::Audience;
@@ -46,7 +46,7 @@ pub(crate) struct Checker<'a> {
     pub near: usize,
     // The first frame, up to the next change of the due page, at which the due page is known and
     // was known for the last `within` frames.
-    pub known_from: u64,
+    pub first_known_from: u64,
     // The frame whose end was checked last; `active_faults` holds the faults that were active at
     // that end.
     pub last: u32,
@@ -85,11 +85,12 @@ impl<'a> Model for Checker<'a> {
     ghost invariant = { λ c. IsAtFrame c.programme.now c.every c.listener c.first c.latest c.last
         c.frame c.edge × IsJudged c.judging.now c.programme.now c.has_refused c.first c.within
         c.frame
-        c.edge c.known_from };
+        c.edge c.first_known_from };
 }
 
 impl<'a> Checker<'a> {
-    ghost use Rattle.sub_checker.specs.Checker.{AreFew, at_first, at_frame, at_next, after_headers};
+    ghost use Rattle.sub_checker.specs.Checker.{FewMissing, checker_at_first, at_frame};
+    ghost use Rattle.sub_checker.specs.Checker.{checker_at_next, after_headers};
     ghost use Rattle.sub_checker.specs.CheckedFrames.{BetweenPesPackets, back_reporter};
     ghost use Rattle.sub_checker.specs.Relay.{at_step};
     ghost use Rattle.sub_rules.specs.Trusted.CheckStep.{Begins};
@@ -97,7 +98,7 @@ impl<'a> Checker<'a> {
 
     /// Returns the state of the checker before the first PES packet.
     pub fn new(judging: &'a Judging<'a>, options: &Options) -> Self
-        ensures none { AreFew 0 result.counts }
+        ensures none { FewMissing 0 result.counts }
         ensures keeps { (last : List (List ℕ)) (unread : Option Unread)
             → BetweenPesPackets (criteria_of_judged judging.now options.now unread) [] last result }
         ensures options { IsOptions options.now }
@@ -126,7 +127,7 @@ impl<'a> Checker<'a> {
             frame: 0,
             edge: programme.next_edge(0),
             near: 0,
-            known_from: known_from(judging, has_refused, 0, 0, within),
+            first_known_from: first_known_from(judging, has_refused, 0, 0, within),
             last: 0,
             active_faults: ActiveFaults::none(),
             first_unfinished: None,
@@ -159,26 +160,38 @@ impl<'a> Checker<'a> {
         let (edge, near) = self.listener.draw_due(programme, f, self.near);
         self.edge = edge;
         self.near = near;
-        self.known_from = known_from(self.judging, self.has_refused, self.first, f, self.within);
+        self.first_known_from = first_known_from(
+            self.judging,
+            self.has_refused,
+            self.first,
+            f,
+            self.within,
+        );
         self.frame = f;
     }
 
     /// Moves to the frame of the first PES packet.
     pub fn start(&mut self, frame: u32)
         requires day { frame < day }
-        ensures { self.new ≡ at_first frame self.old }
+        ensures { self.new ≡ checker_at_first frame self.old }
     {
         self.draw(frame);
         self.first = frame;
         self.latest = frame;
         self.late_at = frame + self.every;
-        self.known_from = known_from(self.judging, self.has_refused, frame, frame, self.within);
+        self.first_known_from = first_known_from(
+            self.judging,
+            self.has_refused,
+            frame,
+            frame,
+            self.within,
+        );
     }
 
     /// Moves to the frame of a later PES packet.
     pub fn arrive(&mut self, frame: u32)
         requires day { frame < day }
-        ensures { self.new ≡ at_next frame self.old }
+        ensures { self.new ≡ checker_at_next frame self.old }
     {
         self.move_to(frame);
         self.latest = greater(self.latest, frame);

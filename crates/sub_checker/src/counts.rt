@@ -1,6 +1,6 @@
 //! Counts of the PES packets received so far.
 ghost use Rattle.std.specs.Prelude.{◌≡◌, ◌≤◌};
-ghost use Rattle.sub_checker.specs.Checker.{left_open, nothing_counted};
+ghost use Rattle.sub_checker.specs.Checker.{left_open, no_counts};
 
 /// Counts of the PES packets received so far, and of the packets in the frame of the last PES
 /// packet.
@@ -21,7 +21,7 @@ pub(crate) struct Counts {
 impl Counts {
     /// Returns the counts before the first PES packet: all are 0.
     pub fn new() -> Self
-        ensures { result ≡ nothing_counted }
+        ensures { result ≡ no_counts }
     {
         Counts {
             frames: 0,

@@ -12,7 +12,7 @@
 ghost use Rattle.std.specs.Prelude.{◌≡◌, ◌==◌, ◌&&◌, ℕ, suc, ◌+◌, ◌<◌, List, IsTrue, None};
 ghost use Rattle.std.specs.Prelude.{false, is_err, length, nat_le, not, true};
 ghost use Rattle.stl_file.specs.TimeCode.{day};
-ghost use Rattle.sub_checker.specs.Checker.{AreFew, after_end, differs_now, end_steps};
+ghost use Rattle.sub_checker.specs.Checker.{FewMissing, after_end, differs_now, end_steps};
 ghost use Rattle.sub_checker.specs.Checker.{is_overdue_at, is_undecided_by, late_now};
 ghost use Rattle.sub_checker.specs.Checker.{IsFaultFreeEnd};
 ghost use Rattle.sub_checker.specs.Checker.{first_unfinished_now, active_faults_of, undecided_now};
@@ -91,7 +91,7 @@ impl<'a> Checker<'a> {
     fn is_undecided(&self) -> bool
         ensures { result ≡ undecided_now self.now }
     {
-        u64::from(self.frame) < self.known_from
+        u64::from(self.frame) < self.first_known_from
     }
 
     // Returns whether the due page is unknown at the current frame.
@@ -313,7 +313,7 @@ impl<'a> Checker<'a> {
             → ReporterRelays A.is_reported reporter.old (steps_of_ending g frames n) reporter.new
             × AfterEnd g frames (suc n) last self.new }
     {
-        let is_reported = lacks_first(self.counts.frames, has_header);
+        let is_reported = lacks_first_header(self.counts.frames, has_header);
         let fault = CheckFault::NoFirstHeader { frame: self.frame };
         report_if(is_reported, Event::Reported(fault), reporter);
         self.end_of_frame(reporter);
@@ -328,7 +328,7 @@ impl<'a> Checker<'a> {
     #[inline(always)]
     pub fn end_pending_frame<A: Audience<Event>>(&mut self, reporter: &mut Reporter<'_, A>)
         ensures closed { self.new.counts.is_open ≡ false }
-        ensures few { (pes : ℕ) → AreFew pes self.old.counts → AreFew pes self.new.counts }
+        ensures few { (pes : ℕ) → FewMissing pes self.old.counts → FewMissing pes self.new.counts }
         ensures reported { (g : Criteria) (sent : Transmission) (last : List (List ℕ))
             → BetweenPesPackets g sent last self.old
             → ReporterRelays A.is_reported reporter.old (steps_of_pending_end g sent) reporter.new
@@ -345,7 +345,7 @@ impl<'a> Checker<'a> {
     fn end_open<A: Audience<Event>>(&mut self, reporter: &mut Reporter<'_, A>)
         requires opened { self.old.counts.is_open ≡ true }
         ensures closed { self.new.counts.is_open ≡ false }
-        ensures few { (pes : ℕ) → AreFew pes self.old.counts → AreFew pes self.new.counts }
+        ensures few { (pes : ℕ) → FewMissing pes self.old.counts → FewMissing pes self.new.counts }
         ensures reported { (g : Criteria) (sent : Transmission) (last : List (List ℕ))
             → BetweenPesPackets g sent last self.old
             → ReporterRelays A.is_reported reporter.old (steps_of_pending_end g sent) reporter.new
@@ -358,7 +358,7 @@ impl<'a> Checker<'a> {
 }
 
 // Returns whether the frame is the first one and has no header of the page.
-fn lacks_first(frames: u32, has_header: bool) -> bool
+fn lacks_first_header(frames: u32, has_header: bool) -> bool
     ensures { result ≡ (frames == 1 && not has_header) }
 {
     frames == 1 && !has_header

@@ -44,7 +44,7 @@ impl<'a> Checker<'a> {
             → ReporterRelays A.is_reported reporter.old (reaching_steps g frames 0) reporter.new
             × BeforePackets g frames 0 last self.new }
     {
-        let is_reported = is_early(self.programme.first_in(), frame);
+        let is_reported = is_early(self.programme.first_tci(), frame);
         report_if(
             is_reported,
             Event::Reported(CheckFault::Early { frame }),
@@ -94,10 +94,10 @@ impl<'a> Checker<'a> {
 }
 
 // Returns whether a subtitle is due before `frame`, the frame of the first PES packet.
-fn is_early(first_in: Option<u32>, frame: u32) -> bool
-    ensures { result ≡ is_early first_in frame }
+fn is_early(first_tci: Option<u32>, frame: u32) -> bool
+    ensures { result ≡ is_early first_tci frame }
 {
-    match first_in {
+    match first_tci {
         Some(first) => first < frame,
         None => false,
     }

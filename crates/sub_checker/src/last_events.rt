@@ -44,7 +44,7 @@ impl<'a> Checker<'a> {
             }
             return Some(CheckFault::Empty);
         }
-        if is_short(self.programme.last_out(), self.last) || self.is_pending() {
+        if is_short(self.programme.last_tco(), self.last) || self.is_pending() {
             Some(CheckFault::Late { frame: self.last })
         } else {
             None
@@ -73,10 +73,10 @@ fn report_fault<A: Taker>(fault: Option<CheckFault>, taker: &mut A)
 }
 
 // Returns whether a subtitle ends after `frame`, the last frame of the file.
-fn is_short(last_out: Option<u32>, frame: u32) -> bool
-    ensures { result ≡ is_short last_out frame }
+fn is_short(last_tco: Option<u32>, frame: u32) -> bool
+    ensures { result ≡ is_short last_tco frame }
 {
-    match last_out {
+    match last_tco {
         Some(last) => frame < last,
         None => false,
     }

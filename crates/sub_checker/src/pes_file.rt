@@ -15,9 +15,10 @@ ghost use Rattle.sub_rules.specs.FrameRules.{Criteria, criteria_of_judged};
 ghost use Rattle.sub_rules.specs.PacketRules.{packets_of_units};
 ghost use Rattle.sub_rules.specs.Transmission.{Transmission};
 ghost use Rattle.sub_rules.specs.Trusted.CheckStep.{AtPes, Emits};
-ghost use Rattle.sub_checker.specs.Checker.{AreFew};
+ghost use Rattle.sub_checker.specs.Checker.{FewMissing};
 ghost use Rattle.sub_checker.specs.CheckedFrames.{BetweenPesPackets};
-ghost use Rattle.sub_checker.specs.NextPesPackets.{IsAgain, is_skipped, last_with, sent_with};
+ghost use Rattle.sub_checker.specs.NextPesPackets.{IsRepeatSending, is_skipped, last_with};
+ghost use Rattle.sub_checker.specs.NextPesPackets.{sent_with};
 ghost use Rattle.sub_checker.specs.NextPesPackets.{steps_of_read};
 ghost use Rattle.sub_checker.specs.Relay.{ReporterRelays};
 ghost use Rattle.sub_checker.specs.PesFileEvents.{FailsReadingOn, ReportsFile};
@@ -53,14 +54,14 @@ pub fn report_pes_packets<P: PesPackets, A: LiveAudience<Event>>(
     audience: &mut A,
 ) -> Result<Option<Accepted>, CheckFault>
     requires failures { CanFail (P.failure_count source.old) }
-    requires goes_on { A.has_stopped audience.old ≡ false }
+    requires continues { A.has_stopped audience.old ≡ false }
     requires still { A.has_pending_reports audience.old ≡ false }
     ensures exact { IfKnown (P.remaining source.old) (λ bytes.
         ReportsFile (criteria_of_judged judging.now options.now) (clock_of options.now) bytes
         A.is_reported audience.old audience.new result) }
     ensures stopped { IfOk result (λ counts. A.has_stopped audience.new ≡ is_none counts) }
     ensures some { ReportsSome A.is_reported audience.old audience.new }
-    ensures goes_on { IfErr result (λ _. A.has_stopped audience.new ≡ false) }
+    ensures continues { IfErr result (λ _. A.has_stopped audience.new ≡ false) }
     ensures read { (pes : ℕ) → result ≡ Err (CheckFault.Pes pes PesFault.Read)
         → FailsReadingOn (clock_of options.now) pes (P.remaining source.old) (P.left source.new) }
     ensures only { IfErr result (λ f. is_pes_read f ≡ true) }
@@ -127,14 +128,15 @@ fn report_pes_packet<A: Audience<Event>>(
     requires day { (sending : Sending) → pes_packet ≡ NextPesPacket.Sent sending → sending.frame <
         day }
     requires fewer { pes ≤ most_packets }
-    requires room { AreFew pes checker.old.counts }
+    requires room { FewMissing pes checker.old.counts }
     ensures skipped { result ≡ is_skipped pes_packet }
     ensures frame { (sending : Sending) → pes_packet ≡ NextPesPacket.Sent sending
         → IsPesValue reader.now.frame }
-    ensures room { AreFew (pes + 1) checker.new.counts }
+    ensures room { FewMissing (pes + 1) checker.new.counts }
     ensures reported { (g : Criteria) (sent : Transmission) (last : List (List ℕ))
         → BetweenPesPackets g sent last checker.old
-        → (skipped ≡ false → IsAgain pes_packet → last ≡ packets_of_units reader.now.frame.units)
+        → (skipped ≡ false → IsRepeatSending pes_packet → last ≡ packets_of_units
+        reader.now.frame.units)
         → ReporterRelays A.is_reported reporter.old
         (steps_of_read g sent pes pes_packet (packets_of_units reader.now.frame.units)) reporter.new
         × BetweenPesPackets g

@@ -8,7 +8,7 @@ ghost use Rattle.sub_rules.specs.PesPacketEvents.{skipped_after_all};
 ghost use Rattle.sub_rules.specs.Trusted.CheckStep.{AtEnd, AtPes, Begins, Closes, Ends, GoesBack};
 ghost use Rattle.sub_rules.specs.Trusted.CheckStep.{Emits};
 ghost use Rattle.sub_checker.specs.SkippedPesPackets.{as_run, kept_run};
-ghost use Rattle.sub_checker.specs.Relay.{IsRelayed, ReporterRelays, at_step, nothing_relayed};
+ghost use Rattle.sub_checker.specs.Relay.{IsRelayed, ReporterRelays, at_step, initial_relay};
 
 use crate::fused::FusedAudience;
 use crate::skipped_run::SkippedPesPackets;
@@ -38,7 +38,7 @@ pub(crate) struct Reporter<'a, A: Audience<Event>> {
 impl Relay {
     /// Returns the state of the reporter before the first step.
     pub fn new() -> Self
-        ensures { result ≡ nothing_relayed }
+        ensures { result ≡ initial_relay }
     {
         Relay {
             tracker: TrustTracker::new(),

@@ -1,7 +1,7 @@
 //! Runs of consecutive skipped PES packets whose faults have the same number.
 ghost use Rattle.std.specs.Prelude.{◌≡◌};
 ghost use Rattle.sub_io.specs.Reporting.{first_alone};
-ghost use Rattle.sub_rules.specs.PesPacketEvents.{ended_run, goes_on, goes_on_after, is_after};
+ghost use Rattle.sub_rules.specs.PesPacketEvents.{ended_run, continues, continues_after, is_after};
 ghost use Rattle.sub_rules.specs.PesPacketEvents.{joins};
 ghost use Rattle.sub_rules.specs.PesPacketEvents.{no_run, skipped_run_after};
 ghost use Rattle.sub_checker.specs.SkippedPesPackets.{as_run, kept_run};
@@ -73,18 +73,18 @@ impl SkippedPesPackets {
 // Returns whether `fault` reports a skipped PES packet directly after the packet of `last`, with
 // the same fault number; `false` if there was no such packet.
 fn follows(last: &Option<CheckFault>, fault: &CheckFault) -> bool
-    ensures { result ≡ goes_on_after last.now fault.now }
+    ensures { result ≡ continues_after last.now fault.now }
 {
     match last {
-        Some(last) => goes_on(last, fault),
+        Some(last) => continues(last, fault),
         None => false,
     }
 }
 
 // Returns whether `fault` continues the run of skipped PES packets that ends with `last`.
-#[tactic(auto, unfolding(sub_rules::specs::PesPacketEvents::goes_on))]
-fn goes_on(last: &CheckFault, fault: &CheckFault) -> bool
-    ensures { result ≡ goes_on last.now fault.now }
+#[tactic(auto, unfolding(sub_rules::specs::PesPacketEvents::continues))]
+fn continues(last: &CheckFault, fault: &CheckFault) -> bool
+    ensures { result ≡ continues last.now fault.now }
 {
     let (before, row) = ((*last).row(), (*fault).row());
     row.is_skipped && is_after(before.place, row.place) && row.code.number() == before.code.number()

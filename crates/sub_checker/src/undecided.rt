@@ -11,7 +11,7 @@ use stl_rows::Judging;
 /// Returns the first frame, up to the next change of the due page, at which the due page is known
 /// and was known at the `within` frames before (from `first` on). Returns a number above all frames
 /// if the due page is unknown at `frame`, and 0 if the due page was known all the time.
-pub(crate) fn known_from(
+pub(crate) fn first_known_from(
     judging: &Judging<'_>,
     any_refused: bool,
     first: u32,

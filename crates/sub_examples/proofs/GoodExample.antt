@@ -16,7 +16,7 @@ use Rattle.sub_rules.specs.Events.{first_header_events}
 use Rattle.sub_rules.specs.Events.{is_late, is_pending, active_faults_at, active_faults_before}
 use Rattle.sub_rules.specs.Events.{end_events}
 use Rattle.sub_rules.specs.Events.{first_unfinished_in_frames, first_unfinished_in_gap}
-use Rattle.sub_rules.specs.Events.{unfinished_since, was_undecided}
+use Rattle.sub_rules.specs.Events.{unfinished_run_start, was_undecided}
 use Rattle.sub_rules.specs.Events.{wrong_after}
 use Rattle.sub_rules.specs.Events.{first_cell, is_gap, is_incomplete, latest, closing_events}
 use Rattle.ttx_packet.specs.RowPacket.{first_even_byte}
@@ -38,7 +38,8 @@ unfolding events events_of_first frame_events order_events gap_events gap_length
     active_faults_at
     active_faults_before end_events end_rules is_late wrong_after first_cell is_gap is_incomplete
     is_silent latest was_undecided
-    closing_events is_pending unfinished_since first_unfinished_in_gap first_unfinished_in_frames
+    closing_events is_pending unfinished_run_start first_unfinished_in_gap
+    first_unfinished_in_frames
     are_code_words is_word_below first_even_byte kind address
     header coded_header decoded is_near is_odd count_ones ones_in due blank
     blank_row drawn drawn_by page_of_placed placed_fault_kinds prepared_by framed headed start_by

@@ -18,7 +18,7 @@ use Rattle.ttx_page.specs.PacketKind.{kind}
 use Rattle.stl_rows.specs.DuePage.{due}
 use Rattle.stl_rows.specs.SubSets.{sub_set}
 use Rattle.sub_examples.specs.Examples.{ExamplesOfNeededParts, closing, english_header}
-use Rattle.sub_examples.specs.Examples.{header_without_c4, row_1, x0}
+use Rattle.sub_examples.specs.Examples.{header_without_c4, row_1, header_of_coded_bytes}
 use Rattle.sub_examples.proofs.RobustTests.{needed}
 
 abbrev mark : List (List ℕ)
@@ -27,12 +27,12 @@ mark = english_header ∷ row_1 0xA1 ∷ closing ∷ []
 -- The header of page 888 with one wrong bit in its page units.
 abbrev header_with_wrong_units : List ℕ
 header_with_wrong_units =
-    x0 (0x15 ∷ 0x15 ∷ 0xD1 ∷ 0xD0 ∷ 0x15 ∷ 0xD0 ∷ 0x15 ∷ 0xD0 ∷ 0x02 ∷ 0x15 ∷ [])
+    header_of_coded_bytes (0x15 ∷ 0x15 ∷ 0xD1 ∷ 0xD0 ∷ 0x15 ∷ 0xD0 ∷ 0x15 ∷ 0xD0 ∷ 0x02 ∷ 0x15 ∷ [])
 
 -- A header of page 888 with two wrong bits in its first address byte, so the byte can't be decoded.
 abbrev header_with_two_wrong_bits : List ℕ
 header_with_two_wrong_bits =
-    x0 (0x16 ∷ 0x15 ∷ 0xD0 ∷ 0xD0 ∷ 0x15 ∷ 0xD0 ∷ 0x15 ∷ 0xD0 ∷ 0x02 ∷ 0x15 ∷ [])
+    header_of_coded_bytes (0x16 ∷ 0x15 ∷ 0xD0 ∷ 0xD0 ∷ 0x15 ∷ 0xD0 ∷ 0x15 ∷ 0xD0 ∷ 0x02 ∷ 0x15 ∷ [])
 
 -- Each example gives the receiver for which the rule is needed.
 pub examples_of_needed_parts : ExamplesOfNeededParts

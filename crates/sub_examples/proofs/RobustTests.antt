@@ -15,7 +15,8 @@ use Rattle.ttx_page.specs.Page.{cell, space}
 use Rattle.ttx_page.specs.PacketKind.{kind}
 use Rattle.ttx_page.specs.Receiver.{State}
 use Rattle.ttx_page.specs.Span.{holds_header}
-use Rattle.ttx_page.proofs.ComputedReceiver.{heard_so, near_packets, packets_tested, state_after}
+use Rattle.ttx_page.proofs.ComputedReceiver.{hears_state_after, near_packets, packets_tested}
+use Rattle.ttx_page.proofs.ComputedReceiver.{state_after}
 use Rattle.stl_rows.specs.Programme.{ProgrammeValue}
 use Rattle.sub_plan.specs.Options.{OptionsValue}
 use Rattle.sub_plan.specs.Schedule.{due_in}
@@ -100,7 +101,7 @@ refuted programme frames o g j f got e robust =
     let new : State = state_after o.page before got in
     let served =
     robust g j f got before new (listening frames _ _ g j f a.0) (packets_tested sent got b.0) refl
-    refl (heard_so o.page before got) in
+    refl (hears_state_after o.page before got) in
     not_served (nat_le (g + o.every) f) (holds_header (kind o.page) sent) new.heard
     (cell new.page 1 0) (cell (due_in programme f) 1 0) b.1
     (λ late. served.in_time (leb-true (g + o.every) f late)) served.heard

@@ -20,7 +20,7 @@ use Rattle.sub_rules.specs.Events.{first_header_events}
 use Rattle.sub_rules.specs.Events.{is_late, is_pending, active_faults_at, active_faults_before}
 use Rattle.sub_rules.specs.Events.{end_events}
 use Rattle.sub_rules.specs.Events.{first_unfinished_in_frames, first_unfinished_in_gap}
-use Rattle.sub_rules.specs.Events.{unfinished_since, was_undecided}
+use Rattle.sub_rules.specs.Events.{unfinished_run_start, was_undecided}
 use Rattle.sub_rules.specs.Events.{wrong_after}
 use Rattle.sub_rules.specs.Events.{first_cell, is_gap, is_incomplete, latest, closing_events}
 use Rattle.ttx_packet.specs.RowPacket.{first_even_byte}
@@ -37,7 +37,7 @@ use Rattle.stl_rows.specs.DuePage.{due}
 use Rattle.stl_rows.specs.SubSets.{sub_set}
 use Rattle.ttx_packet.specs.declared.header.Header.{Header}
 use Rattle.sub_examples.specs.ScreenExamples.{unheard, ExampleOfEndedPage, ExampleOfPageNotEnded}
-use Rattle.sub_examples.specs.ScreenExamples.{ExampleOfPageBegunAgain, ExampleOfNoEnd}
+use Rattle.sub_examples.specs.ScreenExamples.{ExampleOfRestartedPage, ExampleOfNoEnd}
 use Rattle.sub_rules.specs.Transmission.{Transmission}
 use Rattle.sub_examples.proofs.ExampleLemmas.{good_by_events}
 use Rattle.sub_rules.proofs.FrameEvents.{events, events_of_first, frame_events, gap_events}
@@ -94,8 +94,8 @@ shows_again = grind (arith, nat_tests, true≢false, kind_888)
 waits_again : ShowsAt page_888 (open_with None) english_header (open_with None)
 waits_again = grind (arith, nat_tests, true≢false)
 
-pub example_of_page_begun_again : ExampleOfPageBegunAgain
-example_of_page_begun_again = record {
+pub example_of_restarted_page : ExampleOfRestartedPage
+example_of_restarted_page = record {
   shown = open_with (Some blank);
   shows = (
     open_with None,
@@ -112,16 +112,17 @@ example_of_page_begun_again = record {
   is_nothing = refl;
 }
 
-abbrev no_end : Transmission
-no_end = one_frame (english_header ∷ [])
+abbrev header_alone : Transmission
+header_alone = one_frame (english_header ∷ [])
 
-no_end_is_good : Good no_subtitles no_end (each 1)
+no_end_is_good : Good no_subtitles header_alone (each 1)
 unfolding events events_of_first frame_events order_events gap_events gap_length
     packets_reported rules_reported broken_rules packet_rules breaks first_header_events
     active_faults_at
     active_faults_before end_events end_rules is_late wrong_after first_cell is_gap is_incomplete
     is_silent latest was_undecided
-    closing_events is_pending unfinished_since first_unfinished_in_gap first_unfinished_in_frames
+    closing_events is_pending unfinished_run_start first_unfinished_in_gap
+    first_unfinished_in_frames
     are_code_words is_word_below first_even_byte kind address
     header coded_header decoded is_near is_odd count_ones ones_in
     due blank blank_row sub_set

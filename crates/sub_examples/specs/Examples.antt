@@ -26,15 +26,16 @@ use Rattle.sub_laws.specs.Robust.{Robust}
 -- ---- Teletext packets of the examples
 
 -- A packet X/0 with ten given coded bytes, and 32 spaces.
-abbrev pub x0 : List ℕ → List ℕ
-x0 coded = coded ++ replicate 32 0x20
+abbrev pub header_of_coded_bytes : List ℕ → List ℕ
+header_of_coded_bytes coded = coded ++ replicate 32 0x20
 
 -- A header of page 888 with four given bytes: `c4` codes S2 and C4, `c5_c6` codes S4, C5 and C6,
 -- `c7_c10` codes C7 to C10, and `c11_c14` codes C11 to C14. The other coded bytes are the address
 -- (two), page units, page tens, S1 and S3.
 abbrev pub header_with : ℕ → ℕ → ℕ → ℕ → List ℕ
 header_with c4 c5_c6 c7_c10 c11_c14 =
-    x0 (0x15 ∷ 0x15 ∷ 0xD0 ∷ 0xD0 ∷ 0x15 ∷ c4 ∷ 0x15 ∷ c5_c6 ∷ c7_c10 ∷ c11_c14 ∷ [])
+    header_of_coded_bytes (0x15 ∷ 0x15 ∷ 0xD0 ∷ 0xD0 ∷ 0x15 ∷ c4 ∷ 0x15 ∷ c5_c6 ∷ c7_c10 ∷ c11_c14 ∷
+    [])
 
 -- A header of page 888 in English and in parallel mode: C4, C6 and C7 are set.
 abbrev pub english_header : List ℕ
@@ -47,15 +48,17 @@ header_without_c4 = header_with 0x15 0xD0 0x02 0x15
 -- A header of page 888 with one wrong bit in its first address byte.
 abbrev pub header_with_wrong_bit : List ℕ
 header_with_wrong_bit =
-    x0 (0x14 ∷ 0x15 ∷ 0xD0 ∷ 0xD0 ∷ 0x15 ∷ 0xD0 ∷ 0x15 ∷ 0xD0 ∷ 0x02 ∷ 0x15 ∷ [])
+    header_of_coded_bytes (0x14 ∷ 0x15 ∷ 0xD0 ∷ 0xD0 ∷ 0x15 ∷ 0xD0 ∷ 0x15 ∷ 0xD0 ∷ 0x02 ∷ 0x15 ∷ [])
 
 -- A packet X/0 whose page units can't be decoded. It is no header, but one bit away from a header.
 abbrev pub no_header : List ℕ
-no_header = x0 (0x15 ∷ 0x15 ∷ 0xD3 ∷ 0xD0 ∷ 0x15 ∷ 0xD0 ∷ 0x15 ∷ 0xD0 ∷ 0x02 ∷ 0x15 ∷ [])
+no_header = header_of_coded_bytes (0x15 ∷ 0x15 ∷ 0xD3 ∷ 0xD0 ∷ 0x15 ∷ 0xD0 ∷ 0x15 ∷ 0xD0 ∷ 0x02 ∷
+    0x15 ∷ [])
 
 -- The closing header (in EN 300 706: time filling header): page FF, subcode 3F7F.
 abbrev pub closing : List ℕ
-closing = x0 (0x15 ∷ 0x15 ∷ 0xEA ∷ 0xEA ∷ 0xEA ∷ 0x2F ∷ 0xEA ∷ 0x5E ∷ 0x15 ∷ 0x15 ∷ [])
+closing = header_of_coded_bytes (0x15 ∷ 0x15 ∷ 0xEA ∷ 0xEA ∷ 0xEA ∷ 0x2F ∷ 0xEA ∷ 0x5E ∷ 0x15 ∷ 0x15
+    ∷ [])
 
 -- Packet 8/1, row 1 of magazine 8: the first byte of its text, and 39 spaces.
 abbrev pub row_1 : ℕ → List ℕ

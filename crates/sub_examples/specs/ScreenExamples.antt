@@ -34,7 +34,7 @@ ExampleOfPageNotEnded =
 
 -- At a header of the page while the page is open, one receiver shows the page, and another one does
 -- not.
-pub record ExampleOfPageBegunAgain : Type 0 where
+pub record ExampleOfRestartedPage : Type 0 where
   pub shown : Display
   pub shows : Shows page_888 (unheard None) (english_header ∷ english_header ∷ []) shown
   pub is_shown : shown.screen ≡ Some blank

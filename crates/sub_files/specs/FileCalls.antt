@@ -15,9 +15,9 @@ pub data FileCall (I O : Type 0) : Type 0 where
   -- Creates a file for writing; `None` if the file can't be created.
   Create : (name : List ℕ) → Option O → FileCall I O
   -- Takes back a file that was read, in the state in which it was left.
-  LetGoInput : I → FileCall I O
+  ReleaseInput : I → FileCall I O
   -- Takes back a file that was written, in the state in which it was left.
-  LetGoOutput : O → FileCall I O
+  ReleaseOutput : O → FileCall I O
 
 -- The relation of calls of a device about which nothing is known: any state before and after any
 -- call is possible.

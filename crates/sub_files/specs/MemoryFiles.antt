@@ -4,7 +4,7 @@ use Rattle.std.specs.Prelude.{◌≡◌, ℕ, List, [], Option, Some, None, opti
 use Rattle.std.specs.Prelude.{bytes_eq, if◌then◌else◌}
 use Rattle.sub_io.specs.Memory.{Written}
 use Rattle.sub_files.specs.FileCalls.{FileCall}
-use Rattle.sub_files.specs.FileCalls.FileCall.{Create, LetGoInput, LetGoOutput, LookUp}
+use Rattle.sub_files.specs.FileCalls.FileCall.{Create, ReleaseInput, ReleaseOutput, LookUp}
 use Rattle.sub_files.specs.FileCalls.FileCall.{LookUpStandardOutput, Open}
 use Rattle.sub_files.specs.declared.apart.Found.{Found}
 use Rattle.sub_files.specs.declared.apart.Found.TheVariants.{At, Nothing}
@@ -26,21 +26,22 @@ bytes_at name files =
 
 -- The result of looking up a file with these bytes. Both files have the same device and inode, so
 -- neither is overwritten.
-abbrev pub found_where : Option (List ℕ) → Found
-found_where (Some bytes) = At 0 0
-found_where None = Nothing
+abbrev pub found_for_bytes : Option (List ℕ) → Found
+found_for_bytes (Some bytes) = At 0 0
+found_for_bytes None = Nothing
 
 -- A created file without contents, which can have this many bytes.
-abbrev pub created_with : ℕ → Written
-created_with room = record { bytes = []; room = room; failure_count = 0 }
+abbrev pub empty_file_with : ℕ → Written
+empty_file_with room = record { bytes = []; room = room; failure_count = 0 }
 
 -- The effect of each call. An input file is the list of its bytes still to be read, an output file
 -- the bytes written to it. At most one file is created.
 abbrev pub IsMemoryCall : MemFilesValue → FileCall (List ℕ) Written → MemFilesValue → Type 0
-IsMemoryCall old (LookUp name found) new = (new ≡ old) × (found ≡ found_where (bytes_at name old))
+IsMemoryCall old (LookUp name found) new = (new ≡ old) ×
+    (found ≡ found_for_bytes (bytes_at name old))
 IsMemoryCall old (LookUpStandardOutput found) new = (new ≡ old) × (found ≡ Nothing)
 IsMemoryCall old (Open name file) new = (new ≡ old) × (file ≡ bytes_at name old)
 IsMemoryCall old (Create name file) new =
-    (new ≡ record old { room = None }) × (file ≡ option_map created_with old.room)
-IsMemoryCall old (LetGoInput file) new = new ≡ old
-IsMemoryCall old (LetGoOutput file) new = new ≡ old
+    (new ≡ record old { room = None }) × (file ≡ option_map empty_file_with old.room)
+IsMemoryCall old (ReleaseInput file) new = new ≡ old
+IsMemoryCall old (ReleaseOutput file) new = new ≡ old

@@ -73,11 +73,11 @@ abbrev pub buffer_size : ℕ
 buffer_size = 0x1_0000
 
 -- The total size of the buffers of a request's files in bytes, one buffer per file.
-abbrev pub rooms_size : FileNames → ℕ
-rooms_size (names.ReadBoth stl pes) = 2 * buffer_size
-rooms_size (names.Write stl output) = 2 * buffer_size
-rooms_size (names.Extract recording output) = 2 * buffer_size
-rooms_size _ = buffer_size
+abbrev pub buffers_size : FileNames → ℕ
+buffers_size (names.ReadBoth stl pes) = 2 * buffer_size
+buffers_size (names.Write stl output) = 2 * buffer_size
+buffers_size (names.Extract recording output) = 2 * buffer_size
+buffers_size _ = buffer_size
 
 -- The reason why no files are opened. `Memory`: memory ran out before any call. `Open`: the call
 -- for one of the files failed, or the output would overwrite the input.

@@ -11,18 +11,18 @@ ghost use Rattle.sub_files.specs.Checked.{ClosesFile};
 
 use std::io::Write;
 use std::marker::Model;
-use sub_io::{Close, Failed, Flush, IntoFile, LetGo, Sink, Store};
+use sub_io::{Close, Failed, Flush, IntoFile, Release, Sink, Store};
 
 /// A device that looks up the size of a file after the file was closed.
-pub trait SecondLook {
+pub trait SizeLookup {
     // The relation of the device's state, the number of bytes, and the result of `has_all`.
-    ghost is_look: { Self → ℕ → Bool → Type 0 };
+    ghost is_size_lookup: { Self → ℕ → Bool → Type 0 };
 
     /// Returns whether the system has this closed file with this many bytes. Returns `true` for a
     /// pipe, a terminal or another device, which stores nothing.
     fn has_all<W: Write>(&self, file: &IntoFile<W>, length: u64) -> bool
         requires { file.now.device ≡ None }
-        ensures { is_look self.now length result };
+        ensures { is_size_lookup self.now length result };
 }
 
 /// A file that is written, stored and closed, and whose size is then checked.
@@ -31,7 +31,7 @@ pub trait SecondLook {
 #[derive(Drop)]
 pub struct CheckedFile<W, L> {
     file: IntoFile<W>,
-    look: L,
+    lookup: L,
     count: u64,
 }
 
@@ -42,14 +42,14 @@ impl<W, L> Model for CheckedFile<W, L> {
 
     ghost Value = { CheckedValue W L };
 
-    ghost view = { λ s. record { file = s.file; look = s.look } };
+    ghost view = { λ s. record { file = s.file; lookup = s.lookup } };
 
     ghost invariant = { λ s. s.count ≡ u64_saturate (length s.file.taken) };
 }
 
-impl<W: Write, L: SecondLook> CheckedFile<W, L> {
+impl<W: Write, L: SizeLookup> CheckedFile<W, L> {
     /// Creates a file for a writer of std to which nothing was written yet.
-    pub fn new(writer: W, look: L) -> Self
+    pub fn new(writer: W, lookup: L) -> Self
         ensures { result ≡ record {
           file = record {
             device = Some writer;
@@ -57,18 +57,18 @@ impl<W: Write, L: SecondLook> CheckedFile<W, L> {
             is_stored = false;
             failure_count = 0;
           };
-          look = look;
+          lookup = lookup;
         } }
     {
         CheckedFile {
             file: IntoFile::new(writer),
-            look,
+            lookup,
             count: 0,
         }
     }
 }
 
-impl<W: Write, L: SecondLook> Sink for CheckedFile<W, L> {
+impl<W: Write, L: SizeLookup> Sink for CheckedFile<W, L> {
     ghost contents = { λ s. Some s.file.taken };
 
     ghost failure_count = { λ s. s.file.failure_count };
@@ -92,7 +92,7 @@ impl<W: Write, L: SecondLook> Sink for CheckedFile<W, L> {
     }
 }
 
-impl<W: Write, L: SecondLook> Flush for CheckedFile<W, L> {
+impl<W: Write, L: SizeLookup> Flush for CheckedFile<W, L> {
     // The file passes all bytes to the writer at once, without a buffer of its own.
     ghost buffered = { buffers_nothing };
 
@@ -106,12 +106,12 @@ impl<W: Write, L: SecondLook> Flush for CheckedFile<W, L> {
     }
 }
 
-impl<W: Write + LetGo + Store, L: SecondLook> Close for CheckedFile<W, L> {
+impl<W: Write + Release + Store, L: SizeLookup> Close for CheckedFile<W, L> {
     ghost is_stored = { λ s. s.file.is_stored };
 
     ghost is_closed = { λ s. is_none s.file.device };
 
-    ghost is_close = { ClosesFile W.is_let_go };
+    ghost is_close = { ClosesFile W.is_released };
 
     /// Stores and closes the file, and checks its size.
     ///
@@ -123,7 +123,7 @@ impl<W: Write + LetGo + Store, L: SecondLook> Close for CheckedFile<W, L> {
         requires { CanFail self.old.file.failure_count }
         // The file was closed, and the check found all bytes that were written.
         ensures closed { OnOk result (self.new.file.device ≡ None) }
-        ensures look { OnOk result (L.is_look self.new.look
+        ensures lookup { OnOk result (L.is_size_lookup self.new.lookup
             (u64_saturate (length self.new.file.taken)) true) }
         ensures bytes { Keeps (Some self.old.file.taken) (Some self.new.file.taken) }
         ensures buffered { OnOk result (buffers_nothing self.new ≡ 0) }
@@ -133,7 +133,7 @@ impl<W: Write + LetGo + Store, L: SecondLook> Close for CheckedFile<W, L> {
     {
         self.file.store()?;
         self.file.close();
-        if self.look.has_all(&self.file, self.count) {
+        if self.lookup.has_all(&self.file, self.count) {
             return Ok(());
         }
         // After it was closed, the file returns an error for each call, and counts the error.

@@ -44,12 +44,12 @@ pub trait FileSystem {
 
     /// Takes back a file that was opened for reading, and drops it. So the call shows the state in
     /// which the file was left.
-    fn let_go_input(&mut self, file: Self::Input)
-        ensures { is_call self.old (FileCall.LetGoInput file) self.new };
+    fn release_input(&mut self, file: Self::Input)
+        ensures { is_call self.old (FileCall.ReleaseInput file) self.new };
 
     /// Takes back a file that was created for writing, and drops it.
-    fn let_go_output(&mut self, file: Self::Output)
-        ensures { is_call self.old (FileCall.LetGoOutput file) self.new };
+    fn release_output(&mut self, file: Self::Output)
+        ensures { is_call self.old (FileCall.ReleaseOutput file) self.new };
 
     /// Prints the reason why a file is not created, if the device can print.
     fn refuse(&self, _name: &str, _reason: &str) {}

@@ -112,7 +112,7 @@ pub struct LookedUp {
 
 /// Creates a file for writing, if the lookups show that this empties neither the input nor the file
 /// to which standard output goes. Otherwise makes no call, and returns `None`.
-pub fn create_apart<D: FileSystem>(
+pub fn create_other_file<D: FileSystem>(
     files: &mut D,
     output: &Output<'_>,
     found: LookedUp,

@@ -11,7 +11,7 @@
 
 mod apart;
 mod checked_file;
-mod explained;
+mod error_reporter;
 mod file_system;
 mod files;
 mod memory;
@@ -19,10 +19,10 @@ mod opening;
 mod system;
 
 pub use apart::Found;
-pub use checked_file::{CheckedFile, SecondLook};
-pub use explained::Explained;
+pub use checked_file::{CheckedFile, SizeLookup};
+pub use error_reporter::ErrorReporter;
 pub use file_system::FileSystem;
 pub use files::{CreatedFile, PesFile, StlFile};
 pub use memory::{MemFile, MemFiles};
-pub use opening::{BUFFER, Opened, open, room, size_of_rooms};
+pub use opening::{BUFFER, Opened, open, room, size_of_buffers};
 pub use system::{NAMES, SystemFiles};

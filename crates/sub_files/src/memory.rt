@@ -105,7 +105,7 @@ impl<'a> FileSystem for MemFiles<'a> {
         }
     }
 
-    fn let_go_input(&mut self, _file: MemSource<'a>) {}
+    fn release_input(&mut self, _file: MemSource<'a>) {}
 
-    fn let_go_output(&mut self, _file: MemSink<'a>) {}
+    fn release_output(&mut self, _file: MemSink<'a>) {}
 }

@@ -4,10 +4,12 @@
 //! opened them, or the lines of the output.
 ghost use Rattle.std.specs.Prelude.{◌≡◌, ◌≤◌, [], ◌∷◌, IfSome, vec_len};
 ghost use Rattle.sub_files.specs.FileCalls.{CallsInOrder, FileCall};
-ghost use Rattle.sub_files.specs.Opening.{AreUnused, OpensBy, rooms_size};
+ghost use Rattle.sub_files.specs.Opening.{AreUnused, OpensBy, buffers_size};
 
 use crate::file_system::FileSystem;
-use crate::files::{CreatedFile, LookedUp, PesFile, StlFile, create_apart, open_pes, open_stl};
+use crate::files::{
+    CreatedFile, LookedUp, PesFile, StlFile, create_other_file, open_pes, open_stl,
+};
 use std::alloc::Global;
 use sub_request::{FileNames, Output, PesInput, StlInput};
 
@@ -39,8 +41,8 @@ pub fn room(alloc: Global, size: usize) -> Option<Vec<u8>>
 }
 
 /// Returns the total size of the buffers of a request's files in bytes.
-pub fn size_of_rooms(names: &FileNames<'_>) -> usize
-    ensures size { result ≡ rooms_size names.now }
+pub fn size_of_buffers(names: &FileNames<'_>) -> usize
+    ensures size { result ≡ buffers_size names.now }
     ensures least { 2 ≤ result }
 {
     match names {
@@ -107,7 +109,7 @@ fn open_and_create<D: FileSystem>(
         return None;
     };
     let found = look_up_all(files, stl.name(), output);
-    match create_apart(files, output, found) {
+    match create_other_file(files, output, found) {
         Some(created) => Some(Opened::Write(input, created)),
         None => None,
     }
@@ -127,7 +129,7 @@ fn open_and_extract<D: FileSystem>(
         return None;
     };
     let found = look_up_all(files, recording.name(), output);
-    match create_apart(files, output, found) {
+    match create_other_file(files, output, found) {
         Some(created) => Some(Opened::Extract(input, created)),
         None => None,
     }

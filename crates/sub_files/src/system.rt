@@ -4,8 +4,8 @@ ghost use Rattle.std.specs.IoError.{error_kind};
 ghost use Rattle.sub_files.specs.Apart.{was_found};
 
 use crate::apart::Found;
-use crate::checked_file::{CheckedFile, SecondLook};
-use crate::explained::{Explained, explain};
+use crate::checked_file::{CheckedFile, SizeLookup};
+use crate::error_reporter::{ErrorReporter, explain};
 use crate::file_system::FileSystem;
 use std::fs::{Metadata, OpenFile};
 use std::io::{ErrorKind, Write};
@@ -56,9 +56,9 @@ impl<'a, R: Files + Eprint> SystemFiles<'a, R> {
 }
 
 impl<'a, R: Files + Eprint> FileSystem for SystemFiles<'a, R> {
-    type Input = FromRead<Explained<'a, R::File, R>>;
+    type Input = FromRead<ErrorReporter<'a, R::File, R>>;
 
-    type Output = CheckedFile<Explained<'a, R::File, R>, SystemLook<'a, R>>;
+    type Output = CheckedFile<ErrorReporter<'a, R::File, R>, SystemSizeLookup<'a, R>>;
 
     fn look_up(&mut self, name: &str) -> Found {
         let there = fs::metadata(self.rt, name);
@@ -67,7 +67,7 @@ impl<'a, R: Files + Eprint> FileSystem for SystemFiles<'a, R> {
                 explain(self.rt, "look up", name, error);
             }
         }
-        found_by(there)
+        found_from_metadata(there)
     }
 
     fn look_up_standard_output(&mut self) -> Found {
@@ -77,12 +77,12 @@ impl<'a, R: Files + Eprint> FileSystem for SystemFiles<'a, R> {
         }
     }
 
-    fn open(&mut self, name: &str) -> Option<FromRead<Explained<'a, R::File, R>>> {
+    fn open(&mut self, name: &str) -> Option<FromRead<ErrorReporter<'a, R::File, R>>> {
         match fs::open(self.rt, name) {
             Ok(file) => {
                 let name = self.keep(name)?;
                 let rt = self.rt;
-                Some(FromRead::new(Explained::new(file, name, rt)))
+                Some(FromRead::new(ErrorReporter::new(file, name, rt)))
             }
             Err(error) => {
                 explain(self.rt, "open", name, &error);
@@ -94,7 +94,7 @@ impl<'a, R: Files + Eprint> FileSystem for SystemFiles<'a, R> {
     fn create(
         &mut self,
         name: &str,
-    ) -> Option<CheckedFile<Explained<'a, R::File, R>, SystemLook<'a, R>>> {
+    ) -> Option<CheckedFile<ErrorReporter<'a, R::File, R>, SystemSizeLookup<'a, R>>> {
         let Some(name) = self.keep(name) else {
             self.refuse(name, "its name is too long");
             return None;
@@ -106,8 +106,8 @@ impl<'a, R: Files + Eprint> FileSystem for SystemFiles<'a, R> {
                     Ok(there) => there.is_file(),
                     Err(_) => true,
                 };
-                let look = SystemLook { rt, name, is_file };
-                Some(CheckedFile::new(Explained::new(file, name, rt), look))
+                let lookup = SystemSizeLookup { rt, name, is_file };
+                Some(CheckedFile::new(ErrorReporter::new(file, name, rt), lookup))
             }
             Err(error) => {
                 explain(rt, "create", name, &error);
@@ -116,9 +116,12 @@ impl<'a, R: Files + Eprint> FileSystem for SystemFiles<'a, R> {
         }
     }
 
-    fn let_go_input(&mut self, _file: FromRead<Explained<'a, R::File, R>>) {}
+    fn release_input(&mut self, _file: FromRead<ErrorReporter<'a, R::File, R>>) {}
 
-    fn let_go_output(&mut self, _file: CheckedFile<Explained<'a, R::File, R>, SystemLook<'a, R>>) {}
+    fn release_output(
+        &mut self,
+        _file: CheckedFile<ErrorReporter<'a, R::File, R>, SystemSizeLookup<'a, R>>,
+    ) {}
 
     fn refuse(&self, name: &str, reason: &str) {
         let _ = eprintln!(self.rt; "subttx: {name:?} is not written: {reason}");
@@ -126,7 +129,7 @@ impl<'a, R: Files + Eprint> FileSystem for SystemFiles<'a, R> {
 }
 
 // Converts the result of a lookup. If the lookup failed, the name is never treated as free.
-fn found_by(looked_up: io::Result<Metadata>) -> Found
+fn found_from_metadata(looked_up: io::Result<Metadata>) -> Found
     ensures there { IfOk looked_up (λ _. was_found result ≡ true) }
     ensures nothing { IfErr looked_up (λ error.
         error_kind error ≡ ErrorKind.NotFound → result ≡ Found.Nothing) }
@@ -144,15 +147,15 @@ fn found_by(looked_up: io::Result<Metadata>) -> Found
 
 /// A device that looks up the size of a file of the operating system after the file was closed.
 #[derive(Drop)]
-pub struct SystemLook<'a, R> {
+pub struct SystemSizeLookup<'a, R> {
     rt: &'a R,
     name: &'a str,
     // Whether the file was a regular file when it was created: no pipe, terminal or other device.
     is_file: bool,
 }
 
-impl<R: Files + Eprint> SecondLook for SystemLook<'_, R> {
-    ghost is_look = { λ _ _ _. Unit {0} };
+impl<R: Files + Eprint> SizeLookup for SystemSizeLookup<'_, R> {
+    ghost is_size_lookup = { λ _ _ _. Unit {0} };
 
     /// Also stores the folder of the file, if the folder can be opened, since a new file is found
     /// through its folder.
@@ -201,7 +204,7 @@ fn is_folder_stored<R: Files + Eprint>(rt: &R, name: &str) -> bool {
         _ => ".",
     };
     match fs::open(rt, folder) {
-        Ok(file) => Explained::new(file, folder, rt).store(),
+        Ok(file) => ErrorReporter::new(file, folder, rt).store(),
         Err(error) => {
             let may_not = error.kind() == ErrorKind::PermissionDenied;
             if !may_not {

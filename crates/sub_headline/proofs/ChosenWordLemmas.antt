@@ -1,5 +1,5 @@
--- The rows of arguments for `check STL PES` with choices (`rows_say`) give the request
--- (`check_is`). Used for `law_of_chosen_arguments`.
+-- The rows of arguments for `check STL PES` with choices (`rows_mean`) give the request
+-- (`check_eq`). Used for `law_of_chosen_arguments`.
 use Rattle.std.proofs.Common.{◌≡◌, ◌∙◌, Bool, true, false, List, [], ◌∷◌, ◌++◌, Option, Some}
 use Rattle.std.proofs.Common.{ℕ, None, Ok, Err, refl, sym, ap, arith, codes, drop, ◌^◌, ◌-◌}
 use Rattle.std.proofs.Common.{inl, inr, subst, append_assoc, append-nil}
@@ -28,7 +28,8 @@ use Rattle.sub_words.specs.Help.{requests_help}
 use Rattle.std.specs.Option.{option_map_or}
 use Rattle.std.specs.Prelude.{map}
 use Rattle.sub_words.specs.PesTexts.{packet_size_of_text, pid_of_text, range_of_text}
-use Rattle.sub_words.specs.Requests.{Requested, IsRequestOf, requested_by, asked_for, requested_in}
+use Rattle.sub_words.specs.Requests.{Requested, IsRequestOf, requested_by, request_by_command}
+use Rattle.sub_words.specs.Requests.{requested_in}
 use Rattle.sub_words.specs.Requests.{check_requested}
 use Rattle.sub_words.specs.Texts.{frame_of_text, number_of_text}
 use Rattle.sub_words.specs.Version.{requests_version}
@@ -37,26 +38,27 @@ use Rattle.sub_headline.specs.PlainOptions.{arguments_of_choice}
 use Rattle.sub_headline.specs.RecordingOptions.{LawOfPartArguments, Portion, Reading, read_by}
 use Rattle.sub_headline.specs.RecordingOptions.{reading_of}
 use Rattle.sub_headline.specs.DrawnOptions.{LawOfDisplayArguments, DisplayOption, DisplayOptions}
-use Rattle.sub_headline.specs.DrawnOptions.{displayed_by, looking_of}
+use Rattle.sub_headline.specs.DrawnOptions.{displayed_by, display_options_of}
 use Rattle.sub_headline.specs.DrawnOptions.{arguments_for}
 use Rattle.sub_headline.specs.DrawnOptions.DisplayOption.{Letters, Lines, Of}
 use Rattle.stl_rows.specs.LayoutText.{layout_of_text}
 use Rattle.sub_headline.specs.RecordingOptions.{recording_requested, arguments_in}
-use Rattle.sub_headline.specs.RecordingOptions.Portion.{Pid, Size, Numbers, From, To, OpenToo}
+use Rattle.sub_headline.specs.RecordingOptions.Portion.{Pid, Size, Numbers, From, To, AlsoOpen}
 use Rattle.sub_headline.specs.RecordingOptions.Portion.{Any}
 use Rattle.sub_headline.specs.PlainOptions.Choice.{Page, Every, Origin, Pace, Complete}
 use Rattle.sub_headline.specs.PlainOptions.Choice.{EveryFault}
 use Rattle.sub_headline.specs.PlainArguments.{IsName}
-use Rattle.sub_headline.proofs.OptionWordLemmas.{held_by, key, next, rows_held, rules}
+use Rattle.sub_headline.proofs.OptionWordLemmas.{values_after_options, key, next, rows_of_state}
+use Rattle.sub_headline.proofs.OptionWordLemmas.{rules}
 use Rattle.sub_headline.proofs.OptionWordLemmas.{values_with_choice}
-use Rattle.sub_headline.proofs.OptionWordLemmas.{vals}
+use Rattle.sub_headline.proofs.OptionWordLemmas.{option_values}
 use Rattle.sub_headline.proofs.OptionWordLemmas.{walk_all}
-use Rattle.sub_headline.proofs.PlainWordLemmas.{at_rest, held_of_two, walked_plain}
+use Rattle.sub_headline.proofs.PlainWordLemmas.{at_rest, state_after_files, walked_plain}
 use Rattle.sub_headline.proofs.RowLemmas.{default_at, defaulted, first_is, first_text, values_at}
 use Rattle.sub_headline.proofs.RowLemmas.{or_default}
 
-abbrev given_by : Text → List (List Text) → List DisplayOption → List (List Text)
-given_by id vs parts = fold (values_with_choice id) vs parts
+abbrev values_after_parts : Text → List (List Text) → List DisplayOption → List (List Text)
+values_after_parts id vs parts = fold (values_with_choice id) vs parts
 
 -- The text of an argument's values, or the default text.
 abbrev text_in : Text → List (List Text) → Text
@@ -84,15 +86,15 @@ abbrev is_any : Text → List Text → Bool
 is_any id [] = false
 is_any id (one ∷ others) = bytes_eq one id || is_any id others
 
-neither : (a b : Bool) → (a || b) ≡ false → (a ≡ false) × (b ≡ false)
-neither a b none = grind (arith, nat_tests)
+or_false_parts : (a b : Bool) → (a || b) ≡ false → (a ≡ false) × (b ≡ false)
+or_false_parts a b none = grind (arith, nat_tests)
 
 all_apart : (id : Text) (ids : List Text)
     → is_any id ids ≡ false
     → AllByRecursion (λ one. bytes_eq one id ≡ false) ids
 all_apart id [] none = tt
 all_apart id (one ∷ others) none =
-    let by = neither (bytes_eq one id) (is_any id others) none in
+    let by = or_false_parts (bytes_eq one id) (is_any id others) none in
     (by.0, all_apart id others by.1)
 
 key_apart : (id : Text) → is_any id keys ≡ false → (part : DisplayOption) → bytes_eq (key part) id ≡
@@ -108,20 +110,20 @@ key_apart id none (Of (Size text n is)) = (all_apart id keys none).1.1.1.1.1.1.1
 key_apart id none (Of (Numbers text n is)) = (all_apart id keys none).1.1.1.1.1.1.1.1.0
 key_apart id none (Of (From text n name is)) = (all_apart id keys none).1.1.1.1.1.1.1.1.1.0
 key_apart id none (Of (To text n name is)) = (all_apart id keys none).1.1.1.1.1.1.1.1.1.1.0
-key_apart id none (Of OpenToo) = (all_apart id keys none).1.1.1.1.1.1.1.1.1.1.1.0
+key_apart id none (Of AlsoOpen) = (all_apart id keys none).1.1.1.1.1.1.1.1.1.1.1.0
 key_apart id none (Letters text n name is) = (all_apart id keys none).1.1.1.1.1.1.1.1.1.1.1.1.0
 key_apart id none (Lines text n name is) = (all_apart id keys none).1.1.1.1.1.1.1.1.1.1.1.1.1.0
 
 not_given :
     (id : Text) (apart : (part : DisplayOption) → bytes_eq (key part) id ≡ false)
     (vs : List (List Text)) (parts : List DisplayOption)
-    → given_by id vs parts ≡ vs
+    → values_after_parts id vs parts ≡ vs
 not_given id apart vs [] = refl
 not_given id apart vs (part ∷ parts) =
     ap
     (λ (b : Bool).
     let one : List (List Text) =
-    if b then vals part ∷ [] else vs in given_by id one parts)
+    if b then option_values part ∷ [] else vs in values_after_parts id one parts)
     (apart part)
     ∙ not_given id apart vs parts
 
@@ -136,34 +138,34 @@ pace_of_text text = between 1 day (number_of_text text)
 record Meant (held : Text → List (List Text)) (l : DisplayOptions) : Type 0 where
   pub page_is :
       page_of_text (text_in (codes "888") (held (codes "page"))) ≡ Some l.reading.options.page
-  pub every_is :
+  pub every_eq :
       number_of_text (text_in (codes "250") (held (codes "every"))) ≡ Some l.reading.options.every
-  pub origin_is :
+  pub origin_eq :
       number_of_text (text_in (codes "0") (held (codes "origin"))) ≡ Some l.reading.options.origin
-  pub pace_is :
+  pub pace_eq :
       emitted_by pace_of_text (first_text (held (codes "pace"))) ≡ Some l.reading.options.pace
-  pub complete_is :
+  pub complete_eq :
       bytes_eq (text_in (codes "false") (held (codes "complete"))) (codes "true")
       ≡ l.reading.options.asks_complete
-  pub within_is : l.reading.options.within ≡ 0
-  pub keeps_is : l.reading.options.keeps ≡ false
-  pub pid_is : emitted_by pid_of_text (first_text (held (codes "pid"))) ≡ Some l.reading.pid
-  pub size_is :
+  pub within_eq : l.reading.options.within ≡ 0
+  pub keeps_eq : l.reading.options.keeps ≡ false
+  pub pid_eq : emitted_by pid_of_text (first_text (held (codes "pid"))) ≡ Some l.reading.pid
+  pub size_eq :
       packet_size_of_text (text_in (codes "188") (held (codes "packet-size")))
       ≡ Some l.reading.size
-  pub range_is : emitted_by range_of_text (first_text (held (codes "pes"))) ≡ Some l.reading.range
-  pub from_is :
+  pub range_eq : emitted_by range_of_text (first_text (held (codes "pes"))) ≡ Some l.reading.range
+  pub from_eq :
       option_map_or frame_of_text (first_text (held (codes "from"))) (Some 0)
       ≡ Some l.reading.scope.from
-  pub to_is :
+  pub to_eq :
       option_map_or frame_of_text (first_text (held (codes "to"))) (Some day)
       ≡ Some l.reading.scope.to
-  pub open_is :
+  pub open_eq :
       bytes_eq (text_in (codes "false") (held (codes "open"))) (codes "true")
       ≡ l.reading.scope.takes_open
-  pub option_is :
+  pub option_eq :
       option_named (text_in (codes "english") (held (codes "option"))) ≡ Some l.national
-  pub layout_is :
+  pub layout_eq :
       option_map_or layout_of_text (first_text (held (codes "layout"))) (Some default_layout)
       ≡ Some l.layout
 
@@ -173,12 +175,12 @@ with_options r o = record r { options = o }
 abbrev with_reading : DisplayOptions → Reading → DisplayOptions
 with_reading l r = record l { reading = r }
 
-abbrev then_all : (Text → List (List Text)) → DisplayOption → Text → List (List Text)
-then_all held part id = values_with_choice id (held id) part
+abbrev values_after_next : (Text → List (List Text)) → DisplayOption → Text → List (List Text)
+values_after_next held part id = values_with_choice id (held id) part
 
 meant_then : (held : Text → List (List Text)) (l : DisplayOptions) (part : DisplayOption)
     → Meant held l
-    → Meant (then_all held part) (displayed_by l part)
+    → Meant (values_after_next held part) (displayed_by l part)
 meant_then held l (Of (Any (Page text n is))) m = assumption (is, m)
 meant_then held l (Of (Any (Every text n is))) m = assumption (is, m)
 meant_then held l (Of (Any (Origin text n is))) m = assumption (is, m)
@@ -191,20 +193,20 @@ meant_then held l (Of (Size text n is)) m = assumption (is, m)
 meant_then held l (Of (Numbers text n is)) m = assumption (ap (option_map Some) is, m)
 meant_then held l (Of (From text n name is)) m = assumption (is, m)
 meant_then held l (Of (To text n name is)) m = assumption (is, m)
-meant_then held l (Of OpenToo) m =
+meant_then held l (Of AlsoOpen) m =
     let is : bytes_eq (codes "true") (codes "true") ≡ true = refl in assumption (is, m)
 meant_then held l (Letters text n name is) m = assumption (is, m)
 meant_then held l (Lines text n name is) m = assumption (is, m)
 
 abbrev values_by_parts : (Text → List (List Text)) → List DisplayOption → Text → List (List Text)
-values_by_parts held parts id = given_by id (held id) parts
+values_by_parts held parts id = values_after_parts id (held id) parts
 
 meant_by : (held : Text → List (List Text)) (l : DisplayOptions) (parts : List DisplayOption)
     → Meant held l
     → Meant (values_by_parts held parts) (fold displayed_by l parts)
 meant_by held l [] m = m
 meant_by held l (part ∷ parts) m =
-    meant_by (then_all held part) (displayed_by l part) parts (meant_then held l part m)
+    meant_by (values_after_next held part) (displayed_by l part) parts (meant_then held l part m)
 
 english_named : option_named (codes "english") ≡ Some English
 unfolding option_named sub_set
@@ -213,24 +215,24 @@ english_named = refl
 abbrev nothing : Text → List (List Text)
 nothing id = []
 
-meant_at_first : Meant nothing (looking_of [])
+meant_at_first : Meant nothing (display_options_of [])
 unfolding page_of_text number_of_text packet_size_of_text
 meant_at_first = record {
   page_is = refl;
-  every_is = refl;
-  origin_is = refl;
-  pace_is = refl;
-  complete_is = refl;
-  within_is = refl;
-  keeps_is = refl;
-  pid_is = refl;
-  size_is = refl;
-  range_is = refl;
-  from_is = refl;
-  to_is = refl;
-  open_is = refl;
-  option_is = english_named;
-  layout_is = refl;
+  every_eq = refl;
+  origin_eq = refl;
+  pace_eq = refl;
+  complete_eq = refl;
+  within_eq = refl;
+  keeps_eq = refl;
+  pid_eq = refl;
+  size_eq = refl;
+  range_eq = refl;
+  from_eq = refl;
+  to_eq = refl;
+  open_eq = refl;
+  option_eq = english_named;
+  layout_eq = refl;
 }
 
 abbrev HasText : List (List Text) → Type 0
@@ -238,7 +240,7 @@ HasText [] = ⊤
 HasText ([] ∷ vs) = ⊥
 HasText ((text ∷ more) ∷ vs) = ⊤
 
-has_text : (part : DisplayOption) → HasText (vals part ∷ [])
+has_text : (part : DisplayOption) → HasText (option_values part ∷ [])
 has_text (Of (Any (Page text n is))) = tt
 has_text (Of (Any (Every text n is))) = tt
 has_text (Of (Any (Origin text n is))) = tt
@@ -250,19 +252,19 @@ has_text (Of (Size text n is)) = tt
 has_text (Of (Numbers text n is)) = tt
 has_text (Of (From text n name is)) = tt
 has_text (Of (To text n name is)) = tt
-has_text (Of OpenToo) = tt
+has_text (Of AlsoOpen) = tt
 has_text (Letters text n name is) = tt
 has_text (Lines text n name is) = tt
 
 text_then : (b : Bool) (part : DisplayOption) (vs : List (List Text))
     → HasText vs
-    → HasText (if b then vals part ∷ [] else vs)
+    → HasText (if b then option_values part ∷ [] else vs)
 text_then true part vs has = has_text part
 text_then false part vs has = has
 
 texts_given : (id : Text) (parts : List DisplayOption) (vs : List (List Text))
     → HasText vs
-    → HasText (given_by id vs parts)
+    → HasText (values_after_parts id vs parts)
 texts_given id [] vs has = has
 texts_given id (part ∷ parts) vs has =
     texts_given id parts (values_with_choice id vs part)
@@ -279,127 +281,127 @@ no_default : (vs : List (List Text)) → first_text (or_default vs []) ≡ first
 no_default [] = refl
 no_default (v ∷ vs) = refl
 
-record RowsSay (rows : List Row) (stl recording : Text) (held : Text → List (List Text))
+record RowsMean (rows : List Row) (stl recording : Text) (held : Text → List (List Text))
     : Type 0 where
-  pub stl_is : first_of (codes "stl") rows ≡ Some stl
-  pub recording_is : first_of (codes "recording") rows ≡ Some recording
+  pub stl_eq : first_of (codes "stl") rows ≡ Some stl
+  pub recording_eq : first_of (codes "recording") rows ≡ Some recording
   pub page_is : first_of (codes "page") rows ≡ Some (text_in (codes "888") (held (codes "page")))
-  pub every_is :
+  pub every_eq :
       first_of (codes "every") rows ≡ Some (text_in (codes "250") (held (codes "every")))
-  pub origin_is :
+  pub origin_eq :
       first_of (codes "origin") rows ≡ Some (text_in (codes "0") (held (codes "origin")))
-  pub complete_is :
+  pub complete_eq :
       first_of (codes "complete") rows ≡ Some (text_in (codes "false") (held (codes "complete")))
-  pub all_is : first_of (codes "all") rows ≡ Some (text_in (codes "false") (held (codes "all")))
-  pub option_is :
+  pub all_eq : first_of (codes "all") rows ≡ Some (text_in (codes "false") (held (codes "all")))
+  pub option_eq :
       first_of (codes "option") rows ≡ Some (text_in (codes "english") (held (codes "option")))
-  pub layout_is : first_of (codes "layout") rows ≡ first_text (held (codes "layout"))
-  pub from_is : first_of (codes "from") rows ≡ first_text (held (codes "from"))
-  pub to_is : first_of (codes "to") rows ≡ first_text (held (codes "to"))
-  pub open_is :
+  pub layout_eq : first_of (codes "layout") rows ≡ first_text (held (codes "layout"))
+  pub from_eq : first_of (codes "from") rows ≡ first_text (held (codes "from"))
+  pub to_eq : first_of (codes "to") rows ≡ first_text (held (codes "to"))
+  pub open_eq :
       first_of (codes "open") rows ≡ Some (text_in (codes "false") (held (codes "open")))
-  pub within_is : first_of (codes "within") rows ≡ Some (codes "0")
-  pub pid_is : first_of (codes "pid") rows ≡ first_text (held (codes "pid"))
-  pub packet_size_is :
+  pub within_eq : first_of (codes "within") rows ≡ Some (codes "0")
+  pub pid_eq : first_of (codes "pid") rows ≡ first_text (held (codes "pid"))
+  pub packet_size_eq :
       first_of (codes "packet-size") rows
       ≡ Some (text_in (codes "188") (held (codes "packet-size")))
-  pub pes_is : first_of (codes "pes") rows ≡ first_text (held (codes "pes"))
-  pub pace_is : first_of (codes "pace") rows ≡ first_text (held (codes "pace"))
-  pub keeping_is : first_of (codes "keeping") rows ≡ Some (codes "false")
+  pub pes_eq : first_of (codes "pes") rows ≡ first_text (held (codes "pes"))
+  pub pace_eq : first_of (codes "pace") rows ≡ first_text (held (codes "pace"))
+  pub keeping_eq : first_of (codes "keeping") rows ≡ Some (codes "false")
 
 module _ (stl pes : Text) (parts : List DisplayOption) where
-  abbrev pub all_held : Held
-  all_held = fold next (held_of_two stl pes) parts
+  abbrev pub final_state : Held
+  final_state = fold next (state_after_files stl pes) parts
 
   first_by :
       (id : Text) (vs : List (List Text))
       → bytes_eq id id ≡ true
-      → values_at id (rows_held (held_of_two stl pes)) ≡ vs
+      → values_at id (rows_of_state (state_after_files stl pes)) ≡ vs
       → drop 1 vs ≡ []
-      → first_of id (finished rules all_held)
-      ≡ first_text (fold (default_at id) (given_by id vs parts) rules)
+      → first_of id (finished rules final_state)
+      ≡ first_text (fold (default_at id) (values_after_parts id vs parts) rules)
   first_by id vs same is short =
-      first_is id (finished rules all_held)
-      ∙ ap first_text (defaulted id rules (rows_held all_held) same)
+      first_is id (finished rules final_state)
+      ∙ ap first_text (defaulted id rules (rows_of_state final_state) same)
       ∙ ap (λ (us : List (List Text)). first_text (fold (default_at id) us rules))
-      (held_by id (held_of_two stl pes) parts (ap (drop 1) is ∙ short)
-      ∙ ap (λ (us : List (List Text)). given_by id us parts) is)
+      (values_after_options id (state_after_files stl pes) parts (ap (drop 1) is ∙ short)
+      ∙ ap (λ (us : List (List Text)). values_after_parts id us parts) is)
 
   first_not_given :
       (id : Text) (vs : List (List Text))
       → bytes_eq id id ≡ true
-      → values_at id (rows_held (held_of_two stl pes)) ≡ vs
+      → values_at id (rows_of_state (state_after_files stl pes)) ≡ vs
       → drop 1 vs ≡ []
       → ((part : DisplayOption) → bytes_eq (key part) id ≡ false)
-      → first_of id (finished rules all_held) ≡ first_text (fold (default_at id) vs rules)
+      → first_of id (finished rules final_state) ≡ first_text (fold (default_at id) vs rules)
   first_not_given id vs same is short apart =
       first_by id vs same is short
       ∙ ap (λ (us : List (List Text)). first_text (fold (default_at id) us rules))
       (not_given id apart vs parts)
 
-  rows_say : RowsSay (finished rules all_held) stl pes (values_by_parts nothing parts)
+  rows_mean : RowsMean (finished rules final_state) stl pes (values_by_parts nothing parts)
   unfolding subttx_app
-  rows_say = record {
-    stl_is =
+  rows_mean = record {
+    stl_eq =
         first_not_given (codes "stl") ((stl ∷ []) ∷ []) refl refl refl
         (key_apart (codes "stl") refl);
-    recording_is =
+    recording_eq =
         first_not_given (codes "recording") ((pes ∷ []) ∷ []) refl refl refl
         (key_apart (codes "recording") refl);
     page_is =
         first_by (codes "page") [] refl refl refl
-        ∙ some_text (codes "888") (given_by (codes "page") [] parts)
+        ∙ some_text (codes "888") (values_after_parts (codes "page") [] parts)
         (texts_given (codes "page") parts [] tt);
-    every_is =
+    every_eq =
         first_by (codes "every") [] refl refl refl
-        ∙ some_text (codes "250") (given_by (codes "every") [] parts)
+        ∙ some_text (codes "250") (values_after_parts (codes "every") [] parts)
         (texts_given (codes "every") parts [] tt);
-    origin_is =
+    origin_eq =
         first_by (codes "origin") [] refl refl refl
-        ∙ some_text (codes "0") (given_by (codes "origin") [] parts)
+        ∙ some_text (codes "0") (values_after_parts (codes "origin") [] parts)
         (texts_given (codes "origin") parts [] tt);
-    complete_is =
+    complete_eq =
         first_by (codes "complete") [] refl refl refl
-        ∙ some_text (codes "false") (given_by (codes "complete") [] parts)
+        ∙ some_text (codes "false") (values_after_parts (codes "complete") [] parts)
         (texts_given (codes "complete") parts [] tt);
-    all_is =
+    all_eq =
         first_by (codes "all") [] refl refl refl
-        ∙ some_text (codes "false") (given_by (codes "all") [] parts)
+        ∙ some_text (codes "false") (values_after_parts (codes "all") [] parts)
         (texts_given (codes "all") parts [] tt);
-    option_is =
+    option_eq =
         first_by (codes "option") [] refl refl refl
-        ∙ some_text (codes "english") (given_by (codes "option") [] parts)
+        ∙ some_text (codes "english") (values_after_parts (codes "option") [] parts)
         (texts_given (codes "option") parts [] tt);
-    layout_is =
+    layout_eq =
         first_by (codes "layout") [] refl refl refl
-        ∙ no_default (given_by (codes "layout") [] parts);
-    from_is =
+        ∙ no_default (values_after_parts (codes "layout") [] parts);
+    from_eq =
         first_by (codes "from") [] refl refl refl
-        ∙ no_default (given_by (codes "from") [] parts);
-    to_is =
+        ∙ no_default (values_after_parts (codes "from") [] parts);
+    to_eq =
         first_by (codes "to") [] refl refl refl
-        ∙ no_default (given_by (codes "to") [] parts);
-    open_is =
+        ∙ no_default (values_after_parts (codes "to") [] parts);
+    open_eq =
         first_by (codes "open") [] refl refl refl
-        ∙ some_text (codes "false") (given_by (codes "open") [] parts)
+        ∙ some_text (codes "false") (values_after_parts (codes "open") [] parts)
         (texts_given (codes "open") parts [] tt);
-    within_is =
+    within_eq =
         first_not_given (codes "within") [] refl refl refl
         (key_apart (codes "within") refl);
-    pid_is =
+    pid_eq =
         first_by (codes "pid") [] refl refl refl
-        ∙ no_default (given_by (codes "pid") [] parts);
-    packet_size_is =
+        ∙ no_default (values_after_parts (codes "pid") [] parts);
+    packet_size_eq =
         first_by (codes "packet-size") [] refl refl refl
-        ∙ some_text (codes "188") (given_by (codes "packet-size") [] parts)
+        ∙ some_text (codes "188") (values_after_parts (codes "packet-size") [] parts)
         (texts_given (codes "packet-size") parts [] tt);
-    pes_is =
+    pes_eq =
         first_by (codes "pes") [] refl refl refl
-        ∙ no_default (given_by (codes "pes") [] parts);
-    pace_is =
+        ∙ no_default (values_after_parts (codes "pes") [] parts);
+    pace_eq =
         first_by (codes "pace") [] refl refl refl
-        ∙ no_default (given_by (codes "pace") [] parts);
-    keeping_is =
+        ∙ no_default (values_after_parts (codes "pace") [] parts);
+    keeping_eq =
         first_not_given (codes "keeping") [] refl refl refl
         (key_apart (codes "keeping") refl);
   }
@@ -408,7 +410,7 @@ within_number : number_of_text (codes "0") ≡ Some 0
 unfolding number_of_text
 within_number = refl
 
-pes_selection_is : (rows : List Row) (name size : Text) (pid pes : Option Text) (r : Reading)
+pes_selection_eq : (rows : List Row) (name size : Text) (pid pes : Option Text) (r : Reading)
     → first_of (codes "recording") rows ≡ Some name
     → first_of (codes "pid") rows ≡ pid
     → first_of (codes "packet-size") rows ≡ Some size
@@ -418,8 +420,8 @@ pes_selection_is : (rows : List Row) (name size : Text) (pid pes : Option Text) 
     → emitted_by range_of_text pes ≡ Some r.range
     → pes_selection_of rows ≡ Ok (recording_requested name r)
 unfolding pes_selection_of
-pes_selection_is rows name size pid pes r recording pid_is size_is pes_is pid_says size_says
-    pes_says = rw (pid_is, pid_says, size_is, size_says, pes_is, pes_says, recording) refl
+pes_selection_eq rows name size pid pes r recording pid_eq size_eq pes_eq pid_says size_says
+    pes_says = rw (pid_eq, pid_says, size_eq, size_says, pes_eq, pes_says, recording) refl
 
 abbrev options_in : OptionsValue → OptionsValue
 options_in o = record {
@@ -432,13 +434,13 @@ options_in o = record {
   keeps = false;
 }
 
-pacing_is : (options : OptionsValue) (rows : List Row) (pace : Option Text) (frames : Option ℕ)
+pacing_eq : (options : OptionsValue) (rows : List Row) (pace : Option Text) (frames : Option ℕ)
     → options.pace ≡ None
     → first_of (codes "pace") rows ≡ pace
     → emitted_by pace_of_text pace ≡ Some frames
     → pacing_of options rows ≡ Ok (record options { pace = frames })
-pacing_is options rows None frames none first says = grind (arith, nat_tests)
-pacing_is options rows (Some text) frames none first says = grind (arith, nat_tests)
+pacing_eq options rows None frames none first says = grind (arith, nat_tests)
+pacing_eq options rows (Some text) frames none first says = grind (arith, nat_tests)
 
 time_by : (text : Option Text) (default frame : ℕ)
     → option_map_or frame_of_text text (Some default) ≡ Some frame
@@ -449,7 +451,7 @@ time_by None default frame is =
     let e : default ≡ frame = cc in (None, refl, e)
 time_by (Some text) default frame is = (Some frame, ap (option_map Some) is, refl)
 
-scope_is : (rows : List Row) (from to : Option Text) (also : Text) (scope : Scope)
+scope_eq : (rows : List Row) (from to : Option Text) (also : Text) (scope : Scope)
     → first_of (codes "from") rows ≡ from
     → first_of (codes "to") rows ≡ to
     → first_of (codes "open") rows ≡ Some also
@@ -457,13 +459,13 @@ scope_is : (rows : List Row) (from to : Option Text) (also : Text) (scope : Scop
     → option_map_or frame_of_text to (Some day) ≡ Some scope.to
     → bytes_eq also (codes "true") ≡ scope.takes_open
     → scope_of rows ≡ Ok scope
-scope_is rows from to also scope from_is to_is open_is from_says to_says open_says =
+scope_eq rows from to also scope from_eq to_eq open_eq from_says to_says open_says =
     let first = time_by from 0 scope.from from_says in
     let last = time_by to day scope.to to_says in
     rw (
-      from_is,
-      to_is,
-      open_is,
+      from_eq,
+      to_eq,
+      open_eq,
       first.1,
       last.1,
       first.2,
@@ -477,54 +479,54 @@ lists_all held = bytes_eq (text_in (codes "false") (held (codes "all"))) (codes 
 
 module _ (rows : List Row) (stl recording : Text) (held : Text → List (List Text))
     (l : DisplayOptions)
-    (say : RowsSay rows stl recording held) (m : Meant held l) where
+    (say : RowsMean rows stl recording held) (m : Meant held l) where
   too_far :
       nat_le 1 l.reading.options.every && nat_le l.reading.options.every day ≡ false
       → check_requested rows ≡ Err fault.Every
-  too_far out = rw (say.page_is, m.page_is, say.every_is, m.every_is, out) refl
+  too_far out = rw (say.page_is, m.page_is, say.every_eq, m.every_eq, out) refl
 
   no_time :
       nat_le 1 l.reading.options.every && nat_le l.reading.options.every day ≡ true
       → nat_le 0 l.reading.options.origin && nat_le l.reading.options.origin (2 ^ 33 - 1) ≡ false
       → check_requested rows ≡ Err fault.Origin
   no_time near out =
-      rw (say.page_is, m.page_is, say.every_is, m.every_is, near, say.origin_is, m.origin_is, out)
+      rw (say.page_is, m.page_is, say.every_eq, m.every_eq, near, say.origin_eq, m.origin_eq, out)
       refl
 
-  check_is :
+  check_eq :
       nat_le 1 l.reading.options.every && nat_le l.reading.options.every day ≡ true
       → nat_le 0 l.reading.options.origin && nat_le l.reading.options.origin (2 ^ 33 - 1) ≡ true
       → check_requested rows
       ≡ Ok (Requested.Check stl (recording_requested recording l.reading)
       (options_in l.reading.options)
       l.national l.layout l.reading.scope (lists_all held))
-  check_is near time =
+  check_eq near time =
       rw (
         say.page_is,
         m.page_is,
-        say.every_is,
-        m.every_is,
+        say.every_eq,
+        m.every_eq,
         near,
-        say.origin_is,
-        m.origin_is,
+        say.origin_eq,
+        m.origin_eq,
         time,
-        say.complete_is,
-        m.complete_is,
-        say.option_is,
-        m.option_is,
-        say.within_is,
+        say.complete_eq,
+        m.complete_eq,
+        say.option_eq,
+        m.option_eq,
+        say.within_eq,
         within_number,
-        pes_selection_is rows recording _ _ _ l.reading say.recording_is say.pid_is
-            say.packet_size_is say.pes_is m.pid_is m.size_is m.range_is,
-        say.layout_is,
-        m.layout_is,
-        pacing_is (options_in (record l.reading.options { pace = None })) rows _
-            l.reading.options.pace refl say.pace_is m.pace_is,
-        scope_is rows _ _ _ l.reading.scope say.from_is say.to_is say.open_is m.from_is m.to_is
-            m.open_is,
-        say.keeping_is,
-        say.all_is,
-        say.stl_is,
+        pes_selection_eq rows recording _ _ _ l.reading say.recording_eq say.pid_eq
+            say.packet_size_eq say.pes_eq m.pid_eq m.size_eq m.range_eq,
+        say.layout_eq,
+        m.layout_eq,
+        pacing_eq (options_in (record l.reading.options { pace = None })) rows _
+            l.reading.options.pace refl say.pace_eq m.pace_eq,
+        scope_eq rows _ _ _ l.reading.scope say.from_eq say.to_eq say.open_eq m.from_eq m.to_eq
+            m.open_eq,
+        say.keeping_eq,
+        say.all_eq,
+        say.stl_eq,
       ) refl
 
   in_range :
@@ -536,11 +538,11 @@ module _ (rows : List Row) (stl recording : Text) (held : Text → List (List Te
       ≡ Requested.Check stl (recording_requested recording l.reading) (options_in l.reading.options)
       l.national l.layout l.reading.scope (lists_all held))
       × (l.reading.options.origin < 2 ^ 33)
-  in_range false time requested near_is time_is is = let e = sym (too_far near_is) ∙ is in cc
-  in_range true false requested near_is time_is is = let e = sym (no_time near_is time_is) ∙ is
+  in_range false time requested near_is time_eq is = let e = sym (too_far near_is) ∙ is in cc
+  in_range true false requested near_is time_eq is = let e = sym (no_time near_is time_eq) ∙ is
       in cc
-  in_range true true requested near_is time_is is =
-      let e = sym is ∙ check_is near_is time_is in (cc, grind (arith, nat_tests, time_is))
+  in_range true true requested near_is time_eq is =
+      let e = sym is ∙ check_eq near_is time_eq in (cc, grind (arith, nat_tests, time_eq))
 
 options_are : (o : OptionsValue)
     → o.within ≡ 0
@@ -550,11 +552,11 @@ options_are o within keeps = grind (arith, nat_tests)
 
 -- With any of these options `within` is 0 and no repeat may keep the page.
 pub plain_by : (parts : List DisplayOption)
-    → ((looking_of parts).reading.options.within ≡ 0)
-    × IsFalse (looking_of parts).reading.options.keeps
+    → ((display_options_of parts).reading.options.within ≡ 0)
+    × IsFalse (display_options_of parts).reading.options.keeps
 plain_by parts =
-    let m = meant_by nothing (looking_of []) parts meant_at_first in
-    (m.within_is, m.keeps_is)
+    let m = meant_by nothing (display_options_of []) parts meant_at_first in
+    (m.within_eq, m.keeps_eq)
 
 -- After the name of a command, each word is an argument of that command.
 stopped_walk : (c : List Rule) (names : Names) (name : Text) (arguments more : List Text) (w : Walk)
@@ -585,7 +587,7 @@ rows_chosen : (stl pes : Text) (parts : List DisplayOption)
     → IsName stl
     → IsName pes
     → rows_after rules [] (stl ∷ pes ∷ flat_map arguments_for parts)
-    ≡ finished rules (all_held stl pes parts)
+    ≡ finished rules (final_state stl pes parts)
 unfolding subttx_app
 rows_chosen stl pes parts is_stl is_pes =
     let more = flat_map arguments_for parts in
@@ -596,7 +598,7 @@ rows_chosen stl pes parts is_stl is_pes =
     (walked_plain rules
     (to_positional rules (arg_by_index rules 1) stl (at_rest nothing_held 1)
     nothing_held).held 2 pes is_pes)
-    ∙ ap (λ (w : Walk). finished rules w.held) (walk_all (held_of_two stl pes) parts)
+    ∙ ap (λ (w : Walk). finished rules w.held) (walk_all (state_after_files stl pes) parts)
 
 no_help : (program stl pes : Text) (more : List Text)
     → requests_help (program ∷ codes "check" ∷ stl ∷ pes ∷ more) ≡ false
@@ -608,35 +610,36 @@ no_version : (program stl pes : Text) (more : List Text)
 unfolding requests_version
 no_version program stl pes more = refl
 
-requested_so : (arguments : List Text) (rows : List Row) (requested : Requested)
+check_requested_ok : (arguments : List Text) (rows : List Row) (requested : Requested)
     → command_in arguments ≡ Some (codes "check", rows)
-    → asked_for arguments ≡ Some (Ok requested)
+    → request_by_command arguments ≡ Some (Ok requested)
     → check_requested rows ≡ Ok requested
-requested_so arguments rows requested command is =
+check_requested_ok arguments rows requested command is =
     let e =
     sym (ap (option_map (λ command. requested_in command.0 command.1)) command) ∙ is in cc
 
 display_rows : (stl recording : Text) (parts : List DisplayOption) (requested : Requested)
-    → check_requested (finished rules (all_held stl recording parts)) ≡ Ok requested
+    → check_requested (finished rules (final_state stl recording parts)) ≡ Ok requested
     → (all : Bool)
     × (requested
-    ≡ Requested.Check stl (recording_requested recording (looking_of parts).reading)
-    (looking_of parts).reading.options (looking_of parts).national (looking_of parts).layout
-    (looking_of parts).reading.scope all)
-    × ((looking_of parts).reading.options.origin < 2 ^ 33)
+    ≡ Requested.Check stl (recording_requested recording (display_options_of parts).reading)
+    (display_options_of parts).reading.options (display_options_of parts).national
+    (display_options_of parts).layout
+    (display_options_of parts).reading.scope all)
+    × ((display_options_of parts).reading.options.origin < 2 ^ 33)
 display_rows stl recording parts requested is =
-    let m = meant_by nothing (looking_of []) parts meant_at_first in
-    let l = looking_of parts in
+    let m = meant_by nothing (display_options_of []) parts meant_at_first in
+    let l = display_options_of parts in
     let so =
-    in_range (finished rules (all_held stl recording parts)) stl recording _ l
-    (rows_say stl recording parts) m _ _ requested refl refl is in (
+    in_range (finished rules (final_state stl recording parts)) stl recording _ l
+    (rows_mean stl recording parts) m _ _ requested refl refl is in (
       lists_all (values_by_parts nothing parts),
       so.0
           ∙ ap
           (λ (options : OptionsValue).
           Requested.Check stl (recording_requested recording l.reading) options l.national l.layout
           l.reading.scope (lists_all (values_by_parts nothing parts)))
-          (options_are l.reading.options m.within_is m.keeps_is),
+          (options_are l.reading.options m.within_eq m.keeps_eq),
       so.1,
     )
 
@@ -648,7 +651,7 @@ law_of_display_arguments program stl pes parts request is_stl is_pes (inr (inl h
 law_of_display_arguments program stl pes parts request is_stl is_pes (inr (inr asks)) =
     display_rows stl pes parts (requested_by request)
     (sym (ap check_requested (rows_chosen stl pes parts is_stl is_pes))
-    ∙ requested_so (program ∷ codes "check" ∷ stl ∷ pes ∷ flat_map arguments_for parts)
+    ∙ check_requested_ok (program ∷ codes "check" ∷ stl ∷ pes ∷ flat_map arguments_for parts)
     (rows_after rules [] (stl ∷ pes ∷ flat_map arguments_for parts)) (requested_by request)
     (command_of program (stl ∷ pes ∷ flat_map arguments_for parts)) asks.2.requested)
 
@@ -670,7 +673,7 @@ law_of_part_arguments program stl pes parts request is_stl is_pes asks =
     (subst
     (λ (ws : List Text). IsRequestOf (program ∷ codes "check" ∷ stl ∷ pes ∷ ws) request)
     (sym (arguments_of_parts parts)) asks) in
-    let at = display_of_parts (looking_of []) parts in (
+    let at = display_of_parts (display_options_of []) parts in (
       so.0,
       so.1
           ∙ ap

@@ -21,7 +21,7 @@ use Rattle.sub_headline.specs.PlainAcceptance.{IsEnglishGood, IsEnglishHeader, I
 use Rattle.sub_headline.specs.PlainFiles.{AreFilesOf}
 use Rattle.sub_headline.specs.PlainArguments.{default_options}
 use Rattle.sub_headline.proofs.AcceptanceLemmas.{all_subtitles, programme_of}
-use Rattle.sub_headline.proofs.EnglishLemmas.{IsDrawn, all_drawn, due_is, english_within}
+use Rattle.sub_headline.proofs.EnglishLemmas.{IsDrawn, all_drawn, due_eq, english_within}
 use Rattle.sub_headline.proofs.EnglishLemmas.{ok_of_complete, same_drawn}
 use Rattle.stl_file.specs.Scope.{whole}
 use Rattle.stl_file.specs.declared.scope.Scope.{Scope}
@@ -30,12 +30,12 @@ use Rattle.stl_rows.specs.declared.fault.RowFault.{RowFault}
 abbrev bits_of : Bool → Bool → Bool → NationalBits
 bits_of a b c = record { c12 = a; c13 = b; c14 = c }
 
-option_is : (h : Header)
+option_eq : (h : Header)
     → IsFalse (c12 h)
     → IsFalse (c13 h)
     → IsFalse (c14 h)
     → national_bits h ≡ bits_of false false false
-option_is h first second third =
+option_eq h first second third =
     ap (λ (a : Bool). bits_of a (c13 h) (c14 h)) first
     ∙ ap (λ (b : Bool). bits_of false b (c14 h)) second
     ∙ ap (λ (c : Bool). bits_of false false c) third
@@ -61,7 +61,7 @@ subtitle_header h is = record {
   subtitle = is.subtitle;
   suppressed = is.suppressed;
   displayed = is.displayed;
-  option = option_is h is.first_option is.second_option is.third_option;
+  option = option_eq h is.first_option is.second_option is.third_option;
 }
 
 module _ (options : OptionsValue) (subtitles : List SubtitleValue) (transmission : Transmission)
@@ -85,7 +85,7 @@ module _ (options : OptionsValue) (subtitles : List SubtitleValue) (transmission
     repeats = good.rules.repeats;
     content = λ f row column from to is_cell.
         good.content f row column from to is_cell
-        ∙ ap (λ (due : Rows). cell due row column) (due_is subtitles f drawn);
+        ∙ ap (λ (due : Rows). cell due row column) (due_eq subtitles f drawn);
     paced = good.rules.paced;
     complete = complete;
   }
@@ -111,7 +111,7 @@ module _ (options : OptionsValue) (subtitles : List SubtitleValue) (transmission
     };
     content = λ f row column from to is_cell.
         good.content f row column from to is_cell
-        ∙ ap (λ (due : Rows). cell due row column) (sym (due_is subtitles f drawn));
+        ∙ ap (λ (due : Rows). cell due row column) (sym (due_eq subtitles f drawn));
   }
 
 abbrev from_origin : ℕ → OptionsValue

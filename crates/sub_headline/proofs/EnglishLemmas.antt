@@ -1,5 +1,5 @@
 -- With the default layout an English subtitle is drawn as its English page (`drawn_is`), so the due
--- page is the English page (`due_is`); and it is drawn if its text can be drawn completely
+-- page is the English page (`due_eq`); and it is drawn if its text can be drawn completely
 -- (`ok_of_complete`). Used for `law_of_headline`.
 use Rattle.std.proofs.lemmas.Bool.Decides.{nat_tests}
 use Rattle.std.proofs.lemmas.List.Elements.{All-cons, All-head, All-nil, All-tail}
@@ -31,31 +31,34 @@ use Rattle.stl_file.specs.declared.scope.Scope.{Scope}
 use Rattle.stl_rows.specs.Layout.{default_layout, drawing_within}
 use Rattle.stl_rows.specs.declared.layout.Drawing.{Drawing}
 use Rattle.sub_headline.specs.Acceptance.{default_drawing}
-use Rattle.sub_headline.specs.EnglishPage.{Fit, IsFit, IsRead, IsDrawnWhole, english_cell}
+use Rattle.sub_headline.specs.EnglishPage.{LinesFit, LineFits, IsHandledByte, IsDrawnCompletely}
+use Rattle.sub_headline.specs.EnglishPage.{english_cell}
 use Rattle.sub_headline.specs.EnglishPage.{english_due}
 use Rattle.sub_headline.specs.EnglishPage.{english_lines, english_page, page_or_blank, put}
 
 -- A character that is no diacritical mark is not part of a pair of bytes.
-no_mark : (x : Bool) (a rest : Option ℕ) → rest ≡ None → (if x && false then a else rest) ≡ None
-no_mark true a rest e = e
-no_mark false a rest e = e
+no_diacritical_pair : (x : Bool) (a rest : Option ℕ) → rest ≡ None →
+    (if x && false then a else rest) ≡ None
+no_diacritical_pair true a rest e = e
+no_diacritical_pair false a rest e = e
 
 -- English has no characters that are coded by two bytes.
 no_second : (byte next : ℕ) → cell_in (sub_set English).characters (Some byte) next ≡ None
 unfolding sub_set has_bytes
 no_second byte next =
-    no_mark (0xA3 == next) _ _
-    (no_mark (0x24 == next) _ _
-    (no_mark (0xA4 == next) _ _ (no_mark (0x40 == next) _ _ (no_mark (0x23 == next) _ _ refl))))
+    no_diacritical_pair (0xA3 == next) _ _
+    (no_diacritical_pair (0x24 == next) _ _
+    (no_diacritical_pair (0xA4 == next)
+    _ _ (no_diacritical_pair (0x40 == next) _ _ (no_diacritical_pair (0x23 == next) _ _ refl))))
 
 none_either : (x : Bool) (a : Option ℕ) → a ≡ None → (if x then a else None) ≡ None
 none_either true a e = e
 none_either false a e = refl
 
-no_pair : (byte : ℕ) (next : Option ℕ) → cell_of_pair English byte next ≡ None
+is_no_pair : (byte : ℕ) (next : Option ℕ) → cell_of_pair English byte next ≡ None
 unfolding cell_of_pair
-no_pair byte None = none_either (is_diacritical byte) None refl
-no_pair byte (Some next) = none_either (is_diacritical byte) _ (no_second byte next)
+is_no_pair byte None = none_either (is_diacritical byte) None refl
+is_no_pair byte (Some next) = none_either (is_diacritical byte) _ (no_second byte next)
 
 -- A character of one byte is found by this byte alone.
 by_itself : (x : Bool) (a p q : Option ℕ) → p ≡ q
@@ -63,9 +66,9 @@ by_itself : (x : Bool) (a p q : Option ℕ) → p ≡ q
 by_itself true a p q e = refl
 by_itself false a p q e = e
 
-cell_is : (byte : ℕ) → cell_of English byte ≡ english_cell byte
+cell_eq : (byte : ℕ) → cell_of English byte ≡ english_cell byte
 unfolding cell_of sub_set has_bytes english_cell
-cell_is byte =
+cell_eq byte =
     ap (λ (o : Option ℕ). if is_common byte then Some byte else o)
     (by_itself (0xA3 == byte) _ _ _
     (by_itself (0x24 == byte) _ _ _
@@ -75,7 +78,7 @@ cell_is byte =
 codes_step : (place byte : ℕ) (bytes : List ℕ)
     → codes_after English place 0 (byte ∷ bytes)
     ≡ (place, text_code English byte) ∷ codes_after English (place + 1) 0 bytes
-codes_step place byte bytes = rw (no_pair byte (first_of bytes)) refl
+codes_step place byte bytes = rw (is_no_pair byte (first_of bytes)) refl
 
 none_put : (byte : ℕ) (lines : List (List ℕ))
     → with_code (code_of_other byte) lines ≡ put None byte lines
@@ -94,7 +97,7 @@ lines_are place [] = refl
 lines_are place (byte ∷ bytes) =
     ap lines_of_codes (codes_step place byte bytes)
     ∙ ap (with_code (text_code English byte)) (lines_are (place + 1) bytes)
-    ∙ put_by (english_cell byte) byte (english_lines bytes) (cell_is byte)
+    ∙ put_by (english_cell byte) byte (english_lines bytes) (cell_eq byte)
 
 none_read : (byte place : ℕ)
     → refused_code place (code_of_other byte) ≡ None
@@ -104,8 +107,8 @@ none_read : (byte place : ℕ)
 unfolding code_of_other
 none_read byte place e code end = grind (arith, nat_tests)
 
-end_is : (byte : ℕ) → (byte == new_line) ≡ true → byte ≡ new_line
-end_is byte e = grind (arith, nat_tests)
+end_eq : (byte : ℕ) → (byte == new_line) ≡ true → byte ≡ new_line
+end_eq byte e = grind (arith, nat_tests)
 
 read_by : (is_none is_end : Bool) (byte place : ℕ)
     → is_no_cell byte ≡ is_none
@@ -113,7 +116,7 @@ read_by : (is_none is_end : Bool) (byte place : ℕ)
     → refused_code place (code_of_other byte) ≡ None
     → (byte ≡ new_line) ⊎ (is_within 0x80 0x85 byte ≡ true)
 read_by true is_end byte place none end e = inr none
-read_by false true byte place none end e = inl (end_is byte end)
+read_by false true byte place none end e = inl (end_eq byte end)
 read_by false false byte place none end e = absurd (none_read byte place e none end)
 
 read_of : (cell : Option ℕ) (byte place : ℕ)
@@ -132,23 +135,23 @@ none_first (Some x) xs e = cc
 
 all_read : (place : ℕ) (text : List ℕ)
     → refused_codes (codes_after English place 0 text) ≡ []
-    → All IsRead text
-all_read place [] e = All-nil IsRead
+    → All IsHandledByte text
+all_read place [] e = All-nil IsHandledByte
 all_read place (byte ∷ bytes) e =
     let of =
     none_first (refused_code place (text_code English byte))
     (refused_codes (codes_after English (place + 1) 0 bytes))
     (sym (ap refused_codes (codes_step place byte bytes)) ∙ e) in
-    All-cons IsRead byte bytes (read_of (english_cell byte) byte place (cell_is byte) of.0)
+    All-cons IsHandledByte byte bytes (read_of (english_cell byte) byte place (cell_eq byte) of.0)
     (all_read (place + 1) bytes of.1)
 
 none_of_ok : {A E : Type 0} (es : List E) (value : A) → IsOk (unless es value) → es ≡ []
 none_of_ok [] value ok = refl
 none_of_ok (e ∷ es) value ok = cc
 
-no_either : {A : Type 0} (xs ys : List A) → xs ++ ys ≡ [] → (xs ≡ []) × (ys ≡ [])
-no_either [] ys e = (refl, e)
-no_either (x ∷ xs) ys e = cc
+append_empty_parts : {A : Type 0} (xs ys : List A) → xs ++ ys ≡ [] → (xs ≡ []) × (ys ≡ [])
+append_empty_parts [] ys e = (refl, e)
+append_empty_parts (x ∷ xs) ys e = cc
 
 no_map : {A B : Type 0} (f : A → B) (xs : List A) → map f xs ≡ [] → xs ≡ []
 no_map f [] e = refl
@@ -168,9 +171,9 @@ high_line : (line : List ℕ) (row : ℕ)
 high_line [] row e some = absurd (some refl)
 high_line (c ∷ cells) row e some = grind (arith, nat_tests)
 
-not_low : (is : Bool) (row : ℕ) → is && (row == 23) ≡ false → IsTrue is → row ≢ 23
-not_low true row e double at_23 = grind (arith, nat_tests)
-not_low false row e double at_23 = cc
+not_row_23 : (is : Bool) (row : ℕ) → is && (row == 23) ≡ false → IsTrue is → row ≢ 23
+not_row_23 true row e double at_23 = grind (arith, nat_tests)
+not_row_23 false row e double at_23 = cc
 
 not_under : (line : List ℕ) (under : Bool)
     → has_cells line && under ≡ false
@@ -180,45 +183,47 @@ not_under [] under e is = refl
 not_under (c ∷ cells) true e is = cc
 not_under (c ∷ cells) false e is = cc
 
-fit_line : (row : ℕ) (under : Bool) (line : List ℕ)
+line_fits : (row : ℕ) (under : Bool) (line : List ℕ)
     → line_fault_kinds row under line ≡ []
-    → IsFit row under line
+    → LineFits row under line
 unfolding line_fault_kinds
-fit_line row under line e =
+line_fits row under line e =
     let long = when (nat_lt 40 (length line)) RowTooLong in
     let low = when (has_cells line && nat_lt 23 row) PastBottom in
     let double = when (is_double line && (row == 23)) DoubleRow in
-    let three = no_either ((long ++ low) ++ double) (when (has_cells line && under) Hidden) e in
-    let two = no_either (long ++ low) double three.0 in
-    let one = no_either long low two.0 in
+    let three = append_empty_parts ((long ++ low) ++ double) (when (has_cells line && under) Hidden)
+    e in
+    let two = append_empty_parts (long ++ low) double three.0 in
+    let one = append_empty_parts long low two.0 in
     record {
       short = short_line (length line) (not_when (nat_lt 40 (length line)) RowTooLong one.0);
       high = high_line line row (not_when (has_cells line && nat_lt 23 row) PastBottom one.1);
-      tall =
-          not_low (is_double line) row (not_when (is_double line && (row == 23)) DoubleRow two.1);
+      double_not_in_row_23 =
+          not_row_23 (is_double line) row (not_when (is_double line && (row == 23)) DoubleRow
+          two.1);
       seen = not_under line under (not_when (has_cells line && under) Hidden three.1);
     }
 
-fit_of : (number row : ℕ) (under : Bool) (ls : List (List ℕ))
+lines_fit : (number row : ℕ) (under : Bool) (ls : List (List ℕ))
     → line_faults number row under ls ≡ []
-    → Fit row under ls
-fit_of number row under [] e = tt
-fit_of number row under (line ∷ ls) e =
-    let of = no_either _ _ e in (
-      fit_line row under line (no_map _ _ of.0),
-      fit_of (number + 1) (row + 1) (is_double line) ls of.1,
+    → LinesFit row under ls
+lines_fit number row under [] e = tt
+lines_fit number row under (line ∷ ls) e =
+    let of = append_empty_parts _ _ e in (
+      line_fits row under line (no_map _ _ of.0),
+      lines_fit (number + 1) (row + 1) (is_double line) ls of.1,
     )
 
 -- A subtitle that is drawn has its English page, and its text is drawn completely.
 pub record IsDrawn (t : SubtitleValue) : Type 0 where
   pub page : drawn default_drawing t ≡ Ok (english_page t)
-  pub whole : IsDrawnWhole t
+  pub whole : IsDrawnCompletely t
 
-plain_is : (t : SubtitleValue)
+plain_eq : (t : SubtitleValue)
     → IsOk (plainly_drawn English t)
-    → (plainly_drawn English t ≡ Ok (english_page t)) × IsDrawnWhole t
+    → (plainly_drawn English t ≡ Ok (english_page t)) × IsDrawnCompletely t
 unfolding plainly_drawn page_of_lines
-plain_is t ok =
+plain_eq t ok =
     let none = none_of_ok _ (page_of_lines t.jc t.vp (lines English t)) ok in (
       ap
           (λ (es : List RowFault).
@@ -229,17 +234,18 @@ plain_is t ok =
           let r : Result Rows RowFault = Ok (page_of_lines t.jc t.vp (map prepared ls)) in r)
           (lines_are 0 t.text),
       record {
-        read = all_read 0 t.text (no_either _ _ none).0;
+        read = all_read 0 t.text (append_empty_parts _ _ none).0;
         fit =
-            subst (λ (ls : List (List ℕ)). Fit t.vp false (map prepared ls)) (lines_are 0 t.text)
-            (fit_of 0 t.vp false (lines English t) (no_either _ _ none).1);
+            subst (λ (ls : List (List ℕ)). LinesFit t.vp false (map prepared ls))
+            (lines_are 0 t.text)
+            (lines_fit 0 t.vp false (lines English t) (append_empty_parts _ _ none).1);
       },
     )
 
 pub drawn_is : (t : SubtitleValue) → IsSubtitle t → IsOk (drawn default_drawing t) → IsDrawn t
 drawn_is t is ok =
     let plain = default_is_plain English t is.vp.0 in
-    let of = plain_is t (subst (λ (r : Result Rows RowFault). IsOk r) plain ok) in
+    let of = plain_eq t (subst (λ (r : Result Rows RowFault). IsOk r) plain ok) in
     record { page = plain ∙ of.0; whole = of.1 }
 
 pub all_drawn : (ts : List SubtitleValue)
@@ -263,19 +269,19 @@ due_by : (is : Bool) (t : SubtitleValue) (rest : Option SubtitleValue)
 due_by true t rest e same = grind (arith, nat_tests)
 due_by false t rest e same = same
 
-found_is : (ts : List SubtitleValue) (f : ℕ)
+found_eq : (ts : List SubtitleValue) (f : ℕ)
     → All IsDrawn ts
     → drawn_or_blank default_drawing (find (is_due f) ts) ≡ page_or_blank (find (is_due f) ts)
-found_is [] f each = refl
-found_is (t ∷ ts) f each =
+found_eq [] f each = refl
+found_eq (t ∷ ts) f each =
     due_by (is_due f t) t (find (is_due f) ts) (All-head IsDrawn t ts each).page
-    (found_is ts f (All-tail IsDrawn t ts each))
+    (found_eq ts f (All-tail IsDrawn t ts each))
 
-pub due_is : (ts : List SubtitleValue) (f : ℕ)
+pub due_eq : (ts : List SubtitleValue) (f : ℕ)
     → All IsDrawn ts
     → due default_drawing ts f ≡ english_due ts f
 unfolding due
-due_is ts f each = found_is ts f each
+due_eq ts f each = found_eq ts f each
 
 -- How a subtitle is drawn does not depend on the requested part of the file.
 abbrev pub english_within : Scope → Drawing
@@ -296,7 +302,7 @@ pub due_within : (scope : Scope) (ts : List SubtitleValue) (f : ℕ)
     → All IsDrawn ts
     → due (english_within scope) ts f ≡ english_due ts f
 unfolding due
-due_within scope ts f each = same_page scope (find (is_due f) ts) ∙ due_is ts f each
+due_within scope ts f each = same_page scope (find (is_due f) ts) ∙ due_eq ts f each
 
 both_none : {A : Type 0} (xs ys : List A) → xs ≡ [] → ys ≡ [] → xs ++ ys ≡ []
 both_none [] ys e f = f
@@ -327,18 +333,18 @@ taken None byte place is (inr (inl end)) = rw is (end_taken byte place end)
 taken None byte place is (inr (inr within)) = rw is (no_cell_taken byte place within)
 
 all_taken : (place : ℕ) (text : List ℕ)
-    → All IsRead text
+    → All IsHandledByte text
     → refused_codes (codes_after English place 0 text) ≡ []
 all_taken place [] read = refl
 all_taken place (byte ∷ bytes) read =
     ap refused_codes (codes_step place byte bytes)
     ∙ no_first (refused_code place (text_code English byte))
     (refused_codes (codes_after English (place + 1) 0 bytes))
-    (taken (english_cell byte) byte place (cell_is byte) (All-head IsRead byte bytes read))
-    (all_taken (place + 1) bytes (All-tail IsRead byte bytes read))
+    (taken (english_cell byte) byte place (cell_eq byte) (All-head IsHandledByte byte bytes read))
+    (all_taken (place + 1) bytes (All-tail IsHandledByte byte bytes read))
 
-not_long : (n : ℕ) → n ≤ 40 → nat_lt 40 n ≡ false
-not_long n le = grind (arith, nat_tests)
+line_not_too_long : (n : ℕ) → n ≤ 40 → nat_lt 40 n ≡ false
+line_not_too_long n le = grind (arith, nat_tests)
 
 not_past : (line : List ℕ) (row : ℕ)
     → (line ≢ [] → row ≤ 23)
@@ -346,9 +352,10 @@ not_past : (line : List ℕ) (row : ℕ)
 not_past [] row high = refl
 not_past (c ∷ cells) row high = let le = high (λ none. cc) in grind (arith, nat_tests)
 
-not_double : (is : Bool) (row : ℕ) → (IsTrue is → row ≢ 23) → is && (row == 23) ≡ false
-not_double true row tall = let not = tall refl in grind (arith, nat_tests)
-not_double false row tall = refl
+not_double_in_row_23 : (is : Bool) (row : ℕ) → (IsTrue is → row ≢ 23) → is && (row == 23) ≡ false
+not_double_in_row_23 true row double_not_in_row_23 = let not = double_not_in_row_23 refl in grind
+    (arith, nat_tests)
+not_double_in_row_23 false row double_not_in_row_23 = refl
 
 not_hidden : (line : List ℕ) (under : Bool)
     → (IsTrue under → line ≡ [])
@@ -361,19 +368,19 @@ none_when : (b : Bool) (kind : RowFaultKind) → b ≡ false → when b kind ≡
 none_when b kind e = ap (λ (b : Bool). when b kind) e
 
 none_of_line : (row : ℕ) (under : Bool) (line : List ℕ)
-    → IsFit row under line
+    → LineFits row under line
     → line_fault_kinds row under line ≡ []
 unfolding line_fault_kinds
 none_of_line row under line fit =
     both_none _ _
     (both_none _ _
-    (both_none _ _ (none_when _ RowTooLong (not_long (length line) fit.short))
+    (both_none _ _ (none_when _ RowTooLong (line_not_too_long (length line) fit.short))
     (none_when _ PastBottom (not_past line row fit.high)))
-    (none_when _ DoubleRow (not_double (is_double line) row fit.tall)))
+    (none_when _ DoubleRow (not_double_in_row_23 (is_double line) row fit.double_not_in_row_23)))
     (none_when _ Hidden (not_hidden line under fit.seen))
 
 none_of_lines : (number row : ℕ) (under : Bool) (ls : List (List ℕ))
-    → Fit row under ls
+    → LinesFit row under ls
     → line_faults number row under ls ≡ []
 none_of_lines number row under [] fit = refl
 none_of_lines number row under (line ∷ ls) fit =
@@ -384,17 +391,18 @@ ok_of_none : {A E : Type 0} (es : List E) (value : A) → es ≡ [] → IsOk (un
 ok_of_none [] value none = refl
 ok_of_none (e ∷ es) value none = cc
 
-plain_ok : (t : SubtitleValue) → IsDrawnWhole t → IsOk (plainly_drawn English t)
+plain_ok : (t : SubtitleValue) → IsDrawnCompletely t → IsOk (plainly_drawn English t)
 unfolding plainly_drawn page_of_lines
 plain_ok t whole =
     ok_of_none _ (page_of_lines t.jc t.vp (lines English t))
     (both_none (refused_codes (codes_after English 0 0 t.text))
     (line_faults 0 t.vp false (lines English t)) (all_taken 0 t.text whole.read)
     (none_of_lines 0 t.vp false (lines English t)
-    (subst (λ (ls : List (List ℕ)). Fit t.vp false (map prepared ls)) (sym (lines_are 0 t.text))
+    (subst (λ (ls : List (List ℕ)). LinesFit t.vp false (map prepared ls))
+    (sym (lines_are 0 t.text))
     whole.fit)))
 
-pub ok_of_complete : (t : SubtitleValue) → IsSubtitle t → IsDrawnWhole t → IsOk
+pub ok_of_complete : (t : SubtitleValue) → IsSubtitle t → IsDrawnCompletely t → IsOk
     (drawn default_drawing t)
 ok_of_complete t is whole =
     subst (λ (r : Result Rows RowFault). IsOk r) (sym (default_is_plain English t is.vp.0))

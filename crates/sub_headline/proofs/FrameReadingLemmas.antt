@@ -10,11 +10,11 @@ use Rattle.std.proofs.lemmas.List.{drop-drop, drop_at, map-append, take_at}
 use Rattle.ttx_pes.specs.DataUnit.{AreDataUnits, IsDataUnit, IsTeletextUnit, UnitValue}
 use Rattle.ttx_pes.specs.PesGrammar.{IsValidPesPacket, PesValue}
 use Rattle.ttx_pes.proofs.DataUnitLemmas.{mirrored_twice, unit_complete}
-use Rattle.ttx_pes.proofs.PesHeaderLemmas.{body_complete, body_of, packet_of_body, six_of}
+use Rattle.ttx_pes.proofs.PesHeaderLemmas.{body_complete, body_of, packet_of_body, first_six_bytes}
 use Rattle.sub_rules.specs.PesFrames.{Carries, IsSentAs}
 use Rattle.sub_rules.specs.Transmission.{SentFrame, Transmission}
 use Rattle.sub_headline.specs.PlainReading.{frame_read, frames_by_place, packet_read, packets_read}
-use Rattle.sub_headline.specs.PlainReading.{pieces_of, pts_read, size_read}
+use Rattle.sub_headline.specs.PlainReading.{chunks_of, pts_read, size_read}
 
 pes_packet_after : (size : ℕ) (first rest : List ℕ) (k : ℕ)
     → length first ≡ size
@@ -41,11 +41,11 @@ pes_packets_after size first rest a b (suc n) is next =
     ∙ ap (λ (ps : List (List ℕ)). pes_packet_at size rest a ∷ ps)
     (pes_packets_after size first rest (a + 1) (b + 1) n is (omega arith))
 
-pub pieces_cons : (size : ℕ) (first rest : List ℕ)
+pub chunks_of_cons : (size : ℕ) (first rest : List ℕ)
     → length first ≡ size
     → length (first ++ rest) / size ≡ suc (length rest / size)
-    → pieces_of size (first ++ rest) ≡ first ∷ pieces_of size rest
-pieces_cons size first rest is count =
+    → chunks_of size (first ++ rest) ≡ first ∷ chunks_of size rest
+chunks_of_cons size first rest is count =
     let none : size * 0 ≡ 0 = omega arith in
     let others = pes_packets_after size first rest 0 1 (length rest / size) is refl in
     rw (count, none, take_at first rest size is) (ap (λ (ps : List (List ℕ)). first ∷ ps) others)
@@ -56,35 +56,35 @@ teletext_id id low high = grind (arith, nat_tests)
 abbrev packets_in : List UnitValue → List (List ℕ)
 packets_in units = map (λ (u : UnitValue). u.packet) units
 
-packet_is : (u : UnitValue) (b : List ℕ) → IsTeletextUnit u b → packet_read b ≡ u.packet ∷ []
-packet_is u b h = rw (
+packet_eq : (u : UnitValue) (b : List ℕ) → IsTeletextUnit u b → packet_read b ≡ u.packet ∷ []
+packet_eq u b h = rw (
   h.bytes,
   teletext_id u.id h.is_unit.id.0 h.is_unit.id.1,
   mirrored_twice u.packet h.is_unit.packet.bytes,
 ) refl
 
-unit_is : (u : Option UnitValue) (b : List ℕ)
+unit_eq : (u : Option UnitValue) (b : List ℕ)
     → IsDataUnit u b
     → packet_read b ≡ packets_in (option_to_list u)
-unit_is (Some u) b h = packet_is u b h
-unit_is None b h = rw (h.bytes, h.other) refl
+unit_eq (Some u) b h = packet_eq u b h
+unit_eq None b h = rw (h.bytes, h.other) refl
 
 units_are : (n : ℕ) (units : List UnitValue) (b : List ℕ)
     → AreDataUnits n units b
-    → flat_map packet_read (pieces_of 46 b) ≡ packets_in units
+    → flat_map packet_read (chunks_of 46 b) ≡ packets_in units
 units_are zero units b h = rw (h.0, h.1) refl
 units_are (suc n) units b (u, others, first, rest, held, after, units_are_so, b_is) =
     let size = (unit_complete u first held).1 in
     rw (
       b_is,
-      pieces_cons 46 first rest size (omega (arith, length-append first rest, size)),
-      unit_is u first held,
+      chunks_of_cons 46 first rest size (omega (arith, length-append first rest, size)),
+      unit_eq u first held,
       units_are n others rest after,
       units_are_so,
     ) (sym (map-append (λ (u : UnitValue). u.packet) (option_to_list u) others))
 
-size_is : (n : ℕ) (more : List ℕ) → 1 ≤ n → n ≤ 9 → size_read (six_of n ++ more) ≡ 184 * n
-size_is n more low high = grind (arith, nat_tests)
+size_eq : (n : ℕ) (more : List ℕ) → 1 ≤ n → n ≤ 9 → size_read (first_six_bytes n ++ more) ≡ 184 * n
+size_eq n more low high = grind (arith, nat_tests)
 
 pts_back : (t : ℕ)
     → t < 2 ^ 33
@@ -103,15 +103,15 @@ module _ (v : PesValue) (p : List ℕ) (h : IsValidPesPacket v p) where
   size_of : (rest : List ℕ) → size_read (p ++ rest) ≡ length p
   size_of rest =
       ap (λ (b : List ℕ). size_read (b ++ rest)) (packet_of_body v p h)
-      ∙ ap size_read (append_assoc (six_of h.n) (body_of v p h) rest)
-      ∙ size_is h.n (body_of v p h ++ rest) h.size.0 h.size.1
+      ∙ ap size_read (append_assoc (first_six_bytes h.n) (body_of v p h) rest)
+      ∙ size_eq h.n (body_of v p h ++ rest) h.size.0 h.size.1
       ∙ sym long
 
-  pts_is : pts_read p ≡ v.pts
-  pts_is = ap pts_read h.bytes ∙ pts_back v.pts h.pts_fits
+  pts_eq : pts_read p ≡ v.pts
+  pts_eq = ap pts_read h.bytes ∙ pts_back v.pts h.pts_fits
 
-  field_is : drop 46 p ≡ h.data_units
-  field_is =
+  field_eq : drop 46 p ≡ h.data_units
+  field_eq =
       ap (drop 46) h.bytes
       ∙ ap (drop 32) (sym (append_assoc h.header_stuffing (h.data_identifier ∷ []) h.data_units))
       ∙ drop_at (h.header_stuffing ++ h.data_identifier ∷ []) h.data_units 32
@@ -126,18 +126,18 @@ frame_number : (origin frame : ℕ)
     → ((origin + 3600 * frame) % 2 ^ 33 + (2 ^ 33 - origin)) % 2 ^ 33 / 3600 ≡ frame
 frame_number origin frame fits in_day = omega arith
 
-frame_is : (origin : ℕ) (v : PesValue) (p : List ℕ) (s : SentFrame)
+frame_eq : (origin : ℕ) (v : PesValue) (p : List ℕ) (s : SentFrame)
     → origin < 2 ^ 33
     → IsValidPesPacket v p
     → IsSentAs origin v s
     → frame_read origin p ≡ s
-frame_is origin v p s fits h sent =
+frame_eq origin v p s fits h sent =
     ap
-    (λ (n : ℕ). frame_with n (flat_map packet_read (pieces_of 46 (drop 46 p))))
-    (ap (λ (t : ℕ). (t + (2 ^ 33 - origin)) % 2 ^ 33 / 3600) (pts_is v p h ∙ sent.pts)
+    (λ (n : ℕ). frame_with n (flat_map packet_read (chunks_of 46 (drop 46 p))))
+    (ap (λ (t : ℕ). (t + (2 ^ 33 - origin)) % 2 ^ 33 / 3600) (pts_eq v p h ∙ sent.pts)
     ∙ frame_number origin s.frame fits sent.in_day)
     ∙ ap (frame_with s.frame)
-    (ap (λ (b : List ℕ). flat_map packet_read (pieces_of 46 b)) (field_is v p h)
+    (ap (λ (b : List ℕ). flat_map packet_read (chunks_of 46 b)) (field_eq v p h)
     ∙ units_are (4 * h.n - 1) v.units h.data_units h.are_units
     ∙ sym sent.packets)
 
@@ -174,7 +174,7 @@ frames_from origin (suc most) (v ∷ values) (p ∷ packets) (s ∷ t) fits each
     omega (arith, few, length-append p (concat packets), some) in
     rw (
       packet_cut most p (concat packets) some (size_of v p each.0 (concat packets)),
-      frame_is origin v p s fits each.0 sent.0,
+      frame_eq origin v p s fits each.0 sent.0,
       frames_from origin most values packets t fits each.1 sent.1 left,
     ) refl
 

@@ -40,13 +40,13 @@ use Rattle.sub_check.specs.CheckedFiles.{IsAccepted, IsAcceptedBy}
 use Rattle.sub_listing.specs.Listing.{exit_code}
 use Rattle.sub_listing.specs.declared.status.Status.{Status}
 use Rattle.sub_listing.specs.declared.status.Status.TheVariants.{Done}
-use Rattle.sub_answer.specs.FilesInMemory.{DecidesAccepted, known_of_memory}
+use Rattle.sub_answer.specs.FilesInMemory.{DecidesAccepted, memory_observations}
 use Rattle.sub_answer.specs.Part.{through_range, through_stream}
 use Rattle.sub_answer.specs.Ending.{BufferHoldsOneLineOnly}
 use Rattle.sub_answer.proofs.MemoryLemmas.{law_of_files_in_memory}
 use Rattle.sub_headline.specs.Acceptance.{default_drawing}
 use Rattle.sub_headline.specs.BothClasses.{EachOfClassGets}
-use Rattle.sub_headline.specs.DrawnOptions.{DisplayOptions, looking_of, arguments_for}
+use Rattle.sub_headline.specs.DrawnOptions.{DisplayOptions, display_options_of, arguments_for}
 use Rattle.sub_headline.specs.DrawnOptions.DisplayOption.{Of}
 use Rattle.sub_headline.specs.EnglishPage.{english_due}
 use Rattle.sub_headline.specs.EnglishScreen.{EachScreenShows}
@@ -91,14 +91,14 @@ record IsCheckBy
     (stl pes : Text) (stream : Option TransportStream) (range : Option PesPacketRangeValue)
     (options : OptionsValue) (national : National) (layout : Layout) (scope : Scope)
     : Type 0 where
-  pub stl_is : stl0 ≡ stl
-  pub name_is : name ≡ pes
-  pub stream_is : stream0 ≡ stream
-  pub range_is : range0 ≡ range
+  pub stl_eq : stl0 ≡ stl
+  pub name_eq : name ≡ pes
+  pub stream_eq : stream0 ≡ stream
+  pub range_eq : range0 ≡ range
   pub options_are : options0 ≡ options
-  pub national_is : national0 ≡ national
-  pub layout_is : layout0 ≡ layout
-  pub scope_is : scope0 ≡ scope
+  pub national_eq : national0 ≡ national
+  pub layout_eq : layout0 ≡ layout
+  pub scope_eq : scope0 ≡ scope
 
 is_check_by :
     (stl0 name : Text) (stream0 : Option TransportStream) (range0 : Option PesPacketRangeValue)
@@ -128,24 +128,24 @@ reports :
     → (status ≡ Done) ↔ IsAcceptedBy (drawing_within national layout scope) options file read
 reports
     (ask.Check stl0 pes0 options0 national0 layout0 scope0 all0) stl pes stream range options
-    national layout scope all file bytes read files status requested stl_is pes_is read_is
+    national layout scope all file bytes read files status requested stl_eq pes_eq read_is
     reported =
     let is =
     is_check_by stl0.now pes0.name.now pes0.stream pes0.range options0 national0 layout0 scope0
     all0 stl pes stream range options national layout scope all requested in
     let drawing_is =
-    ap (λ n. drawing_within n layout0 scope0) is.national_is
-    ∙ ap (λ l. drawing_within national l scope0) is.layout_is
-    ∙ ap (λ s. drawing_within national layout s) is.scope_is in
+    ap (λ n. drawing_within n layout0 scope0) is.national_eq
+    ∙ ap (λ l. drawing_within national l scope0) is.layout_eq
+    ∙ ap (λ s. drawing_within national layout s) is.scope_eq in
     subst (λ (d : Drawing). (status ≡ Done) ↔ IsAcceptedBy d options file read) drawing_is
     (subst
     (λ (o : OptionsValue).
     (status ≡ Done) ↔ IsAcceptedBy (drawing_within national0 layout0 scope0) o file read)
     is.options_are
-    (reported file bytes read (ap (λ n. bytes_at n files) is.stl_is ∙ stl_is)
-    (ap (λ n. bytes_at n files) is.name_is ∙ pes_is)
-    (ap (λ r. through_range r (through_stream pes0.stream (Some bytes))) is.range_is
-    ∙ ap (λ s. through_range range (through_stream s (Some bytes))) is.stream_is
+    (reported file bytes read (ap (λ n. bytes_at n files) is.stl_eq ∙ stl_eq)
+    (ap (λ n. bytes_at n files) is.name_eq ∙ pes_eq)
+    (ap (λ r. through_range r (through_stream pes0.stream (Some bytes))) is.range_eq
+    ∙ ap (λ s. through_range range (through_stream s (Some bytes))) is.stream_eq
     ∙ read_is)))
 reports ask.Help stl pes st ra o n y c all file bytes read files s e at_stl at_pes r reported = cc
 reports ask.Version stl pes st ra o n y c all file bytes read files s e at_stl at_pes r
@@ -344,18 +344,18 @@ module _ (national : National) (layout : Layout) (scope : Scope) (options : Opti
 abbrev stream_of : Reading → Option TransportStream
 stream_of r = option_map (λ pid. record { pid = pid; packet_size = r.size }) r.pid
 
-range_so : (range : Option PesPacketRangeValue) (bytes : List ℕ)
+through_range_known : (range : Option PesPacketRangeValue) (bytes : List ℕ)
     → through_range range (Some bytes) ≡ Some (numbered_by range bytes)
-range_so None bytes = refl
-range_so (Some range) bytes = refl
+through_range_known None bytes = refl
+through_range_known (Some range) bytes = refl
 
 read_so : (pid : Option ℕ) (size : PacketSize) (range : Option PesPacketRangeValue) (bytes : List ℕ)
     → through_range range
     (through_stream (option_map (λ pid. record { pid = pid; packet_size = size }) pid)
     (Some bytes))
     ≡ Some (numbered_by range (carried_by pid size bytes))
-read_so None size range bytes = range_so range bytes
-read_so (Some pid) size range bytes = range_so range (carried_by (Some pid) size bytes)
+read_so None size range bytes = through_range_known range bytes
+read_so (Some pid) size range bytes = through_range_known range (carried_by (Some pid) size bytes)
 
 -- The arguments can only request a check of the given files and of the given part of the recording,
 -- in which `within` is 0 and no repeat may keep the page.
@@ -374,7 +374,7 @@ record RequestsCheck
   pub off : IsFalse options.keeps
 
 -- The exit code of a run of `check` agrees with the bytes of both files.
-record TellsBytes
+record CodeImplies
     (drawing : Drawing) (options : OptionsValue) (file read : List ℕ) (code : ℕ)
     : Type 0 where
   pub fits : options.origin < 2 ^ 33
@@ -383,7 +383,7 @@ record TellsBytes
 module _ {K : Type 0} (contents : K → Option (List ℕ)) (failure_count : K → ℕ)
     (IsPush : K → List ℕ → Option ℕ → K → Type 0) (output left : K)
     (before after : MemFilesValue) (given : Result (List Text) UsageFault) (code : ℕ)
-    (runs : RunsProgram (CallsInOrder IsMemoryCall before after) known_of_memory
+    (runs : RunsProgram (CallsInOrder IsMemoryCall before after) memory_observations
     (λ was is. is ≡ was)
     given contents failure_count IsPush output left code) where
   module _ (arguments : List Text) (stl pes : Text) (stream : Option TransportStream)
@@ -391,14 +391,14 @@ module _ {K : Type 0} (contents : K → Option (List ℕ)) (failure_count : K �
       (layout : Layout) (scope : Scope) (file bytes read : List ℕ)
       (requests_check : RequestsCheck arguments stl pes stream range options national layout scope)
       (given_is : given ≡ Ok arguments)
-      (stl_is : bytes_at stl before ≡ Some file) (pes_is : bytes_at pes before ≡ Some bytes)
+      (stl_eq : bytes_at stl before ≡ Some file) (pes_eq : bytes_at pes before ≡ Some bytes)
       (read_is : through_range range (through_stream stream (Some bytes)) ≡ Some read)
       (not_two : code ≢ 2) where
-    ran : HasAnswered (CallsInOrder IsMemoryCall before after) known_of_memory
+    ran : HasAnswered (CallsInOrder IsMemoryCall before after) memory_observations
         (λ was is. is ≡ was) given (BufferHoldsOneLineOnly contents failure_count IsPush) code
     ran = answered _ _ _ _ contents failure_count IsPush output left code runs not_two
 
-    code_reports : TellsBytes (drawing_within national layout scope) options file read code
+    code_reports : CodeImplies (drawing_within national layout scope) options file read code
     code_reports =
         let of = ran.answered in
         let (all, requested, fits) =
@@ -408,10 +408,10 @@ module _ {K : Type 0} (contents : K → Option (List ℕ)) (failure_count : K �
         of.requested) in
         let reported =
         law_of_files_in_memory _ of.request before after ran.old ran.new ran.status of.ends
-        (no_fault ran.status (λ e. not_two (ran.code_is ∙ e))) in
+        (no_fault ran.status (λ e. not_two (ran.code_eq ∙ e))) in
         let by =
         reports of.request stl pes stream range options national layout scope all file bytes read
-        before ran.status requested stl_is pes_is read_is reported in
+        before ran.status requested stl_eq pes_eq read_is reported in
         let same =
         law_of_plain_acceptance (drawing_within national layout scope) options file read
         requests_check.off
@@ -419,8 +419,8 @@ module _ {K : Type 0} (contents : K → Option (List ℕ)) (failure_count : K �
         record {
           fits = fits;
           reports = (
-            λ none. same.0 (by.0 (done_by_code ran.status (sym ran.code_is ∙ none))),
-            λ is. ran.code_is ∙ ap exit_code (by.1 (same.1 is)),
+            λ none. same.0 (by.0 (done_by_code ran.status (sym ran.code_eq ∙ none))),
+            λ is. ran.code_eq ∙ ap exit_code (by.1 (same.1 is)),
           );
         }
 
@@ -433,7 +433,8 @@ module _ {K : Type 0} (contents : K → Option (List ℕ)) (failure_count : K �
       default_layout (reading_of parts).scope
   requests_check_parts program stl pes parts is_stl is_pes =
       let by = plain_by (map Of parts) in
-      let at = ap (λ (l : DisplayOptions). l.reading.options) (display_of_parts (looking_of [])
+      let at = ap (λ (l : DisplayOptions). l.reading.options)
+      (display_of_parts (display_options_of [])
       parts) in
       record {
         requested = λ request. law_of_part_arguments program stl pes parts request is_stl is_pes;
@@ -443,23 +444,23 @@ module _ {K : Type 0} (contents : K → Option (List ℕ)) (failure_count : K �
 
   part_reports : OfRecording given before
       (λ r file bytes.
-      code ≢ 2 → TellsBytes (english_within r.scope) r.options file (bytes_read r bytes) code)
-  part_reports = λ program stl pes parts file bytes is_stl is_pes given_is stl_is pes_is not_two.
+      code ≢ 2 → CodeImplies (english_within r.scope) r.options file (bytes_read r bytes) code)
+  part_reports = λ program stl pes parts file bytes is_stl is_pes given_is stl_eq pes_eq not_two.
       let r = reading_of parts in
       code_reports _ stl pes (stream_of r) r.range r.options English default_layout r.scope file
       bytes
       (bytes_read r bytes)
-      (requests_check_parts program stl pes parts is_stl is_pes) given_is stl_is pes_is
+      (requests_check_parts program stl pes parts is_stl is_pes) given_is stl_eq pes_eq
       (read_so r.pid r.size r.range bytes) not_two
 
   display_reports : OfDisplay given before
       (λ l file bytes.
       code ≢ 2
-      → TellsBytes (drawing_within l.national l.layout l.reading.scope) l.reading.options file
+      → CodeImplies (drawing_within l.national l.layout l.reading.scope) l.reading.options file
       (bytes_read l.reading bytes) code)
-  display_reports = λ program stl pes display_options file bytes is_stl is_pes given_is stl_is
-      pes_is not_two.
-      let l = looking_of display_options in
+  display_reports = λ program stl pes display_options file bytes is_stl is_pes given_is stl_eq
+      pes_eq not_two.
+      let l = display_options_of display_options in
       let r = l.reading in
       let by = plain_by display_options in
       code_reports (program ∷ codes "check" ∷ stl ∷ pes ∷ flat_map arguments_for display_options)
@@ -470,7 +471,7 @@ module _ {K : Type 0} (contents : K → Option (List ℕ)) (failure_count : K �
             is_stl is_pes;
         none = by.0;
         off = by.1;
-      }) given_is stl_is pes_is (read_so r.pid r.size r.range bytes) not_two
+      }) given_is stl_eq pes_eq (read_so r.pid r.size r.range bytes) not_two
 
   requests_check_chosen :
       (program stl pes : Text) (choices : List Choice)
@@ -483,7 +484,7 @@ module _ {K : Type 0} (contents : K → Option (List ℕ)) (failure_count : K �
       let by = plain_by (map Of (map Any choices)) in
       let at =
       ap (λ (l : DisplayOptions). l.reading.options)
-      (display_of_parts (looking_of []) (map Any choices))
+      (display_of_parts (display_options_of []) (map Any choices))
       ∙ ap (λ (r : Reading). r.options) (read_any (reading_of []) choices) in
       record {
         requested = λ request. law_of_chosen_arguments program stl pes choices request is_stl
@@ -493,12 +494,12 @@ module _ {K : Type 0} (contents : K → Option (List ℕ)) (failure_count : K �
       }
 
   chosen_reports : OfChosen given before
-      (λ o file bytes. code ≢ 2 → TellsBytes default_drawing o file bytes code)
-  chosen_reports = λ program stl pes choices file bytes is_stl is_pes given_is stl_is pes_is
+      (λ o file bytes. code ≢ 2 → CodeImplies default_drawing o file bytes code)
+  chosen_reports = λ program stl pes choices file bytes is_stl is_pes given_is stl_eq pes_eq
       not_two.
       code_reports _ stl pes None None (options_by choices) English default_layout whole file bytes
       bytes
-      (requests_check_chosen program stl pes choices is_stl is_pes) given_is stl_is pes_is refl
+      (requests_check_chosen program stl pes choices is_stl is_pes) given_is stl_eq pes_eq refl
       not_two
 
   of_accepted :
@@ -510,9 +511,9 @@ module _ {K : Type 0} (contents : K → Option (List ℕ)) (failure_count : K �
       code ≡ 0
       → IsSo o file bytes (subtitles_by_place file) (frames_by_place o.origin bytes))
   of_accepted IsSo so =
-      λ program stl pes choices file bytes is_stl is_pes given_is stl_is pes_is none.
+      λ program stl pes choices file bytes is_stl is_pes given_is stl_eq pes_eq none.
       let reported =
-      chosen_reports program stl pes choices file bytes is_stl is_pes given_is stl_is pes_is
+      chosen_reports program stl pes choices file bytes is_stl is_pes given_is stl_eq pes_eq
       (λ two. absurd (omega (arith, none, two))) in
       let o = options_by choices in
       let is = reported.reports.0 none in
@@ -543,43 +544,43 @@ law_of_headline contents failure_count IsPush given before after output left cod
           (λ o file bytes subtitles transmission.
           IsTrue o.asks_complete → EachDisplayShows o.page subtitles transmission)
           (λ o file bytes is. complete whole o file bytes is),
-      λ program stl pes parts file bytes is_stl is_pes given_is stl_is pes_is none.
+      λ program stl pes parts file bytes is_stl is_pes given_is stl_eq pes_eq none.
           let r = reading_of parts in
           let reported =
-          reports program stl pes parts file bytes is_stl is_pes given_is stl_is pes_is
+          reports program stl pes parts file bytes is_stl is_pes given_is stl_eq pes_eq
           (not_two none) in
           let is = reported.reports.0 none in
           read r.scope r.options file (bytes_read r bytes) is reported.fits
           (Headline r.options.page r.options.every english_due)
           (headline r.scope r.options file (bytes_read r bytes) is),
-      λ program stl pes parts file bytes is_stl is_pes given_is stl_is pes_is none.
+      λ program stl pes parts file bytes is_stl is_pes given_is stl_eq pes_eq none.
           let r = reading_of parts in
           let reported =
-          reports program stl pes parts file bytes is_stl is_pes given_is stl_is pes_is
+          reports program stl pes parts file bytes is_stl is_pes given_is stl_eq pes_eq
           (not_two none) in
           kept r.scope r.options file (bytes_read r bytes) (reported.reports.0 none) reported.fits,
-      λ program stl pes parts file bytes is_stl is_pes given_is stl_is pes_is none.
+      λ program stl pes parts file bytes is_stl is_pes given_is stl_eq pes_eq none.
           let r = reading_of parts in
           let reported =
-          reports program stl pes parts file bytes is_stl is_pes given_is stl_is pes_is
+          reports program stl pes parts file bytes is_stl is_pes given_is stl_eq pes_eq
           (not_two none) in
           let is = reported.reports.0 none in
           read r.scope r.options file (bytes_read r bytes) is reported.fits
           (AreFilesOf r.scope r.options.origin file (bytes_read r bytes))
           (files r.scope r.options file (bytes_read r bytes) is),
-      λ program stl pes display_options file bytes is_stl is_pes given_is stl_is pes_is none.
-          let l = looking_of display_options in
+      λ program stl pes display_options file bytes is_stl is_pes given_is stl_eq pes_eq none.
+          let l = display_options_of display_options in
           let reported =
           display_reports contents failure_count IsPush output left before after given code runs
           program
-          stl pes display_options file bytes is_stl is_pes given_is stl_is pes_is (not_two none) in
+          stl pes display_options file bytes is_stl is_pes given_is stl_eq pes_eq (not_two none) in
           drawn_read l.national l.layout l.reading.scope l.reading.options file
           (bytes_read l.reading bytes)
           (reported.reports.0 none) reported.fits,
-      λ program stl pes choices file bytes is_stl is_pes given_is stl_is pes_is not_two.
+      λ program stl pes choices file bytes is_stl is_pes given_is stl_eq pes_eq not_two.
           let reported =
           chosen_reports contents failure_count IsPush output left before after given code runs
-          program stl pes choices file bytes is_stl is_pes given_is stl_is pes_is not_two in
+          program stl pes choices file bytes is_stl is_pes given_is stl_eq pes_eq not_two in
           let same = law_of_english_acceptance (options_by choices) file bytes in
           (λ none. same.0 (reported.reports.0 none), λ is. reported.reports.1 (same.1 is)),
     )

@@ -1,5 +1,5 @@
 -- The words of choices after `check STL PES` put their values into the rows of arguments
--- (`held_by`). Used for `law_of_chosen_arguments`.
+-- (`values_after_options`). Used for `law_of_chosen_arguments`.
 use Rattle.std.proofs.Common.{◌≡◌, ◌∙◌, ℕ, Bool, true, false, List, [], ◌∷◌, Option, Some}
 use Rattle.std.proofs.Common.{None, refl, sym, ap, arith, codes, drop, subst}
 use Rattle.std.proofs.lemmas.Bool.Decides.{nat_tests}
@@ -33,10 +33,11 @@ use Rattle.sub_headline.specs.PlainOptions.Choice.{Page, Every, Origin, Pace, Co
 use Rattle.sub_headline.specs.PlainOptions.Choice.{EveryFault}
 use Rattle.sub_headline.specs.DrawnOptions.{DisplayOption, arguments_for}
 use Rattle.sub_headline.specs.DrawnOptions.DisplayOption.{Letters, Lines, Of}
-use Rattle.sub_headline.specs.RecordingOptions.Portion.{Pid, Size, Numbers, From, To, OpenToo}
+use Rattle.sub_headline.specs.RecordingOptions.Portion.{Pid, Size, Numbers, From, To, AlsoOpen}
 use Rattle.sub_headline.specs.RecordingOptions.Portion.{Any}
 use Rattle.sub_headline.specs.PlainArguments.{IsName}
-use Rattle.sub_headline.proofs.PlainWordLemmas.{at_rest, check_shape, no_dashes, no_long, no_short}
+use Rattle.sub_headline.proofs.PlainWordLemmas.{at_rest, check_shape, no_dashes, no_long_option}
+use Rattle.sub_headline.proofs.PlainWordLemmas.{no_short_option}
 use Rattle.sub_headline.proofs.RowLemmas.{values_at, same_id, set_other, set_row, set_same}
 
 page_is_name : (text : Text) (page : PageIdValue) → page_of_text text ≡ Some page → IsName text
@@ -133,8 +134,8 @@ value_word c id word h name =
     let met : Held × Step =
     if b then (h, trailing 3) else long_or_other c (option id) word (long_of word) h in met)
     (no_dashes word name)
-    ∙ ap (λ o. long_or_other c (option id) word o h) (no_long word name)
-    ∙ ap (λ o. short_or_plain c (option id) word o h) (no_short word name)
+    ∙ ap (λ o. long_or_other c (option id) word o h) (no_long_option word name)
+    ∙ ap (λ o. short_or_plain c (option id) word o h) (no_short_option word name)
 
 value_walked : (c : List Rule) (id : Text) (h : Held) (word : Text)
     → IsName word
@@ -161,82 +162,82 @@ key (Of (Size text size is)) = codes "packet-size"
 key (Of (Numbers text range is)) = codes "pes"
 key (Of (From text frame name is)) = codes "from"
 key (Of (To text frame name is)) = codes "to"
-key (Of OpenToo) = codes "open"
+key (Of AlsoOpen) = codes "open"
 key (Letters text national name is) = codes "option"
 key (Lines text layout name is) = codes "layout"
 
-abbrev pub vals : DisplayOption → List Text
-vals (Of (Any (Page text page is))) = text ∷ []
-vals (Of (Any (Every text frames is))) = text ∷ []
-vals (Of (Any (Origin text pts is))) = text ∷ []
-vals (Of (Any (Pace text frames is))) = text ∷ []
-vals (Of (Any Complete)) = codes "true" ∷ []
-vals (Of (Any EveryFault)) = codes "true" ∷ []
-vals (Of (Pid text pid is)) = text ∷ []
-vals (Of (Size text size is)) = text ∷ []
-vals (Of (Numbers text range is)) = text ∷ []
-vals (Of (From text frame name is)) = text ∷ []
-vals (Of (To text frame name is)) = text ∷ []
-vals (Of OpenToo) = codes "true" ∷ []
-vals (Letters text national name is) = text ∷ []
-vals (Lines text layout name is) = text ∷ []
+abbrev pub option_values : DisplayOption → List Text
+option_values (Of (Any (Page text page is))) = text ∷ []
+option_values (Of (Any (Every text frames is))) = text ∷ []
+option_values (Of (Any (Origin text pts is))) = text ∷ []
+option_values (Of (Any (Pace text frames is))) = text ∷ []
+option_values (Of (Any Complete)) = codes "true" ∷ []
+option_values (Of (Any EveryFault)) = codes "true" ∷ []
+option_values (Of (Pid text pid is)) = text ∷ []
+option_values (Of (Size text size is)) = text ∷ []
+option_values (Of (Numbers text range is)) = text ∷ []
+option_values (Of (From text frame name is)) = text ∷ []
+option_values (Of (To text frame name is)) = text ∷ []
+option_values (Of AlsoOpen) = codes "true" ∷ []
+option_values (Letters text national name is) = text ∷ []
+option_values (Lines text layout name is) = text ∷ []
 
 abbrev rule_at : Text → Rule
 rule_at id = unwrap_or (arg_by_id rules id) (new_rule [])
 
-abbrev waiting_held : Text → Held → Held
-waiting_held id h = record (settled rules h) { pending = Some (id, []) }
+abbrev waiting_state : Text → Held → Held
+waiting_state id h = record (settled rules h) { pending = Some (id, []) }
 
-abbrev valued_held : Text → Text → Held → Held
-valued_held id text h = record (settled rules h) { pending = Some (id, text ∷ []) }
+abbrev state_with_value : Text → Text → Held → Held
+state_with_value id text h = record (settled rules h) { pending = Some (id, text ∷ []) }
 
 abbrev pub next : Held → DisplayOption → Held
-next h (Of (Any (Page text page is))) = valued_held (codes "page") text h
-next h (Of (Any (Every text frames is))) = valued_held (codes "every") text h
-next h (Of (Any (Origin text pts is))) = valued_held (codes "origin") text h
-next h (Of (Any (Pace text frames is))) = valued_held (codes "pace") text h
+next h (Of (Any (Page text page is))) = state_with_value (codes "page") text h
+next h (Of (Any (Every text frames is))) = state_with_value (codes "every") text h
+next h (Of (Any (Origin text pts is))) = state_with_value (codes "origin") text h
+next h (Of (Any (Pace text frames is))) = state_with_value (codes "pace") text h
 next h (Of (Any Complete)) = reacted rules (rule_at (codes "complete")) [] h
 next h (Of (Any EveryFault)) = reacted rules (rule_at (codes "all")) [] h
-next h (Of (Pid text pid is)) = valued_held (codes "pid") text h
-next h (Of (Size text size is)) = valued_held (codes "packet-size") text h
-next h (Of (Numbers text range is)) = valued_held (codes "pes") text h
-next h (Of (From text frame name is)) = valued_held (codes "from") text h
-next h (Of (To text frame name is)) = valued_held (codes "to") text h
-next h (Of OpenToo) = reacted rules (rule_at (codes "open")) [] h
-next h (Letters text national name is) = valued_held (codes "option") text h
-next h (Lines text layout name is) = valued_held (codes "layout") text h
+next h (Of (Pid text pid is)) = state_with_value (codes "pid") text h
+next h (Of (Size text size is)) = state_with_value (codes "packet-size") text h
+next h (Of (Numbers text range is)) = state_with_value (codes "pes") text h
+next h (Of (From text frame name is)) = state_with_value (codes "from") text h
+next h (Of (To text frame name is)) = state_with_value (codes "to") text h
+next h (Of AlsoOpen) = reacted rules (rule_at (codes "open")) [] h
+next h (Letters text national name is) = state_with_value (codes "option") text h
+next h (Lines text layout name is) = state_with_value (codes "layout") text h
 
 page_word : (h : Held)
     → walked rules [] (at_rest h 3) (codes "--page")
-    ≡ at_option (codes "page") (waiting_held (codes "page") h)
+    ≡ at_option (codes "page") (waiting_state (codes "page") h)
 unfolding subttx_app clap_on_literals
 page_word h = refl
 
 every_word : (h : Held)
     → walked rules [] (at_rest h 3) (codes "--every")
-    ≡ at_option (codes "every") (waiting_held (codes "every") h)
+    ≡ at_option (codes "every") (waiting_state (codes "every") h)
 unfolding subttx_app clap_on_literals
 every_word h = refl
 
 origin_word : (h : Held)
     → walked rules [] (at_rest h 3) (codes "--origin")
-    ≡ at_option (codes "origin") (waiting_held (codes "origin") h)
+    ≡ at_option (codes "origin") (waiting_state (codes "origin") h)
 unfolding subttx_app clap_on_literals
 origin_word h = refl
 
 pace_word : (h : Held)
     → walked rules [] (at_rest h 3) (codes "--pace")
-    ≡ at_option (codes "pace") (waiting_held (codes "pace") h)
+    ≡ at_option (codes "pace") (waiting_state (codes "pace") h)
 unfolding subttx_app clap_on_literals
 pace_word h = refl
 
 pace_value : (h : Held) (text : Text)
     → IsName text
-    → walked rules [] (at_option (codes "pace") (waiting_held (codes "pace") h)) text
-    ≡ at_rest (valued_held (codes "pace") text h) 3
+    → walked rules [] (at_option (codes "pace") (waiting_state (codes "pace") h)) text
+    ≡ at_rest (state_with_value (codes "pace") text h) 3
 unfolding subttx_app
 pace_value h text name =
-    value_walked rules (codes "pace") (waiting_held (codes "pace") h) text name ∙ refl
+    value_walked rules (codes "pace") (waiting_state (codes "pace") h) text name ∙ refl
 
 complete_word : (h : Held)
     → walked rules [] (at_rest h 3) (codes "--complete") ≡ at_rest (next h (Of (Any Complete))) 3
@@ -250,128 +251,129 @@ all_word h = refl
 
 option_word : (h : Held)
     → walked rules [] (at_rest h 3) (codes "--option")
-    ≡ at_option (codes "option") (waiting_held (codes "option") h)
+    ≡ at_option (codes "option") (waiting_state (codes "option") h)
 unfolding subttx_app clap_on_literals
 option_word h = refl
 
 option_value : (h : Held) (text : Text)
     → IsName text
-    → walked rules [] (at_option (codes "option") (waiting_held (codes "option") h)) text
-    ≡ at_rest (valued_held (codes "option") text h) 3
+    → walked rules [] (at_option (codes "option") (waiting_state (codes "option") h)) text
+    ≡ at_rest (state_with_value (codes "option") text h) 3
 unfolding subttx_app
 option_value h text name =
-    value_walked rules (codes "option") (waiting_held (codes "option") h) text name ∙ refl
+    value_walked rules (codes "option") (waiting_state (codes "option") h) text name ∙ refl
 
 layout_word : (h : Held)
     → walked rules [] (at_rest h 3) (codes "--layout")
-    ≡ at_option (codes "layout") (waiting_held (codes "layout") h)
+    ≡ at_option (codes "layout") (waiting_state (codes "layout") h)
 unfolding subttx_app clap_on_literals
 layout_word h = refl
 
 layout_value : (h : Held) (text : Text)
     → IsName text
-    → walked rules [] (at_option (codes "layout") (waiting_held (codes "layout") h)) text
-    ≡ at_rest (valued_held (codes "layout") text h) 3
+    → walked rules [] (at_option (codes "layout") (waiting_state (codes "layout") h)) text
+    ≡ at_rest (state_with_value (codes "layout") text h) 3
 unfolding subttx_app
 layout_value h text name =
-    value_walked rules (codes "layout") (waiting_held (codes "layout") h) text name ∙ refl
+    value_walked rules (codes "layout") (waiting_state (codes "layout") h) text name ∙ refl
 
 pid_word : (h : Held)
     → walked rules [] (at_rest h 3) (codes "--pid")
-    ≡ at_option (codes "pid") (waiting_held (codes "pid") h)
+    ≡ at_option (codes "pid") (waiting_state (codes "pid") h)
 unfolding subttx_app clap_on_literals
 pid_word h = refl
 
 size_word : (h : Held)
     → walked rules [] (at_rest h 3) (codes "--packet-size")
-    ≡ at_option (codes "packet-size") (waiting_held (codes "packet-size") h)
+    ≡ at_option (codes "packet-size") (waiting_state (codes "packet-size") h)
 unfolding subttx_app clap_on_literals
 size_word h = refl
 
 pes_word : (h : Held)
     → walked rules [] (at_rest h 3) (codes "--pes")
-    ≡ at_option (codes "pes") (waiting_held (codes "pes") h)
+    ≡ at_option (codes "pes") (waiting_state (codes "pes") h)
 unfolding subttx_app clap_on_literals
 pes_word h = refl
 
 pid_value : (h : Held) (text : Text)
     → IsName text
-    → walked rules [] (at_option (codes "pid") (waiting_held (codes "pid") h)) text
-    ≡ at_rest (valued_held (codes "pid") text h) 3
+    → walked rules [] (at_option (codes "pid") (waiting_state (codes "pid") h)) text
+    ≡ at_rest (state_with_value (codes "pid") text h) 3
 unfolding subttx_app
 pid_value h text name =
-    value_walked rules (codes "pid") (waiting_held (codes "pid") h) text name ∙ refl
+    value_walked rules (codes "pid") (waiting_state (codes "pid") h) text name ∙ refl
 
 size_value : (h : Held) (text : Text)
     → IsName text
-    → walked rules [] (at_option (codes "packet-size") (waiting_held (codes "packet-size") h)) text
-    ≡ at_rest (valued_held (codes "packet-size") text h) 3
+    → walked rules [] (at_option (codes "packet-size") (waiting_state (codes "packet-size") h)) text
+    ≡ at_rest (state_with_value (codes "packet-size") text h) 3
 unfolding subttx_app
 size_value h text name =
-    value_walked rules (codes "packet-size") (waiting_held (codes "packet-size") h) text name ∙ refl
+    value_walked rules (codes "packet-size") (waiting_state (codes "packet-size") h) text name ∙
+    refl
 
 pes_value : (h : Held) (text : Text)
     → IsName text
-    → walked rules [] (at_option (codes "pes") (waiting_held (codes "pes") h)) text
-    ≡ at_rest (valued_held (codes "pes") text h) 3
+    → walked rules [] (at_option (codes "pes") (waiting_state (codes "pes") h)) text
+    ≡ at_rest (state_with_value (codes "pes") text h) 3
 unfolding subttx_app
 pes_value h text name =
-    value_walked rules (codes "pes") (waiting_held (codes "pes") h) text name ∙ refl
+    value_walked rules (codes "pes") (waiting_state (codes "pes") h) text name ∙ refl
 
 page_value : (h : Held) (text : Text)
     → IsName text
-    → walked rules [] (at_option (codes "page") (waiting_held (codes "page") h)) text
-    ≡ at_rest (valued_held (codes "page") text h) 3
+    → walked rules [] (at_option (codes "page") (waiting_state (codes "page") h)) text
+    ≡ at_rest (state_with_value (codes "page") text h) 3
 unfolding subttx_app
 page_value h text name =
-    value_walked rules (codes "page") (waiting_held (codes "page") h) text name ∙ refl
+    value_walked rules (codes "page") (waiting_state (codes "page") h) text name ∙ refl
 
 every_value : (h : Held) (text : Text)
     → IsName text
-    → walked rules [] (at_option (codes "every") (waiting_held (codes "every") h)) text
-    ≡ at_rest (valued_held (codes "every") text h) 3
+    → walked rules [] (at_option (codes "every") (waiting_state (codes "every") h)) text
+    ≡ at_rest (state_with_value (codes "every") text h) 3
 unfolding subttx_app
 every_value h text name =
-    value_walked rules (codes "every") (waiting_held (codes "every") h) text name ∙ refl
+    value_walked rules (codes "every") (waiting_state (codes "every") h) text name ∙ refl
 
 origin_value : (h : Held) (text : Text)
     → IsName text
-    → walked rules [] (at_option (codes "origin") (waiting_held (codes "origin") h)) text
-    ≡ at_rest (valued_held (codes "origin") text h) 3
+    → walked rules [] (at_option (codes "origin") (waiting_state (codes "origin") h)) text
+    ≡ at_rest (state_with_value (codes "origin") text h) 3
 unfolding subttx_app
 origin_value h text name =
-    value_walked rules (codes "origin") (waiting_held (codes "origin") h) text name ∙ refl
+    value_walked rules (codes "origin") (waiting_state (codes "origin") h) text name ∙ refl
 
 from_word : (h : Held)
     → walked rules [] (at_rest h 3) (codes "--from")
-    ≡ at_option (codes "from") (waiting_held (codes "from") h)
+    ≡ at_option (codes "from") (waiting_state (codes "from") h)
 unfolding subttx_app clap_on_literals
 from_word h = refl
 
 from_value : (h : Held) (text : Text)
     → IsName text
-    → walked rules [] (at_option (codes "from") (waiting_held (codes "from") h)) text
-    ≡ at_rest (valued_held (codes "from") text h) 3
+    → walked rules [] (at_option (codes "from") (waiting_state (codes "from") h)) text
+    ≡ at_rest (state_with_value (codes "from") text h) 3
 unfolding subttx_app
 from_value h text name =
-    value_walked rules (codes "from") (waiting_held (codes "from") h) text name ∙ refl
+    value_walked rules (codes "from") (waiting_state (codes "from") h) text name ∙ refl
 
 to_word : (h : Held)
     → walked rules [] (at_rest h 3) (codes "--to")
-    ≡ at_option (codes "to") (waiting_held (codes "to") h)
+    ≡ at_option (codes "to") (waiting_state (codes "to") h)
 unfolding subttx_app clap_on_literals
 to_word h = refl
 
 to_value : (h : Held) (text : Text)
     → IsName text
-    → walked rules [] (at_option (codes "to") (waiting_held (codes "to") h)) text
-    ≡ at_rest (valued_held (codes "to") text h) 3
+    → walked rules [] (at_option (codes "to") (waiting_state (codes "to") h)) text
+    ≡ at_rest (state_with_value (codes "to") text h) 3
 unfolding subttx_app
 to_value h text name =
-    value_walked rules (codes "to") (waiting_held (codes "to") h) text name ∙ refl
+    value_walked rules (codes "to") (waiting_state (codes "to") h) text name ∙ refl
 
 open_word : (h : Held)
-    → walked rules [] (at_rest h 3) (codes "--open") ≡ at_rest (next h (Of OpenToo)) 3
+    → walked rules [] (at_rest h 3) (codes "--open") ≡ at_rest (next h (Of AlsoOpen)) 3
 unfolding subttx_app clap_on_literals
 open_word h = refl
 
@@ -404,7 +406,7 @@ walk_step h (Of (From text frame name is)) =
     ap (λ (w : Walk). walked rules [] w text) (from_word h) ∙ from_value h text name
 walk_step h (Of (To text frame name is)) =
     ap (λ (w : Walk). walked rules [] w text) (to_word h) ∙ to_value h text name
-walk_step h (Of OpenToo) = open_word h
+walk_step h (Of AlsoOpen) = open_word h
 walk_step h (Letters text national name is) =
     ap (λ (w : Walk). walked rules [] w text) (option_word h)
     ∙ option_value h text name
@@ -423,12 +425,13 @@ walk_all h (choice ∷ choices) =
     (walk_step h choice)
     ∙ walk_all (next h choice) choices
 
-abbrev pub rows_held : Held → List Row
-rows_held h = (settled rules h).rows
+abbrev pub rows_of_state : Held → List Row
+rows_of_state h = (settled rules h).rows
 
 rows_step : (h : Held) (choice : DisplayOption)
-    → rows_held (next h choice)
-    ≡ set_row (key choice) (reading_by (rule_at (key choice))) (vals choice) (rows_held h)
+    → rows_of_state (next h choice)
+    ≡ set_row (key choice) (reading_by (rule_at (key choice))) (option_values choice)
+    (rows_of_state h)
 unfolding subttx_app
 rows_step h (Of (Any (Page text page is))) = refl
 rows_step h (Of (Any (Every text frames is))) = refl
@@ -441,13 +444,13 @@ rows_step h (Of (Size text size is)) = refl
 rows_step h (Of (Numbers text range is)) = refl
 rows_step h (Of (From text frame name is)) = refl
 rows_step h (Of (To text frame name is)) = refl
-rows_step h (Of OpenToo) = refl
+rows_step h (Of AlsoOpen) = refl
 rows_step h (Letters text national name is) = refl
 rows_step h (Lines text layout name is) = refl
 
 -- The values of an argument after one more choice.
 abbrev pub values_with_choice : Text → List (List Text) → DisplayOption → List (List Text)
-values_with_choice id vs choice = if bytes_eq (key choice) id then vals choice ∷ [] else vs
+values_with_choice id vs choice = if bytes_eq (key choice) id then option_values choice ∷ [] else vs
 
 key_same : (choice : DisplayOption) → bytes_eq (key choice) (key choice) ≡ true
 key_same (Of (Any (Page text page is))) = refl
@@ -461,32 +464,35 @@ key_same (Of (Size text size is)) = refl
 key_same (Of (Numbers text range is)) = refl
 key_same (Of (From text frame name is)) = refl
 key_same (Of (To text frame name is)) = refl
-key_same (Of OpenToo) = refl
+key_same (Of AlsoOpen) = refl
 key_same (Letters text national name is) = refl
 key_same (Lines text layout name is) = refl
 
 set_by : (b : Bool) (id : Text) (how : Reading) (choice : DisplayOption) (rows : List Row)
     → bytes_eq (key choice) id ≡ b
     → drop 1 (values_at id rows) ≡ []
-    → values_at id (set_row (key choice) how (vals choice) rows)
-    ≡ (if b then vals choice ∷ [] else values_at id rows)
+    → values_at id (set_row (key choice) how (option_values choice) rows)
+    ≡ (if b then option_values choice ∷ [] else values_at id rows)
 set_by true id how choice rows is short =
     subst
     (λ (x : Text).
     drop 1 (values_at x rows) ≡ []
-    → values_at x (set_row (key choice) how (vals choice) rows) ≡ vals choice ∷ [])
+    → values_at x (set_row (key choice) how (option_values choice) rows) ≡ option_values choice ∷
+    [])
     (same_id (key choice) id is)
-    (set_same (key choice) (key_same choice) how (vals choice) rows) short
+    (set_same (key choice) (key_same choice) how (option_values choice) rows) short
 set_by false id how choice rows is short =
-    set_other (key choice) id is how (vals choice) rows
+    set_other (key choice) id is how (option_values choice) rows
 
-held_step : (id : Text) (h : Held) (choice : DisplayOption)
-    → drop 1 (values_at id (rows_held h)) ≡ []
-    → values_at id (rows_held (next h choice)) ≡ values_with_choice id (values_at id (rows_held h))
+values_after_option : (id : Text) (h : Held) (choice : DisplayOption)
+    → drop 1 (values_at id (rows_of_state h)) ≡ []
+    → values_at id (rows_of_state (next h choice)) ≡ values_with_choice id
+    (values_at id (rows_of_state h))
     choice
-held_step id h choice short =
+values_after_option id h choice short =
     ap (values_at id) (rows_step h choice)
-    ∙ set_by (bytes_eq (key choice) id) id (reading_by (rule_at (key choice))) choice (rows_held h)
+    ∙ set_by (bytes_eq (key choice) id) id (reading_by (rule_at (key choice))) choice
+    (rows_of_state h)
     refl short
 
 short_by : (b : Bool) (v : List Text) (vs : List (List Text))
@@ -495,14 +501,15 @@ short_by : (b : Bool) (v : List Text) (vs : List (List Text))
 short_by true v vs short = refl
 short_by false v vs short = short
 
-pub held_by : (id : Text) (h : Held) (choices : List DisplayOption)
-    → drop 1 (values_at id (rows_held h)) ≡ []
-    → values_at id (rows_held (fold next h choices))
-    ≡ fold (values_with_choice id) (values_at id (rows_held h)) choices
-held_by id h [] short = refl
-held_by id h (choice ∷ choices) short =
-    let one = held_step id h choice short in
-    held_by id (next h choice) choices
+pub values_after_options : (id : Text) (h : Held) (choices : List DisplayOption)
+    → drop 1 (values_at id (rows_of_state h)) ≡ []
+    → values_at id (rows_of_state (fold next h choices))
+    ≡ fold (values_with_choice id) (values_at id (rows_of_state h)) choices
+values_after_options id h [] short = refl
+values_after_options id h (choice ∷ choices) short =
+    let one = values_after_option id h choice short in
+    values_after_options id (next h choice) choices
     (ap (drop 1) one
-    ∙ short_by (bytes_eq (key choice) id) (vals choice) (values_at id (rows_held h)) short)
+    ∙ short_by (bytes_eq (key choice) id) (option_values choice) (values_at id (rows_of_state h))
+    short)
     ∙ ap (λ (vs : List (List Text)). fold (values_with_choice id) vs choices) one

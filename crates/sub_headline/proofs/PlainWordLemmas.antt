@@ -27,7 +27,8 @@ use Rattle.sub_words.specs.Arguments.{pes_selection_of}
 use Rattle.sub_words.specs.Commands.{command_in, subttx_app}
 use Rattle.sub_words.specs.Help.{requests_help}
 use Rattle.sub_words.specs.PesTexts.{packet_size_of_text}
-use Rattle.sub_words.specs.Requests.{Requested, IsRequestOf, requested_by, asked_for, requested_in}
+use Rattle.sub_words.specs.Requests.{Requested, IsRequestOf, requested_by, request_by_command}
+use Rattle.sub_words.specs.Requests.{requested_in}
 use Rattle.sub_words.specs.Texts.{number_of_text}
 use Rattle.sub_words.specs.Version.{requests_version}
 use Rattle.sub_headline.specs.PlainArguments.{IsName, LawOfPlainArguments, default_options}
@@ -51,18 +52,18 @@ no_version : (program stl pes : Text)
 unfolding requests_version
 no_version program stl pes = refl
 
-pub no_long : (word : Text) → IsName word → long_of word ≡ None
-no_long [] name = refl
-no_long (x ∷ xs) name =
+pub no_long_option : (word : Text) → IsName word → long_of word ≡ None
+no_long_option [] name = refl
+no_long_option (x ∷ xs) name =
     ap
     (λ (b : Bool).
     option_and_then long_of_rest
     (option_and_then (strip_byte 45) (let o : Option Text = if b then Some xs else None in o)))
     (no_hyphen x xs name)
 
-pub no_short : (word : Text) → IsName word → short_of word ≡ None
-no_short [] name = refl
-no_short (x ∷ xs) name =
+pub no_short_option : (word : Text) → IsName word → short_of word ≡ None
+no_short_option [] name = refl
+no_short_option (x ∷ xs) name =
     ap
     (λ (b : Bool).
     option_and_then short_of_rest (let o : Option Text = if b then Some xs else None in o))
@@ -77,8 +78,8 @@ plain_other c position word h name =
     let met : Held × Step =
     if b then (h, trailing position) else long_or_other c idle word (long_of word) h in met)
     (no_dashes word name)
-    ∙ ap (λ o. long_or_other c idle word o h) (no_long word name)
-    ∙ ap (λ o. short_or_plain c idle word o h) (no_short word name)
+    ∙ ap (λ o. long_or_other c idle word o h) (no_long_option word name)
+    ∙ ap (λ o. short_or_plain c idle word o h) (no_short_option word name)
 
 -- The state of `clap` in which no option waits for a value.
 abbrev pub at_rest : Held → ℕ → Walk
@@ -100,23 +101,23 @@ check_shape =
     unwrap_or (find (λ s. answers_to (codes "check") (label_of s)) (built subttx_app).subs)
     (built subttx_app).top
 
-abbrev pub held_of_two : (stl pes : Text) → Held
-held_of_two stl pes =
+abbrev pub state_after_files : (stl pes : Text) → Held
+state_after_files stl pes =
     let c = check_shape.rules in
     let one = to_positional c (arg_by_index c 1) stl (at_rest nothing_held 1) nothing_held in
     (to_positional c (arg_by_index c 2) pes one one.held).held
 
-command_is : (program stl pes : Text)
+command_eq : (program stl pes : Text)
     → command_in (program ∷ codes "check" ∷ stl ∷ pes ∷ [])
     ≡ Some (codes "check", rows_after check_shape.rules [] (stl ∷ pes ∷ []))
 unfolding command_in subttx_app clap_on_literals
-command_is program stl pes = refl
+command_eq program stl pes = refl
 
 rows_are : (stl pes : Text)
     → IsName stl
     → IsName pes
     → rows_after check_shape.rules [] (stl ∷ pes ∷ [])
-    ≡ finished check_shape.rules (held_of_two stl pes)
+    ≡ finished check_shape.rules (state_after_files stl pes)
 unfolding subttx_app
 rows_are stl pes is_stl is_pes =
     ap (λ (w : Walk). finished check_shape.rules (walked check_shape.rules [] w pes).held)
@@ -127,7 +128,7 @@ rows_are stl pes is_stl is_pes =
     nothing_held).held 2 pes is_pes)
 
 requested_are : (stl pes : Text)
-    → requested_in (codes "check") (finished check_shape.rules (held_of_two stl pes))
+    → requested_in (codes "check") (finished check_shape.rules (state_after_files stl pes))
     ≡ Ok (Requested.Check stl (entire_pes_file pes) default_options English default_layout whole
     false)
 unfolding subttx_app clap_on_literals number_of_text page_of_text option_named sub_set
@@ -143,31 +144,32 @@ same_requested reported a b one other = let e = sym one ∙ other in cc
 plain_requested : (program stl pes : Text)
     → IsName stl
     → IsName pes
-    → asked_for (program ∷ codes "check" ∷ stl ∷ pes ∷ [])
+    → request_by_command (program ∷ codes "check" ∷ stl ∷ pes ∷ [])
     ≡ Some
     (Ok (Requested.Check stl (entire_pes_file pes) default_options English default_layout whole
     false))
 plain_requested program stl pes is_stl is_pes =
-    ap (option_map (λ command. requested_in command.0 command.1)) (command_is program stl pes)
+    ap (option_map (λ command. requested_in command.0 command.1)) (command_eq program stl pes)
     ∙ ap (λ (rows : List Row). Some (requested_in (codes "check") rows))
     (rows_are stl pes is_stl is_pes)
     ∙ ap (λ requested. Some requested) (requested_are stl pes)
 
-pub request_of_words : (arguments : List Text) (request : Request) (requested : Requested)
+pub request_of_arguments : (arguments : List Text) (request : Request) (requested : Requested)
     → requests_version arguments ≡ false
     → requests_help arguments ≡ false
-    → asked_for arguments ≡ Some (Ok requested)
+    → request_by_command arguments ≡ Some (Ok requested)
     → IsRequestOf arguments request
     → requested_by request ≡ requested
-request_of_words arguments request requested unversioned none is (inl version) =
+request_of_arguments arguments request requested unversioned none is (inl version) =
     let e = sym unversioned ∙ version.0 in cc
-request_of_words arguments request requested unversioned none is (inr (inl help)) = let e = sym none
+request_of_arguments arguments request requested unversioned none is (inr (inl help)) = let e = sym
+    none
     ∙ help.1 in cc
-request_of_words arguments request requested unversioned none is (inr (inr of)) = same_requested
+request_of_arguments arguments request requested unversioned none is (inr (inr of)) = same_requested
     _ _ _ of.2.requested is
 
 pub law_of_plain_arguments : LawOfPlainArguments
 law_of_plain_arguments program stl pes request is_stl is_pes asks =
-    request_of_words (program ∷ codes "check" ∷ stl ∷ pes ∷ []) request _
+    request_of_arguments (program ∷ codes "check" ∷ stl ∷ pes ∷ []) request _
     (no_version program stl pes) (no_help program stl pes)
     (plain_requested program stl pes is_stl is_pes) asks

@@ -28,7 +28,7 @@ is_there (v ∷ vs) = true
 
 -- The rows after an argument is used again.
 abbrev pub set_row : Text → Reading → List Text → List Row → List Row
-set_row id how vals rows = with_values id how CommandLine vals (without id rows)
+set_row id how option_values rows = with_values id how CommandLine option_values (without id rows)
 
 pub same_id : (a b : Text) → bytes_eq a b ≡ true → a ≡ b
 same_id a b is = (bytes_eq-Decides a b).0 is
@@ -51,9 +51,9 @@ has_by : (b : Bool) (id : Text) (r : Row) (rs : List Row)
 has_by true id r rs rest = refl
 has_by false id r rs rest = rest
 
-has_is : (id : Text) (rows : List Row) → has_row id rows ≡ is_there (values_at id rows)
-has_is id [] = refl
-has_is id (r ∷ rs) = has_by (bytes_eq r.id id) id r rs (has_is id rs)
+has_eq : (id : Text) (rows : List Row) → has_row id rows ≡ is_there (values_at id rows)
+has_eq id [] = refl
+has_eq id (r ∷ rs) = has_by (bytes_eq r.id id) id r rs (has_eq id rs)
 
 module _ (id other : Text) (apart : bytes_eq id other ≡ false) where
   row_apart : (r : Row) → bytes_eq r.id id ≡ true → bytes_eq r.id other ≡ false
@@ -87,21 +87,23 @@ module _ (id other : Text) (apart : bytes_eq id other ≡ false) where
   without_other : (rows : List Row) → values_at other (without id rows) ≡ values_at other rows
   without_other rows = other_row (λ _. []) [] (λ r far rs. refl) refl rows
 
-  with_other : (how : Reading) (s : ValueSource) (vals : List Text) (rows : List Row)
-      → values_at other (with_values id how s vals rows) ≡ values_at other rows
-  with_other how s vals rows =
-      other_row (more_values s vals)
-      (record { id = id; values = vals; count = None; source = Some s; reading = how } ∷ [])
+  with_other : (how : Reading) (s : ValueSource) (option_values : List Text) (rows : List Row)
+      → values_at other (with_values id how s option_values rows) ≡ values_at other rows
+  with_other how s option_values rows =
+      other_row (more_values s option_values)
+      (record { id = id; values = option_values; count = None; source = Some s; reading = how } ∷
+      [])
       (λ r far rs.
       ap
-      (λ (b : Bool). if b then (r.values ++ vals) ∷ values_at other rs else values_at other rs)
+      (λ (b : Bool). if b then (r.values ++ option_values) ∷ values_at other rs else values_at other
+      rs)
       far)
-      (ap (λ (b : Bool). if b then vals ∷ [] else []) apart) rows
+      (ap (λ (b : Bool). if b then option_values ∷ [] else []) apart) rows
 
-  pub set_other : (how : Reading) (vals : List Text) (rows : List Row)
-      → values_at other (set_row id how vals rows) ≡ values_at other rows
-  set_other how vals rows =
-      with_other how CommandLine vals (without id rows) ∙ without_other rows
+  pub set_other : (how : Reading) (option_values : List Text) (rows : List Row)
+      → values_at other (set_row id how option_values rows) ≡ values_at other rows
+  set_other how option_values rows =
+      with_other how CommandLine option_values (without id rows) ∙ without_other rows
 
 module _ (id : Text) (same : bytes_eq id id ≡ true) where
   without_by : (b : Bool) (r : Row) (rs : List Row)
@@ -121,35 +123,37 @@ module _ (id : Text) (same : bytes_eq id id ≡ true) where
   without_same [] = refl
   without_same (r ∷ rs) = without_by (bytes_eq r.id id) r rs refl (without_same rs)
 
-  new_by : (how : Reading) (s : ValueSource) (vals : List Text) (b : Bool) (r : Row)
+  new_by : (how : Reading) (s : ValueSource) (option_values : List Text) (b : Bool) (r : Row)
       (rs : List Row)
       → bytes_eq r.id id ≡ b
       → (if b then r.values ∷ values_at id rs else values_at id rs) ≡ []
-      → (values_at id rs ≡ [] → values_at id (with_values id how s vals rs) ≡ vals ∷ [])
+      → (values_at id rs ≡ [] → values_at id (with_values id how s option_values rs) ≡ option_values
+      ∷ [])
       → values_at id
-      (if b then more_values s vals r ++ rs else r ∷ with_values id how s vals rs)
-      ≡ vals ∷ []
-  new_by how s vals true r rs is none rest = cc
-  new_by how s vals false r rs is none rest =
+      (if b then more_values s option_values r ++ rs else r ∷ with_values id how s option_values rs)
+      ≡ option_values ∷ []
+  new_by how s option_values true r rs is none rest = cc
+  new_by how s option_values false r rs is none rest =
       ap
       (λ (b : Bool).
-      if b then r.values ∷ values_at id (with_values id how s vals rs)
-      else values_at id (with_values id how s vals rs))
+      if b then r.values ∷ values_at id (with_values id how s option_values rs)
+      else values_at id (with_values id how s option_values rs))
       is
       ∙ rest none
 
-  with_new : (how : Reading) (s : ValueSource) (vals : List Text) (rows : List Row)
+  with_new : (how : Reading) (s : ValueSource) (option_values : List Text) (rows : List Row)
       → values_at id rows ≡ []
-      → values_at id (with_values id how s vals rows) ≡ vals ∷ []
-  with_new how s vals [] none = ap (λ (b : Bool). if b then vals ∷ [] else []) same
-  with_new how s vals (r ∷ rs) none =
-      new_by how s vals (bytes_eq r.id id) r rs refl none (with_new how s vals rs)
+      → values_at id (with_values id how s option_values rows) ≡ option_values ∷ []
+  with_new how s option_values [] none = ap (λ (b : Bool). if b then option_values ∷ [] else [])
+      same
+  with_new how s option_values (r ∷ rs) none =
+      new_by how s option_values (bytes_eq r.id id) r rs refl none (with_new how s option_values rs)
 
-  pub set_same : (how : Reading) (vals : List Text) (rows : List Row)
+  pub set_same : (how : Reading) (option_values : List Text) (rows : List Row)
       → drop 1 (values_at id rows) ≡ []
-      → values_at id (set_row id how vals rows) ≡ vals ∷ []
-  set_same how vals rows short =
-      with_new how CommandLine vals (without id rows) (without_same rows ∙ short)
+      → values_at id (set_row id how option_values rows) ≡ option_values ∷ []
+  set_same how option_values rows short =
+      with_new how CommandLine option_values (without id rows) (without_same rows ∙ short)
 
 -- The given values, or the default values if there are none.
 abbrev pub or_default : List (List Text) → List Text → List (List Text)
@@ -175,7 +179,7 @@ default_same : (id : Text) (same : bytes_eq id id ≡ true) (how : Reading) (def
     ≡ or_default (values_at id rows) defaults
 default_same id same how defaults rows =
     ap (λ (b : Bool). values_at id (if b then rows else default_rows id how defaults rows))
-    (has_is id rows)
+    (has_eq id rows)
     ∙ default_by id same how defaults rows (values_at id rows) refl
 
 other_default : (id other : Text) (apart : bytes_eq id other ≡ false) (how : Reading)

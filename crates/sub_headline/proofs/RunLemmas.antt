@@ -9,7 +9,7 @@ use Rattle.sub_request.specs.declared.request.UsageFault.TheVariants as usage
 use Rattle.sub_listing.specs.Listing.{exit_code}
 use Rattle.sub_listing.specs.declared.status.Status.{Status}
 use Rattle.sub_listing.specs.declared.status.Status.TheVariants.{Done, Fault}
-use Rattle.sub_answer.specs.Ending.{BufferHoldsOneLineOnly, KnownOfFiles, Lines, PrintsFault}
+use Rattle.sub_answer.specs.Ending.{BufferHoldsOneLineOnly, FileObservations, Lines, PrintsFault}
 use Rattle.sub_headline.specs.Run.{Answered, EndsRun, RunsProgram}
 
 stated : (fault : UsageFault) (old new : Lines) (result : Status)
@@ -19,18 +19,18 @@ stated fault old new result says = grind (arith, nat_tests)
 
 -- The run answered its request, and the exit code is that of the answer's status.
 pub record HasAnswered
-    {I O : Type 0} (AreMade : List (FileCall I O) → Type 0) (reported : KnownOfFiles I O)
+    {I O : Type 0} (AreMade : List (FileCall I O) → Type 0) (reported : FileObservations I O)
     (IsClose : O → O → Type 0) (given : Result (List Text) UsageFault) (IsAlone : Lines → Type 0)
     (code : ℕ)
     : Type 0 where
   pub old : Lines
   pub new : Lines
   pub status : Status
-  pub code_is : code ≡ exit_code status
+  pub code_eq : code ≡ exit_code status
   pub answered : Answered AreMade reported IsClose given IsAlone old new status
 
-answered_so :
-    {I O : Type 0} (AreMade : List (FileCall I O) → Type 0) (reported : KnownOfFiles I O)
+exit_code_explained :
+    {I O : Type 0} (AreMade : List (FileCall I O) → Type 0) (reported : FileObservations I O)
     (IsClose : O → O → Type 0) (given : Result (List Text) UsageFault) (IsAlone : Lines → Type 0)
     (code : ℕ) (status : Status) (old new : Lines)
     → code ≡ exit_code status
@@ -38,18 +38,18 @@ answered_so :
     → EndsRun AreMade reported IsClose given IsAlone old new status
     ⊎ (AreMade [] × PrintsFault usage.Memory old new status)
     → HasAnswered AreMade reported IsClose given IsAlone code
-answered_so AreMade reported IsClose given IsAlone code status old new code_is not_two
+exit_code_explained AreMade reported IsClose given IsAlone code status old new code_eq not_two
     (inl (inl is)) =
-    record { old = old; new = new; status = status; code_is = code_is; answered = is }
-answered_so AreMade reported IsClose given IsAlone code status old new code_is not_two
+    record { old = old; new = new; status = status; code_eq = code_eq; answered = is }
+exit_code_explained AreMade reported IsClose given IsAlone code status old new code_eq not_two
     (inl (inr un)) =
-    absurd (not_two (code_is ∙ ap exit_code (stated un.fault old new status un.says)))
-answered_so AreMade reported IsClose given IsAlone code status old new code_is not_two
+    absurd (not_two (code_eq ∙ ap exit_code (stated un.fault old new status un.says)))
+exit_code_explained AreMade reported IsClose given IsAlone code status old new code_eq not_two
     (inr memory) =
-    absurd (not_two (code_is ∙ ap exit_code (stated usage.Memory old new status memory.1)))
+    absurd (not_two (code_eq ∙ ap exit_code (stated usage.Memory old new status memory.1)))
 
 pub answered :
-    {I O K : Type 0} (AreMade : List (FileCall I O) → Type 0) (reported : KnownOfFiles I O)
+    {I O K : Type 0} (AreMade : List (FileCall I O) → Type 0) (reported : FileObservations I O)
     (IsClose : O → O → Type 0) (given : Result (List Text) UsageFault)
     (contents : K → Option (List ℕ)) (failure_count : K → ℕ)
     (IsPush : K → List ℕ → Option ℕ → K → Type 0) (output left : K) (code : ℕ)
@@ -60,7 +60,8 @@ pub answered :
     code
 answered AreMade reported IsClose given contents failure_count IsPush output left code runs
     not_two =
-    answered_so AreMade reported IsClose given _ code runs.status _ _ runs.code_is not_two runs.ends
+    exit_code_explained AreMade reported IsClose given _ code runs.status _ _ runs.code_eq not_two
+    runs.ends
 
 pub done_by_code : (status : Status) → exit_code status ≡ 0 → status ≡ Done
 done_by_code status e = grind (arith, nat_tests)

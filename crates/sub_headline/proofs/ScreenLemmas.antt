@@ -13,7 +13,7 @@ use Rattle.sub_rules.specs.Transmission.{Transmission}
 use Rattle.sub_headline.specs.BothClasses.{EachOfClassGets}
 use Rattle.sub_headline.specs.EnglishPage.{english_cell}
 use Rattle.sub_headline.specs.EnglishScreen.{EachScreenShows, LawOfEnglishCharacters}
-use Rattle.sub_headline.specs.EnglishScreen.{blank_character}
+use Rattle.sub_headline.specs.EnglishScreen.{space_character}
 use Rattle.sub_headline.specs.EnglishScreen.{english_character, text_character}
 
 -- A byte whose cell has the byte's own number is at no place of the national sub-set.
@@ -91,16 +91,20 @@ pub law_of_english_characters : LawOfEnglishCharacters
 unfolding english_cell
 law_of_english_characters byte code is = shows_by (is_common byte) byte code refl is
 
-space_is : english_character space ≡ blank_character
+space_eq : english_character space ≡ space_character
 unfolding english_character
-space_is = refl
+space_eq = refl
 
-seen_so : (is due : ℕ) (IsExcused : Type 0)
+shows_due_or_excused : (is due : ℕ) (IsExcused : Type 0)
     → (is ≡ due) ⊎ ((is ≡ space) × IsExcused)
     → (english_character is ≡ english_character due)
-    ⊎ ((english_character is ≡ blank_character) × IsExcused)
-seen_so is due IsExcused (inl same) = inl (ap english_character same)
-seen_so is due IsExcused (inr (none, excused)) = inr (ap english_character none ∙ space_is, excused)
+    ⊎ ((english_character is ≡ space_character) × IsExcused)
+shows_due_or_excused is due IsExcused (inl same) = inl (ap english_character same)
+shows_due_or_excused is due IsExcused (inr (none, excused)) = inr (
+  ap english_character none ∙
+      space_eq,
+  excused,
+)
 
 pub screens_of : (page : PageIdValue) (every : ℕ) (subtitles : List SubtitleValue)
     (transmission : Transmission)
@@ -108,5 +112,5 @@ pub screens_of : (page : PageIdValue) (every : ℕ) (subtitles : List SubtitleVa
     → EachScreenShows page subtitles transmission
 screens_of page every subtitles transmission each =
     λ class g j f arrived got old new is_got hears header row column is_cell.
-    seen_so _ _ _
+    shows_due_or_excused _ _ _
     ((each class g j f arrived got old new is_got hears).cells header row column is_cell)

@@ -15,15 +15,15 @@ use Rattle.stl_file.specs.SubtitleBlocks.{AreBlocksOf, AreLinked, AreOutside, Is
 use Rattle.stl_file.specs.TimeCode.{frame_in, is_time}
 use Rattle.stl_file.specs.Tti.{cf, ebn, is_kept, tci, text_of}
 use Rattle.stl_file.proofs.ScopeLemmas.{all_inside}
-use Rattle.sub_headline.specs.PlainReading.{groups_read, is_of_subtitle, pieces_of, subtitle_read}
+use Rattle.sub_headline.specs.PlainReading.{groups_read, is_of_subtitle, chunks_of, subtitle_read}
 use Rattle.sub_headline.specs.PlainReading.{begins_in, subtitles_by_place, subtitles_within}
 use Rattle.sub_headline.specs.PlainReading.{time_read}
-use Rattle.sub_headline.proofs.FrameReadingLemmas.{pieces_cons}
+use Rattle.sub_headline.proofs.FrameReadingLemmas.{chunks_of_cons}
 
-blocks_are : (bs : List (List ℕ)) → AllByRecursion IsBlock bs → pieces_of 128 (concat bs) ≡ bs
+blocks_are : (bs : List (List ℕ)) → AllByRecursion IsBlock bs → chunks_of 128 (concat bs) ≡ bs
 blocks_are [] each = refl
 blocks_are (b ∷ bs) each =
-    pieces_cons 128 b (concat bs) each.0 (omega (arith, length-append b (concat bs), each.0))
+    chunks_of_cons 128 b (concat bs) each.0 (omega (arith, length-append b (concat bs), each.0))
     ∙ ap (λ (rest : List (List ℕ)). b ∷ rest) (blocks_are bs each.1)
 
 abbrev IsNoComment : List ℕ → Type 0
@@ -31,30 +31,31 @@ IsNoComment b = cf b ≡ 0
 
 -- The test of a subtitle's blocks by place agrees with the test of the grammar, for a block that is
 -- kept, which is no comment, and for a block that is skipped.
-same_kept : (e c : ℕ)
+same_kept_test : (e c : ℕ)
     → c ≡ 0
     → not ((e == 0xFE) || ((nat_lt e 0xF0 || (e == 0xFF)) && (c == 0x01))) ≡ true
     → not ((e == 0xFE) || (c == 0x01)) ≡ true
-same_kept e c none is = grind (arith, nat_tests)
+same_kept_test e c none is = grind (arith, nat_tests)
 
 same_skipped : (e c : ℕ)
     → not ((e == 0xFE) || ((nat_lt e 0xF0 || (e == 0xFF)) && (c == 0x01))) ≡ false
     → not ((e == 0xFE) || (c == 0x01)) ≡ false
 same_skipped e c is = grind (arith, nat_tests)
 
-kept_by : (is : Bool) (b : List ℕ) (bs : List (List ℕ))
+filter_kept_by : (is : Bool) (b : List ℕ) (bs : List (List ℕ))
     → is_kept b ≡ is
     → AllByRecursion IsNoComment (if is then b ∷ filter is_kept bs else filter is_kept bs)
     → (is_of_subtitle b ≡ is) × AllByRecursion IsNoComment (filter is_kept bs)
-kept_by true b bs is none = (same_kept (ebn b) (cf b) none.0 is, none.1)
-kept_by false b bs is none = (same_skipped (ebn b) (cf b) is, none)
+filter_kept_by true b bs is none = (same_kept_test (ebn b) (cf b) none.0 is, none.1)
+filter_kept_by false b bs is none = (same_skipped (ebn b) (cf b) is, none)
 
-kept_are : (bs : List (List ℕ))
+kept_blocks_no_comment : (bs : List (List ℕ))
     → AllByRecursion IsNoComment (filter is_kept bs)
     → filter is_of_subtitle bs ≡ filter is_kept bs
-kept_are [] none = refl
-kept_are (b ∷ bs) none =
-    let by = kept_by (is_kept b) b bs refl none in rw (by.0, kept_are bs by.1) refl
+kept_blocks_no_comment [] none = refl
+kept_blocks_no_comment (b ∷ bs) none =
+    let by = filter_kept_by (is_kept b) b bs refl none in rw (by.0, kept_blocks_no_comment bs by.1)
+    refl
 
 abbrev joined : List (List (List ℕ)) → List (List ℕ)
 joined groups = flat_map (λ group. group) groups
@@ -88,9 +89,9 @@ group_cut sgn_is sn_is (b ∷ []) rest linked = rw (last (ebn b) linked.1) refl
 group_cut sgn_is sn_is (b ∷ c ∷ g) rest linked =
     rw (not_last (ebn b) linked.1, group_cut sgn_is sn_is (c ∷ g) rest linked.2) refl
 
-time_is : (b : List ℕ) (at : ℕ) → time_read b at ≡ frame_in (take 4 (drop at b))
+time_eq : (b : List ℕ) (at : ℕ) → time_read b at ≡ frame_in (take 4 (drop at b))
 unfolding frame_in
-time_is b at =
+time_eq b at =
     let here : at + 0 ≡ at = omega arith in
     rw (
       get_or-take 4 (drop at b) 0 0 (omega arith),
@@ -104,20 +105,20 @@ time_is b at =
       here,
     ) refl
 
-subtitle_is : (t : SubtitleValue) (g : List (List ℕ)) → AreBlocksOf t g → subtitle_read g ≡ t
-subtitle_is t g of =
-    let tci_is = time_is of.first 5 ∙ sym of.begins.tci_is.is in
-    let tco_is = time_is of.first 9 ∙ sym of.begins.tco_is.is in
-    let text_is = ap (flat_map text_of) (sym of.blocks) ∙ sym of.text_is in
+subtitle_eq : (t : SubtitleValue) (g : List (List ℕ)) → AreBlocksOf t g → subtitle_read g ≡ t
+subtitle_eq t g of =
+    let tci_is = time_eq of.first 5 ∙ sym of.begins.tci_is.is in
+    let tco_is = time_eq of.first 9 ∙ sym of.begins.tco_is.is in
+    let text_eq = ap (flat_map text_of) (sym of.blocks) ∙ sym of.text_eq in
     ap subtitle_read of.blocks
     ∙ rw (
       of.begins.sgn_is,
       of.begins.sn_is,
       tci_is,
       tco_is,
-      of.begins.vp_is,
-      of.begins.jc_is,
-      text_is,
+      of.begins.vp_eq,
+      of.begins.jc_eq,
+      text_eq,
     ) refl
 
 -- The blocks are linked by one SGN and SN, whatever these are.
@@ -203,14 +204,14 @@ begins_not : (scope : Scope) (g : List (List ℕ))
     → begins_in scope (subtitle_read g) ≡ false
 begins_not scope g of =
     ap (λ (bs : List (List ℕ)). begins_in scope (subtitle_read bs)) of.blocks
-    ∙ ap (λ (n : ℕ). nat_le scope.from n && nat_lt n scope.to) (time_is of.first 5)
+    ∙ ap (λ (n : ℕ). nat_le scope.from n && nat_lt n scope.to) (time_eq of.first 5)
     ∙ outside_by scope of.first of.outside
 
-begins_so : (scope : Scope) (t : SubtitleValue) (g : List (List ℕ))
+begins_inside_scope : (scope : Scope) (t : SubtitleValue) (g : List (List ℕ))
     → AreBlocksOf t g
     → is_outside scope g ≡ false
     → begins_in scope t ≡ true
-begins_so scope t g of is =
+begins_inside_scope scope t g of is =
     let here : begins_outside scope of.first ≡ false =
     sym (ap (is_outside scope) of.blocks) ∙ is in
     ap (λ (n : ℕ). nat_le scope.from n && nat_lt n scope.to) of.begins.tci_is.is
@@ -234,9 +235,9 @@ taken_by scope false [] g groups ins outs is outside are rest = absurd are
 taken_by scope false (t ∷ ts) g groups ins outs is outside are rest =
     let others = filter (begins_in scope) (map subtitle_read groups) in
     ap (λ (one : SubtitleValue). filter (begins_in scope) (one ∷ map subtitle_read groups))
-    (subtitle_is t g are.0)
+    (subtitle_eq t g are.0)
     ∙ ap (λ (b : Bool). let l : List SubtitleValue = if b then t ∷ others else others in l)
-    (begins_so scope t g are.0 is)
+    (begins_inside_scope scope t g are.0 is)
     ∙ ap (λ (l : List SubtitleValue). t ∷ l) rest
 
 taken_are : (scope : Scope) (ts : List SubtitleValue) (groups : List (List (List ℕ)))
@@ -253,13 +254,13 @@ taken_are scope ts (g ∷ groups) outside are =
     (taken_are scope (left_by out ts) groups (outside_rest scope out g outs outside)
     (are_rest out ts g ins are))
 
-each_is : (ts : List SubtitleValue) (groups : List (List (List ℕ)))
+each_eq : (ts : List SubtitleValue) (groups : List (List (List ℕ)))
     → AllZip AreBlocksOf ts groups
     → map subtitle_read groups ≡ ts
-each_is [] [] each = refl
-each_is [] (g ∷ groups) each = absurd each
-each_is (t ∷ ts) [] each = absurd each
-each_is (t ∷ ts) (g ∷ groups) each = rw (subtitle_is t g each.0, each_is ts groups each.1) refl
+each_eq [] [] each = refl
+each_eq [] (g ∷ groups) each = absurd each
+each_eq (t ∷ ts) [] each = absurd each
+each_eq (t ∷ ts) (g ∷ groups) each = rw (subtitle_eq t g each.0, each_eq ts groups each.1) refl
 
 groups_are : (scope : Scope) (bytes gsi : List ℕ) (ts : List SubtitleValue)
     (file : IsFileFor scope bytes gsi ts)
@@ -273,7 +274,7 @@ groups_are scope bytes gsi ts file =
       file.bytes,
       drop_at gsi (concat file.blocks) 1024 file.gsi.size,
       blocks_are file.blocks file.rest.each,
-      kept_are file.blocks none,
+      kept_blocks_no_comment file.blocks none,
       file.rest.kept,
       groups_cut file.rest.groups each,
     ) refl
@@ -283,7 +284,7 @@ pub subtitles_are : (bytes gsi : List ℕ) (ts : List SubtitleValue)
     → subtitles_by_place bytes ≡ ts
 subtitles_are bytes gsi ts file =
     groups_are whole bytes gsi ts file
-    ∙ each_is ts file.rest.groups
+    ∙ each_eq ts file.rest.groups
     (subst (λ (groups : List (List (List ℕ))). AllZip AreBlocksOf ts groups)
     (all_inside file.rest.groups) file.rest.are_of)
 

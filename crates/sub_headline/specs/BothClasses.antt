@@ -7,7 +7,7 @@ use Rattle.ttx_page.specs.LostRows.{IsHitOrLost, arrivals_of}
 use Rattle.ttx_page.specs.Receiver.{HearsBy, ReceiverClass, State}
 use Rattle.stl_file.specs.Subtitle.{SubtitleValue}
 use Rattle.sub_rules.specs.Transmission.{Transmission, first_frame, last_frame, on_air}
-use Rattle.sub_laws.specs.LostRows.{IsGot}
+use Rattle.sub_laws.specs.LostRows.{IsReceivedWithLosses}
 use Rattle.sub_headline.specs.EnglishPage.{english_due}
 use Rattle.sub_headline.specs.PlainHeadline.{Gets}
 
@@ -17,7 +17,8 @@ abbrev pub EachOfClassGets :
     ReceiverClass → PageIdValue → ℕ → List SubtitleValue → Transmission → Type 0
 EachOfClassGets class page every subtitles transmission =
     (g j f : ℕ) (arrived : List Bool) (got : List (List ℕ)) (old new : State)
-    → IsGot transmission (first_frame transmission) (last_frame transmission) g j f arrived got
+    → IsReceivedWithLosses transmission (first_frame transmission) (last_frame transmission) g j f
+    arrived got
     → HearsBy class page old got new
     → Gets page every (english_due subtitles f) g f (on_air transmission g j f)
     (ExcusedBy class

@@ -50,8 +50,8 @@ displayed_by l (Of part) = record l { reading = read_by l.reading part }
 
 -- The settings that a list of options gives. English and the default layout are used unless the
 -- list chooses others.
-abbrev pub looking_of : List DisplayOption → DisplayOptions
-looking_of display_options =
+abbrev pub display_options_of : List DisplayOption → DisplayOptions
+display_options_of display_options =
     fold displayed_by
     (record { reading = reading_of []; national = English; layout = default_layout })
     display_options
@@ -67,8 +67,10 @@ LawOfDisplayArguments =
     display_options) request
     → (all : Bool)
     × (requested_by request
-    ≡ Requested.Check stl (recording_requested recording (looking_of display_options).reading)
-    (looking_of display_options).reading.options (looking_of display_options).national
-    (looking_of display_options).layout
-    (looking_of display_options).reading.scope all)
-    × ((looking_of display_options).reading.options.origin < 2 ^ 33)
+    ≡ Requested.Check stl
+    (recording_requested recording (display_options_of display_options).reading)
+    (display_options_of display_options).reading.options
+    (display_options_of display_options).national
+    (display_options_of display_options).layout
+    (display_options_of display_options).reading.scope all)
+    × ((display_options_of display_options).reading.options.origin < 2 ^ 33)

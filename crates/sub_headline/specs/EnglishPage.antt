@@ -34,24 +34,24 @@ english_lines (byte ∷ bytes) = put (english_cell byte) byte (english_lines byt
 
 -- The byte is a cell, a new line, or the code for italics, underline or boxing. A text with any
 -- other byte is not drawn completely.
-abbrev pub IsRead : ℕ → Type 0
-IsRead byte =
+abbrev pub IsHandledByte : ℕ → Type 0
+IsHandledByte byte =
     (english_cell byte ≢ None) ⊎ (byte ≡ new_line) ⊎ (is_within 0x80 0x85 byte ≡ true)
 
 -- A prepared line fits on a row, whether it is below a line of double height or not: it has at most
 -- 40 cells; it is not below row 23, nor of double height in row 23, since row 24 is kept free; and
 -- below a line of double height, which would hide it, it is empty.
-pub record IsFit (row : ℕ) (is_under_double : Bool) (line : List ℕ) : Type 0 where
+pub record LineFits (row : ℕ) (is_under_double : Bool) (line : List ℕ) : Type 0 where
   pub short : length line ≤ 40
   pub high : line ≢ [] → row ≤ 23
-  pub tall : IsTrue (is_double line) → row ≢ 23
+  pub double_not_in_row_23 : IsTrue (is_double line) → row ≢ 23
   pub seen : IsTrue is_under_double → line ≡ []
 
 -- Prepared lines fit on a page from a row on.
-abbrev pub Fit : ℕ → Bool → List (List ℕ) → Type 0
-Fit row is_under_double [] = ⊤
-Fit row is_under_double (line ∷ lines) =
-    IsFit row is_under_double line × Fit (row + 1) (is_double line) lines
+abbrev pub LinesFit : ℕ → Bool → List (List ℕ) → Type 0
+LinesFit row is_under_double [] = ⊤
+LinesFit row is_under_double (line ∷ lines) =
+    LineFits row is_under_double line × LinesFit (row + 1) (is_double line) lines
 
 -- The prepared lines of a subtitle: each line with cells is in a box.
 abbrev pub boxed_lines : SubtitleValue → List (List ℕ)
@@ -59,9 +59,9 @@ boxed_lines t = map prepared (english_lines t.text)
 
 -- The text of a subtitle is drawn completely: each byte is handled, and its lines fit on the page
 -- from row VP on.
-pub record IsDrawnWhole (t : SubtitleValue) : Type 0 where
-  pub read : All IsRead t.text
-  pub fit : Fit t.vp false (boxed_lines t)
+pub record IsDrawnCompletely (t : SubtitleValue) : Type 0 where
+  pub read : All IsHandledByte t.text
+  pub fit : LinesFit t.vp false (boxed_lines t)
 
 -- The line in a row of a subtitle's page: line 0 goes to row VP; rows above VP and below the last
 -- line are empty.

@@ -10,18 +10,18 @@ use Rattle.ttx_page.specs.Receiver.{HearsBy, ReceiverClass, State}
 use Rattle.ttx_page.specs.Span.{holds_header}
 use Rattle.stl_file.specs.Subtitle.{SubtitleValue}
 use Rattle.sub_rules.specs.Transmission.{Transmission, first_frame, last_frame, on_air}
-use Rattle.sub_laws.specs.LostRows.{IsGot}
+use Rattle.sub_laws.specs.LostRows.{IsReceivedWithLosses}
 use Rattle.sub_headline.specs.EnglishPage.{english_cell, english_due}
 
-abbrev pub blank_character : ℕ
-blank_character = 0x20
+abbrev pub space_character : ℕ
+space_character = 0x20
 
 -- The character of a cell with this code (EN 300 706, Latin G0 primary set, Table 35, with the
 -- English one of the Latin national option sub-sets, Table 36): a letter, digit or sign has its own
 -- number, except at the places of the sub-set; a spacing attribute is a space.
 unfoldable pub english_character : ℕ → ℕ
 english_character code =
-    if nat_lt code 0x20 then blank_character
+    if nat_lt code 0x20 then space_character
     else (if 0x23 == code then 0xA3  -- £
     else (if 0x5B == code then 0x2190  -- ←
     else (if 0x5C == code then 0xBD  -- ½
@@ -40,7 +40,7 @@ english_character code =
 -- A3, the pound sign; A4 is a dollar, as 24 is; a control code is a space.
 unfoldable pub text_character : ℕ → ℕ
 text_character byte =
-    if nat_lt byte 0x20 then blank_character else (if 0xA4 == byte then 0x24 else byte)
+    if nat_lt byte 0x20 then space_character else (if 0xA4 == byte then 0x24 else byte)
 
 -- The cell of a byte of text shows the character of that byte. So a viewer of the due page reads
 -- the text of the subtitle file.
@@ -61,13 +61,14 @@ abbrev pub EachScreenShows : PageIdValue → List SubtitleValue → Transmission
 EachScreenShows page subtitles transmission =
     (class : ReceiverClass) (g j f : ℕ) (arrived : List Bool) (got : List (List ℕ))
     (old new : State)
-    → IsGot transmission (first_frame transmission) (last_frame transmission) g j f arrived got
+    → IsReceivedWithLosses transmission (first_frame transmission) (last_frame transmission) g j f
+    arrived got
     → HearsBy class page old got new
     → IsTrue (holds_header (kind page) (on_air transmission g j f))
     → (row column : ℕ)
     → IsCell row column
     → (seen new.page row column ≡ seen (english_due subtitles f) row column)
-    ⊎ ((seen new.page row column ≡ blank_character)
+    ⊎ ((seen new.page row column ≡ space_character)
     × ExcusedBy class
     (IsHitOrLost page (on_air transmission g j f) (arrivals_of arrived got))
     row column)

@@ -14,9 +14,9 @@ use Rattle.sub_request.specs.declared.request.UsageFault.{UsageFault}
 use Rattle.sub_plan.specs.Examples.{page_888}
 use Rattle.sub_plan.specs.Options.{OptionsValue}
 use Rattle.sub_rules.specs.Transmission.{Transmission}
-use Rattle.sub_answer.specs.FilesInMemory.{known_of_memory}
+use Rattle.sub_answer.specs.FilesInMemory.{memory_observations}
 use Rattle.sub_headline.specs.BothClasses.{EachOfClassGets}
-use Rattle.sub_headline.specs.DrawnOptions.{DisplayOption, DisplayOptions, looking_of}
+use Rattle.sub_headline.specs.DrawnOptions.{DisplayOption, DisplayOptions, display_options_of}
 use Rattle.sub_headline.specs.DrawnOptions.{arguments_for}
 use Rattle.sub_headline.specs.EnglishPage.{english_due}
 use Rattle.sub_headline.specs.EnglishScreen.{EachScreenShows}
@@ -178,7 +178,7 @@ OfDisplay given files IsSo =
     display_options)
     → bytes_at stl files ≡ Some file
     → bytes_at recording files ≡ Some bytes
-    → IsSo (looking_of display_options) file bytes
+    → IsSo (display_options_of display_options) file bytes
 
 -- If the exit code is 0, the headline holds with the due page drawn in the national option and the
 -- layout.
@@ -208,7 +208,7 @@ abbrev pub LawOfHeadline :
 LawOfHeadline {K} contents failure_count IsPush =
     (given : Result (List Text) UsageFault) (before after : MemFilesValue) (output left : K)
     (code : ℕ)
-    → RunsProgram (CallsInOrder IsMemoryCall before after) known_of_memory (λ was is. is ≡ was)
+    → RunsProgram (CallsInOrder IsMemoryCall before after) memory_observations (λ was is. is ≡ was)
     given
     contents failure_count IsPush output left code
     → ImpliesHeadline given before code × ImpliesChosen given before code

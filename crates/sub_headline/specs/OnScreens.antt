@@ -10,7 +10,7 @@ use Rattle.ttx_page.specs.Receiver.{ReceiverClass}
 use Rattle.ttx_page.specs.Span.{holds_header}
 use Rattle.stl_file.specs.Subtitle.{SubtitleValue}
 use Rattle.sub_rules.specs.Transmission.{Transmission, first_frame, last_frame, on_air}
-use Rattle.sub_laws.specs.LostRows.{IsGot}
+use Rattle.sub_laws.specs.LostRows.{IsReceivedWithLosses}
 use Rattle.sub_headline.specs.EnglishPage.{english_due}
 
 -- Each receiver that shows a page only after it is complete shows a page after a header of the page
@@ -20,7 +20,8 @@ abbrev pub EachDisplayShows : PageIdValue → List SubtitleValue → Transmissio
 EachDisplayShows page subtitles transmission =
     (class : ReceiverClass) (g j f : ℕ) (arrived : List Bool) (got : List (List ℕ))
     (old new : Display)
-    → IsGot transmission (first_frame transmission) (last_frame transmission) g j f arrived got
+    → IsReceivedWithLosses transmission (first_frame transmission) (last_frame transmission) g j f
+    arrived got
     → ShowsBy class page old got new
     → IsTrue (holds_header (kind page) (on_air transmission g j f))
     → (shown : Rows)

@@ -2,14 +2,14 @@
 -- subtitles, in as few definitions as possible.
 use Rattle.std.specs.Prelude.{◌≡◌, ℕ, ◌<◌, ◌≤◌, IfSome, IsFalse, IsTrue, List, length}
 use Rattle.ttx_packet.specs.declared.header.Header.{Header}
-use Rattle.ttx_packet.specs.PageHeader.{HasExactWords, c10, c12, c13, c14, c4, c5, c6, c7}
+use Rattle.ttx_packet.specs.PageHeader.{HasExactCodeWords, c10, c12, c13, c14, c4, c5, c6, c7}
 use Rattle.ttx_page.specs.declared.packet_kind.PacketKind.TheVariants.{ThisPage}
 use Rattle.ttx_page.specs.Page.{IsCell, cell}
 use Rattle.ttx_page.specs.PacketKind.{kind}
 use Rattle.ttx_page.specs.Shown.{shown}
 use Rattle.stl_file.specs.Scope.{whole}
 use Rattle.stl_file.specs.Subtitle.{SubtitleValue}
-use Rattle.stl_rows.specs.Programme.{first_in, last_out}
+use Rattle.stl_rows.specs.Programme.{first_tci, last_tco}
 use Rattle.ttx_packet.specs.PageId.{PageIdValue}
 use Rattle.sub_laws.specs.OnScreen.{Complete}
 use Rattle.sub_plan.specs.Options.{OptionsValue}
@@ -58,11 +58,11 @@ pub record IsEnglishGood
   pub not_empty : 0 < length transmission
   pub rising : IsRising transmission
   pub whole : EachPacket (λ packet. length packet ≡ 42) transmission
-  pub starts : IfSome (first_in subtitles) (λ tci. first_frame transmission ≤ tci)
-  pub lasts : IfSome (last_out subtitles) (λ tco. tco ≤ last_frame transmission)
+  pub starts : IfSome (first_tci subtitles) (λ tci. first_frame transmission ≤ tci)
+  pub lasts : IfSome (last_tco subtitles) (λ tco. tco ≤ last_frame transmission)
   -- 2. The address bytes of each packet, and all eight coded bytes of each packet X/0, are code
   -- words without a wrong bit.
-  pub exact : EachPacket HasExactWords transmission
+  pub exact : EachPacket HasExactCodeWords transmission
   -- 3. All page headers, of any page, have the same C11.
   pub serial : EachPacket (λ one. EachPacket (IsInOneMode one) transmission) transmission
   -- 4. Each header of the page has the control bits of an English subtitle.

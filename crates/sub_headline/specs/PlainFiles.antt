@@ -6,7 +6,7 @@ use Rattle.stl_file.specs.Subtitle.{SubtitleValue}
 use Rattle.stl_rows.specs.Programme.{AreInOrder}
 use Rattle.sub_rules.specs.PesFrames.{Carries}
 use Rattle.sub_rules.specs.Transmission.{Transmission}
-use Rattle.sub_headline.specs.EnglishPage.{IsDrawnWhole}
+use Rattle.sub_headline.specs.EnglishPage.{IsDrawnCompletely}
 
 -- The subtitles and the frames that both files contain, given the PTS of frame 0 and the requested
 -- part of the subtitle file.
@@ -19,7 +19,7 @@ pub record AreFilesOf
   pub gsi : List ℕ
   pub subtitle_file : IsFileFor scope stl gsi subtitles
   pub in_order : AreInOrder subtitles
-  pub texts : All IsDrawnWhole subtitles
+  pub texts : All IsDrawnCompletely subtitles
   -- The PES file is PES packets (EN 300 472), one for each frame of the transmission, with the PTS
   -- of that frame.
   pub carries : Carries origin pes transmission

@@ -9,7 +9,7 @@ use Rattle.ttx_page.specs.Receiver.{Hears, State}
 use Rattle.ttx_page.specs.Span.{holds_header}
 use Rattle.stl_file.specs.Subtitle.{SubtitleValue}
 use Rattle.sub_rules.specs.Transmission.{Transmission, first_frame, last_frame, on_air}
-use Rattle.sub_laws.specs.LostRows.{IsGot}
+use Rattle.sub_laws.specs.LostRows.{IsReceivedWithLosses}
 
 -- The page that a receiver has at the end of frame f. The receiver was switched on in frame g and
 -- observed at the end of frame f; `sent` are the packets on air between these points, and `old` and
@@ -44,7 +44,8 @@ pub record Gets
 abbrev pub EachReceiverGets : PageIdValue → ℕ → (ℕ → Rows) → Transmission → Type 0
 EachReceiverGets page every due transmission =
     (g j f : ℕ) (arrived : List Bool) (got : List (List ℕ)) (old new : State)
-    → IsGot transmission (first_frame transmission) (last_frame transmission) g j f arrived got
+    → IsReceivedWithLosses transmission (first_frame transmission) (last_frame transmission) g j f
+    arrived got
     → Hears page old got new
     → Gets page every (due f) g f (on_air transmission g j f)
     (IsHitOrLost page (on_air transmission g j f) (arrivals_of arrived got)) old new

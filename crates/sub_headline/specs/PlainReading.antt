@@ -15,8 +15,8 @@ use Rattle.stl_file.specs.Tti.{before_unused}
 use Rattle.sub_rules.specs.Transmission.{SentFrame, Transmission}
 
 -- The bytes cut into parts of one size; a rest that is too short is left out.
-abbrev pub pieces_of : ℕ → List ℕ → List (List ℕ)
-pieces_of size bytes =
+abbrev pub chunks_of : ℕ → List ℕ → List (List ℕ)
+chunks_of size bytes =
     map (λ k. take size (drop (size * k) bytes)) (range_with_len 0 (length bytes / size))
 
 -- ---- a PES file
@@ -57,7 +57,7 @@ packet_read unit =
 abbrev pub frame_read : ℕ → List ℕ → SentFrame
 frame_read origin b = record {
   frame = (pts_read b + (2 ^ 33 - origin)) % 2 ^ 33 / 3600;
-  packets = flat_map packet_read (pieces_of 46 (drop 46 b));
+  packets = flat_map packet_read (chunks_of 46 (drop 46 b));
 }
 
 -- The frames of a PES file, given the PTS of frame 0. The file has at most as many PES packets as
@@ -105,7 +105,7 @@ subtitle_read group =
 -- The subtitles of a file. Its blocks, 128 bytes each, follow the GSI block, 1024 bytes.
 abbrev pub subtitles_by_place : List ℕ → List SubtitleValue
 subtitles_by_place bytes =
-    map subtitle_read (groups_read (filter is_of_subtitle (pieces_of 128 (drop 1024 bytes))))
+    map subtitle_read (groups_read (filter is_of_subtitle (chunks_of 128 (drop 1024 bytes))))
 
 -- The subtitle begins in the requested part of the file, by its TCI.
 abbrev pub begins_in : Scope → SubtitleValue → Bool

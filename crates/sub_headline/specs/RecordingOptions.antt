@@ -34,7 +34,7 @@ pub data Portion : Type 0 where
       Portion
   From : (text : Text) → (frame : ℕ) → IsName text → frame_of_text text ≡ Some frame → Portion
   To : (text : Text) → (frame : ℕ) → IsName text → frame_of_text text ≡ Some frame → Portion
-  OpenToo : Portion
+  AlsoOpen : Portion
   Any : Choice → Portion
 
 -- The arguments of an option for a recording.
@@ -44,7 +44,7 @@ arguments_in (Size text size is) = codes "--packet-size" ∷ text ∷ []
 arguments_in (Numbers text range is) = codes "--pes" ∷ text ∷ []
 arguments_in (From text frame name is) = codes "--from" ∷ text ∷ []
 arguments_in (To text frame name is) = codes "--to" ∷ text ∷ []
-arguments_in OpenToo = codes "--open" ∷ []
+arguments_in AlsoOpen = codes "--open" ∷ []
 arguments_in (Any choice) = arguments_of_choice choice
 
 -- How both files are read: the options; the PID of the transport packets, if the recording is a
@@ -68,7 +68,7 @@ read_by r (From text frame name is) = record r {
 read_by r (To text frame name is) = record r {
   scope = record { takes_open = r.scope.takes_open; from = r.scope.from; to = frame };
 }
-read_by r OpenToo = record r {
+read_by r AlsoOpen = record r {
   scope = record { takes_open = true; from = r.scope.from; to = r.scope.to };
 }
 read_by r (Any choice) = record r { options = with_choice r.options choice }

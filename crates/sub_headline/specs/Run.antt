@@ -12,13 +12,14 @@ use Rattle.sub_request.specs.declared.request.UsageFault.TheVariants as usage
 use Rattle.sub_words.specs.Requests.{IsRequestOf, IsFaultOf}
 use Rattle.sub_listing.specs.Listing.{exit_code}
 use Rattle.sub_listing.specs.declared.status.Status.{Status}
-use Rattle.sub_answer.specs.Ending.{BufferHoldsOneLineOnly, Ends, KnownOfFiles, Lines, PrintsFault}
+use Rattle.sub_answer.specs.Ending.{BufferHoldsOneLineOnly, Ends, FileObservations, Lines}
+use Rattle.sub_answer.specs.Ending.{PrintsFault}
 use Rattle.sub_answer.specs.Ending.{lines_of}
 
 -- The arguments made a request, which was answered. Files were opened and released by exactly the
 -- calls that were made.
 pub record Answered
-    {I O : Type 0} (AreMade : List (FileCall I O) → Type 0) (known : KnownOfFiles I O)
+    {I O : Type 0} (AreMade : List (FileCall I O) → Type 0) (known : FileObservations I O)
     (IsClose : O → O → Type 0) (given : Result (List Text) UsageFault) (IsAlone : Lines → Type 0)
     (old new : Lines) (result : Status)
     : Type 0 where
@@ -30,18 +31,18 @@ pub record Answered
 
 -- Why arguments have no answer: files that they name could not be opened; or memory ran out, or the
 -- arguments have the fault, and no file was opened.
-abbrev pub IsWhy :
+abbrev pub IsRefusalReason :
     {I O : Type 0} → (List (FileCall I O) → Type 0) → List Text → UsageFault → Type 0
-IsWhy AreMade arguments usage.Memory = AreMade []
-IsWhy AreMade arguments usage.Open =
+IsRefusalReason AreMade arguments usage.Memory = AreMade []
+IsRefusalReason AreMade arguments usage.Open =
     (request : Request) × IsRequestOf arguments request × OpensBy AreMade (files_of request) None
-IsWhy AreMade arguments fault = IsFaultOf arguments fault × AreMade []
+IsRefusalReason AreMade arguments fault = IsFaultOf arguments fault × AreMade []
 
 -- Why a run answers no request: because of its arguments, or because the system gave no arguments.
 abbrev pub IsCause :
     {I O : Type 0}
     → (List (FileCall I O) → Type 0) → Result (List Text) UsageFault → UsageFault → Type 0
-IsCause AreMade (Ok arguments) fault = IsWhy AreMade arguments fault
+IsCause AreMade (Ok arguments) fault = IsRefusalReason AreMade arguments fault
 IsCause AreMade (Err why) fault = (fault ≡ why) × AreMade []
 
 -- No request was answered, and a line with the fault was printed.
@@ -58,7 +59,7 @@ pub record IsUnanswered
 -- and the status.
 abbrev pub EndsRun :
     {I O : Type 0}
-    → (List (FileCall I O) → Type 0) → KnownOfFiles I O → (O → O → Type 0)
+    → (List (FileCall I O) → Type 0) → FileObservations I O → (O → O → Type 0)
     → Result (List Text) UsageFault → (Lines → Type 0) → Lines → Lines → Status → Type 0
 EndsRun AreMade known IsClose given IsAlone old new result =
     Answered AreMade known IsClose given IsAlone old new result
@@ -68,16 +69,16 @@ EndsRun AreMade known IsClose given IsAlone old new result =
 -- standard output afterwards. Standard output has a buffer before it, which was empty, and no other
 -- device; nothing else is printed.
 pub record RunsProgram
-    {I O K : Type 0} (AreMade : List (FileCall I O) → Type 0) (known : KnownOfFiles I O)
+    {I O K : Type 0} (AreMade : List (FileCall I O) → Type 0) (known : FileObservations I O)
     (IsClose : O → O → Type 0) (given : Result (List Text) UsageFault)
     (contents : K → Option (List ℕ)) (failure_count : K → ℕ)
     (IsPush : K → List ℕ → Option ℕ → K → Type 0) (output left : K) (code : ℕ)
     : Type 0 where
   pub room : ℕ
   pub new : BufferState K
-  pub left_is : left ≡ new.device
+  pub left_eq : left ≡ new.device
   pub status : Status
-  pub code_is : code ≡ exit_code status
+  pub code_eq : code ≡ exit_code status
   -- The program answers its arguments, or memory ran out before they were read.
   pub ends :
       (let old : BufferState K =

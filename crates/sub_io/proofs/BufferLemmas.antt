@@ -119,11 +119,11 @@ buffered_are_next buffered (Some xs) bytes e =
     ap (take (length buffered)) (sym (same_Some (buffered ++ xs) bytes e)) ∙ take-append_seam
     buffered xs
 
-pub front_passed : (xs rest : List ℕ) (n : ℕ)
+pub skip_memory_front : (xs rest : List ℕ) (n : ℕ)
     → n ≤ length xs
     → rest ≡ drop n xs
     → SkipsOver (Some xs) n (Some rest)
-front_passed xs rest n le e = record {
+skip_memory_front xs rest n le e = record {
   bytes = take n xs;
   number = length-take-le n xs le;
   consumed = sym (take-append-drop n xs) ∙ ap (λ l. take n xs ++ l) (sym e);

@@ -75,7 +75,7 @@ Told-from_fills (Some xs) (Some ys) n buffer f bytes e =
     record {
       rest = ys;
       parts = sym (same_Some xs bytes e) ∙ f.bytes;
-      new_is = refl;
+      new_eq = refl;
       ended = f.end;
     }
 

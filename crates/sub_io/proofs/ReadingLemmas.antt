@@ -11,5 +11,5 @@ step_gave (Err fault) f y e = absurd cc
 pub Ok-injective : {A E : Type 0} (x y : A) → ◌≡◌ {A = Result A E} (Ok x) (Ok y) → x ≡ y
 Ok-injective x y e = cc
 
-abbrev pub given_as : {A : Type 0} (E : Type 0) → A → Result A E
-given_as E x = Ok x
+abbrev pub ok_result : {A : Type 0} (E : Type 0) → A → Result A E
+ok_result E x = Ok x

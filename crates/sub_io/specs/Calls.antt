@@ -105,8 +105,8 @@ pub record ReadsAhead
       × (answer ≡ option_map (λ n. min n borrowed) got)
 
 -- `left` is what remains of `bytes` without some prefix.
-abbrev pub AreLeftOf : List ℕ → List ℕ → Type 0
-AreLeftOf bytes left = (taken : List ℕ) × (bytes ≡ taken ++ left)
+abbrev pub AreRemainderOf : List ℕ → List ℕ → Type 0
+AreRemainderOf bytes left = (taken : List ℕ) × (bytes ≡ taken ++ left)
 
 -- The bytes that a push took, which are none if the push failed.
 abbrev pub taken_by : List ℕ → Option ℕ → List ℕ
@@ -124,7 +124,7 @@ pub record FlushesFull
   pub mid : D
   pub flushed : PutsByPushes IsPush old.device old.buffered ok mid
   pub failed :
-      ok ≡ false → (answer ≡ None) × (new.device ≡ mid) × AreLeftOf old.buffered new.buffered
+      ok ≡ false → (answer ≡ None) × (new.device ≡ mid) × AreRemainderOf old.buffered new.buffered
   pub straight :
       ok ≡ true
       → old.room ≤ length bytes

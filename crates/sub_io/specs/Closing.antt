@@ -19,23 +19,23 @@ abbrev pub loses_nothing : {X : Type 0} → Result X Error → Bool
 loses_nothing (Ok done) = true
 loses_nothing (Err error) = is_never_stored (error_kind error)
 
--- A device with `any_store` specifies nothing about storing.
-abbrev pub any_store : {D : Type 0} → D → Bool → Type 0
-any_store device answer = Unit {0}
+-- A device with `unrestricted_store` specifies nothing about storing.
+abbrev pub unrestricted_store : {D : Type 0} → D → Bool → Type 0
+unrestricted_store device answer = Unit {0}
 
 -- Storing a device in memory always succeeds, since memory loses nothing.
 abbrev pub needs_no_store : {D : Type 0} → D → Bool
 needs_no_store device = true
 
--- A device with `any_end` specifies nothing about the state in which it is dropped.
-abbrev pub any_end : {D : Type 0} → D → Type 0
-any_end device = Unit {0}
+-- A device with `unrestricted_end` specifies nothing about the state in which it is dropped.
+abbrev pub unrestricted_end : {D : Type 0} → D → Type 0
+unrestricted_end device = Unit {0}
 
 -- Closing a device over a writer drops the writer unchanged, unless the device is closed already.
 -- No failure is counted.
-pub record LetsGo
-    {D : Type 0} (IsLetGo : D → Type 0) (old new : FileValue D) : Type 0 where
-  pub writer : (device : D) → old.device ≡ Some device → IsLetGo device
+pub record Releases
+    {D : Type 0} (IsReleased : D → Type 0) (old new : FileValue D) : Type 0 where
+  pub writer : (device : D) → old.device ≡ Some device → IsReleased device
   pub none : new.device ≡ None
   pub taken : new.taken ≡ old.taken
   pub stored : new.is_stored ≡ old.is_stored

@@ -24,14 +24,14 @@ failed is_one (Err fault) = is_one fault
 failed is_one (Ok _) = false
 
 -- The count `new` is `old` plus one if `is_so` is true, and `old` otherwise.
-abbrev pub RisesIf : ℕ → Bool → ℕ → Type 0
-RisesIf old is_so new = new ≡ old + (if is_so then 1 else 0)
+abbrev pub CountRisesIf : ℕ → Bool → ℕ → Type 0
+CountRisesIf old is_so new = new ≡ old + (if is_so then 1 else 0)
 
 -- The failure count of the device rises by one if `has_failed` is true, and stays the same
 -- otherwise.
 abbrev pub CountsIf : {D : Type 0} → (D → ℕ) → D → Bool → D → Type 0
 CountsIf failure_count old has_failed new =
-    RisesIf (failure_count old) has_failed (failure_count new)
+    CountRisesIf (failure_count old) has_failed (failure_count new)
 
 -- The effect of one pull. `Ok n` consumed n bytes of the source, which are now at the front of the
 -- buffer; `Ok 0` with a nonempty buffer means the end of the source; `Err` consumed nothing.
@@ -69,7 +69,7 @@ pub record Told
     (bytes : List ℕ) (n : ℕ) (new : Option (List ℕ)) (buffer : List ℕ) : Type 0 where
   pub rest : List ℕ
   pub parts : bytes ≡ take n buffer ++ rest
-  pub new_is : new ≡ Some rest
+  pub new_eq : new ≡ Some rest
   pub ended : n < length buffer → rest ≡ []
 
 -- The sink has taken a prefix of the bytes.

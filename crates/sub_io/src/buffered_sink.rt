@@ -4,7 +4,7 @@ ghost use Rattle.std.specs.Prelude.{◌≡◌, ◌≢◌, ◌+◌, ◌-◌, ◌<
 ghost use Rattle.std.specs.Prelude.{Ok, IfErr, IfOk, IsErr, OnOk, false, true, is_ok, ◌↔◌, ◌⊎◌};
 ghost use Rattle.std.specs.Io.KnownBytes.{Appends, Keeps, append_known};
 ghost use Rattle.sub_io.specs.Buffered.{BufferState, failures_and_refused};
-ghost use Rattle.sub_io.specs.Calls.{AreLeftOf, PushesBuffered, PutsByPushes, answered};
+ghost use Rattle.sub_io.specs.Calls.{AreRemainderOf, PushesBuffered, PutsByPushes, answered};
 ghost use Rattle.sub_io.specs.Closing.{ClosesInside};
 ghost use Rattle.sub_io.specs.Device.{CanFail, CountsFailure, Pushes};
 
@@ -229,7 +229,7 @@ impl<K: Sink> Flush for BufferedSink<'_, K> {
         ensures whole { OnOk result ((self.new.buffered ≡ [])
             × Appends (K.contents self.old.device) (K.contents self.new.device) self.old.buffered) }
         // If flushing fails, the bytes that the inner sink did not take stay in the buffer.
-        ensures left { IfErr result (λ _. AreLeftOf self.old.buffered self.new.buffered) }
+        ensures left { IfErr result (λ _. AreRemainderOf self.old.buffered self.new.buffered) }
         ensures room { self.new.room ≡ self.old.room }
 
         ensures bytes { Keeps

@@ -8,7 +8,7 @@ ghost use Rattle.std.specs.Io.KnownBytes.{Consumes, IsAtEnd, Keeps, prepend_know
 ghost use Rattle.sub_io.specs.Buffered.{ReadAhead};
 ghost use Rattle.sub_io.specs.Calls.{ReadsAhead, answered};
 ghost use Rattle.sub_io.specs.Device.{CanFail, CountsFailure, SkipsOver, Pulls};
-ghost use Rattle.sub_io.specs.Borrowed.{BeginBorrowed, GivesBorrowed};
+ghost use Rattle.sub_io.specs.Borrowed.{BeginBorrowed, PullsBorrowed};
 ghost use Rattle.sub_io.specs.Reading.{AreNext};
 
 use crate::{Failed, Source};
@@ -158,7 +158,7 @@ impl<S: Source> Source for BufferedSource<'_, S> {
             (prepend_known self.old.buffered (S.remaining self.old.device))
             (prepend_known self.new.buffered (S.remaining self.new.device))
             to.new result }
-        ensures borrowed { GivesBorrowed self.old.buffered self.new.buffered to.new result }
+        ensures borrowed { PullsBorrowed self.old.buffered self.new.buffered to.new result }
         ensures count { CountsFailure
             (S.failure_count self.old.device) result (S.failure_count self.new.device) }
     {

@@ -6,7 +6,7 @@
 
 ghost use Rattle.std.specs.Prelude.{◌≡◌, Bool, OnOk, true};
 ghost use Rattle.std.specs.Io.KnownBytes.{Keeps};
-ghost use Rattle.sub_io.specs.Closing.{any_end, any_store, loses_nothing};
+ghost use Rattle.sub_io.specs.Closing.{unrestricted_end, unrestricted_store, loses_nothing};
 ghost use Rattle.sub_io.specs.Device.{CanFail, CountsFailure};
 
 use crate::{Failed, Flush};
@@ -28,7 +28,7 @@ pub trait Store {
 }
 
 impl<T: OpenFile> Store for T {
-    ghost is_store = { any_store };
+    ghost is_store = { unrestricted_store };
 
     fn store(&self) -> bool {
         is_kept(self.sync_all())
@@ -52,19 +52,19 @@ fn is_kept(answer: io::Result<()>) -> bool
 /// `Drop` implements it.
 ///
 /// Generic code can do nothing else with the value, so releasing it writes nothing.
-pub trait LetGo: Drop + Sized {
+pub trait Release: Drop + Sized {
     // The states in which the value may be dropped.
-    ghost is_let_go: { Self → Type 0 };
+    ghost is_released: { Self → Type 0 };
 
     /// Drops the value.
-    fn let_go(self)
-        ensures { is_let_go self };
+    fn release(self)
+        ensures { is_released self };
 }
 
-impl<T: Drop> LetGo for T {
-    ghost is_let_go = { any_end };
+impl<T: Drop> Release for T {
+    ghost is_released = { unrestricted_end };
 
-    fn let_go(self) {}
+    fn release(self) {}
 }
 
 /// A sink that can be stored, and closed before it is dropped, such as a file.

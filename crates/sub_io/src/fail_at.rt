@@ -41,9 +41,9 @@ impl<D> FailAt<D> {
     }
 
     // Counts a call, and returns whether it is the failing call.
-    fn trips(&mut self) -> bool
+    fn is_failing_call(&mut self) -> bool
         ensures device { self.new.device ≡ self.old.device }
-        ensures trips { result ≡ fails_next self.old.left }
+        ensures is_failing_call { result ≡ fails_next self.old.left }
         ensures left { self.new.left ≡ countdown_after self.old.left }
     {
         match self.left {
@@ -60,7 +60,7 @@ impl<D> FailAt<D> {
     }
 
     // Adds the failing call, if it has happened, to the failures of the inner device.
-    fn with_own(&self, inner: u64) -> u64
+    fn with_own_failure(&self, inner: u64) -> u64
         ensures { result ≡ failures_with self.now.left inner }
     {
         if self.left.is_some() {
@@ -102,7 +102,7 @@ impl<S: Source> Source for FailAt<S> {
             result
             (failures_with self.new.left (S.failure_count self.new.device)) }
     {
-        if self.trips() {
+        if self.is_failing_call() {
             return Err(Failed);
         }
         self.inner.pull(to)
@@ -110,7 +110,7 @@ impl<S: Source> Source for FailAt<S> {
 
     /// Returns the failures of the inner device, plus one after the failing call.
     fn failures(&self) -> u64 {
-        self.with_own(self.inner.failures())
+        self.with_own_failure(self.inner.failures())
     }
 
     /// Returns `false`, since this device lends no bytes.
@@ -152,7 +152,7 @@ impl<K: Sink> Sink for FailAt<K> {
             result
             (failures_with self.new.left (K.failure_count self.new.device)) }
     {
-        if self.trips() {
+        if self.is_failing_call() {
             return Err(Failed);
         }
         self.inner.push(from)
@@ -160,7 +160,7 @@ impl<K: Sink> Sink for FailAt<K> {
 
     /// Returns the failures of the inner device, plus one after the failing call.
     fn failures(&self) -> u64 {
-        self.with_own(self.inner.failures())
+        self.with_own_failure(self.inner.failures())
     }
 }
 
@@ -189,7 +189,7 @@ impl<K: Flush> Flush for FailAt<K> {
             result
             (failures_with self.new.left (K.failure_count self.new.device)) }
     {
-        if self.trips() {
+        if self.is_failing_call() {
             return Err(Failed);
         }
         self.inner.flush()
@@ -227,7 +227,7 @@ impl<K: Close> Close for FailAt<K> {
             result
             (failures_with self.new.left (K.failure_count self.new.device)) }
     {
-        if self.trips() {
+        if self.is_failing_call() {
             return Err(Failed);
         }
         self.inner.store()

@@ -3,12 +3,12 @@
 ghost use Rattle.std.specs.Prelude.{◌≡◌, ◌+◌, ◌<◌, ◌≤◌, IfOk, IfSome, IsErr, None, OnOk, Option};
 ghost use Rattle.std.specs.Prelude.{Some, [], false, is_none, length, true};
 ghost use Rattle.std.specs.Io.KnownBytes.{Keeps};
-ghost use Rattle.sub_io.specs.Closing.{LetsGo};
+ghost use Rattle.sub_io.specs.Closing.{Releases};
 ghost use Rattle.sub_io.specs.Counted.{FileValue, known_while_open};
 ghost use Rattle.sub_io.specs.Device.{CanFail, CountsFailure, Pushes, buffers_nothing};
 
-use crate::taken::{Piece, Taken};
-use crate::{Close, Failed, Flush, LetGo, Sink, Store};
+use crate::taken::{BorrowedChunk, Taken};
+use crate::{Close, Failed, Flush, Release, Sink, Store};
 use std::io::Write;
 use std::marker::Model;
 
@@ -88,7 +88,7 @@ impl<W: Write> Sink for IntoFile<W> {
         match writer.write(from) {
             Ok(n) if n > 0 => {
                 let (bytes, _) = from.split_at(n);
-                self.taken = self.taken.and(&Piece { bytes });
+                self.taken = self.taken.and(&BorrowedChunk { bytes });
                 self.is_stored = false;
                 Ok(n)
             }
@@ -137,12 +137,12 @@ impl<W: Write> Flush for IntoFile<W> {
     }
 }
 
-impl<W: Write + LetGo + Store> Close for IntoFile<W> {
+impl<W: Write + Release + Store> Close for IntoFile<W> {
     ghost is_stored = { λ s. s.is_stored };
 
     ghost is_closed = { λ s. is_none s.device };
 
-    ghost is_close = { LetsGo W.is_let_go };
+    ghost is_close = { Releases W.is_released };
 
     /// Flushes the writer, and makes the system store all bytes written.
     ///
@@ -174,11 +174,11 @@ impl<W: Write + LetGo + Store> Close for IntoFile<W> {
 
     /// Drops the writer in its current state, which closes a file.
     fn close(&mut self)
-        ensures call { LetsGo W.is_let_go self.old self.new }
+        ensures call { Releases W.is_released self.old self.new }
         ensures closed { self.new ≡ record self.old { device = None } }
     {
         if let Some(writer) = self.inner.take() {
-            writer.let_go();
+            writer.release();
         }
     }
 }

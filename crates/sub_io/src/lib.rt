@@ -14,7 +14,7 @@
 //!
 //! - `Source` and `Sink` are the traits; readers and writers call `fill` and `put_all`. `Flush` is
 //!   a sink that may buffer bytes. `Close` is one that can be stored (`Store`) and closed by
-//!   dropping (`LetGo`) the writer below it.
+//!   dropping (`Release`) the writer below it.
 //! - `MemSource` and `MemSink` are devices over memory; `FromRead`, `IntoWrite` and `IntoFile` are
 //!   devices over std.
 //! - `BufferedSource` and `BufferedSink` put a buffer before another device, so that it is called
@@ -43,7 +43,7 @@ mod taken;
 pub use audience::{Audience, FirstReported, Stopped};
 pub use buffered_sink::BufferedSink;
 pub use buffered_source::BufferedSource;
-pub use close::{Close, LetGo, Store};
+pub use close::{Close, Release, Store};
 pub use fail_at::FailAt;
 pub use fault_code::FaultCode;
 pub use into_file::IntoFile;

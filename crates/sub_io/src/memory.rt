@@ -7,7 +7,7 @@ ghost use Rattle.std.specs.Io.KnownBytes.{Keeps};
 ghost use Rattle.sub_io.specs.Closing.{needs_no_store};
 ghost use Rattle.sub_io.specs.Device.{CanFail, CountsFailure, SkipsOver, Pulls, Pushes};
 ghost use Rattle.sub_io.specs.Device.{buffers_nothing};
-ghost use Rattle.sub_io.specs.Borrowed.{BeginBorrowed, GivesBorrowed};
+ghost use Rattle.sub_io.specs.Borrowed.{BeginBorrowed, PullsBorrowed};
 ghost use Rattle.sub_io.specs.Reading.{AreNext};
 ghost use Rattle.sub_io.specs.Memory.{Written};
 
@@ -49,7 +49,7 @@ impl Source for MemSource<'_> {
         ensures all { result ≡ Ok (min (length self.old) (length to.old)) }
         ensures bound { ReadsAtMost result to.new }
         ensures bytes { Pulls (Some self.old) (Some self.new) to.new result }
-        ensures borrowed { GivesBorrowed self.old self.new to.new result }
+        ensures borrowed { PullsBorrowed self.old self.new to.new result }
         ensures count { CountsFailure 0 result 0 }
     {
         let n = self.rest.len().min(to.len());
@@ -74,7 +74,7 @@ impl Source for MemSource<'_> {
     }
 
     /// Skips `count` bytes, if the slice has that many left.
-    #[tactic(auto, using(crate::proofs::BufferLemmas::front_passed))]
+    #[tactic(auto, using(crate::proofs::BufferLemmas::skip_memory_front))]
     fn skip_bytes(&mut self, count: usize) -> bool
         ensures buffered { (result ≡ true) ↔ (count ≤ length self.old) }
         ensures skipped { result ≡ true → self.new ≡ drop count self.old }

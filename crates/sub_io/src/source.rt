@@ -7,7 +7,7 @@ ghost use Rattle.std.specs.Io.{ReadsAtMost};
 ghost use Rattle.std.specs.Io.KnownBytes.{Consumes, IsAtEnd, Keeps};
 ghost use Rattle.sub_io.specs.Calls.{FillsByPulls, answered, any_call};
 ghost use Rattle.sub_io.specs.Device.{CanFail, CountsFailure, Fills, SkipsOver, Pulls, Told};
-ghost use Rattle.sub_io.specs.Borrowed.{BeginBorrowed, GivesBorrowed, lends_nothing};
+ghost use Rattle.sub_io.specs.Borrowed.{BeginBorrowed, PullsBorrowed, no_borrowed_bytes};
 ghost use Rattle.sub_io.specs.Reading.{AreBytes, AreNext, IfKnown};
 
 /// The error of a call of a source or sink. The failed call has transferred no bytes.
@@ -28,7 +28,7 @@ pub trait Source {
 
     // The bytes that the source can return without calling the device below it, which may block and
     // may fail.
-    ghost borrowed: { Self → List ℕ } = { lends_nothing };
+    ghost borrowed: { Self → List ℕ } = { no_borrowed_bytes };
 
     /// Reads bytes to the front of `to`, and returns their number. 0 for a nonempty `to` means the
     /// end of the source.
@@ -42,7 +42,7 @@ pub trait Source {
         ensures bound { ReadsAtMost result to.new }
         ensures call { is_pull self.old (length to.old) (answered result) self.new }
         ensures bytes { Pulls (remaining self.old) (remaining self.new) to.new result }
-        ensures borrowed { GivesBorrowed (borrowed self.old) (borrowed self.new) to.new result }
+        ensures borrowed { PullsBorrowed (borrowed self.old) (borrowed self.new) to.new result }
         ensures count { CountsFailure (failure_count self.old) result (failure_count self.new) };
 
     /// Returns how many calls of `pull` have failed.

@@ -9,7 +9,7 @@ ghost use Rattle.std.specs.Io.KnownBytes.{Keeps};
 ghost use Rattle.sub_io.specs.Counted.{Counted, WriterValue};
 ghost use Rattle.sub_io.specs.Device.{CanFail, CountsFailure, Pushes, buffers_nothing};
 
-use crate::taken::{Piece, Taken};
+use crate::taken::{BorrowedChunk, Taken};
 use crate::{Failed, Flush, Sink, Source};
 use std::io::{Read, Write};
 use std::marker::Model;
@@ -130,7 +130,7 @@ impl<W: Write> Sink for IntoWrite<W> {
         match self.inner.write(from) {
             Ok(n) if n > 0 => {
                 let (bytes, _) = from.split_at(n);
-                self.taken = self.taken.and(&Piece { bytes });
+                self.taken = self.taken.and(&BorrowedChunk { bytes });
                 Ok(n)
             }
             _ => {

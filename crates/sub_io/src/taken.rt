@@ -19,7 +19,7 @@ impl Model for Taken {
 
 /// The bytes that a writer took in one call.
 #[derive(Clone, Copy)]
-pub struct Piece<'a> {
+pub struct BorrowedChunk<'a> {
     /// The bytes that the writer took, in order.
     pub bytes: &'a [u8],
 }
@@ -33,7 +33,7 @@ impl Taken {
     }
 
     /// Appends the bytes of one call to the record.
-    pub fn and(&self, more: &Piece<'_>) -> Taken
+    pub fn and(&self, more: &BorrowedChunk<'_>) -> Taken
         ensures { result.bytes ≡ self.now.bytes ++ more.now.bytes.now }
     {
         Taken {}

@@ -1,8 +1,8 @@
 -- The active faults at the end of a frame are exactly the broken rules: the first wrong cell
 -- (`first_wrong`, `none_wrong`), an exceeded repeat bound (`gap_decided`), an open page
--- (`incomplete_decided`), an unknown due page (`known_back`, `always_known`, `unexpected_is`);
--- whether any fault is active (`fault_free_parts`), and rule by rule (`active_faults_exact`). Used
--- for reports and trusted frames.
+-- (`incomplete_decided`), an unknown due page (`due_known_before`, `known_without_refusals`,
+-- `unexpected_eq`); whether any fault is active (`fault_free_parts`), and rule by rule
+-- (`active_faults_exact`). Used for reports and trusted frames.
 use Rattle.std.proofs.Common.{◌≡◌, ◌↔◌, ℕ, zero, suc, ◌+◌, ◌-◌, ◌<◌, ◌≤◌, Bool, true, false, []}
 use Rattle.std.proofs.Common.{length, take, Option, Some, None, refl, sym, subst, arith, not, ◌||◌}
 use Rattle.std.proofs.Common.{◌&&◌, ◌==◌, ◌∙◌, ap, get_or, is_some, option_map, inl, inr, ◌⊎◌}
@@ -17,7 +17,7 @@ use Rattle.std.proofs.lemmas.Option.{none-some, same_Some}
 use Rattle.std.specs.Bool.{Decides}
 use Rattle.std.proofs.lemmas.List.Folds.{list_any_more}
 use Rattle.ttx_packet.specs.OneBit.{first_below}
-use Rattle.ttx_packet.proofs.OneBitLemmas.{first_below_is}
+use Rattle.ttx_packet.proofs.OneBitLemmas.{first_below_eq}
 use Rattle.ttx_page.specs.Page.{IsCell}
 use Rattle.ttx_page.specs.Shown.{kept}
 use Rattle.sub_rules.specs.Events.{broken_at, broken_cell, covers, first_cell, is_gap, is_silent}
@@ -29,7 +29,7 @@ use Rattle.sub_rules.specs.Events.{was_undecided}
 use Rattle.sub_rules.specs.FrameRules.{Criteria, HasHeader, IsCovered, IsEnded, IsPaced, ShowsDue}
 use Rattle.sub_rules.specs.FrameRules.{frame_at, packets_before}
 use Rattle.sub_rules.specs.Transmission.{SentFrame, Transmission}
-use Rattle.sub_rules.proofs.TestLemmas.{below_before, below_none, holds}
+use Rattle.sub_rules.proofs.TestLemmas.{first_below_least, first_below_none, holds}
 use Rattle.sub_rules.specs.declared.end_rule.EndRule.{EndRule}
 use Rattle.sub_rules.specs.declared.end_rule.EndRule.TheVariants as end
 use Rattle.sub_rules.proofs.EndRuleLemmas.{nothing_at}
@@ -55,7 +55,7 @@ module _ (test : ℕ → ℕ → Bool) where
     where
       go : (o : Option ℕ) → first_below 40 (test (above + 1)) ≡ o → is_some o ≡ false
           → (c : ℕ) → c < 40 → test (above + 1) c ≡ false
-      go None is e = below_none 40 (test (above + 1)) is
+      go None is e = first_below_none 40 (test (above + 1)) is
       go (Some k) is e = grind arith
 
   by_row : (P : ℕ → Type 0) (r : ℕ) → 1 ≤ r → P (r - 1 + 1) → P r
@@ -69,14 +69,14 @@ module _ (test : ℕ → ℕ → Bool) where
   at_row above l found none None is x e = absurd (none-some x e)
   at_row above l found none (Some column) is x e =
       let same : (above + 1, column) ≡ x = same_Some _ _ e in
-      let first = first_below_is 40 (test (above + 1)) column is in
+      let first = first_below_eq 40 (test (above + 1)) column is in
       subst (λ (y : ℕ × ℕ). IsFirstCell test y.0 y.1) same (record {
         is_cell = (omega arith, omega arith, first.0);
         passes = first.1;
         above = λ r c of m.
             by_row (λ k. test k c ≡ false) r of.0
             (row_none (r - 1) (none (r - 1) (omega (arith, of.0))) c of.2);
-        before = below_before 40 (test (above + 1)) column is;
+        before = first_below_least 40 (test (above + 1)) column is;
       })
 
   pub cell_found : (x : ℕ × ℕ) → first_cell test ≡ Some x → IsFirstCell test x.0 x.1
@@ -89,8 +89,8 @@ module _ (test : ℕ → ℕ → Bool) where
           → IsFirstCell test x.0 x.1
       go None is e = absurd (none-some x e)
       go (Some above) is e =
-          let first = first_below_is 24 row_test above is in
-          at_row above first.0 first.1 (below_before 24 row_test above is)
+          let first = first_below_eq 24 row_test above is in
+          at_row above first.0 first.1 (first_below_least 24 row_test above is)
           (first_below 40 (test (above + 1))) refl x e
 
   pub cell_none : first_cell test ≡ None → (r c : ℕ) → IsCell r c → test r c ≡ false
@@ -103,9 +103,9 @@ module _ (test : ℕ → ℕ → Bool) where
           → option_and_then in_row o
           ≡ None
           → row_test (r - 1) ≡ false
-      go None is e = below_none 24 row_test is (r - 1) (omega (arith, is_cell.0, is_cell.1))
+      go None is e = first_below_none 24 row_test is (r - 1) (omega (arith, is_cell.0, is_cell.1))
       go (Some above) is e =
-          let first = first_below_is 24 row_test above is in
+          let first = first_below_eq 24 row_test above is in
           absurd (some_in (first_below 40 (test (above + 1))) first.1 e)
         where
           some_in : (o : Option ℕ) → is_some o ≡ true
@@ -130,8 +130,8 @@ all_known undecided each first f zero = grind (arith, nat_tests)
 all_known undecided each first f (suc m) =
     grind (arith, nat_tests, (all_known undecided each first f m))
 
-pub always_known : (first f m : ℕ) → was_undecided (λ frame. false) first f m ≡ false
-always_known = all_known (λ frame. false) (λ frame. refl)
+pub known_without_refusals : (first f m : ℕ) → was_undecided (λ frame. false) first f m ≡ false
+known_without_refusals = all_known (λ frame. false) (λ frame. refl)
 
 right_test : (kept due blank : ℕ) (again : Bool)
     → Decides (not (not (kept == due && (due == blank || again))))
@@ -151,8 +151,8 @@ module _ (g : Criteria) (frames : Transmission) (n f : ℕ) where
       → Decides (not (is_wrong row column)) (ShowsDue g frames n f row column)
   wrong_decided row column = grind (arith, nat_tests, right_test)
 
-  wrong_is : g.undecided f ≡ false → wrong_cell g frames n f ≡ other_cell
-  wrong_is known = rw known refl
+  wrong_eq : g.undecided f ≡ false → wrong_cell g frames n f ≡ other_cell
+  wrong_eq known = rw known refl
 
   wrong_known : (x : ℕ × ℕ) → wrong_cell g frames n f ≡ Some x → g.undecided f ≡ false
   wrong_known x e = grind (arith, nat_tests, none-some)
@@ -163,11 +163,11 @@ module _ (g : Criteria) (frames : Transmission) (n f : ℕ) where
   unfolding wrong_after
   none_wrong e known row column is =
       (wrong_decided row column).0
-      (ap not (cell_none is_wrong (sym (wrong_is known) ∙ e) row column is))
+      (ap not (cell_none is_wrong (sym (wrong_eq known) ∙ e) row column is))
 
   pub first_wrong : (x : ℕ × ℕ) → wrong_cell g frames n f ≡ Some x → WrongFirst g frames n f x.0 x.1
   unfolding wrong_after
-  first_wrong x e = grind (arith, nat_tests, cell_found, wrong_is, wrong_known, wrong_decided)
+  first_wrong x e = grind (arith, nat_tests, cell_found, wrong_eq, wrong_known, wrong_decided)
 
   pub no_wrong : ((row column : ℕ) → IsCell row column → ShowsDue g frames n f row column)
       → wrong_cell g frames n f ≡ None
@@ -253,23 +253,23 @@ module _ (g : Criteria) (frames : Transmission) (n f : ℕ) where
           )
 
   -- If the due page is known at the last m frames up to f, it is known at each of them.
-  pub known_back : (first m : ℕ) → was_undecided g.undecided first f m ≡ false
+  pub due_known_before : (first m : ℕ) → was_undecided g.undecided first f m ≡ false
       → (k : ℕ) → k ≤ f → f ≤ k + m → (first ≤ k) ⊎ (k ≡ f)
       → g.undecided k ≡ false
   unfolding was_undecided
-  known_back first zero e k high low from = grind (arith, nat_tests)
-  known_back first (suc m) e k high low from =
-      grind (arith, nat_tests, or_parts, (known_back first m))
+  due_known_before first zero e k high low from = grind (arith, nat_tests)
+  due_known_before first (suc m) e k high low from =
+      grind (arith, nat_tests, or_parts, (due_known_before first m))
 
-  pub known_at : undecided_within g frames f ≡ false → g.undecided f ≡ false
-  known_at e =
-      known_back (frame_at frames 0) g.within e f (le_refl f) (omega arith) (inr refl)
+  pub due_known_at : undecided_within g frames f ≡ false → g.undecided f ≡ false
+  due_known_at e =
+      due_known_before (frame_at frames 0) g.within e f (le_refl f) (omega arith) (inr refl)
 
-  pub unexpected_is : undecided_within g frames f ≡ false
+  pub unexpected_eq : undecided_within g frames f ≡ false
       → unexpected_cell g frames n f
       ≡ unexpected_after g.watched.keeps g.watched.page (packets_before frames n) g.due
       (frame_at frames 0) f g.within
-  unexpected_is known = rw known refl
+  unexpected_eq known = rw known refl
 
   pub incomplete_decided : Decides (not (is_incomplete g frames n)) (IsEnded g frames n)
   unfolding is_incomplete
@@ -292,36 +292,36 @@ module _ (g : Criteria) (frames : Transmission) (n f : ℕ) where
     pub broken_is : broken_cell g frames n f ≡ wrong_cell g frames n f
     broken_is = rw always_late refl
 
-    pub ended_is : (is_late g frames n f && is_incomplete g frames n) ≡ is_incomplete g frames n
-    ended_is = rw always_late refl
+    pub ended_eq : (is_late g frames n f && is_incomplete g frames n) ≡ is_incomplete g frames n
+    ended_eq = rw always_late refl
 
-    unknown_is : undecided_within g frames f ≡ g.undecided f
+    unknown_eq : undecided_within g frames f ≡ g.undecided f
     unfolding was_undecided
-    unknown_is = rw at_once refl
+    unknown_eq = rw at_once refl
 
     right_cells : IsKept end.Content g frames n f → (b : Bool) → g.undecided f ≡ b
         → wrong_cell g frames n f ≡ None
     right_cells kept true is = rw is refl
     right_cells kept false is = no_wrong (kept is)
 
-    kept_is : n ≤ length frames → (rule : EndRule)
+    kept_eq : n ≤ length frames → (rule : EndRule)
         → (broken_at rule (active_faults_at g frames n f) ≡ None) ↔ IsKept rule g frames n f
     unfolding active_faults_at
-    kept_is l end.Content = (
+    kept_eq l end.Content = (
       λ e. none_wrong (sym broken_is ∙ e),
       λ kept. broken_is ∙ right_cells kept (g.undecided f) refl,
     )
-    kept_is l end.Gap = grind (arith, nat_tests, gap_decided l)
-    kept_is l end.Incomplete = let ended = ended_is in grind (arith, nat_tests, incomplete_decided)
-    kept_is l end.Undecided = let is = unknown_is in grind (arith, nat_tests)
-    kept_is l end.Silent = grind (arith, nat_tests, silent_decided)
+    kept_eq l end.Gap = grind (arith, nat_tests, gap_decided l)
+    kept_eq l end.Incomplete = let ended = ended_eq in grind (arith, nat_tests, incomplete_decided)
+    kept_eq l end.Undecided = let is = unknown_eq in grind (arith, nat_tests)
+    kept_eq l end.Silent = grind (arith, nat_tests, silent_decided)
 
     pub all_kept : n ≤ length frames → IsFaultFree g frames n f → (rule : EndRule)
         → IsKept rule g frames n f
-    all_kept l fault_free rule = (kept_is l rule).0 (ap (broken_at rule) fault_free ∙ nothing_at
+    all_kept l fault_free rule = (kept_eq l rule).0 (ap (broken_at rule) fault_free ∙ nothing_at
         rule)
 
     pub active_faults_exact : n ≤ length frames → AreActiveFaults g frames n f
     unfolding active_faults_at
     active_faults_exact l =
-        record { rules = kept_is l; cell = λ x e. first_wrong x (sym broken_is ∙ e) }
+        record { rules = kept_eq l; cell = λ x e. first_wrong x (sym broken_is ∙ e) }

@@ -20,7 +20,7 @@ use Rattle.ttx_packet.specs.PageId.{PageIdValue}
 use Rattle.ttx_packet.specs.Parity.{is_odd}
 use Rattle.ttx_packet.specs.RowPacket.{HasOddText, first_even_byte, text_byte}
 use Rattle.ttx_packet.specs.declared.header.Header.{Header}
-use Rattle.ttx_packet.proofs.OneBitLemmas.{first_below_is}
+use Rattle.ttx_packet.proofs.OneBitLemmas.{first_below_eq}
 use Rattle.ttx_page.specs.Differing.{columns_differing, row_differing}
 use Rattle.ttx_page.specs.Noise.{IsOddRow, IsSameRow}
 use Rattle.ttx_page.proofs.NoiseSteps.{row_from_test}
@@ -46,7 +46,7 @@ use Rattle.sub_rules.specs.declared.packet_rule.PacketRule.TheVariants as rule
 use Rattle.sub_rules.specs.declared.packet_rule.Watched.{Watched}
 use Rattle.sub_laws.specs.BrokenPlaces.{IsComparable}
 use Rattle.sub_laws.proofs.PlaceLemmas.{clean_spans}
-use Rattle.sub_rules.proofs.TestLemmas.{below_none, fails, holds, same_option}
+use Rattle.sub_rules.proofs.TestLemmas.{first_below_none, fails, holds, same_option}
 use Rattle.sub_rules.proofs.CodesLemmas.{same_packet}
 use Rattle.sub_rules.proofs.PacketLists.{Each-find, Each-join, Each-map, Each-none, Each-push}
 use Rattle.sub_rules.proofs.PacketLists.{no_row}
@@ -82,12 +82,13 @@ same_subcode : (last : Option Header) (h : Header)
     ((before : Header) → last ≡ Some before → h.subcode ≡ before.subcode)
 same_subcode last h = grind (arith, nat_tests, none-some, same_Some)
 
-shut_where : (asks opened : Bool) → Decides (not (asks && opened)) (IsTrue asks → IsFalse opened)
-shut_where asks opened = grind (arith, nat_tests, true≢false)
+not_both_decided : (asks opened : Bool) → Decides (not (asks && opened))
+    (IsTrue asks → IsFalse opened)
+not_both_decided asks opened = grind (arith, nat_tests, true≢false)
 
 repeat_decided : (complete : Bool) (page : PageIdValue) (before : List (List ℕ)) (h : Header)
     → Decides (repeats_page complete page before h) (IsRepeat complete page before h)
-repeat_decided complete page before h = grind (arith, nat_tests, same_subcode, shut_where)
+repeat_decided complete page before h = grind (arith, nat_tests, same_subcode, not_both_decided)
 
 may_come_by : (keeps erases repeats : Bool) (P : Type 0) → Decides repeats P
     → Decides (erases || (keeps && repeats))
@@ -141,14 +142,14 @@ odd_text p = go (first_below 40 (λ column. not (is_odd (text_byte p column)))) 
         → Refutes (is_some o) (HasOddText p)
     go None e = (
       λ _ column l.
-          let odd = below_none 40 (λ column. not (is_odd (text_byte p column))) e column l in
+          let odd = first_below_none 40 (λ column. not (is_odd (text_byte p column))) e column l in
           grind (arith, nat_tests),
       λ h. refl,
     )
     go (Some column) e = (
       λ f. absurd (true≢false (sym f)),
       λ h.
-          let even = first_below_is 40 (λ column. not (is_odd (text_byte p column))) column e in
+          let even = first_below_eq 40 (λ column. not (is_odd (text_byte p column))) column e in
           grind (arith, nat_tests),
     )
 

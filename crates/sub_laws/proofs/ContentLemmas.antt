@@ -8,7 +8,7 @@ use Rattle.std.proofs.Common.{◌∙◌, arith, le_refl}
 use Rattle.std.proofs.lemmas.Bool.{true≢false}
 use Rattle.std.proofs.lemmas.List.Elements.{All-from_get_or}
 use Rattle.std.proofs.lemmas.List.{length-take-le, take-append-drop, take-take, take_all}
-use Rattle.ttx_packet.specs.PageHeader.{HasExactWords}
+use Rattle.ttx_packet.specs.PageHeader.{HasExactCodeWords}
 use Rattle.ttx_page.specs.Noise.{ErasesPage}
 use Rattle.ttx_page.specs.Page.{IsCell, cell}
 use Rattle.ttx_page.specs.PacketKind.{kind}
@@ -17,7 +17,7 @@ use Rattle.ttx_page.specs.Repeats.{IsFresh, SendsText}
 use Rattle.ttx_page.specs.Shown.{kept}
 use Rattle.ttx_page.specs.Span.{holds_beginning, holds_header, text_span}
 use Rattle.ttx_page.proofs.FaultFreeLaws.{law_of_kept}
-use Rattle.ttx_page.proofs.RepeatLaws.{kept_shown}
+use Rattle.ttx_page.proofs.RepeatLaws.{shown_without_repeats}
 use Rattle.ttx_page.proofs.TextSpan.{beginning-none_keeps}
 use Rattle.stl_rows.specs.Programme.{ProgrammeValue}
 use Rattle.sub_plan.specs.Options.{OptionsValue}
@@ -38,10 +38,10 @@ use Rattle.sub_laws.proofs.DueCodeLemmas.{MayShow, unexpected_found}
 use Rattle.sub_laws.proofs.FrameByFrame.{IsReadTo}
 use Rattle.sub_laws.proofs.PlaceLemmas.{clean_spans}
 use Rattle.sub_laws.proofs.PrefixLemmas.{EachAfter, RiseTo, before, each_after, first-same}
-use Rattle.sub_laws.proofs.PrefixLemmas.{frame_at-take, on_air_is, packet_at, take_last, take_rises}
+use Rattle.sub_laws.proofs.PrefixLemmas.{frame_at-take, on_air_eq, packet_at, take_last, take_rises}
 use Rattle.sub_laws.proofs.PrefixLemmas.{take_rising}
 use Rattle.sub_laws.proofs.RepeatLemmas.{codes_of_clean}
-use Rattle.sub_laws.proofs.ActiveFaultsLemmas.{always_known, first_wrong, unexpected_is}
+use Rattle.sub_laws.proofs.ActiveFaultsLemmas.{known_without_refusals, first_wrong, unexpected_eq}
 use Rattle.sub_rules.specs.Good.{IsCleanSpan}
 use Rattle.ttx_page.proofs.SpanLists.{holds-append_left}
 use Rattle.sub_rules.specs.declared.packet_rule.PacketRule.TheVariants as rule
@@ -64,7 +64,7 @@ module _ (w : Watched) (frames : Transmission) (n : ℕ) (fits : n ≤ length fr
       (kept w.keeps w.page (packets_before frames n))
   sends = record {
     exact =
-        All-from_get_or HasExactWords _ []
+        All-from_get_or HasExactCodeWords _ []
         (λ k l. (each k l rule.Address, each k l rule.HeaderCode));
     erases = λ none.
         All-from_get_or (ErasesPage w.page) _ [] (λ k l. (each k l rule.Control).erases none);
@@ -95,7 +95,7 @@ module _ (frames : Transmission) (n f : ℕ) (some : 0 < n) (fits : n ≤ length
     (rising : RiseTo frames n) (up_to : frame_at frames (n - 1) ≤ f) where
   on_air_read : on_air_until (take n frames) f ≡ packets_before frames n
   on_air_read =
-      grind (arith, nat_tests, length-take-le, frame_at-take, take-take, on_air_is, take_rises)
+      grind (arith, nat_tests, length-take-le, frame_at-take, take-take, on_air_eq, take_rises)
 
 module _ (programme : ProgrammeValue) (options : OptionsValue) (unread : Option Unread)
     (frames : Transmission) where
@@ -120,7 +120,7 @@ module _ (programme : ProgrammeValue) (options : OptionsValue) (unread : Option 
   broken_is n f x e = go (is_late g frames n f) refl
     where
       known : undecided_within g frames f ≡ false
-      known = always_known (frame_at frames 0) f options.within
+      known = known_without_refusals (frame_at frames 0) f options.within
 
       go : (b : Bool) → is_late g frames n f ≡ b → IsBroken n f x
       go true late =
@@ -134,11 +134,11 @@ module _ (programme : ProgrammeValue) (options : OptionsValue) (unread : Option 
           let found =
           unexpected_found options.keeps options.page (packets_before frames n) g.due
           (frame_at frames 0) f options.within x
-          (sym (unexpected_is g frames n f known) ∙ rw late at e) in
+          (sym (unexpected_eq g frames n f known) ∙ rw late at e) in
           record {
             is_cell = found.0;
             wrong = λ right.
-                found.1 (inr (f, inr refl, le_refl f, omega arith, right.kept_is));
+                found.1 (inr (f, inr refl, le_refl f, omega arith, right.kept_eq));
             unexpected = λ not_late. found.1;
           }
 
@@ -147,23 +147,24 @@ module _ (programme : ProgrammeValue) (options : OptionsValue) (unread : Option 
     abbrev read : Transmission
     read = take n frames
 
-    abbrev cell_is : IsBroken n f x
-    cell_is = broken_is n f x broken
+    abbrev cell_eq : IsBroken n f x
+    cell_eq = broken_is n f x broken
 
     are_read : AreReadUpTo frames f read
     are_read = grind (arith, nat_tests, take_last, take_rising)
 
-    read_air : on_air_until read f ≡ packets_before frames n
-    read_air = on_air_read frames n f r.some r.fits r.rises r.up_to
+    on_air_of_read : on_air_until read f ≡ packets_before frames n
+    on_air_of_read = on_air_read frames n f r.some r.fits r.rises r.up_to
 
-    holds_there : (old new : State)
+    contents_if_fresh : (old new : State)
         → Hears options.page old (on_air_until read f) new
         → IsFresh options.keeps false options.page (packets_before frames n) old
         → cell new.page x.0 x.1 ≡ code_at n x
-    holds_there old new hears fresh =
+    contents_if_fresh old new hears fresh =
         all_hold g.watched frames n r.fits (λ i k some l. r.packets i some k l) old new
-        (subst (λ (ps : List (List ℕ)). Hears options.page old ps new) read_air hears) fresh x.0 x.1
-        cell_is.is_cell
+        (subst (λ (ps : List (List ℕ)). Hears options.page old ps new) on_air_of_read hears) fresh
+        x.0 x.1
+        cell_eq.is_cell
 
     late_same : is_late (criteria_of programme options None) read (length read) f
         ≡ is_late g frames n f
@@ -185,24 +186,24 @@ module _ (programme : ProgrammeValue) (options : OptionsValue) (unread : Option 
       read = read;
       are_read = are_read;
       header =
-          ap (holds_header (kind options.page)) read_air
+          ap (holds_header (kind options.page)) on_air_of_read
           ∙ first_header-packets_before g.watched frames n r.some r.fits r.header;
       differs = λ right.
-          cell_is.wrong
+          cell_eq.wrong
           (subst
-          (λ ps. IsRight options.keeps options.page ps (due_in programme f) x.0 x.1) read_air
+          (λ ps. IsRight options.keeps options.page ps (due_in programme f) x.0 x.1) on_air_of_read
           right);
       holds = λ old new hears fresh.
-          holds_there old new hears
-          (subst (λ ps. IsFresh options.keeps false options.page ps old) read_air fresh)
-          ∙ ap (λ ps. kept options.keeps options.page ps x.0 x.1) (sym read_air);
+          contents_if_fresh old new hears
+          (subst (λ ps. IsFresh options.keeps false options.page ps old) on_air_of_read fresh)
+          ∙ ap (λ ps. kept options.keeps options.page ps x.0 x.1) (sym on_air_of_read);
       unexpected = λ not_late due.
-          cell_is.unexpected (sym late_same ∙ not_late)
+          cell_eq.unexpected (sym late_same ∙ not_late)
           (may_of
           (subst
           (λ ps. IsDueWithin programme read options f x.0 x.1
           (kept options.keeps options.page ps x.0 x.1))
-          read_air due));
+          on_air_of_read due));
     }
 
 module _ (programme : ProgrammeValue) (options : OptionsValue) (frames : Transmission)
@@ -224,7 +225,7 @@ module _ (programme : ProgrammeValue) (options : OptionsValue) (frames : Transmi
   right same =
       subst (λ k. IsRight k options.page sent (due_in programme f) row column) (sym none)
       ((law_of_right_cells options.page sent (due_in programme f) row column).1
-      (sym (kept_shown options.page sent row column)
+      (sym (shown_without_repeats options.page sent row column)
       ∙ ap (λ k. kept k options.page sent row column) (sym none)
       ∙ same))
 

@@ -16,7 +16,7 @@ use Rattle.ttx_page.specs.Receiver.{ReceiverClass, State}
 use Rattle.ttx_page.specs.Repeats.{IsFresh}
 use Rattle.ttx_page.specs.Shown.{kept, shown}
 use Rattle.ttx_page.specs.Span.{holds_header, span}
-use Rattle.ttx_page.proofs.RepeatLaws.{kept_shown, law_of_forgetting}
+use Rattle.ttx_page.proofs.RepeatLaws.{shown_without_repeats, law_of_forgetting}
 use Rattle.ttx_page.proofs.ScreenLaws as screens
 use Rattle.ttx_page.proofs.SpanLists.{find_none}
 use Rattle.ttx_page.proofs.TextSpan.{beginning-none_keeps}
@@ -37,9 +37,9 @@ use Rattle.sub_laws.proofs.SoundStretchLemmas.{window}
 
 pub law_of_right_cells : LawOfRightCells
 law_of_right_cells page packets due row column = (
-  λ right. sym same ∙ right.kept_is,
+  λ right. sym same ∙ right.kept_eq,
   λ shows. record {
-    kept_is = same ∙ shows;
+    kept_eq = same ∙ shows;
     again = λ other. elim (cases_Bool (list_any test (span (kind page) packets))) [
       | inl some ↦ some
       | inr none ↦
@@ -55,7 +55,7 @@ law_of_right_cells page packets due row column = (
     test packet = is_row row (kind page packet)
 
     same : kept false page packets row column ≡ shown page packets row column
-    same = kept_shown page packets row column
+    same = shown_without_repeats page packets row column
 
 module _ (keeps anew : Bool) (class : ReceiverClass) (programme : ProgrammeValue)
     (transmission : Transmission) (options : OptionsValue) (a b : ℕ)
@@ -82,7 +82,7 @@ module _ (keeps anew : Bool) (class : ReceiverClass) (programme : ProgrammeValue
             ];
         cells = λ holds fresh whole row column named.
             elim (ends.cells holds fresh row column named) [
-              | inl same ↦ inl (same ∙ (whole row column named).kept_is)
+              | inl same ↦ inl (same ∙ (whole row column named).kept_eq)
               | inr (spaced, inl excused) ↦ inr (spaced, excused)
               | inr (spaced, inr none) ↦
                   let all = span_so_far keeps transmission options a b stretch g j f is.listening
@@ -111,7 +111,7 @@ module _ (keeps anew : Bool) (class : ReceiverClass) (programme : ProgrammeValue
       recovers_forgetting g j f arrived got old.held new.held is
       (screens.held_forgetting class anew options.page got old new run) in
       let closed = ended keeps transmission options a b stretch g j f is.listening shut holds in
-      let open_is = held.is_open in
+      let open_eq = held.is_open in
       let shut_now : new.held.is_open ≡ false = grind (arith, nat_tests) in (
         new.held.page,
         screens.law_of_forgetting_screen class anew options.page got old new run
@@ -193,7 +193,7 @@ module _ (programme : ProgrammeValue) (transmission : Transmission) (options : O
       let served =
       recovers g j f arrived got old new is
       (law_of_forgetting class options.page got old new hears) in
-      let open_is = served.is_open in
+      let open_eq = served.is_open in
       record {
         in_time = served.in_time;
         heard = served.heard;

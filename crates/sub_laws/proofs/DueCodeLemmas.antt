@@ -1,6 +1,6 @@
 -- The checker's search decides whether a code was due in a cell within the last frames
 -- (`was_due_at`, `due_was`), which cell is the first with another code (`none_unexpected`,
--- `unexpected_none`, `unexpected_found`), and which subtitle ends at a frame (`ending_is`,
+-- `unexpected_none`, `unexpected_found`), and which subtitle ends at a frame (`ending_eq`,
 -- `ending_at`). Used for `law_of_nothing_reported_repeats` and `law_of_trusted_repeats`.
 use Rattle.std.proofs.lemmas.Bool.Decides.{nat_tests}
 use Rattle.std.proofs.Common.{◌≡◌, ◌≢◌, ℕ, zero, suc, ◌+◌, ◌-◌, ◌<◌, ◌≤◌, ◌⊎◌, inl, inr, Bool, true}
@@ -13,7 +13,7 @@ use Rattle.std.proofs.lemmas.Option.{none-some, same_Some}
 use Rattle.ttx_packet.specs.PageId.{PageIdValue}
 use Rattle.ttx_page.specs.Page.{IsCell, Rows, cell, space}
 use Rattle.ttx_page.specs.Shown.{kept}
-use Rattle.ttx_page.proofs.SpanLists.{find_is}
+use Rattle.ttx_page.proofs.SpanLists.{find_eq}
 use Rattle.stl_file.specs.Subtitle.{IsSubtitle, SubtitleValue}
 use Rattle.stl_rows.specs.DuePage.{ends_at, tci_of_ending}
 use Rattle.stl_rows.specs.Programme.{IsProgramme}
@@ -107,10 +107,10 @@ module _ (drawing : Drawing) (records : List SubtitleValue) (is : IsProgramme dr
     other_end : (f : ℕ) (t : SubtitleValue) → t.tco ≢ f → ends_at f t ≡ false
     other_end f t h = grind (arith, nat_tests)
 
-    pub ending_is : (t : SubtitleValue) → Contains records t
+    pub ending_eq : (t : SubtitleValue) → Contains records t
         → tci_of_ending records t.tco ≡ Some t.tci
     unfolding tci_of_ending
-    ending_is t member =
+    ending_eq t member =
         let times : t.tci < t.tco = (All-contains IsSubtitle records t is.each member).times in
         let own : ends_at t.tco t ≡ true = grind (arith, nat_tests) in
         ap (option_map (λ (s : SubtitleValue). s.tci))
@@ -126,4 +126,4 @@ module _ (drawing : Drawing) (records : List SubtitleValue) (is : IsProgramme dr
     pub ending_at : (f tci : ℕ) → tci_of_ending records f ≡ Some tci
         → (t : SubtitleValue) × Contains records t × (t.tco ≡ f) × (t.tci ≡ tci)
     unfolding tci_of_ending
-    ending_at f tci e = grind (arith, nat_tests, none-some, find_is, same_Some)
+    ending_at f tci e = grind (arith, nat_tests, none-some, find_eq, same_Some)

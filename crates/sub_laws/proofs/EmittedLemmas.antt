@@ -20,7 +20,7 @@ use Rattle.sub_rules.specs.Transmission.{SentFrame, Transmission}
 use Rattle.sub_rules.specs.Trusted.CheckStep.{Emits}
 use Rattle.sub_rules.specs.declared.event.Event.{Event}
 use Rattle.sub_rules.proofs.JoinedLemmas.{packets_reported-append, with_packets-length}
-use Rattle.sub_laws.proofs.GrowingFrameLemmas.{goes_on_some}
+use Rattle.sub_laws.proofs.GrowingFrameLemmas.{continues_some}
 use Rattle.sub_laws.proofs.PesPacketWalkLemmas.{EachSkipped, Sends, Steps, each_pes_packet, waits}
 use Rattle.sub_rules.specs.Trusted.{CheckStep}
 use Rattle.sub_rules.proofs.FrameEvents.{events, events_of_first, frame_events, gap_events}
@@ -86,7 +86,7 @@ module _ (g : Criteria) where
   few_sent (Skipped u ∷ pes_packets) = let rest = few_sent pes_packets in omega arith
 
   sent_some : (sent : Transmission) (s : SentFrame) → 0 < length (sent_after g.within sent s)
-  sent_some sent s = grind (arith, nat_tests, goes_on_some, with_packets-length, length-append)
+  sent_some sent s = grind (arith, nat_tests, continues_some, with_packets-length, length-append)
 
   some_joined : (sent frames : Transmission) → 0 < length sent
       → 0 < length (joined_after g.within sent frames)

@@ -28,13 +28,14 @@ use Rattle.sub_rules.specs.declared.event.Event.TheVariants.{Reported}
 use Rattle.sub_rules.specs.declared.fault.CheckFault.{CheckFault}
 use Rattle.sub_rules.specs.declared.fault.CheckFault.TheVariants as fault
 use Rattle.sub_rules.specs.declared.packet_rule.PacketRule.{PacketRule}
-use Rattle.sub_rules.proofs.EndLemmas.{gap_length-is, active_faults_before_is}
-use Rattle.sub_rules.proofs.EndRuleLemmas.{nothing_at, rules_none, no_active_faults_is}
+use Rattle.sub_rules.proofs.EndLemmas.{gap_length-is, active_faults_before_eq}
+use Rattle.sub_rules.proofs.EndRuleLemmas.{nothing_at, rules_none, no_active_faults_eq}
 use Rattle.sub_laws.proofs.BrokenRuleLemmas.{clean_decided}
 use Rattle.sub_laws.proofs.FirstFoundLemmas.{Finds, Finds-append, Finds-like, Finds-none}
 use Rattle.sub_laws.proofs.FirstFoundLemmas.{end_found}
 use Rattle.sub_laws.proofs.FirstFoundLemmas.{first_found, found_so_far, packet_found}
-use Rattle.sub_laws.proofs.FrameByFrame.{AllOk, AreOk, FrameOk, IsFaultFree, IsReadTo, OrderOk}
+use Rattle.sub_laws.proofs.FrameByFrame.{MeetsRequirements, MeetRequirements, FrameOk, IsFaultFree}
+use Rattle.sub_laws.proofs.FrameByFrame.{IsReadTo, OrderOk}
 use Rattle.sub_laws.proofs.FrameByFrame.{PacketsOk}
 use Rattle.sub_laws.proofs.PrefixLemmas.{EachAfter-push, IsInGap, at_start, before, before_more}
 use Rattle.sub_laws.proofs.PrefixLemmas.{each_at, packet_at}
@@ -92,7 +93,7 @@ module _ (g : Criteria) (frames : Transmission) (Named : CheckFault → Type 0)
   abbrev Reports : Type 0 → List Event → Type 0
   Reports Holds xs = FirstOf Named Holds xs
 
-  start_reported : Reports ((first : ℕ) → g.first_in ≡ Some first → frame_at frames 0 ≤ first)
+  start_reported : Reports ((first : ℕ) → g.first_tci ≡ Some first → frame_at frames 0 ≤ first)
       (order_events g frames 0)
   unfolding order_events
   start_reported = grind (arith, nat_tests, reported_if, none-some, same_Some)
@@ -124,12 +125,12 @@ module _ (g : Criteria) (frames : Transmission) (Named : CheckFault → Type 0)
   fault_free_reported n f prior read =
       let now : ActiveFaults = active_faults_at g frames n f in
       Finds-like (λ fault_free rule. ap (broken_at rule) fault_free ∙ nothing_at rule)
-      (λ none. no_active_faults_is now (rules_none now none))
+      (λ none. no_active_faults_eq now (rules_none now none))
       (end_found no_active_faults prior now f
       (λ rule. rw (nothing_at rule)
       (rule_at_end rule (broken_at rule now) prior f (end_named n f read rule))))
 
-  module _ (n : ℕ) (past : AreOk g frames n) (there : n < length frames) (some : 0 < n)
+  module _ (n : ℕ) (past : MeetRequirements g frames n) (there : n < length frames) (some : 0 < n)
       (order : OrderOk g frames n) where
     abbrev last : ℕ
     last = latest frames n
@@ -151,7 +152,7 @@ module _ (g : Criteria) (frames : Transmission) (Named : CheckFault → Type 0)
     nothing_before : (f d : ℕ) → end_before frames n f ≡ d → IsFaultFree g frames n d
         → active_faults_before g frames n f ≡ no_active_faults
     nothing_before f d at fault_free =
-        active_faults_before_is g frames n f some ∙ ap (active_faults_at g frames n) at ∙ fault_free
+        active_faults_before_eq g frames n f some ∙ ap (active_faults_at g frames n) at ∙ fault_free
 
     gap_next : (m : ℕ) → suc m ≤ gap_length frames n → FaultFreeFor m
         → Reports (IsFaultFree g frames n (last + suc m)) (events_at_end g frames n n
@@ -211,14 +212,14 @@ module _ (g : Criteria) (frames : Transmission) (Named : CheckFault → Type 0)
           fault_free_all,
         )
 
-  gap_of : (n : ℕ) → AreOk g frames n → n < length frames → OrderOk g frames n
+  gap_of : (n : ℕ) → MeetRequirements g frames n → n < length frames → OrderOk g frames n
       → Reports ((f : ℕ) → IsInGap frames n f → IsFaultFree g frames n f)
       (gap_events g frames n (gap_length frames n))
   unfolding gap_length gap_events
   gap_of zero past there order = Finds-none (λ f gap. absurd (omega (arith, gap.0)))
   gap_of (suc i) past there order = gap_part (suc i) past there (omega arith) order
 
-  active_before : (n : ℕ) → AreOk g frames n → n < length frames → OrderOk g frames n
+  active_before : (n : ℕ) → MeetRequirements g frames n → n < length frames → OrderOk g frames n
       → ((f : ℕ) → IsInGap frames n f → IsFaultFree g frames n f)
       → active_faults_before g frames n (frame_at frames n) ≡ no_active_faults
   unfolding active_faults_before
@@ -229,7 +230,7 @@ module _ (g : Criteria) (frames : Transmission) (Named : CheckFault → Type 0)
       → IsNamed Named x
   rule_named r frame k x e = grind (arith, nat_tests, same_Some)
 
-  module _ (whole : EachPacket IsPacket frames) (n : ℕ) (past : AreOk g frames n)
+  module _ (whole : EachPacket IsPacket frames) (n : ℕ) (past : MeetRequirements g frames n)
       (there : n < length frames) where
     abbrev ps : List (List ℕ)
     ps = packets_of_frame frames n
@@ -289,7 +290,7 @@ module _ (g : Criteria) (frames : Transmission) (Named : CheckFault → Type 0)
   header_reported zero = Finds-like (λ h. h refl) (λ h z. h) first_header_reported
   header_reported (suc i) = Finds-none (λ z. absurd (omega arith))
 
-  end_reported : (n : ℕ) → AreOk g frames n → n < length frames → OrderOk g frames n
+  end_reported : (n : ℕ) → MeetRequirements g frames n → n < length frames → OrderOk g frames n
       → ((f : ℕ) → IsInGap frames n f → IsFaultFree g frames n f)
       → PacketsOk g frames n (length (packets_of_frame frames n))
       → (n ≡ 0 → HasHeader g frames 0)
@@ -331,7 +332,7 @@ module _ (g : Criteria) (frames : Transmission) (Named : CheckFault → Type 0)
       first_has (inr none) = header (omega arith)
 
   module _ (whole : EachPacket IsPacket frames) where
-    frame_reported : (n : ℕ) → AreOk g frames n → n < length frames
+    frame_reported : (n : ℕ) → MeetRequirements g frames n → n < length frames
         → Reports (FrameOk g frames n) (frame_events g frames n)
     unfolding frame_events
     frame_reported n past there =
@@ -347,36 +348,39 @@ module _ (g : Criteria) (frames : Transmission) (Named : CheckFault → Type 0)
         (λ ok. ok.order))
 
     pub frames_reported : (n : ℕ) → n ≤ length frames
-        → Reports (AreOk g frames n) (events_of_first g frames n)
+        → Reports (MeetRequirements g frames n) (events_of_first g frames n)
     unfolding events_of_first
     frames_reported n l =
         found_so_far (events_of_first g frames) (frame_events g frames) (FrameOk g frames) n refl
         (λ i. refl) (λ i below past. frame_reported i past (omega arith))
 
   -- No subtitle is due after the last frame, and the page is right at its end.
-  abbrev IsOver : Type 0
-  IsOver =
-      ((last : ℕ) → g.last_out ≡ Some last → last ≤ end_frame frames)
+  abbrev IsNothingDueAfterEnd : Type 0
+  IsNothingDueAfterEnd =
+      ((last : ℕ) → g.last_tco ≡ Some last → last ≤ end_frame frames)
       × IsFalse (is_pending g frames)
 
   over_decided :
-      Decides (not (is_short g.last_out (end_frame frames) || is_pending g frames)) IsOver
+      Decides (not (is_short g.last_tco (end_frame frames) || is_pending g frames))
+      IsNothingDueAfterEnd
   over_decided = grind (arith, nat_tests, none-some, same_Some)
 
-  late_reported : Reports IsOver (late_events g frames)
+  late_reported : Reports IsNothingDueAfterEnd (late_events g frames)
   late_reported = reported_if _ _ (plain _ refl) over_decided
 
-  rest_reported : AreOk g frames (length frames) → 0 < length frames → (o : Option Unread)
-      → g.unread ≡ o → Reports (AllOk g frames) (rest_events g frames o)
+  rest_reported : MeetRequirements g frames (length frames) → 0 < length frames →
+      (o : Option Unread)
+      → g.unread ≡ o → Reports (MeetsRequirements g frames) (rest_events g frames o)
   rest_reported past some (Some u) e = grind (arith, nat_tests, rule_reported, none-some)
   rest_reported past some None e = grind (arith, nat_tests, Finds-like, late_reported)
 
-  closing_reported : (n : ℕ) → n ≡ length frames → AreOk g frames (length frames)
-      → Reports (AllOk g frames) (closing_events g frames n)
+  closing_reported : (n : ℕ) → n ≡ length frames → MeetRequirements g frames (length frames)
+      → Reports (MeetsRequirements g frames) (closing_events g frames n)
   unfolding closing_events end_events end_rules
   closing_reported n h1 h2 = grind (arith, nat_tests, rule_reported, rest_reported)
 
-  pub all_reported : EachPacket IsPacket frames → Reports (AllOk g frames) (events g frames)
+  pub all_reported : EachPacket IsPacket frames → Reports (MeetsRequirements g frames)
+      (events g frames)
   unfolding events
   all_reported whole =
       Finds-append (frames_reported whole (length frames) (omega arith))

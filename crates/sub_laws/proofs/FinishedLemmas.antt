@@ -1,6 +1,6 @@
 -- A frame is finished exactly if the test for unfinished ends fails (`finished_of`, `of_finished`),
--- and the checker computes the first frame of a run of unfinished ends (`first_unfinished_is`,
--- `no_first_unfinished`, `first_unfinished_no`, `late_is`). Used for
+-- and the checker computes the first frame of a run of unfinished ends (`first_unfinished_eq`,
+-- `no_first_unfinished`, `first_unfinished_no`, `late_eq`). Used for
 -- `law_of_nothing_reported_repeats` and `law_of_trusted_repeats`.
 use Rattle.std.proofs.lemmas.Bool.Decides.{nat_tests}
 use Rattle.std.proofs.Common.{◌≡◌, ℕ, ◌+◌, ◌-◌, ◌<◌, ◌≤◌, Bool}
@@ -14,7 +14,7 @@ use Rattle.stl_rows.specs.Programme.{ProgrammeValue}
 use Rattle.sub_plan.specs.Options.{OptionsValue}
 use Rattle.sub_plan.specs.Schedule.{due_in}
 use Rattle.sub_rules.specs.Events.{is_incomplete, is_late, is_overdue}
-use Rattle.sub_rules.specs.Events.{is_unfinished, unfinished_since}
+use Rattle.sub_rules.specs.Events.{is_unfinished, unfinished_run_start}
 use Rattle.sub_rules.specs.Events.{wrong_cell}
 use Rattle.sub_rules.specs.FrameRules.{Criteria, Unread, end_frame, frame_at}
 use Rattle.sub_rules.specs.Kept.{IsRight}
@@ -27,10 +27,10 @@ use Rattle.sub_laws.proofs.ActiveFaultsLemmas.{incomplete_decided, no_wrong, non
 use Rattle.sub_laws.proofs.UnfinishedLemmas.{none_first_unfinished, first_unfinished_at}
 use Rattle.sub_laws.proofs.UnfinishedLemmas.{first_unfinished_end, first_unfinished_none}
 use Rattle.sub_laws.proofs.UnfinishedLemmas.{unfinished_at}
-use Rattle.sub_laws.proofs.UnfinishedLemmas.{unfinished_is}
+use Rattle.sub_laws.proofs.UnfinishedLemmas.{unfinished_eq}
 
-pub none_is : {A : Type 0} (o : Option A) → is_some o ≡ false → o ≡ None
-none_is o e = grind (arith, nat_tests)
+pub none_eq : {A : Type 0} (o : Option A) → is_some o ≡ false → o ≡ None
+none_eq o e = grind (arith, nat_tests)
 
 module _ (programme : ProgrammeValue) (options : OptionsValue) (unread : Option Unread)
     (any_refused : Bool) (undecided : ℕ → Bool) (t : Transmission)
@@ -55,7 +55,7 @@ module _ (programme : ProgrammeValue) (options : OptionsValue) (unread : Option 
         whole = λ row column named.
             subst
             (λ ps. IsRight options.keeps options.page ps (due_in programme f) row column) (sym on)
-            (none_wrong g t n f (none_is _ parts.0) known row column named);
+            (none_wrong g t n f (none_eq _ parts.0) known row column named);
         ended = λ asks.
             subst (λ ps. IsFalse (is_open_after (kind options.page) ps)) (sym on) (shut asks);
       }
@@ -85,41 +85,41 @@ module _ (programme : ProgrammeValue) (options : OptionsValue) (unread : Option 
       → IsFinishedBy options.keeps programme t options f
   finished_at f some low high known e =
       let (n, end) = frame_end f some low high in
-      finished_of n f end known (unfinished_is g t rises n f end ∙ e)
+      finished_of n f end known (unfinished_eq g t rises n f end ∙ e)
 
   pub at_finished : (f : ℕ) → 0 < length t → first ≤ f → f ≤ end_frame t
       → IsFinishedBy options.keeps programme t options f
       → un f ≡ false
   at_finished f some low high finished =
       let (n, end) = frame_end f some low high in
-      sym (unfinished_is g t rises n f end) ∙ of_finished n f end finished
+      sym (unfinished_eq g t rises n f end) ∙ of_finished n f end finished
 
-  pub first_unfinished_is : (n f : ℕ) → IsEnd t n f
-      → unfinished_since g t n f ≡ first_unfinished_at un first (f - first)
-  first_unfinished_is n f end =
+  pub first_unfinished_eq : (n f : ℕ) → IsEnd t n f
+      → unfinished_run_start g t n f ≡ first_unfinished_at un first (f - first)
+  first_unfinished_eq n f end =
       let low = end_high t rises n f end in
       first_unfinished_end g t rises (f - first) n f end (omega arith)
 
   pub no_first_unfinished : (n f : ℕ) → IsEnd t n f → is_unfinished g t n f ≡ false
-      → unfinished_since g t n f ≡ None
+      → unfinished_run_start g t n f ≡ None
   no_first_unfinished n f end e =
       let low = end_high t rises n f end in
       let at : f ≡ first + (f - first) = omega arith in
-      first_unfinished_is n f end
+      first_unfinished_eq n f end
       ∙ none_first_unfinished un first (f - first)
-      (ap un (sym at) ∙ sym (unfinished_is g t rises n f end) ∙ e)
+      (ap un (sym at) ∙ sym (unfinished_eq g t rises n f end) ∙ e)
 
-  pub first_unfinished_no : (n f : ℕ) → IsEnd t n f → unfinished_since g t n f ≡ None
+  pub first_unfinished_no : (n f : ℕ) → IsEnd t n f → unfinished_run_start g t n f ≡ None
       → is_unfinished g t n f ≡ false
   first_unfinished_no n f end e =
       let low = end_high t rises n f end in
       let at : f ≡ first + (f - first) = omega arith in
-      unfinished_is g t rises n f end
+      unfinished_eq g t rises n f end
       ∙ ap un at
-      ∙ first_unfinished_none un first (f - first) (sym (first_unfinished_is n f end) ∙ e)
+      ∙ first_unfinished_none un first (f - first) (sym (first_unfinished_eq n f end) ∙ e)
 
   -- An end that is not overdue is late only if `within` is 0.
-  pub late_is : (n f : ℕ) → is_overdue g first (unfinished_since g t n f) f ≡ false
+  pub late_eq : (n f : ℕ) → is_overdue g first (unfinished_run_start g t n f) f ≡ false
       → is_late g t n f ≡ (options.within == 0)
   unfolding is_late
-  late_is n f e = grind (arith, nat_tests)
+  late_eq n f e = grind (arith, nat_tests)

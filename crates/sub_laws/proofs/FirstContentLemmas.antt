@@ -21,7 +21,7 @@ use Rattle.sub_rules.specs.declared.event.Event.TheVariants.{Reported}
 use Rattle.sub_rules.specs.declared.fault.CheckFault.{CheckFault}
 use Rattle.sub_rules.specs.declared.fault.CheckFault.TheVariants as fault
 use Rattle.sub_rules.proofs.StepEventLemmas.{first_of_two, emitted_by, steps_first}
-use Rattle.sub_rules.proofs.PesPacketEventLemmas.{all_first}
+use Rattle.sub_rules.proofs.PesPacketEventLemmas.{first_of_all_announced}
 use Rattle.sub_laws.proofs.EmittedLemmas.{pes_packets_emitted, emitted, emitted-append}
 use Rattle.sub_rules.specs.Trusted.{CheckStep, at_pes, current_pes}
 use Rattle.sub_rules.proofs.FrameEvents.{events}
@@ -143,15 +143,15 @@ module _ (frame row column : ℕ) where
         one_more sent pes s pes_packets rest
         (prefix_reported (sent_after g.within sent s) (suc pes) pes_packets rest) e
 
-    abbrev after_each : List PesPacket → List Event
-    after_each pes_packets =
+    abbrev events_of_each_pes_packet : List PesPacket → List Event
+    events_of_each_pes_packet pes_packets =
         let frames = sent_by_pes_packets g pes_packets in
         emitted (steps_of_pending_end g frames)
         ++ emitted (steps_of_closing g frames (length pes_packets) (length frames))
 
     emitted_all : (pes_packets : List PesPacket)
         → emitted (steps_of_pes_packets g pes_packets)
-        ≡ emitted (steps_of_each g [] 0 pes_packets) ++ after_each pes_packets
+        ≡ emitted (steps_of_each g [] 0 pes_packets) ++ events_of_each_pes_packet pes_packets
     emitted_all pes_packets = grind (arith, nat_tests, emitted-append, emitted, append_assoc)
 
     -- If a wrong cell is the first fault of a PES file, it is the first fault of the frames up to
@@ -165,14 +165,15 @@ module _ (frame row column : ℕ) where
         (sym (prefix_frames pes_packets g.unread))
         ∙ sym (pes_packets_emitted g (prefix pes_packets) (prefix_sent pes_packets)))
         ∙ of_prefix
-        (prefix_reported [] 0 pes_packets (after_each pes_packets)
+        (prefix_reported [] 0 pes_packets (events_of_each_pes_packet pes_packets)
         (ap first_reported (sym (emitted_all pes_packets)) ∙ reported))
       where
         reported : IsFirst (emitted (steps_of_pes_packets g pes_packets))
         reported =
             let steps = steps_of_pes_packets g pes_packets in
             emitted_first 0 steps
-            (sym (all_first (reported_of_pes_packets g pes_packets) ∙ steps_first [] steps) ∙ e)
+            (sym (first_of_all_announced (reported_of_pes_packets g pes_packets) ∙ steps_first []
+            steps) ∙ e)
 
         of_prefix : (prefix pes_packets ≡ pes_packets) ⊎ IsFirst
             (emitted (steps_of_each g [] 0 (prefix pes_packets)))
@@ -183,5 +184,5 @@ module _ (frame row column : ℕ) where
         of_prefix (inr first) =
             ap first_reported (emitted_all (prefix pes_packets))
             ∙ prefix_first (emitted (steps_of_each g [] 0 (prefix pes_packets)))
-            (after_each (prefix pes_packets))
+            (events_of_each_pes_packet (prefix pes_packets))
             first

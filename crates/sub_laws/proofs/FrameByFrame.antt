@@ -12,7 +12,7 @@ abbrev pub IsFaultFree : Criteria → Transmission → ℕ → ℕ → Type 0
 IsFaultFree g frames n f = active_faults_at g frames n f ≡ no_active_faults
 
 pub record OrderOk (g : Criteria) (frames : Transmission) (i : ℕ) : Type 0 where
-  pub start : i ≡ 0 → (first : ℕ) → g.first_in ≡ Some first → frame_at frames 0 ≤ first
+  pub start : i ≡ 0 → (first : ℕ) → g.first_tci ≡ Some first → frame_at frames 0 ≤ first
   pub rises : 0 < i → frame_at frames (i - 1) < frame_at frames i
 
 abbrev pub PacketsOk : Criteria → Transmission → ℕ → ℕ → Type 0
@@ -29,15 +29,15 @@ pub record FrameOk (g : Criteria) (frames : Transmission) (i : ℕ) : Type 0 whe
   pub end : IsFaultFree g frames (i + 1) (frame_at frames i)
 
 -- The first n frames of the list meet all requirements.
-abbrev pub AreOk : Criteria → Transmission → ℕ → Type 0
-AreOk g frames n = (j : ℕ) → j < n → FrameOk g frames j
+abbrev pub MeetRequirements : Criteria → Transmission → ℕ → Type 0
+MeetRequirements g frames n = (j : ℕ) → j < n → FrameOk g frames j
 
 -- The transmission meets all requirements.
-pub record AllOk (g : Criteria) (frames : Transmission) : Type 0 where
-  pub each : AreOk g frames (length frames)
+pub record MeetsRequirements (g : Criteria) (frames : Transmission) : Type 0 where
+  pub each : MeetRequirements g frames (length frames)
   pub unread : g.unread ≡ None
   pub some : 0 < length frames
-  pub late : (last : ℕ) → g.last_out ≡ Some last → last ≤ end_frame frames
+  pub late : (last : ℕ) → g.last_tco ≡ Some last → last ≤ end_frame frames
   pub whole : IsFalse (is_pending g frames)
 
 -- The first n frames are read up to the end of frame f of the day: they rise up to f, their packets

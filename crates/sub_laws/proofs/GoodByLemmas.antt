@@ -12,7 +12,7 @@ use Rattle.std.specs.Prelude.{IfSome}
 use Rattle.ttx_page.specs.PacketKind.{kind}
 use Rattle.ttx_page.specs.Span.{is_unended}
 use Rattle.stl_file.specs.Subtitle.{SubtitleValue}
-use Rattle.stl_rows.specs.Programme.{IsProgramme, ProgrammeValue, first_in, last_out}
+use Rattle.stl_rows.specs.Programme.{IsProgramme, ProgrammeValue, first_tci, last_tco}
 use Rattle.sub_plan.specs.Options.{OptionsValue}
 use Rattle.sub_plan.specs.Schedule.{due_in}
 use Rattle.sub_rules.specs.Good.{Good}
@@ -33,8 +33,8 @@ use Rattle.sub_laws.proofs.SoundStretchLemmas.{last_of_two}
 
 module _ (programme : ProgrammeValue) (transmission : Transmission)
     (is : IsProgramme programme.drawing programme.records)
-    (starts : IfSome (first_in programme.records) (λ tci. first_frame transmission ≤ tci))
-    (lasts : IfSome (last_out programme.records) (λ tco. tco ≤ last_frame transmission))
+    (starts : IfSome (first_tci programme.records) (λ tci. first_frame transmission ≤ tci))
+    (lasts : IfSome (last_tco programme.records) (λ tco. tco ≤ last_frame transmission))
     (k : ℕ) (d : SubtitleValue) (within : k < length programme.records) where
   abbrev t : SubtitleValue
   t = get_or programme.records k d
@@ -132,7 +132,7 @@ module _ (programme : ProgrammeValue) (transmission : Transmission) (options : O
             low,
             le_refl f,
             omega arith,
-            ((finished f low high).whole row column named).kept_is,
+            ((finished f low high).whole row column named).kept_eq,
           );
       again = λ f low high. (f, le_refl f, omega arith, finished f low (omega (arith, high)));
       subtitles = λ k d within.

@@ -8,7 +8,7 @@ use Rattle.std.proofs.lemmas.Bool.Decides.{nat_tests}
 use Rattle.sub_rules.specs.FrameRules.{Criteria, end_frame, frame_at, packets_before}
 use Rattle.sub_rules.specs.FrameRules.{packets_of_frame}
 use Rattle.sub_rules.specs.PesPacketEvents.{steps_of_arrival, steps_of_ending}
-use Rattle.sub_rules.specs.PesPackets.{goes_on_with, joined_after, sent_after, with_packets}
+use Rattle.sub_rules.specs.PesPackets.{continues_with, joined_after, sent_after, with_packets}
 use Rattle.sub_rules.specs.Transmission.{SentFrame, Transmission}
 use Rattle.sub_rules.proofs.FirstFrameLemmas.{steps_of_arrival-same}
 use Rattle.sub_rules.proofs.FrameLists.{joined_more}
@@ -19,11 +19,11 @@ use Rattle.sub_rules.proofs.PrefixEventLemmas.{frame_at-prefix, steps_of_arrival
 use Rattle.sub_rules.proofs.PrefixEventLemmas.{steps_of_ending-prefix, packets_before-prefix}
 use Rattle.sub_rules.proofs.PrefixEventLemmas.{packets_of_frame-prefix}
 
-with_none : (sent : Transmission) → with_packets [] sent ≡ sent
+with_no_packets : (sent : Transmission) → with_packets [] sent ≡ sent
 unfolding with_packets
-with_none [] = refl
-with_none (s ∷ []) = grind (arith, nat_tests, append-nil)
-with_none (s ∷ next ∷ frames) = grind (arith, nat_tests, (with_none (next ∷ frames)))
+with_no_packets [] = refl
+with_no_packets (s ∷ []) = grind (arith, nat_tests, append-nil)
+with_no_packets (s ∷ next ∷ frames) = grind (arith, nat_tests, (with_no_packets (next ∷ frames)))
 
 with_first : (ys : List (List ℕ)) (s : SentFrame) (l : Transmission) → 0 < length l
     → with_packets ys (s ∷ l) ≡ s ∷ with_packets ys l
@@ -31,13 +31,20 @@ unfolding with_packets
 with_first ys s [] some = absurd (omega arith)
 with_first ys s (x ∷ l) some = refl
 
-with_two : (xs ys : List (List ℕ)) (sent : Transmission)
+with_packets_append : (xs ys : List (List ℕ)) (sent : Transmission)
     → with_packets ys (with_packets xs sent) ≡ with_packets (xs ++ ys) sent
 unfolding with_packets
-with_two xs ys [] = refl
-with_two xs ys (s ∷ []) = grind (arith, nat_tests, append_assoc)
-with_two xs ys (s ∷ next ∷ frames) =
-    grind (arith, nat_tests, with_packets-length, with_first, (with_two xs ys (next ∷ frames)))
+with_packets_append xs ys [] = refl
+with_packets_append xs ys (s ∷ []) = grind (arith, nat_tests, append_assoc)
+with_packets_append xs ys (s ∷ next ∷ frames) =
+    grind (
+      arith,
+      nat_tests,
+      with_packets-length,
+      with_first,
+      (with_packets_append xs ys
+          (next ∷ frames)),
+    )
 
 -- All frames of the transmission are the frames sent so far, with more packets in the last frame
 -- and with further frames.
@@ -55,24 +62,24 @@ grown sent s frames is = grind (arith, nat_tests, with_more, with_packets-push, 
 pub grows_more : (packets : List (List ℕ)) (sent frames : Transmission)
     → Grows (with_packets packets sent) frames
     → Grows sent frames
-grows_more packets sent frames is = grind (arith, nat_tests, with_two)
+grows_more packets sent frames is = grind (arith, nat_tests, with_packets_append)
 
-pub grows_one : (sent : Transmission) (s : SentFrame) (frames : Transmission)
+pub grows_without_last : (sent : Transmission) (s : SentFrame) (frames : Transmission)
     → Grows (sent ++ s ∷ []) frames
     → Grows sent frames
-grows_one sent s frames is =
+grows_without_last sent s frames is =
     let all = grown sent s frames is in
     record {
       rest = [];
       more = all.0;
-      whole = all.1 ∙ sym (ap (λ (l : Transmission). l ++ all.0) (with_none sent));
+      whole = all.1 ∙ sym (ap (λ (l : Transmission). l ++ all.0) (with_no_packets sent));
     }
 
 -- The relation `Grows` also holds for the frames before the last PES packet.
 pub grows_before : (within : ℕ) (sent : Transmission) (s : SentFrame) (frames : Transmission)
     → Grows (sent_after within sent s) frames
     → Grows sent frames
-grows_before within sent s frames h1 = grind (arith, nat_tests, grows_more, grows_one)
+grows_before within sent s frames h1 = grind (arith, nat_tests, grows_more, grows_without_last)
 
 pub grows : (within : ℕ) (sent more : Transmission)
     → Grows sent (joined_after within sent more)
@@ -80,7 +87,7 @@ unfolding joined_after
 grows within sent [] = record {
   rest = [];
   more = [];
-  whole = sym (with_none sent) ∙ sym (append-nil (with_packets [] sent));
+  whole = sym (with_no_packets sent) ∙ sym (append-nil (with_packets [] sent));
 }
 grows within sent (s ∷ more) =
     grows_before within sent s (joined_after within (sent_after within sent s) more)
@@ -92,15 +99,15 @@ pub same_at_once : (within : ℕ) (sent more frames : Transmission) → (within 
     → frames ≡ sent ++ more
 same_at_once within sent more frames none all = grind (arith, nat_tests, joined_after-none)
 
-pub goes_on_some : (within : ℕ) (sent : Transmission) (s : SentFrame)
-    → goes_on_with within sent s ≡ true
+pub continues_some : (within : ℕ) (sent : Transmission) (s : SentFrame)
+    → continues_with within sent s ≡ true
     → ((within == 0) ≡ false) × (0 < length sent)
-goes_on_some within sent s h1 = grind (arith, nat_tests)
+continues_some within sent s h1 = grind (arith, nat_tests)
 
 -- There are at most as many frames so far as in the whole transmission.
-pub so_many : (sent frames : Transmission) → Grows sent frames
+pub grows_length : (sent frames : Transmission) → Grows sent frames
     → length sent ≤ length frames
-so_many sent frames is = grind (arith, nat_tests, length-append, with_packets-length)
+grows_length sent frames is = grind (arith, nat_tests, length-append, with_packets-length)
 
 module _ (g : Criteria) (sent frames : Transmission) (is : Grows sent frames) (n : ℕ)
     (size : length sent ≡ suc n)
@@ -108,40 +115,40 @@ module _ (g : Criteria) (sent frames : Transmission) (is : Grows sent frames) (n
     abbrev all : Transmission
     all = with_packets is.rest sent
 
-    all_long : length all ≡ suc n
-    all_long = with_packets-length is.rest sent ∙ size
+    length_of_all : length all ≡ suc n
+    length_of_all = with_packets-length is.rest sent ∙ size
 
     pub long : n < length frames
-    long = grind (arith, nat_tests, length-append, all_long)
+    long = grind (arith, nat_tests, length-append, length_of_all)
 
-    pub frame_is : (i : ℕ) → i < suc n → frame_at frames i ≡ frame_at sent i
-    frame_is i l = grind (arith, nat_tests, frame_at-prefix, all_long, with_packets-frame_at)
+    pub frame_eq : (i : ℕ) → i < suc n → frame_at frames i ≡ frame_at sent i
+    frame_eq i l = grind (arith, nat_tests, frame_at-prefix, length_of_all, with_packets-frame_at)
 
-    pub before_is : packets_before frames n ≡ packets_before sent n
-    before_is = grind (arith, nat_tests, packets_before-prefix, all_long, with_packets-before)
+    pub before_eq : packets_before frames n ≡ packets_before sent n
+    before_eq = grind (arith, nat_tests, packets_before-prefix, length_of_all, with_packets-before)
 
     -- The packets sent so far are those of the first n frames, and those so far in frame n.
     pub so_far : packets_before sent (length sent)
         ≡ packets_before frames n ++ packets_of_frame sent n
     so_far =
         let next : length sent ≡ n + 1 = omega (arith, size) in
-        grind (arith, nat_tests, joined_more, before_is)
+        grind (arith, nat_tests, joined_more, before_eq)
 
-    pub end_is : end_frame sent ≡ frame_at frames n
-    end_is = grind (arith, nat_tests, frame_is)
+    pub end_eq : end_frame sent ≡ frame_at frames n
+    end_eq = grind (arith, nat_tests, frame_eq)
 
-    pub arrival_is : steps_of_arrival g sent n ≡ steps_of_arrival g frames n
-    arrival_is =
+    pub arrival_eq : steps_of_arrival g sent n ≡ steps_of_arrival g frames n
+    arrival_eq =
         steps_of_arrival-same g sent all n (sym (with_packets-frames is.rest sent))
         (sym (with_packets-take is.rest sent n (omega (arith, size)))) n (le_refl n)
-        ∙ sym (steps_of_arrival-prefix g g.unread all is.more n (omega (arith, all_long)))
+        ∙ sym (steps_of_arrival-prefix g g.unread all is.more n (omega (arith, length_of_all)))
         ∙ ap (λ (fs : Transmission). steps_of_arrival g fs n) (sym is.whole)
 
 module _ (g : Criteria) (sent more frames : Transmission) (whole : frames ≡ sent ++ more) (n : ℕ)
     (there : n < length sent)
   where
-    pub ending_is : steps_of_ending g sent n ≡ steps_of_ending g frames n
-    ending_is =
+    pub ending_eq : steps_of_ending g sent n ≡ steps_of_ending g frames n
+    ending_eq =
         sym (steps_of_ending-prefix g g.unread sent more n there)
         ∙ ap (λ (fs : Transmission). steps_of_ending g fs n) (sym whole)
 

@@ -6,7 +6,7 @@ use Rattle.std.proofs.Common.{[], ◌∷◌, ◌++◌, length, refl, sym, ap, �
 use Rattle.std.proofs.Common.{length-append}
 use Rattle.std.proofs.lemmas.List.{append-nil}
 use Rattle.sub_rules.specs.FrameRules.{end_frame, frame_at}
-use Rattle.sub_rules.specs.PesPackets.{goes_on_with, joined, joined_after}
+use Rattle.sub_rules.specs.PesPackets.{continues_with, joined, joined_after}
 use Rattle.sub_rules.specs.Transmission.{IsRising, SentFrame, Transmission}
 use Rattle.sub_rules.proofs.JoinedLemmas.{sent_after-other}
 use Rattle.sub_laws.proofs.GoodLemmas.{rises_each}
@@ -25,7 +25,7 @@ frame_at-next (x ∷ xs) s ys = frame_at-next xs s ys
 -- In rising frames no PES packet continues the frame before.
 another : (within : ℕ) (sent : Transmission) (s : SentFrame) (frames : Transmission)
     → IsRising (sent ++ s ∷ frames)
-    → goes_on_with within sent s ≡ false
+    → continues_with within sent s ≡ false
 another within [] s frames rising = refl
 another within (x ∷ sent) s frames rising =
     let all : Transmission = x ∷ sent ++ s ∷ frames in

@@ -1,6 +1,6 @@
 -- If only a part of a subtitle file is requested, a transmission is compared with the same
 -- subtitles as without the other blocks (`judged_parts`). The texts and times of refused subtitles
--- do not matter otherwise (`law_of_judged_alike`).
+-- do not matter otherwise (`law_of_equal_reports`).
 use Rattle.std.proofs.Math.Path.{fun_ext}
 use Rattle.std.proofs.Common.{◌≡◌, ℕ, Bool, false, true, ◌&&◌, ◌++◌, Option, Some, None}
 use Rattle.std.proofs.Common.{option_map, refl, sym, ap, ◌∙◌}
@@ -8,8 +8,8 @@ use Rattle.std.specs.List.{concat}
 use Rattle.stl_file.specs.Reader.{findings_for}
 use Rattle.stl_file.specs.Reading.{Findings, breaks, finds, no_more, refuses}
 use Rattle.stl_file.specs.Subtitle.{SubtitleValue}
-use Rattle.stl_file.specs.TakenOut.{LawOfScope, all_day, is_read_to_the_end, taken_out}
-use Rattle.stl_file.specs.TakenOut.{unnumbered}
+use Rattle.stl_file.specs.KeptBlocks.{LawOfScope, all_day, is_read_to_the_end, kept_blocks}
+use Rattle.stl_file.specs.KeptBlocks.{unnumbered}
 use Rattle.stl_rows.specs.declared.layout.Drawing.{Drawing}
 use Rattle.stl_rows.specs.DrawnPage.{drawn}
 use Rattle.stl_rows.specs.Judged.{AllJudged, are_in_order, are_some, has_refused}
@@ -19,7 +19,7 @@ use Rattle.stl_rows.specs.Programme.{ProgrammeValue, times_of}
 use Rattle.sub_rules.specs.FrameRules.{is_due_undecided}
 use Rattle.sub_rules.specs.PesPacketEvents.{all_of_pes_packets}
 use Rattle.sub_laws.specs.CleanStretch.{criteria_unsure}
-use Rattle.sub_laws.specs.JudgedFiles.{LawOfJudgedAlike, LawOfJudgedParts}
+use Rattle.sub_laws.specs.JudgedFiles.{LawOfEqualReports, LawOfJudgedParts}
 
 -- Whether a file was read to its end does not depend on block numbers.
 read_unnumbered : (left : Findings) → is_read_to_the_end left ≡ is_read_to_the_end (unnumbered left)
@@ -106,13 +106,13 @@ unfolding judged_of
 judged_parts law drawing gsi blocks size each read =
     let part : Findings = findings_for drawing.scope (gsi ++ concat blocks) in
     let rest : Findings =
-    findings_for (all_day drawing.scope) (gsi ++ concat (taken_out drawing.scope None blocks)) in
+    findings_for (all_day drawing.scope) (gsi ++ concat (kept_blocks drawing.scope None blocks)) in
     let same = law drawing.scope gsi blocks size each read in
     (judged_same drawing part rest same, judges_same drawing part rest same)
 
 -- The criteria are equal, since functions with equal values are equal.
-pub law_of_judged_alike : LawOfJudgedAlike
-law_of_judged_alike one other options unread pes_packets programme any_refused undecided =
+pub law_of_equal_reports : LawOfEqualReports
+law_of_equal_reports one other options unread pes_packets programme any_refused undecided =
     ap
     (λ (p : ProgrammeValue).
     all_of_pes_packets (criteria_unsure p options unread (has_refused one) (is_due_undecided one))

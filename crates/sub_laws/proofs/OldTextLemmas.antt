@@ -24,8 +24,8 @@ use Rattle.sub_plan.specs.Options.{OptionsValue}
 use Rattle.sub_rules.specs.Repeats.{GoodBy, IsCorrectPage}
 use Rattle.sub_rules.specs.Transmission.{Transmission, first_frame, last_frame, on_air}
 use Rattle.sub_rules.specs.Transmission.{on_air_until, packets_between}
-use Rattle.sub_laws.specs.LostRows.{IsGot}
-use Rattle.sub_laws.specs.OldText.{HoldsWhatIsDue, LawOfOldText, TextGoes}
+use Rattle.sub_laws.specs.LostRows.{IsReceivedWithLosses}
+use Rattle.sub_laws.specs.OldText.{HoldsWhatIsDue, LawOfOldText, TextEnds}
 use Rattle.sub_laws.specs.Robust.{IsListening}
 use Rattle.sub_laws.proofs.GoodByLemmas.{law_of_good_repeats}
 use Rattle.sub_laws.proofs.RepeatLemmas.{repeated_stretch}
@@ -116,7 +116,7 @@ module _ (keeps : Bool) (w : PageIdValue) (xs ys : List (List ℕ)) where
 module _ (keeps : Bool) (programme : ProgrammeValue) (transmission : Transmission)
     (options : OptionsValue) (e row column code : ℕ)
     (good : GoodBy keeps programme transmission options)
-    (goes : TextGoes programme options.within e row column code)
+    (goes : TextEnds programme options.within e row column code)
     (from_first : first_frame transmission + options.within < e)
     (to_last : e + options.within ≤ last_frame transmission) where
   finished :
@@ -127,7 +127,7 @@ module _ (keeps : Bool) (programme : ProgrammeValue) (transmission : Transmissio
         some.0,
         omega (arith, some.1),
         omega (arith, some.2),
-        (some.3.whole row column goes.is_cell).kept_is
+        (some.3.whole row column goes.is_cell).kept_eq
             ∙ goes.was some.0 (omega (arith, some.2)) (omega (arith, some.1)),
       )
 
@@ -200,7 +200,8 @@ module _ (keeps : Bool) (programme : ProgrammeValue) (transmission : Transmissio
 
   holds : (class : ReceiverClass) (anew : Bool) (g j f : ℕ) (arrived : List Bool)
       → (got : List (List ℕ)) (old new : State)
-      → IsGot transmission (first_frame transmission) (last_frame transmission) g j f arrived got
+      → IsReceivedWithLosses transmission (first_frame transmission) (last_frame transmission) g j f
+      arrived got
       → HearsForgetting class anew options.page old got new
       → g + options.within < e
       → e + options.within ≤ f

@@ -14,7 +14,8 @@ use Rattle.sub_rules.specs.FrameRules.{packets_of_frame}
 use Rattle.sub_rules.specs.PesPacketEvents.{steps_of_arrival, steps_of_each, steps_of_ending}
 use Rattle.sub_rules.specs.PesPacketEvents.{steps_of_more, steps_of_next, steps_of_sent}
 use Rattle.sub_rules.specs.PesPacketEvents.{steps_of_pending_end}
-use Rattle.sub_rules.specs.PesPackets.{PesPacket, frames_of, goes_on_with, joined_after, sent_after}
+use Rattle.sub_rules.specs.PesPackets.{PesPacket, frames_of, continues_with, joined_after}
+use Rattle.sub_rules.specs.PesPackets.{sent_after}
 use Rattle.sub_rules.specs.PesPackets.{with_packets}
 use Rattle.sub_rules.specs.PesPackets.PesPacket.{Skipped, Sent}
 use Rattle.sub_rules.specs.Transmission.{SentFrame, Transmission}
@@ -23,8 +24,8 @@ use Rattle.sub_rules.specs.declared.event.Event.{Event}
 use Rattle.sub_rules.specs.declared.event.Event.TheVariants.{Reported}
 use Rattle.sub_rules.proofs.JoinedLemmas.{with_packets-last, with_packets-length}
 use Rattle.sub_rules.proofs.PrefixEventLemmas.{packets_of_frame-prefix}
-use Rattle.sub_laws.proofs.GrowingFrameLemmas.{Grows, arrival_is, before_is, end_is, ending_is}
-use Rattle.sub_laws.proofs.GrowingFrameLemmas.{frame_is, goes_on_some, grown, grows, grows_before}
+use Rattle.sub_laws.proofs.GrowingFrameLemmas.{Grows, arrival_eq, before_eq, end_eq, ending_eq}
+use Rattle.sub_laws.proofs.GrowingFrameLemmas.{frame_eq, continues_some, grown, grows, grows_before}
 use Rattle.sub_laws.proofs.GrowingFrameLemmas.{long, packets_are, so_far, same_at_once}
 use Rattle.sub_rules.specs.Trusted.{CheckStep}
 
@@ -111,10 +112,10 @@ module _ (X : Type 0) (reported_of : ℕ → X → X) (g : Criteria) (frames : T
         → T U t (xs ++ ys))
         (steps : Steps)
       where
-        and_so : (S U : X → Type 0) (t : X) (ms : List CheckStep) → T S t ms
+        implies_after : (S U : X → Type 0) (t : X) (ms : List CheckStep) → T S t ms
             → ((u : X) → S u → U u)
             → T U t ms
-        and_so S U t ms is so =
+        implies_after S U t ms is so =
             subst (T U t) (append-nil ms) (append S U t ms [] is (λ u s. nil U u (so u s)))
 
         on_more : (sent : Transmission) (s : SentFrame) (t : X) (n : ℕ) → length sent ≡ suc n
@@ -127,7 +128,7 @@ module _ (X : Type 0) (reported_of : ℕ → X → X) (g : Criteria) (frames : T
             let packets : List (List ℕ) = packets_of_frame sent n in
             let all : Transmission = with_packets s.packets sent in
             let last : length sent - 1 ≡ n = omega (arith, size) in
-            let at : end_frame sent ≡ frame_at frames n = end_is g sent frames is n size in
+            let at : end_frame sent ≡ frame_at frames n = end_eq g sent frames is n size in
             let before : packets_before sent (length sent) ≡ packets_before frames n ++ packets =
             so_far g sent frames is n size in
             let reported :
@@ -156,7 +157,7 @@ module _ (X : Type 0) (reported_of : ℕ → X → X) (g : Criteria) (frames : T
             let size = ap (λ (l : Transmission). length l) whole in
             omega (arith, size, length-append sent more) in
             subst (λ (k : ℕ). T (C k) t (steps_of_ending g sent n)) (sym long_is)
-            (subst (T (C (suc n)) t) (sym (ending_is g sent more frames whole n (omega arith)))
+            (subst (T (C (suc n)) t) (sym (ending_eq g sent more frames whole n (omega arith)))
             (steps.ending n t there
             (subst (λ (ps : List (List ℕ)). O n ps t)
             (packets_are g sent more frames whole n (omega arith)) open_here)))
@@ -200,11 +201,11 @@ module _ (X : Type 0) (reported_of : ℕ → X → X) (g : Criteria) (frames : T
             ≡ es =
             rw (
               append-nil (packets_before frames n),
-              frame_is g all frames is n size n (omega arith),
-              before_is g all frames is n size,
+              frame_eq g all frames is n size n (omega arith),
+              before_eq g all frames is n size,
             ) refl in
             let first : T (O n []) t (steps_of_arrival g all n) =
-            subst (T (O n []) t) (sym (arrival_is g all frames is n size))
+            subst (T (O n []) t) (sym (arrival_eq g all frames is n size))
             (steps.arrival n t there closed) in
             append (O n packets) (Sends all) t (steps_of_arrival g all n ++ map Emits es)
             (if g.within == 0 then steps_of_ending g all n else [])
@@ -220,7 +221,7 @@ module _ (X : Type 0) (reported_of : ℕ → X → X) (g : Criteria) (frames : T
                 → T (Sends (sent ++ s ∷ [])) u
                 (if at_once then steps_of_ending g (sent ++ s ∷ []) (length sent) else [])
             go true at_once u size so =
-                and_so (C (length (sent ++ s ∷ []))) (Sends (sent ++ s ∷ [])) u
+                implies_after (C (length (sent ++ s ∷ []))) (Sends (sent ++ s ∷ [])) u
                 (steps_of_ending g (sent ++ s ∷ []) (length sent))
                 (ends (sent ++ s ∷ []) more u (whole at_once) (length sent) size so)
                 (λ v closed. inl (inl at_once, closed))
@@ -233,14 +234,14 @@ module _ (X : Type 0) (reported_of : ℕ → X → X) (g : Criteria) (frames : T
             → T (Sends (sent_after g.within sent s)) t (steps_of_sent g sent pes s)
         unfolding steps_of_sent
         sent_step sent more pes s t all sends =
-            go (goes_on_with g.within sent s) refl
+            go (continues_with g.within sent s) refl
             (subst (Grows (sent_after g.within sent s)) all
             (grows g.within (sent_after g.within sent s) more))
             (λ at_once.
             same_at_once g.within (sent_after g.within sent s) more frames at_once all) sends
           where
             go : (same : Bool)
-                → goes_on_with g.within sent s ≡ same
+                → continues_with g.within sent s ≡ same
                 → Grows (cond same (with_packets s.packets sent) (sent ++ s ∷ [])) frames
                 → ((g.within == 0) ≡ true
                 → frames ≡ (cond same (with_packets s.packets sent) (sent ++ s ∷ [])) ++ more)
@@ -249,10 +250,10 @@ module _ (X : Type 0) (reported_of : ℕ → X → X) (g : Criteria) (frames : T
                 (cond same (AtPes pes ∷ steps_of_more g sent s.packets)
                 (steps_of_pending_end g sent ++ AtPes pes ∷ steps_of_next g sent s))
             go true e is whole (inl (inl at_once, closed)) =
-                let later = (goes_on_some g.within sent s e).0 in
+                let later = (continues_some g.within sent s e).0 in
                 absurd (true≢false (sym at_once ∙ later))
             go true e is whole (inl (inr none, closed)) =
-                let some = (goes_on_some g.within sent s e).1 in absurd (omega arith)
+                let some = (continues_some g.within sent s e).1 in absurd (omega arith)
             go true e is whole (inr (later, n, size, open_here)) =
                 let before : Grows sent frames =
                 grows_before g.within sent s frames
@@ -261,7 +262,7 @@ module _ (X : Type 0) (reported_of : ℕ → X → X) (g : Criteria) (frames : T
                 (sym e) is) in
                 let all : Transmission = with_packets s.packets sent in
                 at_pes (Sends all) t pes (steps_of_more g sent s.packets)
-                (and_so (O n (packets_of_frame all n)) (Sends all) (reported_of pes t)
+                (implies_after (O n (packets_of_frame all n)) (Sends all) (reported_of pes t)
                 (steps_of_more g sent s.packets)
                 (on_more sent s (reported_of pes t) n size before is
                 (steps.at_open n pes (packets_of_frame sent n) t open_here))
@@ -281,13 +282,13 @@ module _ (X : Type 0) (reported_of : ℕ → X → X) (g : Criteria) (frames : T
             → T (Sends sent) t (AtPes pes ∷ skipped_steps pes u)
         skipped_step sent pes u t is requested (inl (ended, closed)) =
             at_pes (Sends sent) t pes (skipped_steps pes u)
-            (and_so (C (length sent)) (Sends sent) (reported_of pes t) (skipped_steps pes u)
+            (implies_after (C (length sent)) (Sends sent) (reported_of pes t) (skipped_steps pes u)
             (steps.skipped_ended sent pes u (reported_of pes t) is requested
             (steps.at_ended (length sent) pes t closed))
             (λ v so. inl (ended, so)))
         skipped_step sent pes u t is requested (inr (later, n, size, open_here)) =
             at_pes (Sends sent) t pes (skipped_steps pes u)
-            (and_so (O n (packets_of_frame sent n)) (Sends sent) (reported_of pes t)
+            (implies_after (O n (packets_of_frame sent n)) (Sends sent) (reported_of pes t)
             (skipped_steps pes u)
             (steps.skipped_open sent n pes u (reported_of pes t) is size requested
             (steps.at_open n pes (packets_of_frame sent n) t open_here))

@@ -13,7 +13,7 @@ use Rattle.std.proofs.lemmas.List.{get_or-append-add, get_or_default, length-app
 use Rattle.std.proofs.lemmas.List.Elements.{All-from_recursion, recursion_from_All}
 use Rattle.std.proofs.lemmas.Bool.{cases_eq, cases_lt}
 use Rattle.std.proofs.lemmas.Option.{none-some, same_Some}
-use Rattle.ttx_packet.specs.PageHeader.{HasExactWords, header, c11}
+use Rattle.ttx_packet.specs.PageHeader.{HasExactCodeWords, header, c11}
 use Rattle.ttx_packet.specs.declared.header.Header.{Header}
 use Rattle.stl_rows.specs.Programme.{ProgrammeValue}
 use Rattle.sub_plan.specs.Options.{OptionsValue}
@@ -35,7 +35,7 @@ use Rattle.sub_rules.specs.FrameRules.{HasHeader, IsCovered, IsPaced, Unread, cr
 use Rattle.sub_rules.specs.FrameRules.{end_frame, frame_at, packets_before, packets_of_frame}
 use Rattle.sub_rules.specs.FrameRules.{watched_of}
 use Rattle.sub_laws.specs.CleanStretch.{IsEnd}
-use Rattle.sub_laws.proofs.FrameByFrame.{AllOk, FrameOk, IsFaultFree}
+use Rattle.sub_laws.proofs.FrameByFrame.{MeetsRequirements, FrameOk, IsFaultFree}
 use Rattle.sub_laws.proofs.GoodLemmas.{any_sent, each_packet, number_at, rises_each, sent_any}
 use Rattle.sub_laws.proofs.GoodLemmas.{whole}
 use Rattle.ttx_page.proofs.TextSpan.{begins_is_header, text_span-push}
@@ -43,8 +43,8 @@ use Rattle.sub_laws.proofs.PrefixLemmas.{before, packet_at, at_start, at_packet,
 use Rattle.sub_laws.proofs.PrefixLemmas.{EachAfter, RiseTo, before_more, each_after, rises_to}
 use Rattle.sub_laws.proofs.PrefixLemmas.{first-same, rises_strictly, last-same, on_air_at, IsInGap}
 use Rattle.sub_laws.proofs.PrefixLemmas.{end_at, end_before_rest, end_high, end_low}
-use Rattle.sub_laws.proofs.PrefixLemmas.{on_air_is}
-use Rattle.sub_laws.proofs.ActiveFaultsLemmas.{always_known}
+use Rattle.sub_laws.proofs.PrefixLemmas.{on_air_eq}
+use Rattle.sub_laws.proofs.ActiveFaultsLemmas.{known_without_refusals}
 use Rattle.sub_laws.proofs.ActiveFaultsLemmas.{gap_decided, fault_free_parts}
 use Rattle.sub_laws.proofs.ActiveFaultsLemmas.{silent_decided}
 use Rattle.sub_rules.proofs.FrameLists.{joined_more}
@@ -115,7 +115,7 @@ first_pick P (x ∷ xs) f e h = go (header x) refl e (λ d. first_pick P xs f d 
 
 module _ (programme : ProgrammeValue) (options : OptionsValue) (unread : Option Unread)
     (t : Transmission) (some_frames : 0 < options.every)
-    (h : AllOk (criteria_of programme options unread) t) where
+    (h : MeetsRequirements (criteria_of programme options unread) t) where
   some : 0 < length t
   some = h.some
 
@@ -138,7 +138,7 @@ module _ (programme : ProgrammeValue) (options : OptionsValue) (unread : Option 
       let last = last-same t in
       elim (cases_lt f (frame_at t 0)) [
         | inl early ↦ up_to 0 (omega arith)
-            (on_air_is t rising 0 f (omega arith) (λ s. absurd (omega arith)) (λ m. early))
+            (on_air_eq t rising 0 f (omega arith) (λ s. absurd (omega arith)) (λ m. early))
         | inr low ↦ let (m, end, is, from) = end_at t rising f some low (omega arith) in
             up_to m end.1 is
       ]
@@ -216,7 +216,7 @@ module _ (programme : ProgrammeValue) (options : OptionsValue) (unread : Option 
     whole = sizes;
     starts = let starts = (h.each 0 some).order.start refl in grind (arith, first-same t);
     lasts = let lasts = h.late in grind (arith, last-same t);
-    exact = each_from HasExactWords t
+    exact = each_from HasExactCodeWords t
         (λ i k l m. (clean_at i k l m rule.Address, clean_at i k l m rule.HeaderCode));
     serial = λ i d l k e m i' d' l' k' e' m' a b is too.
         grind (arith, nat_tests, agreed, same_Some);
@@ -304,8 +304,8 @@ module _ (programme : ProgrammeValue) (options : OptionsValue) (t : Transmission
 
   free_at : (i k : ℕ) → i < length t → k < length (packets_of_frame t i)
       → KeepsAllRules (watched_of programme options) (before t i k) (packet_at t i k)
-  free_at i k l m rule.Address = (each_at HasExactWords t i k rules.exact l m).0
-  free_at i k l m rule.HeaderCode = (each_at HasExactWords t i k rules.exact l m).1
+  free_at i k l m rule.Address = (each_at HasExactCodeWords t i k rules.exact l m).0
+  free_at i k l m rule.HeaderCode = (each_at HasExactCodeWords t i k rules.exact l m).1
   free_at i k l m rule.Mode = mode_at i k l m
   free_at i k l m rule.Control = record {
     control =
@@ -368,7 +368,7 @@ module _ (programme : ProgrammeValue) (options : OptionsValue) (t : Transmission
           not_not _ covered,
           (still n f end).1,
           not_not _ paced,
-          always_known (frame_at t 0) f options.within,
+          known_without_refusals (frame_at t 0) f options.within,
         )
 
     frame_of : (i : ℕ) → i < length t → FrameOk (criteria_of programme options None) t i
@@ -398,7 +398,7 @@ module _ (programme : ProgrammeValue) (options : OptionsValue) (t : Transmission
           ),
         )
 
-    pub holds-from_rules : AllOk (criteria_of programme options None) t
+    pub holds-from_rules : MeetsRequirements (criteria_of programme options None) t
     holds-from_rules = record {
       each = frame_of;
       unread = refl;

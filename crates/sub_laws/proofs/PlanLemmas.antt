@@ -13,7 +13,7 @@ use Rattle.std.specs.Prelude.{IfSome, bit_and, ◌==◌}
 use Rattle.std.proofs.lemmas.Option.{same_Some}
 use Rattle.ttx_packet.specs.declared.header.Header.{Header}
 use Rattle.ttx_packet.specs.PacketAddress.{IsPacket}
-use Rattle.ttx_packet.specs.PageHeader.{c11, header, HasExactWords}
+use Rattle.ttx_packet.specs.PageHeader.{c11, header, HasExactCodeWords}
 use Rattle.ttx_packet.specs.PageId.{PageIdValue}
 use Rattle.ttx_packet.specs.RowPacket.{HasOddText}
 use Rattle.ttx_page.specs.Page.{Rows, cell, IsCell, IsPage}
@@ -24,7 +24,7 @@ use Rattle.ttx_page.specs.Span.{holds_header, is_unended, span}
 use Rattle.ttx_page.specs.Shown.{shown}
 use Rattle.stl_rows.specs.declared.national.National.{National}
 use Rattle.stl_rows.specs.declared.national.NationalBits.{NationalBits}
-use Rattle.stl_rows.specs.Programme.{first_in, last_out, IsProgramme, ProgrammeValue}
+use Rattle.stl_rows.specs.Programme.{first_tci, last_tco, IsProgramme, ProgrammeValue}
 use Rattle.stl_rows.proofs.PageShapeLemmas.{due_is_page}
 use Rattle.sub_plan.specs.Options.{IsOptions, IsWatchable, OptionsValue}
 use Rattle.sub_plan.specs.Schedule.{due_in, is_sending, sendings_from, pes_value, plan_frames}
@@ -34,7 +34,8 @@ use Rattle.sub_plan.specs.Laws.{AreRowsOfOnePage, IsLastSending, IsRowOf, IsSent
 use Rattle.sub_plan.proofs.SentPackets.{kind_row, made_row, row_of}
 use Rattle.sub_plan.proofs.SendingLemmas.{all_sent, ended_after, law_of_cut_sendings, sending_holds}
 use Rattle.sub_plan.proofs.SendingLemmas.{shown_after}
-use Rattle.sub_plan.proofs.ProgrammeLemmas.{none_in, plan_frames-is, span-rises, some_out}
+use Rattle.sub_plan.proofs.ProgrammeLemmas.{none_in, plan_frames-is, span-rises}
+use Rattle.sub_plan.proofs.ProgrammeLemmas.{last_tco_of_first_tci}
 use Rattle.sub_plan.proofs.ProgrammeLemmas.{law_of_day}
 use Rattle.sub_rules.specs.Transmission.{SentFrame, Transmission, EachPacket, IsRising, first_frame}
 use Rattle.sub_rules.specs.Transmission.{last_frame, packets_between, packets_of, on_air_until}
@@ -107,8 +108,8 @@ subtitle_header w national serial = grind (arith, nat_tests, made_c12, made_c13,
 
 module _
     (programme : ProgrammeValue) (o : OptionsValue) (serial : Bool) (first last : ℕ)
-    (tci : Some first ≡ first_in programme.records)
-    (tco : Some last ≡ last_out programme.records)
+    (tci : Some first ≡ first_tci programme.records)
+    (tco : Some last ≡ last_tco programme.records)
     (ok : IsOptions o) (order : first ≤ last) where
   abbrev w : PageIdValue
   w = o.page
@@ -119,10 +120,10 @@ module _
   abbrev p : ℕ → Bool
   p = is_sending due o.every first last
 
-  abbrev mk : ℕ → SentFrame
-  mk = planned_at due o programme.drawing.national serial
+  abbrev frame_with_sending : ℕ → SentFrame
+  frame_with_sending = planned_at due o programme.drawing.national serial
 
-  abbrev num : (f : ℕ) → (mk f).frame ≡ f
+  abbrev num : (f : ℕ) → (frame_with_sending f).frame ≡ f
   num f = refl
 
   abbrev T : Transmission
@@ -131,46 +132,48 @@ module _
   shape : (f : ℕ) → IsPage (due f)
   shape f = due_is_page programme.drawing programme.records f
 
-  plan_is : T ≡ map mk (filter p (range_with_len first (last + 1 - first)))
+  plan_eq : T ≡ map frame_with_sending (filter p (range_with_len first (last + 1 - first)))
   unfolding sendings_from
-  plan_is = ap (map mk) (sym (plan_frames-is programme o.every first last tci tco))
+  plan_eq = ap (map frame_with_sending) (sym (plan_frames-is programme o.every first last tci tco))
 
   first_sends : p first ≡ true
   first_sends = sends-first due o.every first last ok.least
 
-  starts : T ≡ mk first ∷ frames mk num p (first + 1) (last - first)
+  starts : T ≡ frame_with_sending first ∷ frames frame_with_sending num p (first + 1) (last - first)
   starts =
       let e : last + 1 - first ≡ suc (last - first) = omega arith in
-      plan_is ∙ ap (λ n. map mk (filter p (range_with_len first n))) e
-      ∙ starts_with mk num p first (last - first) first_sends
+      plan_eq ∙ ap (λ n. map frame_with_sending (filter p (range_with_len first n))) e
+      ∙ starts_with frame_with_sending num p first (last - first) first_sends
 
   first_is : first_frame T ≡ first
   first_is = ap first_frame starts
 
   last_is : last_frame T ≡ last
   last_is =
-      grind (arith, sends-last, plan_is, range_split, filter-append, map-append, last_push)
+      grind (arith, sends-last, plan_eq, range_split, filter-append, map-append, last_push)
 
   rising : IsRising T
-  rising = subst IsRising (sym plan_is) (rises mk num p first (last + 1 - first))
+  rising = subst IsRising (sym plan_eq) (rises frame_with_sending num p first (last + 1 - first))
 
-  each : (Q : List ℕ → Type 0) → ((f : ℕ) → All Q (mk f).packets) → EachPacket Q T
-  each Q h = subst (EachPacket Q) (sym plan_is)
-      (each_frame mk num p Q (filter p (range_with_len first (last + 1 - first))) h)
+  each : (Q : List ℕ → Type 0) → ((f : ℕ) → All Q (frame_with_sending f).packets) → EachPacket Q T
+  each Q h = subst (EachPacket Q) (sym plan_eq)
+      (each_frame frame_with_sending num p Q (filter p (range_with_len first (last + 1 - first))) h)
 
   each_sent : (Q : List ℕ → Type 0)
       → ((packet : List ℕ) → IsSentPacket w programme.drawing.national serial packet → Q packet)
       → EachPacket Q T
   each_sent Q h =
-      each Q (λ f. All-weaker (IsSentPacket w programme.drawing.national serial) Q h (mk f).packets
+      each Q (λ f. All-weaker (IsSentPacket w programme.drawing.national serial) Q h
+      (frame_with_sending f).packets
       (all_sent w programme.drawing.national serial (due f) ok.page (shape f)))
 
-  sent_in_is : (g : ℕ) → p g ≡ true → first ≤ g → g ≤ last → packets_of T g ≡ (mk g).packets
-  sent_in_is g h low high = grind (arith, nat_tests, frames, plan_is, sent_at)
+  sent_in_eq : (g : ℕ) → p g ≡ true → first ≤ g → g ≤ last → packets_of T g ≡
+      (frame_with_sending g).packets
+  sent_in_eq g h low high = grind (arith, nat_tests, frames, plan_eq, sent_at)
 
   holds_at : (g : ℕ) → p g ≡ true → first ≤ g → g ≤ last
       → holds_header (kind w) (packets_of T g) ≡ true
-  holds_at g h low high = grind (arith, nat_tests, sent_in_is, sending_holds, shape)
+  holds_at g h low high = grind (arith, nat_tests, sent_in_eq, sending_holds, shape)
 
   until : (f : ℕ) → on_air_until T f ≡ packets_between T first (f + 1)
   until f = ap (λ start. packets_between T start (f + 1)) first_is
@@ -185,16 +188,16 @@ module _
       let g : ℕ = found.0 in
       let is : IsLastSending due o.every first last f g = found.1 in
       let none : packets_between T (g + 1) (f + 1) ≡ [] =
-      grind (arith, nat_tests, plan_is, sent_none, mk, num, p) in
+      grind (arith, nat_tests, plan_eq, sent_none, frame_with_sending, num, p) in
       let split_g : packets_between T first (f + 1) ≡ packets_between T first g
       ++ packets_between T g (f + 1) =
       packets_between-split T first g (f + 1) rising is.low (omega (arith, is.high)) in
       let split_n : packets_between T g (f + 1) ≡ packets_of T g
       ++ packets_between T (g + 1) (f + 1) =
       packets_between-split T g (g + 1) (f + 1) rising (omega arith) (omega (arith, is.high)) in
-      let here : packets_between T g (f + 1) ≡ (mk g).packets = split_n
-      ∙ ap₂ ◌++◌ (sent_in_is g is.sends is.low (omega (arith, is.high))) none
-      ∙ append-nil (mk g).packets in (
+      let here : packets_between T g (f + 1) ≡ (frame_with_sending g).packets = split_n
+      ∙ ap₂ ◌++◌ (sent_in_eq g is.sends is.low (omega (arith, is.high))) none
+      ∙ append-nil (frame_with_sending g).packets in (
         packets_between T first g,
         due g,
         is.same,
@@ -210,16 +213,16 @@ module _
 
   spans : (f n : ℕ) → IsCleanSpan w (span (kind w) (take n (on_air_until T f)))
   spans f n =
-      let some_of = sent_some mk num p first (f + 1)
+      let some_of = sent_some frame_with_sending num p first (f + 1)
       (filter p (range_with_len first (last + 1 - first))) in
-      let is : on_air_until T f ≡ flat_map (λ g. (mk g).packets) some_of.0 =
-      until f ∙ ap (λ frames. packets_between frames first (f + 1)) plan_is ∙ some_of.1 in
+      let is : on_air_until T f ≡ flat_map (λ g. (frame_with_sending g).packets) some_of.0 =
+      until f ∙ ap (λ frames. packets_between frames first (f + 1)) plan_eq ∙ some_of.1 in
       subst (λ ps. IsCleanSpan w (span (kind w) (take n ps))) (sym is)
       (clean_rows w ok.page _
       (law_of_cut_sendings w programme.drawing.national serial due some_of.0 n ok.page shape))
 
-  abbrev IsSerially : List ℕ → Type 0
-  IsSerially packet = (h : Header) → header packet ≡ Some h → c11 h ≡ serial
+  abbrev HasSerialMode : List ℕ → Type 0
+  HasSerialMode packet = (h : Header) → header packet ≡ Some h → c11 h ≡ serial
 
   repeats : Repeats w o.every T
   repeats start low high =
@@ -237,7 +240,7 @@ module _
 
   good : IfSome o.pace (λ frames. o.every ≤ frames) → Good programme T o
   good slow =
-      let serially : EachPacket IsSerially T = each_sent IsSerially (λ packet is. is.mode) in
+      let serially : EachPacket HasSerialMode T = each_sent HasSerialMode (λ packet is. is.mode) in
       record {
         rules = record {
           not_empty = some;
@@ -245,7 +248,7 @@ module _
           whole = each_sent (λ packet. length packet ≡ 42) (λ packet is. is.whole.size);
           starts = subst (λ x. IfSome x (λ t. first_frame T ≤ t)) tci (omega (arith, first_is));
           lasts = subst (λ x. IfSome x (λ t. t ≤ last_frame T)) tco (omega (arith, last_is));
-          exact = each_sent HasExactWords (λ packet is. is.exact);
+          exact = each_sent HasExactCodeWords (λ packet is. is.exact);
           serial = λ k d l i e b k' d' l' i' e' b' h h' is is'. serially k d l i e b h is
               ∙ sym (serially k' d' l' i' e' b' h' is');
           control = each_sent (IsControlled programme.drawing.national w)
@@ -270,15 +273,16 @@ module _
       ∙ ended_after w programme.drawing.national serial page ok.page shaped before
 
 plan_between : (programme : ProgrammeValue) (o : OptionsValue) (serial : Bool) (a b : Option ℕ)
-    → a ≡ first_in programme.records
-    → b ≡ last_out programme.records
+    → a ≡ first_tci programme.records
+    → b ≡ last_tco programme.records
     → IsProgramme programme.drawing programme.records
     → (programme.records ≡ [] → ⊥)
     → IsOptions o
     → (IfSome o.pace (λ frames. o.every ≤ frames) → Good programme (planned programme o serial) o)
     × Complete (planned programme o serial) o
 plan_between programme o serial None b h k is some ok = absurd (some (none_in programme.records h))
-plan_between programme o serial (Some a) None h k is some ok = grind (arith, nat_tests, some_out)
+plan_between programme o serial (Some a) None h k is some ok = grind
+    (arith, nat_tests, last_tco_of_first_tci)
 plan_between programme o serial (Some a) (Some b) h k is some ok =
     let s = span-rises programme.drawing programme.records a b is h k in
     let order : a ≤ b = omega (arith, s.rises) in
@@ -286,13 +290,13 @@ plan_between programme o serial (Some a) (Some b) h k is some ok =
 
 pub law_of_plan : LawOfPlan
 law_of_plan programme o serial is some ok slow =
-    (plan_between programme o serial (first_in programme.records)
-    (last_out programme.records) refl refl is some ok).0 slow
+    (plan_between programme o serial (first_tci programme.records)
+    (last_tco programme.records) refl refl is some ok).0 slow
 
 pub law_of_complete_plan : LawOfCompletePlan
 law_of_complete_plan programme o serial is some ok =
-    (plan_between programme o serial (first_in programme.records)
-    (last_out programme.records) refl refl is some ok).1
+    (plan_between programme o serial (first_tci programme.records)
+    (last_tco programme.records) refl refl is some ok).1
 
 module _
     (o : OptionsValue) (ok : IsOptions o) (national : National) (serial : Bool) (due : ℕ → Rows)
@@ -338,8 +342,8 @@ module _
 
 few_between :
     (programme : ProgrammeValue) (every : ℕ) (a b : Option ℕ)
-    → a ≡ first_in programme.records
-    → b ≡ last_out programme.records
+    → a ≡ first_tci programme.records
+    → b ≡ last_tco programme.records
     → IsProgramme programme.drawing programme.records
     → length (sendings_between (due_in programme) every a b) ≤ most_packets
 unfolding sendings_from
@@ -361,7 +365,7 @@ law_of_plan_read programme options serial is ok =
     (plan_frames programme options.every)
     (omega (
       arith,
-      few_between programme options.every (first_in programme.records)
-          (last_out programme.records) refl refl is,
+      few_between programme options.every (first_tci programme.records)
+          (last_tco programme.records) refl refl is,
     ))
     (grind (arith, nat_tests, recursion_from_All, law_of_day programme options.every is))

@@ -30,8 +30,8 @@ pub before_more : (t : Transmission) (i k : ℕ) → k < length (packets_of_fram
     → before t i (k + 1) ≡ before t i k ++ packet_at t i k ∷ []
 before_more t i k l = grind (arith, nat_tests, take_more, append_assoc)
 
-before_none : (t : Transmission) (i : ℕ) → before t i 0 ≡ packets_before t i
-before_none t i = append-nil (packets_before t i)
+before_no_packets : (t : Transmission) (i : ℕ) → before t i 0 ≡ packets_before t i
+before_no_packets t i = append-nil (packets_before t i)
 
 before_all : (t : Transmission) (i : ℕ) → i < length t
     → before t i (length (packets_of_frame t i)) ≡ packets_before t (i + 1)
@@ -44,7 +44,7 @@ module _ (t : Transmission) (m : ℕ) (fits : m ≤ length t) (Q : List (List �
     → Q (before t i k ++ packet_at t i k ∷ [])) where
   within : (i : ℕ) → i < m → Q (packets_before t i) → (k : ℕ) → k ≤ length (packets_of_frame t i)
       → Q (before t i k)
-  within i l base zero h = grind (arith, nat_tests, before_none)
+  within i l base zero h = grind (arith, nat_tests, before_no_packets)
   within i l base (suc k) h =
       grind (arith, nat_tests, before_more, (within i l base k (omega arith)))
 
@@ -155,16 +155,16 @@ between_take (s ∷ ss) (suc n) a b inside after =
     (λ j l m. after (suc j) (omega arith) (omega arith)))
 
 module _ (t : Transmission) (rising : RiseTo t (length t)) where
-  pub on_air_is : (n f : ℕ) → n ≤ length t → (0 < n → frame_at t (n - 1) ≤ f)
+  pub on_air_eq : (n f : ℕ) → n ≤ length t → (0 < n → frame_at t (n - 1) ≤ f)
       → (n < length t → f < frame_at t n) → on_air_until t f ≡ packets_before t n
-  on_air_is n f le low high =
+  on_air_eq n f le low high =
       let first = first-same t in
       between_take t n (first_frame t) (f + 1)
       (grind (arith, nat_tests, rises_to t (length t) rising 0, rises_to t (length t) rising))
       (grind (arith, nat_tests, rises_to t (length t) rising n))
 
   pub on_air_at : (i : ℕ) → i < length t → on_air_until t (frame_at t i) ≡ packets_before t (i + 1)
-  on_air_at i l = grind (arith, nat_tests, on_air_is)
+  on_air_at i l = grind (arith, nat_tests, on_air_eq)
 
   pub end_at : (f : ℕ) → 0 < length t → frame_at t 0 ≤ f → f ≤ end_frame t
       → (n : ℕ) × IsEnd t n f × (on_air_until t f ≡ packets_before t n) × (frame_at t (n - 1) ≤ f)
@@ -173,7 +173,7 @@ module _ (t : Transmission) (rising : RiseTo t (length t)) where
         | inl (i, l, is) ↦
             grind (arith, nat_tests, on_air_at i l)
         | inr (i, gap) ↦
-            grind (arith, nat_tests, rises_to t (length t) rising, on_air_is i f)
+            grind (arith, nat_tests, rises_to t (length t) rising, on_air_eq i f)
       ]
 
   end_from : (n f : ℕ) → IsEnd t n f → frame_at t (n - 1) ≤ f
@@ -191,7 +191,7 @@ module _ (t : Transmission) (rising : RiseTo t (length t)) where
 
   pub end_is_on_air : (n f : ℕ) → IsEnd t n f → on_air_until t f ≡ packets_before t n
   end_is_on_air n f end =
-      on_air_is n f end.1 (λ some. end_from n f end)
+      on_air_eq n f end.1 (λ some. end_from n f end)
       (λ more. end_before_rest n f end n (omega arith) more)
 
   pub end_high : (n f : ℕ) → IsEnd t n f → frame_at t 0 ≤ f

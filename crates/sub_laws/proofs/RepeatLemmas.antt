@@ -10,7 +10,7 @@ use Rattle.std.proofs.Common.{refl, sym, ap, ◌∙◌, subst, arith, le_refl}
 use Rattle.std.specs.List.{AllByRecursion}
 use Rattle.std.proofs.lemmas.List.{get_or_default, take_all}
 use Rattle.std.proofs.lemmas.List.Elements.{recursion_from_All}
-use Rattle.ttx_packet.specs.PageHeader.{HasExactWords}
+use Rattle.ttx_packet.specs.PageHeader.{HasExactCodeWords}
 use Rattle.ttx_packet.specs.PageId.{PageIdValue}
 use Rattle.ttx_packet.specs.Parity.{code_of}
 use Rattle.ttx_packet.specs.RowPacket.{text_byte}
@@ -61,7 +61,7 @@ repeated_stretch keeps programme transmission options rules = record {
       (rules.spans f (length whole) high) in
       record {
         exact =
-            packets_between-each HasExactWords transmission (first_frame transmission) (f + 1)
+            packets_between-each HasExactCodeWords transmission (first_frame transmission) (f + 1)
             rules.exact;
         erases = λ none.
             packets_between-each (ErasesPage options.page) transmission (first_frame transmission)
@@ -80,19 +80,19 @@ law_of_kept_on_air keeps programme transmission options f old new rules low high
     column named
 
 -- A header that erases the page begins its text.
-begins_of_erases : (keeps : Bool) (w : PageIdValue) (packet : List ℕ)
+erasing_header_begins : (keeps : Bool) (w : PageIdValue) (packet : List ℕ)
     → ErasesPage w packet
     → is_this_page (kind w packet) ≡ true
     → begins_text keeps (kind w packet) ≡ true
-begins_of_erases keeps w packet erases this = grind (arith, nat_tests)
+erasing_header_begins keeps w packet erases this = grind (arith, nat_tests)
 
-each_begins_of : (keeps : Bool) (w : PageIdValue) (packets : List (List ℕ)) (n : ℕ)
+each_erasing_header_begins : (keeps : Bool) (w : PageIdValue) (packets : List (List ℕ)) (n : ℕ)
     → AllByRecursion (ErasesPage w) packets
     → EachBegins (kind w) keeps (take n packets)
-each_begins_of keeps w packets zero each = tt
-each_begins_of keeps w [] (suc n) each = tt
-each_begins_of keeps w (p ∷ ps) (suc n) each =
-    (begins_of_erases keeps w p each.0, each_begins_of keeps w ps n each.1)
+each_erasing_header_begins keeps w packets zero each = tt
+each_erasing_header_begins keeps w [] (suc n) each = tt
+each_erasing_header_begins keeps w (p ∷ ps) (suc n) each =
+    (erasing_header_begins keeps w p each.0, each_erasing_header_begins keeps w ps n each.1)
 
 module _ (one other : Bool) (w : PageIdValue) (packets : List (List ℕ))
     (erases : All (ErasesPage w) packets) where
@@ -100,8 +100,9 @@ module _ (one other : Bool) (w : PageIdValue) (packets : List (List ℕ))
       → text_span one (kind w) (take n packets) ≡ text_span other (kind w) (take n packets)
   text_span-of_erasing n =
       let each = recursion_from_All (ErasesPage w) packets erases in
-      text_span-same (kind w) one (take n packets) (each_begins_of one w packets n each)
-      ∙ sym (text_span-same (kind w) other (take n packets) (each_begins_of other w packets n each))
+      text_span-same (kind w) one (take n packets) (each_erasing_header_begins one w packets n each)
+      ∙ sym (text_span-same (kind w) other (take n packets) (each_erasing_header_begins other w
+      packets n each))
 
   kept-of_erasing : (row column : ℕ)
       → kept one w packets row column ≡ kept other w packets row column
@@ -217,25 +218,26 @@ law_of_no_repeats programme transmission options =
 
 module _ (keeps : Bool) (programme : ProgrammeValue) (transmission : Transmission)
     (options : OptionsValue) (more : ℕ) (longer : options.within ≤ more) where
-  abbrev allowing : OptionsValue
-  allowing = record options { within = more }
+  abbrev options_with_more_within : OptionsValue
+  options_with_more_within = record options { within = more }
 
   -- A frame that is finished stays finished with a greater `within`.
   finished_longer :
       (f : ℕ)
       → IsFinishedBy keeps programme transmission options f
-      → IsFinishedBy keeps programme transmission allowing f
+      → IsFinishedBy keeps programme transmission options_with_more_within f
   finished_longer f is = record { whole = is.whole; ended = is.ended }
 
   some_longer :
       (a b c : ℕ)
       → b ≤ c
       → SomeFinishedBy keeps programme transmission options a b
-      → SomeFinishedBy keeps programme transmission allowing a c
+      → SomeFinishedBy keeps programme transmission options_with_more_within a c
   some_longer a b c order (f, from, to, is) = (f, from, omega arith, finished_longer f is)
 
   good_longer :
-      GoodBy keeps programme transmission options → GoodBy keeps programme transmission allowing
+      GoodBy keeps programme transmission options → GoodBy keeps programme transmission
+      options_with_more_within
   good_longer good = record {
     rules = assumption good.rules;
     codes = λ f row column low high named.

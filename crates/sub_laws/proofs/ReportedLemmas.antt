@@ -25,7 +25,7 @@ use Rattle.sub_laws.proofs.AtOnceLemmas.{Complete-from_holds, Good-from_holds, h
 use Rattle.sub_laws.proofs.AtOnceLemmas.{none_pending}
 use Rattle.sub_laws.proofs.BrokenRuleLemmas.{refuted, rule_decided}
 use Rattle.sub_laws.proofs.EventLemmas.{FirstOf, all_reported, reported_none}
-use Rattle.sub_laws.proofs.FrameByFrame.{AllOk}
+use Rattle.sub_laws.proofs.FrameByFrame.{MeetsRequirements}
 use Rattle.sub_laws.proofs.PrefixLemmas.{each_at, each_from}
 use Rattle.sub_laws.proofs.ActiveFaultsLemmas.{active_faults_exact}
 
@@ -50,7 +50,7 @@ broken_places g frames at_once refused = record {
 }
 
 pub nothing_reported : (g : Criteria) (frames : Transmission) → EachPacket IsPacket frames
-    → (events g frames ≡ []) ↔ AllOk g frames
+    → (events g frames ≡ []) ↔ MeetsRequirements g frames
 nothing_reported g frames whole =
     reported_none (events g frames)
     (all_reported g frames Any (λ f e. tt) (λ u e. tt) (λ n f x a b. tt) whole)
@@ -62,7 +62,8 @@ none_refused g frames whole none =
     go (events g frames)
     (all_reported g frames Any (λ f e. tt) (λ u e. tt) (λ n f x a b. tt) whole) none
   where
-    go : (xs : List Event) → FirstOf Any (AllOk g frames) xs → first_reported xs ≡ None → xs ≡ []
+    go : (xs : List Event) → FirstOf Any (MeetsRequirements g frames) xs → first_reported xs ≡ None
+        → xs ≡ []
     go [] reported e = refl
     go (x ∷ xs) reported e =
         let (f, is, any) = reported.at x refl in
@@ -94,6 +95,6 @@ none_reported programme options unread frames none at_once some whole =
           ),
       λ good.
           reported.1
-          (subst (λ o. AllOk (criteria_of programme options o) frames) (sym good.2)
+          (subst (λ o. MeetsRequirements (criteria_of programme options o) frames) (sym good.2)
           (holds-from_good programme options frames at_once none good.0 good.1)),
     )

@@ -13,7 +13,7 @@ use Rattle.sub_plan.specs.Options.{OptionsValue}
 use Rattle.sub_rules.specs.Events.{broken_cell, is_gap, is_incomplete, is_late, is_missed}
 use Rattle.sub_rules.specs.Events.{is_overdue, is_pending, is_silent, is_unfinished}
 use Rattle.sub_rules.specs.Events.{unexpected_after}
-use Rattle.sub_rules.specs.Events.{unfinished_since}
+use Rattle.sub_rules.specs.Events.{unfinished_run_start}
 use Rattle.sub_rules.specs.Events.{undecided_within, wrong_cell}
 use Rattle.sub_rules.specs.FrameRules.{Criteria, Unread, criteria_of, end_frame, frame_at}
 use Rattle.sub_rules.specs.FrameRules.{packets_before}
@@ -23,19 +23,20 @@ use Rattle.sub_rules.specs.Transmission.{EachPacket, Transmission, first_frame, 
 use Rattle.sub_laws.specs.CleanStretch.{IsEnd}
 use Rattle.sub_laws.proofs.DueCodeLemmas.{MayShow, ending_at, none_unexpected}
 use Rattle.sub_laws.proofs.ReportedLemmas.{nothing_reported, sizes_of}
-use Rattle.sub_laws.proofs.FrameByFrame.{AllOk}
+use Rattle.sub_laws.proofs.FrameByFrame.{MeetsRequirements}
 use Rattle.sub_laws.proofs.GoodLemmas.{rises_each}
 use Rattle.sub_laws.proofs.GoodByLemmas.{begins_in, ends_in}
 use Rattle.sub_laws.proofs.PlaceLemmas.{Rules-from_holds, holds-from_rules, fault_free_at, rising}
 use Rattle.sub_laws.proofs.PrefixLemmas.{RiseTo, end_high, end_is_on_air, end_low, first-same}
 use Rattle.sub_laws.proofs.PrefixLemmas.{last-same}
-use Rattle.sub_laws.proofs.ActiveFaultsLemmas.{always_known, fault_free_parts, unexpected_is}
+use Rattle.sub_laws.proofs.ActiveFaultsLemmas.{known_without_refusals, fault_free_parts}
+use Rattle.sub_laws.proofs.ActiveFaultsLemmas.{unexpected_eq}
 use Rattle.sub_laws.proofs.SufficientDelayLemmas.{HoldsAtEnds, again, calm, codes, subtitle}
 use Rattle.sub_laws.proofs.UnfinishedLemmas.{first_unfinished_after, first_unfinished_some}
 use Rattle.sub_laws.proofs.UnfinishedLemmas.{unfinished_at}
-use Rattle.sub_laws.proofs.FinishedLemmas.{at_finished, finished_of, late_is, no_first_unfinished}
-use Rattle.sub_laws.proofs.FinishedLemmas.{none_is}
-use Rattle.sub_laws.proofs.FinishedLemmas.{of_finished, first_unfinished_is, first_unfinished_no}
+use Rattle.sub_laws.proofs.FinishedLemmas.{at_finished, finished_of, late_eq, no_first_unfinished}
+use Rattle.sub_laws.proofs.FinishedLemmas.{none_eq}
+use Rattle.sub_laws.proofs.FinishedLemmas.{of_finished, first_unfinished_eq, first_unfinished_no}
 use Rattle.std.proofs.Common.{◌↔◌, []}
 use Rattle.sub_rules.proofs.FrameEvents.{events}
 
@@ -45,7 +46,7 @@ never frame = false
 module _ (programme : ProgrammeValue) (options : OptionsValue) (unread : Option Unread)
     (t : Transmission) (every : 0 < options.every)
     (is : IsProgramme programme.drawing programme.records)
-    (h : AllOk (criteria_of programme options unread) t) where
+    (h : MeetsRequirements (criteria_of programme options unread) t) where
   abbrev criteria : Criteria
   criteria = criteria_of programme options unread
 
@@ -101,7 +102,7 @@ module _ (programme : ProgrammeValue) (options : OptionsValue) (unread : Option 
       last end = go (is_late criteria t (length t) (end_frame t)) refl
         where
           pending_parts : is_late criteria t (length t) (end_frame t) ≡ false
-              → is_some (unfinished_since criteria t (length t) (end_frame t)) ≡ false
+              → is_some (unfinished_run_start criteria t (length t) (end_frame t)) ≡ false
           pending_parts is = let whole = h.whole in grind (arith, nat_tests)
 
           go : (b : Bool) → is_late criteria t (length t) (end_frame t) ≡ b
@@ -115,7 +116,7 @@ module _ (programme : ProgrammeValue) (options : OptionsValue) (unread : Option 
           go false is =
               first_unfinished_no programme options unread false never t up (length t) (end_frame t)
               end
-              (none_is _ (pending_parts is))
+              (none_eq _ (pending_parts is))
 
   -- A transmission that meets all requirements is good by the options.
   pub Within-from_holds : EachPacket IsPacket t → GoodBy options.keeps programme t options
@@ -143,7 +144,8 @@ module _ (programme : ProgrammeValue) (options : OptionsValue) (t : Transmission
   order = rises_each t good.rules.rising
 
   -- A finished frame is before the frame from which on the ends are unfinished.
-  first_unfinished_later : (n f r e : ℕ) → IsEnd t n f → unfinished_since requested t n f ≡ Some r
+  first_unfinished_later : (n f r e : ℕ) → IsEnd t n f → unfinished_run_start requested t n f ≡ Some
+      r
       → from ≤ e
       → e ≤ f
       → IsFinishedBy options.keeps programme t options e
@@ -152,22 +154,23 @@ module _ (programme : ProgrammeValue) (options : OptionsValue) (t : Transmission
       let bottom = end_high t order n f end in
       let top = end_low t order n f end in
       first_unfinished_after (unfinished_at requested t order) from (f - from) r e
-      (sym (first_unfinished_is programme options None false never t order n f end) ∙
+      (sym (first_unfinished_eq programme options None false never t order n f end) ∙
       first_unfinished)
       (at_finished programme options None false never t order e good.rules.not_empty low
       (omega arith) finished)
       (omega arith)
 
-  first_unfinished_from : (n f r : ℕ) → IsEnd t n f → unfinished_since requested t n f ≡ Some r →
+  first_unfinished_from : (n f r : ℕ) → IsEnd t n f → unfinished_run_start requested t n f ≡ Some r
+      →
       from ≤ r
   first_unfinished_from n f r end first_unfinished =
       (first_unfinished_some (unfinished_at requested t order) from (f - from) r
-      (sym (first_unfinished_is programme options None false never t order n f end) ∙
+      (sym (first_unfinished_eq programme options None false never t order n f end) ∙
       first_unfinished)).low
 
-  soon : (n f r : ℕ) → IsEnd t n f → unfinished_since requested t n f ≡ Some r
+  not_overdue_yet : (n f r : ℕ) → IsEnd t n f → unfinished_run_start requested t n f ≡ Some r
       → f < r + options.within
-  soon n f r end first_unfinished = elim (cases_lt f (r + options.within)) [
+  not_overdue_yet n f r end first_unfinished = elim (cases_lt f (r + options.within)) [
     | inl before ↦ before
     | inr after ↦
         let first = first-same t in
@@ -181,7 +184,7 @@ module _ (programme : ProgrammeValue) (options : OptionsValue) (t : Transmission
         absurd (omega arith)
   ]
 
-  none_missed : (n f r : ℕ) → IsEnd t n f → unfinished_since requested t n f ≡ Some r
+  none_missed : (n f r : ℕ) → IsEnd t n f → unfinished_run_start requested t n f ≡ Some r
       → is_missed (requested.ending (f + 1)) from r ≡ false
   none_missed n f r end first_unfinished = go (requested.ending (f + 1)) refl
     where
@@ -206,18 +209,20 @@ module _ (programme : ProgrammeValue) (options : OptionsValue) (t : Transmission
           not_late tci (omega arith) (omega arith)
 
   in_time : (n f : ℕ) → IsEnd t n f
-      → is_overdue requested from (unfinished_since requested t n f) f ≡ false
-  in_time n f end = go (unfinished_since requested t n f) refl
+      → is_overdue requested from (unfinished_run_start requested t n f) f ≡ false
+  in_time n f end = go (unfinished_run_start requested t n f) refl
     where
       overdue : (r : ℕ) → f < r + options.within → (b : Bool) → b ≡ false
           → (nat_le (r + options.within) f || b) ≡ false
       overdue r l b none = grind (arith, nat_tests)
 
-      go : (o : Option ℕ) → unfinished_since requested t n f ≡ o → is_overdue requested from o f ≡
+      go : (o : Option ℕ) → unfinished_run_start requested t n f ≡ o → is_overdue requested from o f
+          ≡
           false
       go None first_unfinished = refl
       go (Some r) first_unfinished =
-          overdue r (soon n f r end first_unfinished) (is_missed (requested.ending (f + 1)) from r)
+          overdue r (not_overdue_yet n f r end first_unfinished)
+          (is_missed (requested.ending (f + 1)) from r)
           (none_missed n f r end first_unfinished)
 
   at_once : (n f : ℕ) → IsEnd t n f → options.within ≡ 0
@@ -238,10 +243,10 @@ module _ (programme : ProgrammeValue) (options : OptionsValue) (t : Transmission
   still n f end = by_within (cases_eq options.within 0)
     where
       known : undecided_within requested t f ≡ false
-      known = always_known from f options.within
+      known = known_without_refusals from f options.within
 
       late : is_late requested t n f ≡ (options.within == 0)
-      late = late_is programme options None false never t order n f (in_time n f end)
+      late = late_eq programme options None false never t order n f (in_time n f end)
 
       may_of : (row column : ℕ)
           → IsDueWithin programme t options f row column
@@ -261,7 +266,7 @@ module _ (programme : ProgrammeValue) (options : OptionsValue) (t : Transmission
           let finished = at_once n f end none in
           let parts =
           or_parts (is_some (wrong_cell requested t n f)) (is_incomplete requested t n) finished in
-          let wrong = none_is (wrong_cell requested t n f) parts.0 in
+          let wrong = none_eq (wrong_cell requested t n f) parts.0 in
           (rw (late, is_zero) wrong, rw (late, is_zero) parts.1)
       by_within (inr some) =
           let is_zero : (options.within == 0) ≡ false = grind (arith, nat_tests) in
@@ -281,14 +286,14 @@ module _ (programme : ProgrammeValue) (options : OptionsValue) (t : Transmission
           (λ ps. IsDueWithin programme t options f row column
           (kept options.keeps options.page ps row column))
           on (good.codes f row column (omega arith) (omega arith) named))) in (
-            rw (late, is_zero) (unexpected_is requested t n f known ∙ unexpected),
+            rw (late, is_zero) (unexpected_eq requested t n f known ∙ unexpected),
             rw (late, is_zero)
                 refl,
           )
 
-  none_waited : is_pending requested t ≡ false
+  nothing_is_pending : is_pending requested t ≡ false
   unfolding is_pending
-  none_waited =
+  nothing_is_pending =
       let end : IsEnd t (length t) (end_frame t) =
       (good.rules.not_empty, le_refl (length t), inl refl) in
       let finished =
@@ -300,8 +305,8 @@ module _ (programme : ProgrammeValue) (options : OptionsValue) (t : Transmission
       rw none refl
 
   -- A transmission that is good by the options meets all requirements.
-  pub holds-from_within : AllOk requested t
-  holds-from_within = holds-from_rules programme options t good.rules still none_waited
+  pub holds-from_within : MeetsRequirements requested t
+  holds-from_within = holds-from_rules programme options t good.rules still nothing_is_pending
 
 pub none_reported_repeats : (programme : ProgrammeValue) (options : OptionsValue)
     (unread : Option Unread) (frames : Transmission)

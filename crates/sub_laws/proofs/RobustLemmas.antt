@@ -4,7 +4,7 @@
 use Rattle.std.proofs.Common.{arith, ℕ, ◌+◌, false, List, length, subst, le_refl}
 use Rattle.std.proofs.lemmas.Bool.Decides.{nat_tests}
 use Rattle.std.proofs.lemmas.List.{take_all}
-use Rattle.ttx_packet.specs.PageHeader.{HasExactWords}
+use Rattle.ttx_packet.specs.PageHeader.{HasExactCodeWords}
 use Rattle.ttx_page.specs.Noise.{ErasesPage}
 use Rattle.ttx_page.specs.PacketKind.{kind}
 use Rattle.ttx_page.specs.Span.{span}
@@ -34,7 +34,7 @@ sound_stretch programme transmission options keeps = record {
       (keeps.spans f (length whole) high) in
       record {
         exact =
-            packets_between-each HasExactWords transmission (first_frame transmission) (f + 1)
+            packets_between-each HasExactCodeWords transmission (first_frame transmission) (f + 1)
             keeps.exact;
         erases =
             packets_between-each (ErasesPage options.page) transmission (first_frame transmission)

@@ -11,7 +11,7 @@ use Rattle.std.specs.List.{AllByRecursion, AllZip, items_where_true}
 use Rattle.std.proofs.lemmas.List.{drop-append-le}
 use Rattle.std.proofs.lemmas.List.Elements.{recursion_from_All}
 use Rattle.ttx_packet.specs.OneBit.{AreNear}
-use Rattle.ttx_packet.specs.PageHeader.{HasExactWords}
+use Rattle.ttx_packet.specs.PageHeader.{HasExactCodeWords}
 use Rattle.ttx_packet.specs.PageId.{PageIdValue}
 use Rattle.ttx_page.specs.declared.packet_kind.PacketKind.{PacketKind}
 use Rattle.ttx_page.specs.DroppedRows.{ExcusedBy}
@@ -30,7 +30,7 @@ use Rattle.sub_plan.specs.Options.{OptionsValue}
 use Rattle.sub_rules.specs.Repeats.{HasEndedPage}
 use Rattle.sub_rules.specs.Transmission.{Transmission, first_frame, packets_between}
 use Rattle.sub_rules.specs.Transmission.{on_air, on_air_until, packets_of}
-use Rattle.sub_laws.specs.LostRows.{IsGot}
+use Rattle.sub_laws.specs.LostRows.{IsReceivedWithLosses}
 use Rattle.sub_laws.specs.Repeats.{IsRepeatedStretch}
 use Rattle.sub_laws.specs.Robust.{IsListening}
 use Rattle.sub_laws.specs.Sufficient.{IsSoundStretch}
@@ -41,23 +41,24 @@ last_of_two x y h1 h2 = grind (arith, nat_tests)
 
 module _ (transmission : Transmission) (options : OptionsValue) (a b : ℕ)
     (stretch : IsSoundStretch transmission options a b) where
-  abbrev from_a : ℕ → List (List ℕ)
-  from_a f = on_air transmission a 0 f
+  abbrev on_air_from_a : ℕ → List (List ℕ)
+  on_air_from_a f = on_air transmission a 0 f
 
   sends_from :
       (f : ℕ)
       → a ≤ f
       → f ≤ b
-      → SendsText false options.page (from_a f)
+      → SendsText false options.page (on_air_from_a f)
       (kept false options.page (on_air_until transmission f))
   sends_from f low high =
       subst
-      (λ (ps : List (List ℕ)). SendsText false options.page (from_a f) (kept false options.page ps))
+      (λ (ps : List (List ℕ)). SendsText false options.page (on_air_from_a f)
+      (kept false options.page ps))
       (sym
       (packets_between-split transmission (first_frame transmission) a (f + 1) stretch.rising
       stretch.first (omega arith)))
       (sends_of_sound options.page (packets_between transmission (first_frame transmission) a)
-      (from_a f) (stretch.sound f low high))
+      (on_air_from_a f) (stretch.sound f low high))
 
   pub repeated : IsRepeatedStretch false transmission options a b
   repeated = assumption (sends_from, stretch)
@@ -152,7 +153,7 @@ module _ (keeps : Bool) (transmission : Transmission) (options : OptionsValue) (
 
 holds-got :
     (w : PageIdValue) (sent : List (List ℕ)) (arrived : List Bool) (got : List (List ℕ))
-    → AllByRecursion HasExactWords sent
+    → AllByRecursion HasExactCodeWords sent
     → AllZip LosesNoHeader sent arrived
     → AllZip AreNear (items_where_true arrived sent) got
     → holds_header (kind w) got ≡ holds_header (kind w) sent
@@ -165,13 +166,13 @@ holds-got w (p ∷ ps) arrived got exact may near =
 module _ (keeps : Bool) (transmission : Transmission) (options : OptionsValue) (a b : ℕ)
     (stretch : IsRepeatedStretch keeps transmission options a b)
     (g j f : ℕ) (arrived : List Bool) (got : List (List ℕ))
-    (is : IsGot transmission a b g j f arrived got) where
+    (is : IsReceivedWithLosses transmission a b g j f arrived got) where
   pub got_as :
       holds_header (kind options.page) got
       ≡ holds_header (kind options.page) (on_air transmission g j f)
   got_as =
       holds-got options.page (on_air transmission g j f) arrived got
-      (recursion_from_All HasExactWords (on_air transmission g j f)
+      (recursion_from_All HasExactCodeWords (on_air transmission g j f)
       (heard_text keeps transmission options a b stretch g j f is.listening).exact)
       is.headers is.near
 

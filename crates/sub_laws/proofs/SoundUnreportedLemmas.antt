@@ -84,9 +84,9 @@ module _ (programme : ProgrammeValue) (transmission : Transmission) (options : O
         ∙ code_of_column (slice_index_or (packets_of_frame transmission i) k []) column;
   }
 
-  gap_is : (n f : ℕ) → IsEnd transmission n f → a ≤ f → f ≤ b → is_gap g transmission n f ≡ false
+  gap_eq : (n f : ℕ) → IsEnd transmission n f → a ≤ f → f ≤ b → is_gap g transmission n f ≡ false
   unfolding active_faults_at
-  gap_is n f end low high = unreported.gap n f end low high
+  gap_eq n f end low high = unreported.gap n f end low high
 
   covered :
       (f : ℕ)
@@ -102,7 +102,7 @@ module _ (programme : ProgrammeValue) (transmission : Transmission) (options : O
       let first = first-same transmission in
       let (n, end, on, before) =
       stretches.end_of transmission a b unreported.stretch unreported.rising f low high in
-      elim ((gap_decided g transmission n f end.1).0 (ap not (gap_is n f end low high))) [
+      elim ((gap_decided g transmission n f end.1).0 (ap not (gap_eq n f end low high))) [
         | inl early ↦ inl (omega arith)
         | inr (j, l, late, has) ↦
             let rises =

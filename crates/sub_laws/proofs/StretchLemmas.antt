@@ -20,7 +20,7 @@ use Rattle.sub_rules.specs.Repeats.{IsCorrectPage, KeepsDueCodes}
 use Rattle.sub_rules.specs.Transmission.{Transmission, first_frame, last_frame, on_air}
 use Rattle.sub_rules.specs.Transmission.{on_air_until}
 use Rattle.sub_laws.specs.Laws.{LawOfAllKept}
-use Rattle.sub_laws.specs.LostRows.{IsGot, IsRobustWithLosses, RobustToAnyLoss}
+use Rattle.sub_laws.specs.LostRows.{IsReceivedWithLosses, IsRobustWithLosses, RobustToAnyLoss}
 use Rattle.sub_laws.specs.Recovery.{RecoversWithin}
 use Rattle.sub_laws.specs.Repeats.{RecoversForgetting, ShownForgetting}
 use Rattle.sub_laws.specs.Robust.{IsListening, IsServed, Robust}
@@ -52,7 +52,7 @@ law_of_stretch programme transmission options a b enough = record {
           le_trans enough.stretch.first low,
           le_refl f,
           omega arith,
-          (whole f low high row column named).kept_is,
+          (whole f low high row column named).kept_eq,
         )
 
     both : (class : ReceiverClass)
@@ -62,24 +62,24 @@ law_of_stretch programme transmission options a b enough = record {
         (law_of_repeated_stretch false programme transmission options a b
         (repeated transmission options a b enough.stretch) codes).0 false
 
-served_as :
+served_with_weaker_excuse :
     {programme : ProgrammeValue} {options : OptionsValue} {g f : ℕ} {sent : List (List ℕ)}
     {P Q : ℕ → ℕ → Type 0} {old new : State}
     → ((row column : ℕ) → P row column → Q row column)
     → IsServed programme options g f sent P old new
     → IsServed programme options g f sent Q old new
-served_as excuse served = grind arith
+served_with_weaker_excuse excuse served = grind arith
 
-got_complete :
+received_all :
     (w : PageIdValue) (transmission : Transmission) (a b g j f : ℕ) (got : List (List ℕ))
     → IsListening transmission a b g j f
     → AllZip AreNear (on_air transmission g j f) got
-    → IsGot transmission a b g j f (all_kept (on_air transmission g j f)) got
+    → IsReceivedWithLosses transmission a b g j f (all_kept (on_air transmission g j f)) got
     × ((row column : ℕ)
     → IsHitOrLost w (on_air transmission g j f)
     (arrivals_of (all_kept (on_air transmission g j f)) got) row column
     → IsHit w (on_air transmission g j f) got row column)
-got_complete w transmission a b g j f got listening near =
+received_all w transmission a b g j f got listening near =
     let sent : List (List ℕ) = on_air transmission g j f in
     let nothing =
     law_of_nothing_lost w sent (all_kept sent) (all_true sent) (may_all sent) in (
@@ -101,8 +101,8 @@ law_of_all_kept programme transmission options = (robust, kept)
         → Robust programme transmission options
     robust with_all g j f got old new listening near unheard shut hears =
         let sent : List (List ℕ) = on_air transmission g j f in
-        let whole = got_complete options.page transmission _ _ g j f got listening near in
-        served_as whole.1
+        let whole = received_all options.page transmission _ _ g j f got listening near in
+        served_with_weaker_excuse whole.1
         (with_all (all_kept sent) (all_true sent) g j f got old new whole.0 unheard shut hears)
 
     kept :
@@ -115,7 +115,7 @@ law_of_all_kept programme transmission options = (robust, kept)
         let nothing = law_of_nothing_lost options.page sent arrived all is.headers in
         let near_sent : AllZip AreNear sent got =
         subst (λ ps. AllZip AreNear ps got) nothing.kept is.near in
-        served_as (λ row column hit. (nothing.hits got near_sent row column).1 hit)
+        served_with_weaker_excuse (λ row column hit. (nothing.hits got near_sent row column).1 hit)
         (robust g j f got old new is.listening near_sent unheard shut hears)
 
 module _ (programme : ProgrammeValue) (transmission : Transmission) (options : OptionsValue)

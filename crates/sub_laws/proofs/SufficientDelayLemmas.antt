@@ -15,7 +15,7 @@ use Rattle.stl_rows.specs.Programme.{IsProgramme, ProgrammeValue}
 use Rattle.sub_plan.specs.Options.{OptionsValue}
 use Rattle.sub_plan.specs.Schedule.{due_in}
 use Rattle.sub_rules.specs.Events.{broken_cell, is_incomplete, is_late, is_missed, is_overdue}
-use Rattle.sub_rules.specs.Events.{is_unfinished, active_faults_at, unfinished_since}
+use Rattle.sub_rules.specs.Events.{is_unfinished, active_faults_at, unfinished_run_start}
 use Rattle.sub_rules.specs.Events.{undecided_within}
 use Rattle.sub_rules.specs.FrameRules.{Criteria, Unread, end_frame, frame_at, packets_before}
 use Rattle.sub_rules.specs.Kept.{IsRight}
@@ -25,13 +25,13 @@ use Rattle.sub_rules.specs.Transmission.{Transmission, on_air_until}
 use Rattle.sub_laws.specs.CleanStretch.{IsEnd, IsUnreported, NoneOpen, criteria_unsure}
 use Rattle.sub_laws.specs.Repeats.{FinishesInTimeBy}
 use Rattle.sub_laws.specs.ReportedRepeats.{IsSufficientRepeats, LawOfUnreportedRepeats}
-use Rattle.sub_laws.proofs.DueCodeLemmas.{ending_is, unexpected_none}
+use Rattle.sub_laws.proofs.DueCodeLemmas.{ending_eq, unexpected_none}
 use Rattle.sub_laws.proofs.FinishedLemmas.{finished_at, frame_end, no_first_unfinished}
-use Rattle.sub_laws.proofs.FinishedLemmas.{first_unfinished_is}
+use Rattle.sub_laws.proofs.FinishedLemmas.{first_unfinished_eq}
 use Rattle.sub_laws.proofs.GoodLemmas.{rises_each}
 use Rattle.sub_laws.proofs.PrefixLemmas.{RiseTo, end_is_on_air, first-same, last-same}
 use Rattle.sub_laws.proofs.SoundUnreportedLemmas.{repeated_unreported}
-use Rattle.sub_laws.proofs.ActiveFaultsLemmas.{always_late, known_at, none_wrong, unexpected_is}
+use Rattle.sub_laws.proofs.ActiveFaultsLemmas.{always_late, due_known_at, none_wrong, unexpected_eq}
 use Rattle.sub_laws.proofs.UnfinishedLemmas.{finished_from, first_unfinished_some, unfinished_at}
 
 -- From frame a to frame b the content at each end is as required, and the due page is known; the
@@ -66,11 +66,11 @@ module _ (programme : ProgrammeValue) (options : OptionsValue) (unread : Option 
     requested = criteria_unsure programme options unread any_refused undecided
 
     pub known : (n f : ℕ) → IsEnd t n f → a ≤ f → f ≤ b → undecided f ≡ false
-    known n f end low high = known_at requested t n f (still.parts n f end low high).1
+    known n f end low high = due_known_at requested t n f (still.parts n f end low high).1
 
-    end_there : (f : ℕ) → a ≤ f → f ≤ b
+    each_frame_has_end : (f : ℕ) → a ≤ f → f ≤ b
         → (n : ℕ) × IsEnd t n f × (on_air_until t f ≡ packets_before t n)
-    end_there f low high =
+    each_frame_has_end f low high =
         let first = still.from in
         let last = still.to in
         let (n, end) =
@@ -93,13 +93,13 @@ module _ (programme : ProgrammeValue) (options : OptionsValue) (unread : Option 
         → IsDueWithin programme t options f row column
         (kept options.keeps options.page (packets_before t n) row column)
     codes_early n f end low high early row column named =
-        grind (arith, nat_tests, unexpected_none, unexpected_is, first-same)
+        grind (arith, nat_tests, unexpected_none, unexpected_eq, first-same)
 
     -- At the end of each frame the kept code of a cell is a space or was due within the last
     -- `within` frames.
     pub codes : KeepsDueCodes options.keeps programme t options a b
     codes f row column low high named =
-        let (n, end, on) = end_there f low high in
+        let (n, end, on) = each_frame_has_end f low high in
         subst
         (λ ps. IsDueWithin programme t options f row column
         (kept options.keeps options.page ps row column))
@@ -114,14 +114,14 @@ module _ (programme : ProgrammeValue) (options : OptionsValue) (unread : Option 
               omega (arith, low, still.from, first-same t),
               le_refl f,
               omega arith,
-              (right_late n f end low high late row column named).kept_is,
+              (right_late n f end low high late row column named).kept_eq,
             )
         go n end false early = codes_early n f end low high early row column named
 
     pub same_at_once : options.within ≡ 0 → (f : ℕ) → a ≤ f → f ≤ b
         → IsCorrectPage options.keeps programme options.page t f
     same_at_once none f low high row column named =
-        let (n, end, on) = end_there f low high in
+        let (n, end, on) = each_frame_has_end f low high in
         subst (λ ps. IsRight options.keeps options.page ps (due_in programme f) row column)
         (sym on)
         (right_late n f end low high (always_late requested t n f none) row column named)
@@ -139,19 +139,19 @@ module _ (programme : ProgrammeValue) (options : OptionsValue) (unread : Option 
     abbrev up : RiseTo t (length t)
     up = holds.still.up
 
-    known_end : (n f : ℕ) → IsEnd t n f → a ≤ f → f ≤ b → undecided f ≡ false
-    known_end = known programme options unread any_refused undecided t a b holds.still
+    due_known_at_end : (n f : ℕ) → IsEnd t n f → a ≤ f → f ≤ b → undecided f ≡ false
+    due_known_at_end = known programme options unread any_refused undecided t a b holds.still
 
     pub calm : (n f : ℕ) → IsEnd t n f → a ≤ f → f ≤ b → is_late criteria t n f ≡ true
         → is_unfinished criteria t n f ≡ false
     calm n f end low high late = grind (arith, nat_tests)
 
     not_overdue : (n f : ℕ) → IsEnd t n f → a ≤ f → f ≤ b
-        → is_overdue criteria start (unfinished_since criteria t n f) f ≡ false
+        → is_overdue criteria start (unfinished_run_start criteria t n f) f ≡ false
     unfolding is_late
     not_overdue n f end low high = grind (arith, nat_tests, no_first_unfinished, calm)
 
-    early : (n f r : ℕ) → IsEnd t n f → a ≤ f → f ≤ b → unfinished_since criteria t n f ≡ Some r
+    early : (n f r : ℕ) → IsEnd t n f → a ≤ f → f ≤ b → unfinished_run_start criteria t n f ≡ Some r
         → (f < r + options.within) × (is_missed (criteria.ending (f + 1)) start r ≡ false)
     early n f r end low high e =
         let both =
@@ -173,12 +173,12 @@ module _ (programme : ProgrammeValue) (options : OptionsValue) (unread : Option 
         (omega arith) in
         finished_at programme options unread any_refused undecided t up e holds.still.some
         (omega arith)
-        (omega arith) (known_end n e end low high) finished
+        (omega arith) (due_known_at_end n e end low high) finished
 
     some_finished : (from f : ℕ) → a ≤ from → from ≤ f → f ≤ b
         → ((n r : ℕ)
         → IsEnd t n f
-        → unfinished_since criteria t n f ≡ Some r
+        → unfinished_run_start criteria t n f ≡ Some r
         → start ≤ r
         → r ≤ from
         → ⊥)
@@ -192,7 +192,7 @@ module _ (programme : ProgrammeValue) (options : OptionsValue) (unread : Option 
         (omega arith) in
         let k : ℕ = f - start in
         let at : start + k ≡ f = omega arith in
-        let first_unfinished = first_unfinished_is programme options unread any_refused undecided t
+        let first_unfinished = first_unfinished_eq programme options unread any_refused undecided t
         up n f end in
         let (e, after, before, finished) =
         finished_from (unfinished_at criteria t up) start from k (omega arith) (omega arith)
@@ -209,7 +209,7 @@ module _ (programme : ProgrammeValue) (options : OptionsValue) (unread : Option 
     again from low high =
         some_finished from (from + options.within) low (omega arith) high
         (λ n r end is begins l.
-        let soon = (early n (from + options.within) r end (omega arith) high is).0 in
+        let not_overdue_yet = (early n (from + options.within) r end (omega arith) high is).0 in
         omega arith)
 
     module _ (is : IsProgramme programme.drawing programme.records) where
@@ -225,7 +225,7 @@ module _ (programme : ProgrammeValue) (options : OptionsValue) (unread : Option 
           let next : s.tco ≡ s.tco - 1 + 1 = omega arith in (
             times,
             ap criteria.ending (sym next)
-                ∙ ending_is programme.drawing programme.records is s member,
+                ∙ ending_eq programme.drawing programme.records is s member,
           )
 
       pub subtitle : (k : ℕ) (d : SubtitleValue) → k < length programme.records

@@ -10,7 +10,7 @@ use Rattle.ttx_page.specs.PacketKind.{kind}
 use Rattle.ttx_page.specs.Span.{is_open_after}
 use Rattle.sub_rules.specs.Events.{gap_length, is_incomplete, is_unfinished, latest}
 use Rattle.sub_rules.specs.Events.{first_unfinished_in_frames}
-use Rattle.sub_rules.specs.Events.{first_unfinished_in_gap, unfinished_from, unfinished_since}
+use Rattle.sub_rules.specs.Events.{first_unfinished_in_gap, unfinished_from, unfinished_run_start}
 use Rattle.sub_rules.specs.Events.{wrong_after}
 use Rattle.sub_rules.specs.FrameRules.{Criteria, frame_at}
 use Rattle.sub_rules.specs.Transmission.{Transmission, on_air_until}
@@ -124,35 +124,36 @@ module _ (g : Criteria) (t : Transmission) (rises : RiseTo t (length t)) where
       else wrong_after g.watched.keeps g.watched.page (on_air_until t f) (g.due f))
       || (g.watched.complete && is_open_after (kind g.watched.page) (on_air_until t f))
 
-  pub unfinished_is : (n f : ℕ) → IsEnd t n f → is_unfinished g t n f ≡ unfinished_at f
+  pub unfinished_eq : (n f : ℕ) → IsEnd t n f → is_unfinished g t n f ≡ unfinished_at f
   unfolding is_incomplete
-  unfinished_is n f end = rw (end_is_on_air t rises n f end) refl
+  unfinished_eq n f end = rw (end_is_on_air t rises n f end) refl
 
   first_unfinished_gap : (n m : ℕ)
-      → unfinished_since g t n (latest t n + suc m)
-      ≡ unfinished_from (unfinished_since g t n (latest t n + m))
+      → unfinished_run_start g t n (latest t n + suc m)
+      ≡ unfinished_from (unfinished_run_start g t n (latest t n + m))
       (is_unfinished g t n (latest t n + suc m)) (latest t n + suc m)
-  unfolding unfinished_since first_unfinished_in_gap
+  unfolding unfinished_run_start first_unfinished_in_gap
   first_unfinished_gap n m = grind (arith, nat_tests)
 
   first_unfinished_own : (i : ℕ)
       → first_unfinished_in_frames g t (suc i)
-      ≡ unfinished_from (unfinished_since g t i (latest t i + gap_length t i))
+      ≡ unfinished_from (unfinished_run_start g t i (latest t i + gap_length t i))
       (is_unfinished g t (suc i) (frame_at t i)) (frame_at t i)
-  unfolding unfinished_since first_unfinished_in_frames
+  unfolding unfinished_run_start first_unfinished_in_frames
   first_unfinished_own i = grind (arith, nat_tests)
 
-  first_unfinished_first : unfinished_since g t 0 (latest t 0 + gap_length t 0) ≡ None
-  unfolding unfinished_since first_unfinished_in_gap first_unfinished_in_frames latest gap_length
+  first_unfinished_first : unfinished_run_start g t 0 (latest t 0 + gap_length t 0) ≡ None
+  unfolding unfinished_run_start first_unfinished_in_gap first_unfinished_in_frames latest
+      gap_length
   first_unfinished_first = refl
 
   last_is : (n : ℕ) → 0 < n → n ≤ length t → latest t n ≡ frame_at t (n - 1)
   last_is n some l = latest_at t n (λ i a b. rises i a (omega arith)) some
 
-  first_unfinished_here : (i : ℕ) → i < length t
-      → unfinished_since g t (suc i) (frame_at t i) ≡ first_unfinished_in_frames g t (suc i)
-  unfolding unfinished_since first_unfinished_in_gap
-  first_unfinished_here i l = grind (arith, nat_tests, last_is)
+  unfinished_since_at_frame : (i : ℕ) → i < length t
+      → unfinished_run_start g t (suc i) (frame_at t i) ≡ first_unfinished_in_frames g t (suc i)
+  unfolding unfinished_run_start first_unfinished_in_gap
+  unfinished_since_at_frame i l = grind (arith, nat_tests, last_is)
 
   end_from_last : (n x : ℕ) → 0 < n → n < length t → frame_at t (n - 1) ≤ x → x < frame_at t n
       → IsEnd t n x
@@ -175,8 +176,8 @@ module _ (g : Criteria) (t : Transmission) (rises : RiseTo t (length t)) where
     pub m : ℕ
     pub end : IsEnd t m (f - 1)
     pub first_unfinished :
-        unfinished_since g t n f
-        ≡ unfinished_from (unfinished_since g t m (f - 1)) (is_unfinished g t n f) f
+        unfinished_run_start g t n f
+        ≡ unfinished_from (unfinished_run_start g t m (f - 1)) (is_unfinished g t n f) f
 
   before_own : (i : ℕ) → suc i < length t → EndBefore (suc (suc i)) (frame_at t (suc i))
   before_own i l =
@@ -189,8 +190,8 @@ module _ (g : Criteria) (t : Transmission) (rises : RiseTo t (length t)) where
         end = end_from_last (suc i) (frame_at t (suc i) - 1) (omega arith) l (omega arith)
             (omega arith);
         first_unfinished =
-            first_unfinished_here (suc i) l ∙ first_unfinished_own (suc i)
-            ∙ ap (λ x. unfinished_from (unfinished_since g t (suc i) x)
+            unfinished_since_at_frame (suc i) l ∙ first_unfinished_own (suc i)
+            ∙ ap (λ x. unfinished_from (unfinished_run_start g t (suc i) x)
             (is_unfinished g t (suc (suc i)) (frame_at t (suc i))) (frame_at t (suc i))) at;
       }
 
@@ -219,10 +220,16 @@ module _ (g : Criteria) (t : Transmission) (rises : RiseTo t (length t)) where
       before_in_gap (suc n) f some there high (low (suc n - 1) (omega arith))
 
   pub end_first : (n f : ℕ) → IsEnd t n f → f ≡ frame_at t 0
-      → unfinished_since g t n f ≡ unfinished_from None (is_unfinished g t n f) f
+      → unfinished_run_start g t n f ≡ unfinished_from None (is_unfinished g t n f) f
   end_first zero f (some, l, at) first = absurd (omega arith)
   end_first (suc zero) f end first =
-      grind (arith, nat_tests, first_unfinished_here, first_unfinished_own, first_unfinished_first)
+      grind (
+        arith,
+        nat_tests,
+        unfinished_since_at_frame,
+        first_unfinished_own,
+        first_unfinished_first,
+      )
   end_first (suc (suc i)) f (some, l, inl own) first =
       let up = rises (suc i) (omega arith) (omega arith) in
       let low = rises_to t (length t) rises 0 (suc i - 1) (omega arith) (omega arith) in
@@ -233,11 +240,11 @@ module _ (g : Criteria) (t : Transmission) (rises : RiseTo t (length t)) where
       let after = low 0 (omega arith) in absurd (omega arith)
 
   pub first_unfinished_end : (k n f : ℕ) → IsEnd t n f → f ≡ frame_at t 0 + k
-      → unfinished_since g t n f ≡ first_unfinished_at unfinished_at (frame_at t 0) k
+      → unfinished_run_start g t n f ≡ first_unfinished_at unfinished_at (frame_at t 0) k
   first_unfinished_end zero n f end at =
       let first : f ≡ frame_at t 0 = omega arith in
-      grind (arith, nat_tests, end_first, unfinished_is)
+      grind (arith, nat_tests, end_first, unfinished_eq)
   first_unfinished_end (suc k) n f end at =
       let before = end_before n f end (omega arith) in
       let earlier = first_unfinished_end k before.m (f - 1) before.end (omega arith) in
-      grind (arith, nat_tests, unfinished_is)
+      grind (arith, nat_tests, unfinished_eq)

@@ -28,7 +28,7 @@ use Rattle.sub_rules.specs.declared.event.Event.TheVariants.{Reported}
 use Rattle.sub_rules.specs.declared.fault.CheckFault.{CheckFault}
 use Rattle.sub_laws.proofs.StepTestLemmas.{SkippedPass, Passes, before_passes}
 use Rattle.sub_rules.proofs.StepEventLemmas.{first_of_two, emitted_by, steps_first}
-use Rattle.sub_rules.proofs.PesPacketEventLemmas.{all_first}
+use Rattle.sub_rules.proofs.PesPacketEventLemmas.{first_of_all_announced}
 use Rattle.sub_rules.proofs.TrustedLemmas.{past_after, reported_after-append}
 use Rattle.sub_laws.proofs.EmittedLemmas.{pes_packets_emitted, emitted, emitted-append}
 use Rattle.sub_laws.proofs.EmittedLemmas.{emitted-emits}
@@ -40,9 +40,9 @@ use Rattle.sub_rules.proofs.FrameEvents.{events}
 both_none : (a b : Option CheckFault) → (option_or a b ≡ None) ↔ ((a ≡ None) × (b ≡ None))
 both_none a b = grind (arith, nat_tests)
 
-two_none : (xs ys : List Event)
+no_reports_append : (xs ys : List Event)
     → (first_reported (xs ++ ys) ≡ None) ↔ ((first_reported xs ≡ None) × (first_reported ys ≡ None))
-two_none xs ys = grind (arith, nat_tests, first_of_two, both_none)
+no_reports_append xs ys = grind (arith, nat_tests, first_of_two, both_none)
 
 -- Naming a PES packet adds and removes no fault.
 none_emitted : (pes : ℕ) (ms : List CheckStep)
@@ -173,16 +173,16 @@ module _ (g : Criteria) where
           alone parts.1
           so_far.1)
 
-announced_one : (e : Event) → announced no_run e ≡ e ∷ []
+announced_single : (e : Event) → announced no_run e ≡ e ∷ []
 unfolding announced joins
-announced_one (Reported f) = refl
-announced_one e = refl
+announced_single (Reported f) = refl
+announced_single e = refl
 
 announced_empty : (es : List Event)
     → (all_announced no_run es ++ ended_run (skipped_after_all no_run es) ≡ []) ↔ (es ≡ [])
 unfolding all_announced skipped_after_all
 announced_empty [] = grind (arith, nat_tests)
-announced_empty (e ∷ es) = grind (arith, nat_tests, append_empty, announced_one)
+announced_empty (e ∷ es) = grind (arith, nat_tests, append_empty, announced_single)
 
 module _ (g : Criteria) where
   pub each_sent : (sent : Transmission) (pes : ℕ) (pes_packets : List PesPacket)
@@ -192,7 +192,7 @@ module _ (g : Criteria) where
   each_sent sent pes [] none = refl
   each_sent sent pes (Sent s ∷ pes_packets) none =
       let parts =
-      (two_none (emitted (steps_of_sent g sent pes s)) _).0
+      (no_reports_append (emitted (steps_of_sent g sent pes s)) _).0
       (ap first_reported (sym (emitted-append (steps_of_sent g sent pes s) _)) ∙ none) in
       ap suc (each_sent (sent_after g.within sent s) (suc pes) pes_packets parts.1)
   each_sent sent pes (Skipped u ∷ pes_packets) none = cc
@@ -201,7 +201,7 @@ module _ (g : Criteria) where
       (emitted (steps_of_pes_packets g pes_packets)) ≡ None
       → length (frames_of pes_packets) ≡ length pes_packets
   emitted_sent pes_packets none =
-      grind (arith, nat_tests, two_none, emitted, emitted_parts, emitted-append, each_sent)
+      grind (arith, nat_tests, no_reports_append, emitted, emitted_parts, emitted-append, each_sent)
 
   -- If no subtitle was refused, PES packets have no events exactly if each is sent and their frames
   -- have no events.
@@ -222,7 +222,7 @@ module _ (g : Criteria) where
   pes_packets_unrefused pes_packets = grind (
     arith,
     nat_tests,
-    all_first,
+    first_of_all_announced,
     first_none,
     emitted_sent,
     pes_packets_emitted,

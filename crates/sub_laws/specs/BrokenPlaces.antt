@@ -70,7 +70,7 @@ pub record ReportsBroken (g : Criteria) (frames : Transmission) : Type 0 where
   -- The first frame is not after the first TCI, and each later frame is after the frame before it.
   pub start :
       (order_events g frames 0 ≡ [])
-      ↔ ((first : ℕ) → g.first_in ≡ Some first → frame_at frames 0 ≤ first)
+      ↔ ((first : ℕ) → g.first_tci ≡ Some first → frame_at frames 0 ≤ first)
   pub order :
       (i : ℕ) → (order_events g frames (suc i) ≡ []) ↔ (frame_at frames i < frame_at frames (suc i))
   -- The test of each rule for packets succeeds exactly if the rule is kept. Rows are compared by
@@ -87,7 +87,7 @@ pub record ReportsBroken (g : Criteria) (frames : Transmission) : Type 0 where
   -- No subtitle ends after the last frame of the transmission.
   pub late :
       (late_events g frames ≡ [])
-      ↔ ((last : ℕ) → g.last_out ≡ Some last → last ≤ end_frame frames)
+      ↔ ((last : ℕ) → g.last_tco ≡ Some last → last ≤ end_frame frames)
   -- If there is any event for packets of 42 bytes, there is a fault. If subtitles were refused,
   -- trusted frames are reported even without a fault.
   pub first :

@@ -5,9 +5,9 @@ use Rattle.std.specs.List.{AllByRecursion, concat}
 use Rattle.stl_file.specs.Gsi.{gsi_size}
 use Rattle.stl_file.specs.Reader.{findings_for}
 use Rattle.stl_file.specs.SubtitleBlocks.{IsBlock}
-use Rattle.stl_file.specs.TakenOut.{is_read_to_the_end, taken_out}
+use Rattle.stl_file.specs.KeptBlocks.{is_read_to_the_end, kept_blocks}
 use Rattle.stl_rows.specs.declared.layout.Drawing.{Drawing}
-use Rattle.stl_rows.specs.Judged.{JudgedValue, has_refused, judged_of, judges}
+use Rattle.stl_rows.specs.Judged.{JudgedValue, has_refused, judged_of, can_judge}
 use Rattle.stl_rows.specs.Loading.{of_day}
 use Rattle.sub_plan.specs.Options.{OptionsValue}
 use Rattle.sub_rules.specs.FrameRules.{Unread, criteria_of_judged, is_due_undecided}
@@ -24,15 +24,15 @@ LawOfJudgedParts =
     → AllByRecursion IsBlock blocks
     → is_read_to_the_end (findings_for drawing.scope (gsi ++ concat blocks)) ≡ true
     → (judged_of drawing (gsi ++ concat blocks)
-    ≡ judged_of (of_day drawing) (gsi ++ concat (taken_out drawing.scope None blocks)))
-    × (judges drawing (gsi ++ concat blocks)
-    ≡ judges (of_day drawing) (gsi ++ concat (taken_out drawing.scope None blocks)))
+    ≡ judged_of (of_day drawing) (gsi ++ concat (kept_blocks drawing.scope None blocks)))
+    × (can_judge drawing (gsi ++ concat blocks)
+    ≡ can_judge (of_day drawing) (gsi ++ concat (kept_blocks drawing.scope None blocks)))
 
 -- If two subtitle files agree on the reliable subtitles, on the frames whose due page is unknown,
 -- and on whether subtitles were refused, the events for a PES file are the same. So neither the
 -- texts nor the times of refused subtitles matter otherwise.
-abbrev pub LawOfJudgedAlike : Type 0
-LawOfJudgedAlike =
+abbrev pub LawOfEqualReports : Type 0
+LawOfEqualReports =
     (one other : JudgedValue) (options : OptionsValue) (unread : Option Unread)
     → (pes_packets : List PesPacket)
     → one.programme ≡ other.programme

@@ -12,7 +12,7 @@ use Rattle.sub_laws.specs.Robust.{IsListening, IsServed}
 -- The packets that a receiver gets between a start and an end, if packets may be lost. `arrived`
 -- has an entry for each packet on air; all page headers arrived. Each packet that arrived is
 -- received with at most one wrong bit in each byte.
-pub record IsGot
+pub record IsReceivedWithLosses
     (transmission : Transmission) (a b g j f : ℕ) (arrived : List Bool) (got : List (List ℕ))
     : Type 0 where
   pub listening : IsListening transmission a b g j f
@@ -26,7 +26,8 @@ pub record IsGot
 abbrev pub IsRobustWithLosses : ProgrammeValue → Transmission → OptionsValue → List Bool → Type 0
 IsRobustWithLosses programme transmission options arrived =
     (g j f : ℕ) (got : List (List ℕ)) (old new : State)
-    → IsGot transmission (first_frame transmission) (last_frame transmission) g j f arrived got
+    → IsReceivedWithLosses transmission (first_frame transmission) (last_frame transmission) g j f
+    arrived got
     → IsFalse old.heard
     → IsFalse old.is_open
     → Hears options.page old got new

@@ -14,12 +14,12 @@ use Rattle.sub_plan.specs.Schedule.{due_in}
 use Rattle.sub_rules.specs.Repeats.{GoodBy, IsDueWithin, IsCorrectPage}
 use Rattle.sub_rules.specs.Transmission.{Transmission, first_frame, last_frame, on_air}
 use Rattle.sub_rules.specs.Transmission.{packets_between}
-use Rattle.sub_laws.specs.LostRows.{IsGot}
+use Rattle.sub_laws.specs.LostRows.{IsReceivedWithLosses}
 use Rattle.sub_laws.specs.Robust.{HoldsDuePage}
 
 -- Text ends or changes in a cell at frame e: the same code other than a space is due in that cell
 -- in each of the `within` + 1 frames before e, and in none of the `within` + 1 frames from e on.
-pub record TextGoes (programme : ProgrammeValue) (within e row column code : ℕ) : Type 0 where
+pub record TextEnds (programme : ProgrammeValue) (within e row column code : ℕ) : Type 0 where
   pub is_cell : IsCell row column
   pub is_text : code ≢ space
   pub was :
@@ -51,7 +51,7 @@ LawOfOldText =
     (keeps : Bool) (programme : ProgrammeValue) (transmission : Transmission)
     → (options : OptionsValue) (e row column code : ℕ)
     → GoodBy keeps programme transmission options
-    → TextGoes programme options.within e row column code
+    → TextEnds programme options.within e row column code
     → first_frame transmission + options.within < e
     → e + options.within ≤ last_frame transmission
     → IsTrue
@@ -59,7 +59,8 @@ LawOfOldText =
     (packets_between transmission (e - options.within) (e + options.within + 1)))
     × ((class : ReceiverClass) (anew : Bool) (g j f : ℕ) (arrived : List Bool)
     → (got : List (List ℕ)) (old new : State)
-    → IsGot transmission (first_frame transmission) (last_frame transmission) g j f arrived got
+    → IsReceivedWithLosses transmission (first_frame transmission) (last_frame transmission) g j f
+    arrived got
     → HearsForgetting class anew options.page old got new
     → g + options.within < e
     → e + options.within ≤ f

@@ -10,7 +10,7 @@ use Rattle.ttx_page.specs.Screen.{Display, ShowsBy}
 use Rattle.ttx_page.specs.Span.{holds_header, is_unended}
 use Rattle.stl_rows.specs.Programme.{IsProgramme, ProgrammeValue}
 use Rattle.sub_plan.specs.Options.{IsOptions, OptionsValue}
-use Rattle.sub_laws.specs.LostRows.{IsGot}
+use Rattle.sub_laws.specs.LostRows.{IsReceivedWithLosses}
 use Rattle.sub_laws.specs.Planned.{planned}
 use Rattle.sub_laws.specs.Robust.{HoldsDuePage}
 use Rattle.sub_rules.specs.Transmission.{Transmission, first_frame, last_frame, on_air}
@@ -40,7 +40,7 @@ abbrev pub ShownWithin :
     ReceiverClass → ProgrammeValue → Transmission → OptionsValue → ℕ → ℕ → Type 0
 ShownWithin class programme transmission options a b =
     (g j f : ℕ) (arrived : List Bool) (got : List (List ℕ)) (old new : Display)
-    → IsGot transmission a b g j f arrived got
+    → IsReceivedWithLosses transmission a b g j f arrived got
     → ShowsBy class options.page old got new
     → IsTrue (holds_header (kind options.page) (on_air transmission g j f))
     → (page : Rows)

@@ -6,7 +6,7 @@ use Rattle.ttx_page.specs.LostRows.{IsHitOrLost, arrivals_of}
 use Rattle.ttx_page.specs.Receiver.{HearsBy, ReceiverClass, State}
 use Rattle.stl_rows.specs.Programme.{ProgrammeValue}
 use Rattle.sub_plan.specs.Options.{OptionsValue}
-use Rattle.sub_laws.specs.LostRows.{IsGot}
+use Rattle.sub_laws.specs.LostRows.{IsReceivedWithLosses}
 use Rattle.sub_laws.specs.Robust.{IsServed}
 use Rattle.sub_rules.specs.Transmission.{Transmission, on_air}
 
@@ -19,7 +19,7 @@ abbrev pub RecoversWithin :
     ReceiverClass → ProgrammeValue → Transmission → OptionsValue → ℕ → ℕ → Type 0
 RecoversWithin class programme transmission options a b =
     (g j f : ℕ) (arrived : List Bool) (got : List (List ℕ)) (old new : State)
-    → IsGot transmission a b g j f arrived got
+    → IsReceivedWithLosses transmission a b g j f arrived got
     → HearsBy class options.page old got new
     → IsServed programme options g f (on_air transmission g j f)
     (ExcusedBy class

@@ -23,7 +23,7 @@ use Rattle.sub_rules.specs.Repeats.{IsCorrectPage, KeepsDueCodes, KeepsRulesBy, 
 use Rattle.sub_rules.specs.Transmission.{IsRising, Transmission, first_frame, last_frame, on_air}
 use Rattle.sub_rules.specs.Transmission.{on_air_until}
 use Rattle.sub_laws.specs.CleanStretch.{AtPackets, IsStretch}
-use Rattle.sub_laws.specs.LostRows.{IsGot}
+use Rattle.sub_laws.specs.LostRows.{IsReceivedWithLosses}
 use Rattle.sub_laws.specs.Planned.{planned}
 use Rattle.sub_laws.specs.Robust.{HoldsDuePage}
 
@@ -74,7 +74,7 @@ abbrev pub RecoversForgetting :
     Bool → Bool → ReceiverClass → ProgrammeValue → Transmission → OptionsValue → ℕ → ℕ → Type 0
 RecoversForgetting keeps anew class programme transmission options a b =
     (g j f : ℕ) (arrived : List Bool) (got : List (List ℕ)) (old new : State)
-    → IsGot transmission a b g j f arrived got
+    → IsReceivedWithLosses transmission a b g j f arrived got
     → HearsForgetting class anew options.page old got new
     → IsServedForgetting keeps anew programme transmission options g f (on_air transmission g j f)
     (ExcusedBy class
@@ -88,7 +88,7 @@ abbrev pub HoldsForgetting :
     Bool → Bool → ReceiverClass → ProgrammeValue → Transmission → OptionsValue → ℕ → ℕ → Type 0
 HoldsForgetting keeps anew class programme transmission options a b =
     (g j f : ℕ) (arrived : List Bool) (got : List (List ℕ)) (old new : State)
-    → IsGot transmission a b g j f arrived got
+    → IsReceivedWithLosses transmission a b g j f arrived got
     → HearsForgetting class anew options.page old got new
     → IsTrue (holds_header (kind options.page) (on_air transmission g j f))
     → IsFresh keeps anew options.page (on_air transmission g j f) old
@@ -103,7 +103,7 @@ abbrev pub ShownForgetting :
     Bool → Bool → ReceiverClass → ProgrammeValue → Transmission → OptionsValue → ℕ → ℕ → Type 0
 ShownForgetting keeps anew class programme transmission options a b =
     (g j f : ℕ) (arrived : List Bool) (got : List (List ℕ)) (old new : Display)
-    → IsGot transmission a b g j f arrived got
+    → IsReceivedWithLosses transmission a b g j f arrived got
     → ShowsForgetting class anew options.page old got new
     → IsTrue (holds_header (kind options.page) (on_air transmission g j f))
     → IsFresh keeps anew options.page (on_air transmission g j f) old.held

@@ -6,7 +6,7 @@ ghost use Rattle.sub_laws.specs.BrokenPlaces.{LawOfBrokenPlaces, LawOfNothingRep
 ghost use Rattle.sub_laws.specs.BrokenPlaces.{LawOfNothingReportedRepeats};
 ghost use Rattle.sub_laws.specs.CleanStretch.{LawOfUnreportedStretch};
 ghost use Rattle.sub_laws.specs.DelayOfFiles.{LawOfLongerDelayOfFiles};
-ghost use Rattle.sub_laws.specs.JudgedFiles.{LawOfJudgedAlike, LawOfJudgedParts};
+ghost use Rattle.sub_laws.specs.JudgedFiles.{LawOfEqualReports, LawOfJudgedParts};
 ghost use Rattle.sub_laws.specs.Laws.{LawOfAllKept, LawOfGood, LawOfWindow};
 ghost use Rattle.sub_laws.specs.OldText.{LawOfOldText};
 ghost use Rattle.sub_laws.specs.OnScreen.{LawOfCompletePlan};
@@ -239,6 +239,6 @@ pub fn law_of_judged_parts()
 
 /// Two subtitle files with the same reliable subtitles, and the same frames whose due page is
 /// unknown, give the same events for a PES file.
-pub fn law_of_judged_alike()
-    ensures { LawOfJudgedAlike }
+pub fn law_of_equal_reports()
+    ensures { LawOfEqualReports }
 {}

@@ -9,30 +9,31 @@ use Rattle.std.proofs.lemmas.Bool.{and_right}
 use Rattle.std.proofs.lemmas.List.{drop_more}
 use Rattle.std.proofs.lemmas.List.Elements.{filter-append}
 use Rattle.ttx_packet.specs.PacketAddress.{address}
-use Rattle.sub_listen.specs.Reception.{Reception, as_heard, as_received, first_lost_header, is_lost}
+use Rattle.sub_listen.specs.Reception.{Reception, packets_used_by, arriving_packets}
+use Rattle.sub_listen.specs.Reception.{first_lost_header, is_lost}
 use Rattle.sub_listen.specs.Reception.{may_be_lost_at}
 use Rattle.sub_request.specs.declared.listening.Listening.{Listening}
 
-as_received-append : (r : Reception) (number : ℕ) (first more : List (List ℕ))
-    → as_received r number (first ++ more)
-    ≡ as_received r number first ++ as_received r (number + length first) more
-as_received-append r number [] more = ap (λ n. as_received r n more) (omega arith)
-as_received-append r number (p ∷ ps) more =
+arriving_packets-append : (r : Reception) (number : ℕ) (first more : List (List ℕ))
+    → arriving_packets r number (first ++ more)
+    ≡ arriving_packets r number first ++ arriving_packets r (number + length first) more
+arriving_packets-append r number [] more = ap (λ n. arriving_packets r n more) (omega arith)
+arriving_packets-append r number (p ∷ ps) more =
     grind (
       arith,
       nat_tests,
       length ps,
       length (p ∷ ps),
-      as_received-append r (number + 1) ps more,
+      arriving_packets-append r (number + 1) ps more,
       true,
       false,
     )
 
-pub as_heard-append : (l : Listening) (number : ℕ) (first more : List (List ℕ))
-    → as_heard l number (first ++ more)
-    ≡ as_heard l number first ++ as_heard l (number + length first) more
-as_heard-append l number first more =
-    grind (arith, as_received-append, filter-append)
+pub packets_used_by-append : (l : Listening) (number : ℕ) (first more : List (List ℕ))
+    → packets_used_by l number (first ++ more)
+    ≡ packets_used_by l number first ++ packets_used_by l (number + length first) more
+packets_used_by-append l number first more =
+    grind (arith, arriving_packets-append, filter-append)
 
 pub next_packet : (ps : List (List ℕ)) (k : ℕ) (p : List ℕ)
     → k < length ps
@@ -68,9 +69,9 @@ module _ (r : Reception) (number : ℕ) (ps : List (List ℕ)) (k : ℕ) (p : Li
     (l : k < length ps) (is : p ≡ get_or ps k [])
     (left : first_lost_header r number ps
     ≡ option_map (λ place. place + k) (first_lost_header r (number + k) (drop k ps))) where
-  pub lost_here : (is_lost r (number + k) && not (may_be_lost_at (address p))) ≡ true
+  pub is_first_lost_header : (is_lost r (number + k) && not (may_be_lost_at (address p))) ≡ true
       → Some k ≡ first_lost_header r number ps
-  lost_here lost =
+  is_first_lost_header lost =
       let on : 0 + k ≡ k = omega arith in
       sym (left ∙ rw (next_packet ps k p l is, lost) (ap Some on))
 

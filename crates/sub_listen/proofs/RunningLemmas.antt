@@ -9,7 +9,7 @@ use Rattle.ttx_page.specs.Repeats.{StepForgetting}
 use Rattle.ttx_page.specs.Screen.{Display, ShowsAt}
 use Rattle.ttx_page.proofs.NoiseSteps.{cell-blank}
 use Rattle.ttx_page.proofs.RunLemmas.{RunsBy-as}
-use Rattle.sub_listen.specs.Reception.{LawOfListening, TakesPacket, begins_anew}
+use Rattle.sub_listen.specs.Reception.{LawOfListening, TakesPacket, restarts_at_header}
 
 module _ (asks_complete anew : Bool) (leaves : ℕ → ℕ) (w : PageIdValue) where
   steps :
@@ -52,7 +52,7 @@ module _ (asks_complete anew : Bool) (leaves : ℕ → ℕ) (w : PageIdValue) wh
 pub law_of_listening : LawOfListening
 law_of_listening l leaves w packets old new run =
     let asks_complete = l.options.asks_complete in
-    let anew = begins_anew l.receiver in (
+    let anew = restarts_at_header l.receiver in (
       RunsBy-as _ (StepForgetting Storing anew w) (λ (d : Display). d.held) packets old new
           (forgets asks_complete anew leaves w) run,
       λ keeps.

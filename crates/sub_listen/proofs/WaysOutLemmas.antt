@@ -28,11 +28,12 @@ use Rattle.sub_rules.specs.declared.sending.Sending.{Sending}
 use Rattle.sub_rules.proofs.PesReadingLemmas.{ReadsNext, ReportsNext, reads_end, reads_next}
 use Rattle.sub_rules.proofs.PesReadingLemmas.{reads_unread, reported_fault}
 use Rattle.sub_rules.proofs.FrameLists.{joined_more}
-use Rattle.sub_listen.specs.Run.{AreHeard, EndsAfter, FailsListening, HearsFile, IsHeard}
+use Rattle.sub_listen.specs.Run.{AreReceived, EndsAfter, FailsListening, HearsFile, IsHeard}
 use Rattle.sub_listen.specs.Run.{RefusesAfter, first_in_frame, least_after, least_frame}
 use Rattle.sub_listen.specs.Run.{sent_in_frame}
-use Rattle.sub_listen.specs.Reception.{RunsThrough, as_heard, first_lost_header, reception_of}
-use Rattle.sub_listen.proofs.ReceptionLemmas.{as_heard-append}
+use Rattle.sub_listen.specs.Reception.{RunsThrough, packets_used_by, first_lost_header}
+use Rattle.sub_listen.specs.Reception.{reception_of}
+use Rattle.sub_listen.proofs.ReceptionLemmas.{packets_used_by-append}
 use Rattle.sub_request.specs.declared.listening.Listening.{Listening}
 use Rattle.ttx_pes.specs.declared.fault.PesFault.TheVariants as pes
 use Rattle.sub_rules.specs.declared.fault.CheckFault.TheVariants as check
@@ -47,25 +48,25 @@ pub record Reaches
     : Type 0 where
   pub within : n ≤ length frames
   pub rest : List ℕ
-  pub rest_is : remaining ≡ Some rest
+  pub rest_eq : remaining ≡ Some rest
   pub left : ReadsAs (clock_of l.options) n rest (drop n frames) unread
-  pub heard : AreHeard l frames n
+  pub heard : AreReceived l frames n
   pub run :
       RunsThrough l leaves w old
-      (as_heard l 0 (packets_before frames n)) now
+      (packets_used_by l 0 (packets_before frames n)) now
   pub number_is : number ≡ length (packets_before frames n)
-  pub sent_is : sent ≡ sent_in_frame l.options.within frames n
-  pub least_is : least ≡ least_frame l.options.within frames n
+  pub sent_eq : sent ≡ sent_in_frame l.options.within frames n
+  pub least_eq : least ≡ least_frame l.options.within frames n
 
-first_packet_number_is :
+first_packet_number_eq :
     (within : ℕ) (frames : Transmission) (n sent least frame : ℕ)
     → sent ≡ sent_in_frame within frames n
     → least ≡ least_frame within frames n
     → frame_at frames n ≡ frame
     → cond (not (within == 0) && (frame == least)) sent 0 ≡ first_in_frame within frames n
-first_packet_number_is within frames zero sent least frame sent_is least_is frame_is =
+first_packet_number_eq within frames zero sent least frame sent_eq least_eq frame_eq =
     grind (arith, nat_tests)
-first_packet_number_is within frames (suc n) sent least frame sent_is least_is frame_is =
+first_packet_number_eq within frames (suc n) sent least frame sent_eq least_eq frame_eq =
     grind (arith, nat_tests)
 
 sent_next :
@@ -73,7 +74,7 @@ sent_next :
     → before ≡ first_in_frame within frames n
     → packets_of_frame frames n ≡ packets
     → before + length packets ≡ sent_in_frame within frames (n + 1)
-sent_next within frames n before packets before_is packets_are =
+sent_next within frames n before packets before_eq packets_are =
     rw add-one (grind (arith, nat_tests))
 
 pub fails_listening : (l : Listening) (n : ℕ) (f : CheckFault) (old mid new : Option (List ℕ))
@@ -82,7 +83,7 @@ pub fails_listening : (l : Listening) (n : ℕ) (f : CheckFault) (old mid new : 
     → (is_pes_read f ≡ true → FailsWithin mid new)
     → ((frames : Transmission) (unread : Option Unread)
     → IfKnown old (λ bytes.
-    ReadsAs (clock_of l.options) 0 bytes frames unread → AreHeard l frames n))
+    ReadsAs (clock_of l.options) 0 bytes frames unread → AreReceived l frames n))
     → is_pes_read f ≡ true
     → FailsListening l old new (fault.File f)
 fails_listening l n f old mid new taken place within heard is =
@@ -97,12 +98,12 @@ module _
         (reached : Reaches leaves l frames unread w old remaining n number sent least now)
         (left : Option (List ℕ))
       where
-        ends_so :
+        reception_ends :
             (result : Result (Unit {0}) ListenFault)
             → MatchResult result (λ _. EndsAfter l frames unread n) (RefusesAfter l frames unread n)
             → (n < length frames → TakesPackets (n + 1) reported left)
             → HearsFile leaves l frames unread reported left w old now result
-        ends_so result ends stops = record {
+        reception_ends result ends stops = record {
           runs = record { n = n; heard = reached.heard; run = reached.run; ends = ends };
           stops = stops;
         }
@@ -115,7 +116,7 @@ module _
             let at =
             reads_end (clock_of l.options) n reached.rest frames unread v reached.left is in
             let within = reached.within in
-            ends_so (Ok tt) (inl (omega (arith, at.0), at.1))
+            reception_ends (Ok tt) (inl (omega (arith, at.0), at.1))
             (λ more. absurd (omega (arith, more, at.0)))
 
         -- If the file can't be read on, reception ends with the fault of the next PES packet.
@@ -130,7 +131,8 @@ module _
             reached.left is of in
             let within = reached.within in
             let all : n ≡ length frames = omega (arith, at.0) in
-            ends_so (Err (fault.File f)) (grind arith) (λ more. absurd (omega (arith, more, all)))
+            reception_ends (Err (fault.File f)) (grind arith)
+            (λ more. absurd (omega (arith, more, all)))
           where
             refuses :
                 (x : Unread)
@@ -159,9 +161,14 @@ module _
                 → HearsFile leaves l frames unread reported left w old now
                 (Err (fault.File (check.Order n)))
             ends_order early =
-                let frame_is = next.sent.frame_is in
-                let least_is = reached.least_is in
-                ends_so (Err (fault.File (check.Order n))) (refl, next.sent.there, omega arith)
+                let frame_eq = next.sent.frame_eq in
+                let least_eq = reached.least_eq in
+                reception_ends (Err (fault.File (check.Order n))) (
+                  refl,
+                  next.sent.there,
+                  omega
+                      arith,
+                )
                 (λ there. taken)
 
             -- If the next frame is after TIME, reception ends without a fault.
@@ -170,9 +177,10 @@ module _
                 → l.at < frame
                 → HearsFile leaves l frames unread reported left w old now (Ok tt)
             ends_late rises late =
-                let frame_is = next.sent.frame_is in
-                let least_is = reached.least_is in
-                ends_so (Ok tt) (inr (next.sent.there, omega arith, omega arith)) (λ there. taken)
+                let frame_eq = next.sent.frame_eq in
+                let least_eq = reached.least_eq in
+                reception_ends (Ok tt) (inr (next.sent.there, omega arith, omega arith))
+                (λ there. taken)
 
             first_is :
                 (before : ℕ)
@@ -180,8 +188,8 @@ module _
                 → before ≡ first_in_frame l.options.within frames n
             first_is before is =
                 is
-                ∙ first_packet_number_is l.options.within frames n sent least frame reached.sent_is
-                reached.least_is next.sent.frame_is
+                ∙ first_packet_number_eq l.options.within frames n sent least frame reached.sent_eq
+                reached.least_eq next.sent.frame_eq
 
             -- If a page header of the next frame is listed as lost, reception ends with the fault
             -- `LostHeader`.
@@ -194,11 +202,11 @@ module _
                 → HearsFile leaves l frames unread reported left w old now
                 (Err (fault.LostHeader frame (before + place)))
             ends_lost before place first rises in_time lost =
-                let least_is = reached.least_is in
+                let least_eq = reached.least_eq in
                 let number_is = reached.number_is in
-                let before_is = first_is before first in
-                ends_so (Err (fault.LostHeader frame (before + place)))
-                (grind (arith, next.sent.there, next.sent.frame_is, next.sent.packets_are))
+                let before_eq = first_is before first in
+                reception_ends (Err (fault.LostHeader frame (before + place)))
+                (grind (arith, next.sent.there, next.sent.frame_eq, next.sent.packets_are))
                 (λ there. taken)
 
             pub reaches_next :
@@ -209,13 +217,13 @@ module _
                 → first_lost_header (reception_of l) number (packets_of_units v.units) ≡ None
                 → left ≡ Some (rest_after_pes_packet reached.rest)
                 → RunsThrough l leaves w now
-                (as_heard l number (packets_of_units v.units)) after
+                (packets_used_by l number (packets_of_units v.units)) after
                 → Reaches leaves l frames unread w old left (n + 1) (number + length v.units)
                 (before + length v.units) (least_after l.options.within frame) after
-            reaches_next before after first rises in_time whole left_is run =
-                let before_is = first_is before first in
-                let frame_is = next.sent.frame_is in
-                let least_is = reached.least_is in
+            reaches_next before after first rises in_time whole left_eq run =
+                let before_eq = first_is before first in
+                let frame_eq = next.sent.frame_eq in
+                let least_eq = reached.least_eq in
                 let there = next.sent.there in
                 let more = joined_more frames n there
                 ∙ ap (λ ps. packets_before frames n ++ ps) next.sent.packets_are in
@@ -234,7 +242,7 @@ module _
                 record {
                   within = omega arith;
                   rest = rest_after_pes_packet reached.rest;
-                  rest_is = left_is;
+                  rest_eq = left_eq;
                   left = next.left;
                   heard = λ i below_next.
                       elim (cases_lt i n) [
@@ -244,13 +252,14 @@ module _
                   run =
                       rw (
                         more,
-                        as_heard-append l 0 (packets_before frames n) (packets_of_units v.units),
+                        packets_used_by-append l 0 (packets_before frames n)
+                            (packets_of_units v.units),
                         place,
                       ) (RunsBy-append _ _ _ _ _ _ reached.run run);
                   number_is = omega (arith, size, units, number_is);
-                  sent_is =
+                  sent_eq =
                       ap (λ k. before + k) (sym units)
                       ∙ sent_next l.options.within frames n before (packets_of_units v.units)
-                      before_is next.sent.packets_are;
-                  least_is = grind arith;
+                      before_eq next.sent.packets_are;
+                  least_eq = grind arith;
                 }

@@ -39,12 +39,12 @@ abbrev pub is_heard : Reception → ℕ → Bool
 is_heard r number = nat_le r.skip number && not (list_any (λ n. n == number) r.lost)
 
 -- The packets that arrive of a list of packets, the first of which is packet `number` of the file.
-abbrev pub as_received : Reception → ℕ → List (List ℕ) → List (List ℕ)
-as_received r number [] = []
-as_received r number (packet ∷ packets) =
+abbrev pub arriving_packets : Reception → ℕ → List (List ℕ) → List (List ℕ)
+arriving_packets r number [] = []
+arriving_packets r number (packet ∷ packets) =
     if is_heard r number
-    then with_flips r.flips number packet ∷ as_received r (number + 1) packets
-    else as_received r (number + 1) packets
+    then with_flips r.flips number packet ∷ arriving_packets r (number + 1) packets
+    else arriving_packets r (number + 1) packets
 
 -- A receiver of page w uses the packet when it arrives; a receiver that drops rows ignores a row of
 -- its page with a byte of even parity.
@@ -54,9 +54,9 @@ is_taken _ w packet = true
 
 -- The packets that the receiver uses of a list of packets, the first of which is packet `number` of
 -- the file: those that arrive, without the rows that the receiver drops.
-abbrev pub as_heard : Listening → ℕ → List (List ℕ) → List (List ℕ)
-as_heard l number packets =
-    filter (is_taken l.receiver l.options.page) (as_received (reception_of l) number packets)
+abbrev pub packets_used_by : Listening → ℕ → List (List ℕ) → List (List ℕ)
+packets_used_by l number packets =
+    filter (is_taken l.receiver l.options.page) (arriving_packets (reception_of l) number packets)
 
 -- The code that a receiver leaves in a cell whose byte has even parity, given the code of the cell
 -- before. A receiver that drops rows uses no row with such a byte.
@@ -67,9 +67,9 @@ left_by DropRow = λ was. was
 left_by Anew = λ was. space
 
 -- The receiver starts again at each header of its page.
-abbrev pub begins_anew : ReceiverKind → Bool
-begins_anew Anew = true
-begins_anew _ = false
+abbrev pub restarts_at_header : ReceiverKind → Bool
+restarts_at_header Anew = true
+restarts_at_header _ = false
 
 -- A receiver of page w goes from one state to another at a packet that it uses.
 pub record TakesPacket
@@ -92,7 +92,8 @@ pub record TakesPacket
 abbrev pub RunsThrough :
     Listening → (ℕ → ℕ) → PageIdValue → Display → List (List ℕ) → Display → Type 0
 RunsThrough l leaves w old packets new =
-    RunsBy (TakesPacket l.options.asks_complete (begins_anew l.receiver) leaves w) old packets new
+    RunsBy (TakesPacket l.options.asks_complete (restarts_at_header l.receiver) leaves w) old
+    packets new
 
 -- A packet may be lost: it has an address, and is no packet X/0 (EN 300 706).
 abbrev pub may_be_lost_at : Option PacketAddress → Bool
@@ -116,9 +117,9 @@ LawOfListening =
     (l : Listening) (leaves : ℕ → ℕ) (w : PageIdValue) (packets : List (List ℕ))
     (old new : Display)
     → RunsThrough l leaves w old packets new
-    → HearsForgetting Storing (begins_anew l.receiver) w old.held packets new.held
-    × (begins_anew l.receiver ≡ false → Hears w old.held packets new.held)
+    → HearsForgetting Storing (restarts_at_header l.receiver) w old.held packets new.held
+    × (restarts_at_header l.receiver ≡ false → Hears w old.held packets new.held)
     × (l.options.asks_complete ≡ true
-    → ShowsForgetting Storing (begins_anew l.receiver) w old packets new
-    × (begins_anew l.receiver ≡ false → Shows w old packets new))
+    → ShowsForgetting Storing (restarts_at_header l.receiver) w old packets new
+    × (restarts_at_header l.receiver ≡ false → Shows w old packets new))
     × (l.options.asks_complete ≡ false → new.screen ≡ old.screen)

@@ -17,7 +17,8 @@ use Rattle.sub_rules.specs.FrameRules.{Unread, frame_at, packets_before, packets
 use Rattle.sub_rules.specs.PesReading.{ReadsAs}
 use Rattle.sub_rules.specs.Transmission.{Transmission}
 use Rattle.sub_rules.specs.declared.fault.CheckFault.TheVariants as check
-use Rattle.sub_listen.specs.Reception.{RunsThrough, as_heard, first_lost_header, reception_of}
+use Rattle.sub_listen.specs.Reception.{RunsThrough, packets_used_by, first_lost_header}
+use Rattle.sub_listen.specs.Reception.{reception_of}
 use Rattle.sub_listen.specs.declared.listening.ListenFault.{ListenFault}
 use Rattle.sub_listen.specs.declared.listening.ListenFault.TheVariants as fault
 use Rattle.sub_request.specs.declared.listening.Listening.{Listening}
@@ -87,8 +88,8 @@ pub record IsHeard (l : Listening) (frames : Transmission) (i : ℕ) : Type 0 wh
       ≡ None
 
 -- The first n frames of the list are received.
-abbrev pub AreHeard : Listening → Transmission → ℕ → Type 0
-AreHeard l frames n = (i : ℕ) → i < n → IsHeard l frames i
+abbrev pub AreReceived : Listening → Transmission → ℕ → Type 0
+AreReceived l frames n = (i : ℕ) → i < n → IsHeard l frames i
 
 -- Reception ends after n frames: the file ends, or the next frame is after TIME.
 abbrev pub EndsAfter : Listening → Transmission → Option Unread → ℕ → Type 0
@@ -124,7 +125,7 @@ pub record FailsListening (l : Listening) (known left : Option (List ℕ)) (f : 
     pub heard :
         (frames : Transmission) (unread : Option Unread)
         → IfKnown known (λ bytes.
-        ReadsAs (clock_of l.options) 0 bytes frames unread → AreHeard l frames index)
+        ReadsAs (clock_of l.options) 0 bytes frames unread → AreReceived l frames index)
 
 -- ---- the run of a receiver
 
@@ -135,10 +136,10 @@ pub record Runs
     (w : PageIdValue) (old new : Display) (result : Result (Unit {0}) ListenFault)
     : Type 0 where
   pub n : ℕ
-  pub heard : AreHeard l frames n
+  pub heard : AreReceived l frames n
   pub run :
       RunsThrough l leaves w old
-      (as_heard l 0 (packets_before frames n)) new
+      (packets_used_by l 0 (packets_before frames n)) new
   pub ends :
       MatchResult result (λ _. EndsAfter l frames unread n) (RefusesAfter l frames unread n)
 

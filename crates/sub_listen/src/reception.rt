@@ -9,7 +9,7 @@ ghost use Rattle.ttx_page.specs.PacketKind.{is_this_page, kind};
 ghost use Rattle.ttx_page.specs.Screen.{Display, display};
 ghost use Rattle.ttx_pes.specs.PesGrammar.{most_units};
 ghost use Rattle.sub_rules.specs.PacketRules.{packets_of_units};
-ghost use Rattle.sub_listen.specs.Reception.{RunsThrough, as_heard, begins_anew};
+ghost use Rattle.sub_listen.specs.Reception.{RunsThrough, packets_used_by, restarts_at_header};
 ghost use Rattle.sub_listen.specs.Reception.{first_lost_header, is_heard, is_lost, is_taken};
 ghost use Rattle.sub_listen.specs.Reception.{may_be_lost_at, reception_of};
 ghost use Rattle.sub_request.specs.Flips.{with_flip, with_flips};
@@ -52,7 +52,7 @@ pub fn hear_units<R: Receiver + Drop>(
     requires number { number + most_units < u64.MAX }
     ensures run { RunsThrough listening.now R.leaves
         (R.tuned_to receiver.old) (display (R.state receiver.old) screen.old)
-        (as_heard listening.now number (packets_of_units units.now))
+        (packets_used_by listening.now number (packets_of_units units.now))
         (display (R.state receiver.new) screen.new) }
     ensures tuned { R.tuned_to receiver.new ≡ R.tuned_to receiver.old }
 {
@@ -73,10 +73,10 @@ fn hear_packet<R: Receiver + Drop>(
     ensures run { (packets : List (List ℕ)) (end : Display)
         → RunsThrough listening.now R.leaves
         (R.tuned_to receiver.old) (display (R.state receiver.new) screen.new)
-        (as_heard listening.now (number + 1) packets) end
+        (packets_used_by listening.now (number + 1) packets) end
         → RunsThrough listening.now R.leaves
         (R.tuned_to receiver.old) (display (R.state receiver.old) screen.old)
-        (as_heard listening.now number (packet.now ∷ packets)) end }
+        (packets_used_by listening.now number (packet.now ∷ packets)) end }
     ensures tuned { R.tuned_to receiver.new ≡ R.tuned_to receiver.old }
 {
     if is_heard(listening, number) {
@@ -108,7 +108,7 @@ fn take<R: Receiver + Drop>(
     }
     if is_beginning(listening.receiver, receiver.watched(), packet) {
         // The screen does not change: the header ends no page.
-        begin_anew(receiver, packet);
+        restart_at_header(receiver, packet);
     } else if listening.options.asks_complete() {
         show(receiver, screen, packet);
     } else {
@@ -131,7 +131,7 @@ fn is_taken(listening: &Listening, packet: &Packet) -> bool
 // Returns whether a receiver starts again at the packet: the request asks for this kind of
 // receiver, and the packet is a header of its page.
 fn is_beginning(receiver: ReceiverKind, page_id: PageId, packet: &Packet) -> bool
-    ensures { result ≡ (begins_anew receiver && is_this_page (kind page_id packet.now)) }
+    ensures { result ≡ (restarts_at_header receiver && is_this_page (kind page_id packet.now)) }
 {
     match receiver {
         ReceiverKind::Anew => is_header(page_id, packet),
@@ -151,7 +151,7 @@ fn is_header(page_id: PageId, packet: &Packet) -> bool
 
 // Passes a header of its page to a receiver that starts again, as if it had just been tuned in with
 // a blank page.
-fn begin_anew<R: Receiver + Drop>(receiver: &mut R, header: &Packet)
+fn restart_at_header<R: Receiver + Drop>(receiver: &mut R, header: &Packet)
     requires header { IsTrue (is_this_page (kind (R.tuned_to receiver.old) header.now)) }
     ensures state { R.state receiver.new
         ≡ record { heard = true; is_open = true; page = blank } }

@@ -16,7 +16,7 @@ use Rattle.ttx_pes.specs.PesPackets.{IsPesPacket}
 use Rattle.ttx_pes.specs.Reading.{is_filled, is_gap_marker}
 use Rattle.ttx_pes.specs.declared.fault.PesFault.{PesFault}
 use Rattle.ttx_pes.specs.declared.pes_packets.Received.TheVariants.{PesPacket}
-use Rattle.ttx_pes.proofs.LimitedLemmas.{pes_packet_is, rest_reported}
+use Rattle.ttx_pes.proofs.LimitedLemmas.{pes_packet_eq, rest_reported}
 use Rattle.ttx_pes.proofs.PesPacketBufferLemmas.{pes_packet_sized}
 use Rattle.sub_io.specs.Device.{AppendsPrefix}
 use Rattle.sub_io.proofs.DeviceLemmas.{AppendsPrefix-first, AppendsPrefix-second}
@@ -25,7 +25,7 @@ use Rattle.sub_listing.specs.Extracting.{refusal_at}
 
 pub record IsPrefixOf (b prefix : List ℕ) (left : Option (List ℕ)) : Type 0 where
   pub same : take (length prefix) b ≡ prefix
-  pub left_is : left ≡ Some (drop (length prefix) b)
+  pub left_eq : left ≡ Some (drop (length prefix) b)
   pub within : length prefix ≤ length b
   pub end : IsAtEnd left → length b ≡ length prefix
 
@@ -63,7 +63,7 @@ pes_packet_copied bytes p reported left old new is_a_gap_marker is pes_packet ta
           ∙ ap (λ (l : List ℕ). (length p == payload_size) && is_filled (drop 6 l))
           (sym prefix.same),
       record {
-        left_is = prefix.left_is;
+        left_eq = prefix.left_eq;
         written = subst (Appends old new) (sym prefix.same) written;
       },
     )
@@ -71,7 +71,7 @@ pes_packet_copied bytes p reported left old new is_a_gap_marker is pes_packet ta
     size : (left : Option (List ℕ)) → Consumes (Some bytes) left p
         → pes_packet_size bytes ≡ Some (length p)
     size None taken = absurd taken
-    size (Some rest) taken = ap pes_packet_size taken ∙ pes_packet_is p rest pes_packet
+    size (Some rest) taken = ap pes_packet_size taken ∙ pes_packet_eq p rest pes_packet
 
 pub part_of_pes_packet : (bytes p : List ℕ) (reported left old new : Option (List ℕ))
     → reported ≡ Some bytes
@@ -136,7 +136,7 @@ none_copied bytes reported old is = record {
   read = 0;
   enough = omega arith;
   within = omega arith;
-  copied = record { left_is = is; written = Appends-nil old };
+  copied = record { left_eq = is; written = Appends-nil old };
 }
 
 pub more_copied : (bytes room : List ℕ) (left next old mid new : Option (List ℕ)) (least n : ℕ)
@@ -148,7 +148,7 @@ pub more_copied : (bytes room : List ℕ) (left next old mid new : Option (List 
     → HasCopiedSome bytes next old new (least + 1)
 more_copied bytes room left next old mid new least n some taken fits other written =
     let prefix =
-    buffer_taken (drop some.read bytes) room n next fits (rw some.copied.left_is at taken) in
+    buffer_taken (drop some.read bytes) room n next fits (rw some.copied.left_eq at taken) in
     let rest = length-drop some.read bytes in
     let within = some.within in
     let there = prefix.2 in
@@ -158,7 +158,7 @@ more_copied bytes room left next old mid new least n some taken fits other writt
       enough = omega (arith, enough, other);
       within = omega (arith, rest, within, there);
       copied = record {
-        left_is = prefix.1 ∙ ap Some (drop-drop n some.read bytes);
+        left_eq = prefix.1 ∙ ap Some (drop-drop n some.read bytes);
         written =
             subst (Appends old new)
             (ap (λ l. take some.read bytes ++ l) (sym prefix.0)
@@ -180,7 +180,7 @@ pub cut_copied : (bytes room : List ℕ) (left next old mid new : Option (List �
     → AppendsPrefix old new bytes
 cut_copied bytes room left next old mid new least n some taken part =
     let start : Consumes (Some (drop some.read bytes)) next (take n room) =
-    rw some.copied.left_is at taken in
+    rw some.copied.left_eq at taken in
     subst (AppendsPrefix old new) (take-append-drop some.read bytes)
     (AppendsPrefix-second old mid new (take some.read bytes) (drop some.read bytes)
     some.copied.written (cut (drop some.read bytes) next start))

@@ -13,24 +13,25 @@ use Rattle.ttx_pes.specs.declared.fault.PesFault.{PesFault}
 use Rattle.std.proofs.lemmas.List.{append-nil, length-drop}
 use Rattle.ttx_pes.specs.PesPacketRange.{rest_after_pes_packets, count_pes_packets}
 use Rattle.ttx_pes.specs.PesPacketRange.{first_pes_packets, pes_packet_size}
-use Rattle.ttx_pes.proofs.PesPacketRangeLemmas.{rest_after_none, rest_after_one, count_none}
-use Rattle.ttx_pes.proofs.PesPacketRangeLemmas.{count_one}
-use Rattle.ttx_pes.proofs.PesPacketRangeLemmas.{first_one, pes_packet_stated}
+use Rattle.ttx_pes.proofs.PesPacketRangeLemmas.{rest_after_none, rest_after_pes_packets_suc}
+use Rattle.ttx_pes.proofs.PesPacketRangeLemmas.{count_none}
+use Rattle.ttx_pes.proofs.PesPacketRangeLemmas.{count_pes_packets_suc}
+use Rattle.ttx_pes.proofs.PesPacketRangeLemmas.{first_pes_packets_suc, pes_packet_stated}
 use Rattle.sub_listing.specs.Copying.{CopiesRest, HasCopied, HasCopiedPesPackets}
-use Rattle.sub_listing.specs.Extracting.{AreCut, AreGiven, AreRefused, Extracts}
+use Rattle.sub_listing.specs.Extracting.{AreCut, AreExtracted, AreRefused, Extracts}
 use Rattle.sub_listing.specs.Extracting.{begins_with_gap_marker}
 use Rattle.sub_listing.specs.Extracting.{count_gap_markers}
 use Rattle.sub_listing.specs.Extracting.{most_pes_packets, refusal_at}
 use Rattle.sub_listing.specs.declared.extract.ExtractFault.TheVariants.{Write}
 use Rattle.sub_listing.specs.declared.extract.Extracted.{Extracted}
 
-gap_markers_one : (n : ℕ) (b : List ℕ) (size : ℕ) → pes_packet_size b ≡ Some size
+count_gap_markers_suc : (n : ℕ) (b : List ℕ) (size : ℕ) → pes_packet_size b ≡ Some size
     → count_gap_markers (suc n) b
     ≡ (if begins_with_gap_marker size b then 1 else 0) + count_gap_markers n (drop size b)
 unfolding count_gap_markers
-gap_markers_one n b size e = rw e refl
+count_gap_markers_suc n b size e = rw e refl
 
-pub record OneMore (k : ℕ) (b : List ℕ) (size : ℕ) : Type 0 where
+pub record HasOneMorePesPacket (k : ℕ) (b : List ℕ) (size : ℕ) : Type 0 where
   pub following : rest_after_pes_packets (suc k) b ≡ drop size (rest_after_pes_packets k b)
   pub first : first_pes_packets (suc k) b ≡ first_pes_packets k b ++ take size
       (rest_after_pes_packets k b)
@@ -42,7 +43,7 @@ pub record OneMore (k : ℕ) (b : List ℕ) (size : ℕ) : Type 0 where
 
 pub one_more : (k : ℕ) (b : List ℕ) (size : ℕ)
     → pes_packet_size (rest_after_pes_packets k b) ≡ Some size
-    → OneMore k b size
+    → HasOneMorePesPacket k b size
 unfolding rest_after_pes_packets first_pes_packets count_pes_packets count_gap_markers
 one_more zero b size e = record {
   following = rw e refl;
@@ -52,36 +53,37 @@ one_more zero b size e = record {
 }
 one_more (suc k) b size e =
     go (pes_packet_size b) refl
-    (λ s is. one_more k (drop s b) size (ap pes_packet_size (sym (rest_after_one k b s is)) ∙ e))
+    (λ s is. one_more k (drop s b) size
+    (ap pes_packet_size (sym (rest_after_pes_packets_suc k b s is)) ∙ e))
   where
     go : (o : Option ℕ) → pes_packet_size b ≡ o
-        → ((s : ℕ) → pes_packet_size b ≡ Some s → OneMore k (drop s b) size)
-        → OneMore (suc k) b size
+        → ((s : ℕ) → pes_packet_size b ≡ Some s → HasOneMorePesPacket k (drop s b) size)
+        → HasOneMorePesPacket (suc k) b size
     go None is others = let same = rest_after_none (suc k) b is in absurd cc
     go (Some s) is others =
         let more = others s is in
         record {
           following =
-              rest_after_one (suc k) b s is ∙ more.following
-              ∙ ap (drop size) (sym (rest_after_one k b s is));
+              rest_after_pes_packets_suc (suc k) b s is ∙ more.following
+              ∙ ap (drop size) (sym (rest_after_pes_packets_suc k b s is));
           first =
-              first_one (suc k) b s is
+              first_pes_packets_suc (suc k) b s is
               ∙ ap (λ l. take s b ++ l) more.first
               ∙ sym (append_assoc (take s b) (first_pes_packets k (drop s b))
               (take size (rest_after_pes_packets k (drop s b))))
               ∙ ap (λ l. l ++ take size (rest_after_pes_packets k (drop s b)))
-              (sym (first_one k b s is))
+              (sym (first_pes_packets_suc k b s is))
               ∙ ap (λ l. first_pes_packets (suc k) b ++ take size l)
-              (sym (rest_after_one k b s is));
+              (sym (rest_after_pes_packets_suc k b s is));
           count = λ all.
-              let here = count_one k b s is in
+              let here = count_pes_packets_suc k b s is in
               let there = more.count (omega (arith, here, all)) in
-              count_one (suc k) b s is ∙ ap suc there;
+              count_pes_packets_suc (suc k) b s is ∙ ap suc there;
           gap_markers =
-              let one = gap_markers_one (suc k) b s is in
-              let before = gap_markers_one k b s is in
+              let one = count_gap_markers_suc (suc k) b s is in
+              let before = count_gap_markers_suc k b s is in
               let others = more.gap_markers in
-              let same = rest_after_one k b s is in
+              let same = rest_after_pes_packets_suc k b s is in
               rw same (omega (arith, one, before, others));
         }
 
@@ -100,9 +102,9 @@ split_pes_packets (suc k) b all =
         → first_pes_packets (suc k) b ++ rest_after_pes_packets (suc k) b ≡ b
     go None is others = let none = count_none (suc k) b is in absurd (omega (arith, none, all))
     go (Some s) is others =
-        let here = count_one k b s is in
+        let here = count_pes_packets_suc k b s is in
         let rest = others s (omega (arith, here, all)) in
-        rw (first_one k b s is, rest_after_one k b s is)
+        rw (first_pes_packets_suc k b s is, rest_after_pes_packets_suc k b s is)
         (append_assoc (take s b) (first_pes_packets k (drop s b)) (rest_after_pes_packets k
         (drop s b))
         ∙ ap (λ l. take s b ++ l) rest
@@ -119,7 +121,7 @@ few_pes_packets (suc k) b = go (pes_packet_size b) refl (λ s. few_pes_packets k
         → count_pes_packets (suc k) b ≤ length b
     go None is others = let none = count_none (suc k) b is in omega (arith, none)
     go (Some s) is others =
-        let here = count_one k b s is in
+        let here = count_pes_packets_suc k b s is in
         let reported = pes_packet_stated b s is in
         let large = reported.0 in
         let within = reported.2 in
@@ -132,7 +134,7 @@ pub no_pes_packets : (bytes : List ℕ) (reported old : Option (List ℕ))
     → HasCopiedPesPackets bytes reported old old 0 0
 unfolding rest_after_pes_packets first_pes_packets count_pes_packets count_gap_markers
 no_pes_packets bytes reported old is = record {
-  left_is = is;
+  left_eq = is;
   written = Appends-nil old;
   number = refl;
   gap_markers = refl;
@@ -148,7 +150,7 @@ next_copied bytes left next old mid new k gaps more size so_far is copied counte
     let one = one_more k bytes size is in
     let rises : k + 1 ≡ suc k = omega arith in
     rw rises (record {
-      left_is = copied.left_is ∙ ap Some (sym one.following);
+      left_eq = copied.left_eq ∙ ap Some (sym one.following);
       written =
           subst (Appends old new) (sym one.first)
           (Appends-trans old mid new (first_pes_packets k bytes)
@@ -181,22 +183,22 @@ entire_copied bytes left old mid new k gaps so_far rest =
     (Appends-trans old mid new (first_pes_packets k bytes) (rest_after_pes_packets k bytes)
     so_far.written rest)
 
-keeps_nothing : (mid new : Option (List ℕ)) → Keeps mid new → Appends mid new []
-keeps_nothing mid new kept = Appends-kept mid mid new [] (Appends-nil mid) kept
+appends_nothing : (mid new : Option (List ℕ)) → Keeps mid new → Appends mid new []
+appends_nothing mid new kept = Appends-kept mid mid new [] (Appends-nil mid) kept
 
 pub pes_packets_given : (bytes : List ℕ) (left old mid new : Option (List ℕ)) (k gaps : ℕ)
     → HasCopiedPesPackets bytes left old mid k gaps
     → rest_after_pes_packets k bytes ≡ []
     → Keeps mid new
     → 0 < k
-    → AreGiven bytes old new k gaps
+    → AreExtracted bytes old new k gaps
 pes_packets_given bytes left old mid new k gaps so_far none kept some = record {
   pes_packets = so_far.number;
   whole = none;
   gap_markers = so_far.gap_markers;
   some = some;
   written =
-      entire_copied bytes left old mid new k gaps so_far (rw none (keeps_nothing mid new kept));
+      entire_copied bytes left old mid new k gaps so_far (rw none (appends_nothing mid new kept));
 }
 
 pub none_given : (bytes : List ℕ) (left old mid new : Option (List ℕ)) (k gaps : ℕ)

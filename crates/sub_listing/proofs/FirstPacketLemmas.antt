@@ -21,13 +21,13 @@ use Rattle.sub_listing.specs.FaultLine.{counted_from}
 use Rattle.sub_listing.specs.declared.status.Status.{Status}
 use Rattle.sub_listing.specs.declared.status.Status.TheVariants.{Fault}
 
-pub known_kept : (old mid : Option (List ℕ)) (bytes : List ℕ)
+pub known_bytes_kept : (old mid : Option (List ℕ)) (bytes : List ℕ)
     → Keeps old mid
     → old ≡ Some bytes
     → mid ≡ Some bytes
-known_kept None mid bytes kept reported = cc
-known_kept (Some x) None bytes kept reported = absurd kept
-known_kept (Some x) (Some y) bytes kept reported = cc
+known_bytes_kept None mid bytes kept reported = cc
+known_bytes_kept (Some x) None bytes kept reported = absurd kept
+known_bytes_kept (Some x) (Some y) bytes kept reported = cc
 
 pub consumed_kept : (old mid new : Option (List ℕ)) (bytes : List ℕ)
     → Keeps old mid
@@ -110,7 +110,7 @@ pub prints_found : (first : FirstNumber) (number : ℕ) (old mid left : Option (
     (record { known = old; left = left; old_count = old_count; new_count = new_count }) out status
 prints_found
     first number old mid left old_count mid_count new_count out status found kept same prints =
-    grind (arith, nat_tests, known_kept, reads_kept)
+    grind (arith, nat_tests, known_bytes_kept, reads_kept)
 
 -- If the source failed before the first PES packet was found, only the line about the failure is
 -- printed.
@@ -131,7 +131,7 @@ prints_failed first number source out status before skipped same kept risen prin
     listing = pes_listing number 0 (fails Read);
     is_listed = record {
       outcome = fails Read;
-      listing_is = refl;
+      listing_eq = refl;
       exact = λ bytes reported ok. cc;
       taken = λ other. (
         refl,

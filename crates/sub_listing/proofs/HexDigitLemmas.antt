@@ -1,5 +1,5 @@
 -- Hexadecimal digits in the lanes of a vector: a look-up in the table of digits, looked_up, and
--- interleaved digits, interleaved_are. The digits of a list in two parts: encode_with-append,
+-- interleaved digits, interleaved_eq. The digits of a list in two parts: encode_with-append,
 -- drop-encode_with.
 use Rattle.std.proofs.Common.{◌≡◌, ℕ, zero, suc, ◌+◌, ◌*◌, ◌/◌, ◌%◌, ◌^◌, ◌<◌, ◌≤◌, List, [], ◌∷◌}
 use Rattle.std.proofs.Common.{◌++◌, map, length, get_or, drop, replicate, bit_and, refl, sym, ap}
@@ -71,11 +71,11 @@ interleaved firsts seconds =
     ++ pick_l 0 (firsts ++ seconds)
     (8 ∷ 24 ∷ 9 ∷ 25 ∷ 10 ∷ 26 ∷ 11 ∷ 27 ∷ 12 ∷ 28 ∷ 13 ∷ 29 ∷ 14 ∷ 30 ∷ 15 ∷ 31 ∷ [])
 
-pub interleaved_are : (t v : List ℕ) → length v ≡ 16
+pub interleaved_eq : (t v : List ℕ) → length v ≡ 16
     → interleaved (map (λ b. get_or t (b / 16) 0) v) (map (λ b. get_or t (b % 16) 0) v)
     ≡ encode_with t v
 unfolding encode_with
-interleaved_are t v long =
+interleaved_eq t v long =
     subst (λ l. interleaved (map (λ b. get_or t (b / 16) 0) l) (map (λ b. get_or t (b % 16) 0) l)
     ≡ encode_with t l)
     (pick_l_whole 0 v 16 long) refl

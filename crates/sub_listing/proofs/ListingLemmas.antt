@@ -6,7 +6,7 @@ use Rattle.std.proofs.Common.{◌∷◌, ◌++◌, append_assoc, drop, length, i
 use Rattle.std.proofs.Common.{Option, Some, None, Ok, Err}
 use Rattle.std.specs.Io.KnownBytes.{Appends, Consumes, Keeps}
 use Rattle.std.proofs.KnownBytes.{Appends-kept, Appends-nil, Appends-trans}
-use Rattle.sub_io.specs.Device.{AppendsPrefix, RisesIf}
+use Rattle.sub_io.specs.Device.{AppendsPrefix, CountRisesIf}
 use Rattle.sub_io.specs.Reading.{IfKnown}
 use Rattle.sub_io.proofs.DeviceLemmas.{AppendsPrefix-first, AppendsPrefix-second}
 use Rattle.sub_io.proofs.DeviceLemmas.{AppendsPrefix-whole}
@@ -19,7 +19,7 @@ use Rattle.ttx_pes.specs.declared.progress.Progress.TheVariants.{Reading}
 use Rattle.ttx_pes.proofs.OutcomeLemmas.{outcome_after-next}
 use Rattle.stl_file.specs.Fault as stl_fault
 use Rattle.stl_file.specs.Gsi.{IsGsi, gsi_size}
-use Rattle.stl_file.specs.Reader.{EndsKept, ReaderValue, RefusesOpening, TakesSubtitle, opened_at}
+use Rattle.stl_file.specs.Reader.{EndsKept, ReaderValue, RefusesOpening, TakesSubtitle, open_result}
 use Rattle.stl_file.specs.Reader.{findings_for, gsi_of, outcome_left, outcome_of}
 use Rattle.stl_file.specs.Reading.{ends, fails}
 use Rattle.stl_file.specs.Subtitle.{SubtitleValue}
@@ -28,7 +28,8 @@ use Rattle.stl_file.specs.declared.fault.StlFault.{StlFault}
 use Rattle.stl_file.specs.declared.progress.Progress.TheVariants as progress
 use Rattle.sub_listing.specs.Faults.{kind_by, stl_line}
 use Rattle.sub_listing.specs.DeviceCall.{Counts, SinkCall, SourceCall}
-use Rattle.sub_listing.specs.Listing.{Gives, IsCut, IsListed, Listing, Lists, PrintsListing}
+use Rattle.sub_listing.specs.Listing.{YieldsResults, IsCut, ListingRelation, Listing, Lists}
+use Rattle.sub_listing.specs.Listing.{PrintsListing}
 use Rattle.sub_listing.specs.Listing.{PrintsOrFails, followed, has_failed}
 use Rattle.sub_listing.specs.Lines.{number_in_file}
 use Rattle.sub_listing.specs.PacketsListing.{frame_lines, pes_listing}
@@ -40,7 +41,7 @@ use Rattle.sub_listing.specs.declared.status.Status.TheVariants.{Fault}
 -- The lines printed since the sink had the contents `old` are the beginning of each listing that is
 -- still possible.
 pub record IsPrefix
-    (Before After : IsListed)
+    (Before After : ListingRelation)
     (reported left old now : Option (List ℕ))
     : Type 0 where
   pub text : List ℕ
@@ -51,7 +52,7 @@ pub record IsPrefix
       → Before reported end ending (followed text more)
 
 pub prefix-none :
-    (Before : IsListed)
+    (Before : ListingRelation)
     (reported old : Option (List ℕ))
     → IsPrefix Before Before reported reported old old
 prefix-none Before reported old = record {
@@ -68,25 +69,27 @@ followed-twice first second more =
 
 -- Flushing keeps the printed lines.
 pub prefix-kept :
-    (Before After : IsListed)
+    (Before After : ListingRelation)
     (reported left old now new : Option (List ℕ))
     → IsPrefix Before After reported left old now
     → Keeps now new
     → IsPrefix Before After reported left old new
 prefix-kept Before After reported left old now new i kept = grind (arith, nat_tests)
 
-pub counts-fault : (old new : ℕ) (failed : Bool) → RisesIf old failed new → Counts old Fault new
+pub counts-fault : (old new : ℕ) (failed : Bool) → CountRisesIf old failed new → Counts old Fault
+    new
 counts-fault old new failed risen = grind (arith, nat_tests)
 
-pub counts-status : (old new : ℕ) (status : Status) → RisesIf old (has_failed (Some status)) new
+pub counts-status : (old new : ℕ) (status : Status) → CountRisesIf old (has_failed (Some status))
+    new
     → Counts old status new
 counts-status old new status risen = grind (arith, nat_tests)
 
 pub prefix-more :
-    (Before At After : IsListed)
+    (Before At After : ListingRelation)
     (reported left rest old now new : Option (List ℕ)) (text : List ℕ)
     → IsPrefix Before At reported left old now
-    → Gives At After left rest text None
+    → YieldsResults At After left rest text None
     → Appends now new text
     → IsPrefix Before After reported rest old new
 prefix-more Before At After reported left rest old now new text i gives p = record {
@@ -98,14 +101,14 @@ prefix-more Before At After reported left rest old now new text i gives p = reco
 }
 
 pub prefix-end :
-    (Before At After : IsListed) (source : SourceCall) (out : SinkCall)
+    (Before At After : ListingRelation) (source : SourceCall) (out : SinkCall)
     (left now : Option (List ℕ)) (text : List ℕ)
     (status : Status)
     → IsPrefix Before At source.known left out.old now
-    → Gives At After left source.left text (Some status)
+    → YieldsResults At After left source.left text (Some status)
     → Appends now out.new text
     → out.new_count ≡ out.old_count
-    → RisesIf source.old_count (has_failed (Some status)) source.new_count
+    → CountRisesIf source.old_count (has_failed (Some status)) source.new_count
     → PrintsListing Before source out status
 unfolding PrintsOrFails
 prefix-end Before At After source out left now text status i gives p same counted = record {
@@ -119,14 +122,14 @@ prefix-end Before At After source out left now text status i gives p same counte
 }
 
 pub prefix-cut :
-    (Before At After : IsListed) (source : SourceCall) (out : SinkCall)
+    (Before At After : ListingRelation) (source : SourceCall) (out : SinkCall)
     (left now : Option (List ℕ)) (text : List ℕ)
     (end : Option Status)
     → IsPrefix Before At source.known left out.old now
-    → Gives At After left source.left text end
+    → YieldsResults At After left source.left text end
     → AppendsPrefix now out.new text
     → out.new_count ≡ out.old_count + 1
-    → RisesIf source.old_count (has_failed end) source.new_count
+    → CountRisesIf source.old_count (has_failed end) source.new_count
     → PrintsListing Before source out Fault
 unfolding PrintsOrFails
 prefix-cut Before At After source out left now text None i gives p risen counted =
@@ -155,7 +158,8 @@ prefix-cut Before At After source out left now text (Some status) i gives p rise
 }
 
 pub prefix-stopped :
-    (Before At : IsListed) (source : SourceCall) (out : SinkCall) (left now : Option (List ℕ))
+    (Before At : ListingRelation) (source : SourceCall) (out : SinkCall)
+    (left now : Option (List ℕ))
     → IsPrefix Before At source.known left out.old now
     → IsCut At left source.left
     → Keeps now out.new
@@ -188,7 +192,7 @@ lists-some O listing_of given Takes None left o = (
   listing_of o,
   record {
     outcome = o;
-    listing_is = refl;
+    listing_eq = refl;
     exact = λ bytes e ok. absurd cc;
     taken = λ other. absurd (other refl);
   },
@@ -197,7 +201,7 @@ lists-some O listing_of given Takes (Some b) left o = (
   listing_of (given b),
   record {
     outcome = given b;
-    listing_is = refl;
+    listing_eq = refl;
     exact = λ bytes e ok. let same : b ≡ bytes = cc in ap given same;
     taken = λ other. absurd (other refl);
   },
@@ -213,7 +217,7 @@ pub gives-next :
     → IfKnown reported (λ bytes.
     (rest : List ℕ) × (left ≡ Some rest) × (given bytes ≡ pes_packet (given' rest)))
     → O
-    → Gives (Lists before given Takes) (Lists after given' Takes') reported left text None
+    → YieldsResults (Lists before given Takes) (Lists after given' Takes') reported left text None
 gives-next O before after given given' Takes Takes' pes_packet reported left text lines reports
     reads o =
     grind (arith, nat_tests, lists-some)
@@ -236,7 +240,7 @@ pub gives-packet :
     → index ≤ most_packets
     → ReportsPacket (Reading index) reported left (Ok (Some v))
     → text ≡ frame_lines (number_in_file first index) v
-    → Gives (Lists (pes_listing first index) (outcome_after index) ReadsPackets)
+    → YieldsResults (Lists (pes_listing first index) (outcome_after index) ReadsPackets)
     (Lists (pes_listing first (index + 1)) (outcome_after (index + 1)) ReadsPackets) reported left
     text
     None
@@ -277,8 +281,8 @@ pub gives-opened :
     → IsGsi r.gsi
     → Consumes reported left r.gsi
     → IfKnown reported (λ bytes. left ≡ Some (drop gsi_size bytes))
-    → IfKnown reported (λ bytes. opened_at bytes ≡ Ok r)
-    → Gives (ListsFrom None count) (ListsFrom (Some r) count) reported left [] None
+    → IfKnown reported (λ bytes. open_result bytes ≡ Ok r)
+    → YieldsResults (ListsFrom None count) (ListsFrom (Some r) count) reported left [] None
 unfolding findings_for
 gives-opened count r reported left start reading gsi taken rest opened =
     gives-next _ (subtitles_listing count) (subtitles_listing count) outcome_of (outcome_left r)
@@ -294,7 +298,7 @@ gives-opened count r reported left start reading gsi taken rest opened =
 pub gives-refused :
     (count : ℕ) (f : StlFault) (reported left : Option (List ℕ)) (text : List ℕ)
     → text ≡ line_of (stl_line f 0)
-    → IfKnown reported (λ bytes. stl_fault.is_file_read f ≡ false → opened_at bytes ≡ Err f)
+    → IfKnown reported (λ bytes. stl_fault.is_file_read f ≡ false → open_result bytes ≡ Err f)
     → (stl_fault.is_file_read f ≡ true
     → (bytes : List ℕ) × (length bytes < gsi_size) × Consumes reported left bytes)
     → (stl_fault.is_format f ≡ true → RefusesOpening reported left f)
@@ -307,7 +311,7 @@ gives-refused count f reported left text line exact failed refused =
     (λ bytes is fine. rw (opened_bad (gsi_of false bytes) f (exact bytes is fine)) refl)
     (inl (record {
       fault = f;
-      outcome_is = refl;
+      outcome_eq = refl;
       read = refl;
       failure = failed;
       refused = refused;

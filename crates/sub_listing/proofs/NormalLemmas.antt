@@ -17,13 +17,13 @@ use Rattle.stl_file.specs.Gsi.{gsi_size}
 use Rattle.stl_file.specs.Scope.{whole}
 use Rattle.stl_file.specs.Subtitle.{SubtitleValue}
 use Rattle.stl_file.proofs.FileLemmas.{file_complete, file_sound, outcome_of-first}
-use Rattle.sub_listing.specs.Writing.{ReportsRead, most_read}
+use Rattle.sub_listing.specs.Writing.{ReportsRead, read_limit}
 use Rattle.sub_listing.specs.declared.normal.InputFault.TheVariants as input
 
 -- If the first 12,800,897 bytes of a file are a complete subtitle file, then the file is that
 -- subtitle file.
 first-is_file : (s : List ℕ) (ts : List SubtitleValue)
-    → IsFile (take most_read s) (take gsi_size (take most_read s)) ts
+    → IsFile (take read_limit s) (take gsi_size (take read_limit s)) ts
     → IsFile s (take gsi_size s) ts
 first-is_file s ts is =
     file_sound whole s ts
@@ -31,17 +31,17 @@ first-is_file s ts is =
 
 -- The first 12,800,897 bytes of a file decide the result of `normal`.
 pub answers_first : (s read : List ℕ) (old new : Option (List ℕ)) (answer : Result ℕ NormalFault)
-    → read ≡ take most_read s
+    → read ≡ take read_limit s
     → NormalAnswers read old new answer
     → NormalAnswers s old new answer
 answers_first s read old new answer first answers =
     go answer (subst (λ (b : List ℕ). NormalAnswers b old new answer) first answers)
   where
-    prefix : take gsi_size (take most_read s) ≡ take gsi_size s
-    prefix = take-take gsi_size most_read s (omega arith)
+    prefix : take gsi_size (take read_limit s) ≡ take gsi_size s
+    prefix = take-take gsi_size read_limit s (omega arith)
 
     go : (answer : Result ℕ NormalFault)
-        → NormalAnswers (take most_read s) old new answer
+        → NormalAnswers (take read_limit s) old new answer
         → NormalAnswers s old new answer
     go (Ok n) w = record {
       subtitles = w.subtitles;
@@ -70,8 +70,8 @@ pub taken-at_end : (x y z : Option (List ℕ)) (n : ℕ) (xs ps : List ℕ)
     → Consumes x y xs
     → Consumes y z (take n ps)
     → IsAtEnd z
-    → length xs ≤ most_read
-    → IfKnown x (λ bytes. xs ≡ take most_read bytes)
+    → length xs ≤ read_limit
+    → IfKnown x (λ bytes. xs ≡ take read_limit bytes)
 taken-at_end x y z n xs ps none p q end few =
     taken-to_end x z xs (Consumes-next x y z n xs ps xs same p q) end few
   where
@@ -81,33 +81,33 @@ taken-at_end x y z n xs ps none p q end few =
     taken-to_end : (x y : Option (List ℕ)) (xs : List ℕ)
         → Consumes x y xs
         → IsAtEnd y
-        → length xs ≤ most_read
-        → IfKnown x (λ bytes. xs ≡ take most_read bytes)
+        → length xs ≤ read_limit
+        → IfKnown x (λ bytes. xs ≡ take read_limit bytes)
     taken-to_end None y xs p end few bytes e = absurd cc
     taken-to_end (Some b) None xs p end few bytes e = absurd p
     taken-to_end (Some b) (Some ys) xs p end few bytes e =
         let all : bytes ≡ xs =
         sym (same_Some b bytes e) ∙ p ∙ ap (λ l. xs ++ l) end ∙ append-nil xs in
-        sym (ap (take most_read) all ∙ take_all most_read xs few)
+        sym (ap (take read_limit) all ∙ take_all read_limit xs few)
 
 pub taken-to_most : (x y : Option (List ℕ)) (xs : List ℕ)
     → Consumes x y xs
-    → length xs ≡ most_read
-    → IfKnown x (λ bytes. xs ≡ take most_read bytes)
+    → length xs ≡ read_limit
+    → IfKnown x (λ bytes. xs ≡ take read_limit bytes)
 taken-to_most None y xs p size bytes e = absurd cc
 taken-to_most (Some b) None xs p size bytes e = absurd p
 taken-to_most (Some b) (Some ys) xs p size bytes e =
     let all : bytes ≡ xs ++ ys = sym (same_Some b bytes e) ∙ p in
-    sym (ap (take most_read) all ∙ take_at xs ys most_read size)
+    sym (ap (take read_limit) all ∙ take_at xs ys read_limit size)
 
 -- `normal` allocates memory only after it has read at least one byte.
-pub memory-wanted : (x y z : Option (List ℕ)) (n : ℕ) (xs ps : List ℕ)
+pub memory-expected : (x y z : Option (List ℕ)) (n : ℕ) (xs ps : List ℕ)
     → n ≤ length ps
     → n ≢ 0
     → Consumes x y xs
     → Consumes y z (take n ps)
     → ReportsRead x z input.Memory
-memory-wanted x y z n xs ps room some p q =
+memory-expected x y z n xs ps room some p q =
     let long = length-append xs (take n ps) in
     let part = length-take-le n ps room in
     (xs ++ take n ps, Consumes-next x y z n xs ps _ refl p q, omega (arith, long, part, some))

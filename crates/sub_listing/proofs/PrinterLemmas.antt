@@ -16,7 +16,7 @@ use Rattle.stl_rows.specs.declared.fault.LoadFaultKind.{LoadFaultKind}
 use Rattle.stl_rows.specs.declared.fault.LoadFaultKind.TheVariants as load
 use Rattle.sub_rules.specs.Fault.{load_place}
 use Rattle.sub_rules.specs.declared.event.Event.{Event}
-use Rattle.sub_listing.specs.EventLines.{event_line, event_lines, most_counted, refusal, refusals}
+use Rattle.sub_listing.specs.EventLines.{event_line, event_lines, max_count, refusal, refusals}
 use Rattle.sub_listing.specs.EventLines.{subtitle_event, subtitle_events}
 use Rattle.sub_listing.specs.FaultLine.{place_text}
 use Rattle.sub_listing.specs.Printer.{PrinterValue, PrintsEvent, PrintsEvents, StaysPrinted}
@@ -26,15 +26,15 @@ counted-twice : (r m n : ℕ) → counted (counted r m) n ≡ counted r (m + n)
 unfolding counted
 counted-twice r m n = grind (arith, nat_tests)
 
-pub counted-none : (r : ℕ) → r ≤ most_counted → counted r 0 ≡ r
+pub counted-none : (r : ℕ) → r ≤ max_count → counted r 0 ≡ r
 unfolding counted
 counted-none r few = grind (arith, nat_tests)
 
-pub counted-few : (r m : ℕ) → counted r m ≤ most_counted
+pub counted-few : (r m : ℕ) → counted r m ≤ max_count
 unfolding counted
 counted-few r m = grind (arith, nat_tests)
 
-prints-none : (p : PrinterValue) → p.failed ≡ false → p.refused ≤ most_counted
+prints-none : (p : PrinterValue) → p.failed ≡ false → p.refused ≤ max_count
     → PrintsEvents p [] p
 prints-none p goes few = record {
   counts_from = refl;
@@ -192,26 +192,26 @@ module _ {A D : Type 0} (IsReported : D → A → D → Type 0) (value : D → P
       → (items ≡ []) × (new ≡ mid)
   last_reported mid new [] reported failing = (refl, reported)
   last_reported mid new (y ∷ ys) (next, second, others) failing =
-      absurd (true≢false (sym failing ∙ (one mid next y second).goes_on))
+      absurd (true≢false (sym failing ∙ (one mid next y second).continues))
 
   step : (old mid new : D) (x : A) (xs : List A) (b : Bool) → (value mid).failed ≡ b
       → PrintsEvent (value old) (event x) (value mid)
       → ReportsInOrder IsReported mid new xs
-      → ((value mid).failed ≡ false → (value mid).refused ≤ most_counted
+      → ((value mid).failed ≡ false → (value mid).refused ≤ max_count
       → PrintsEvents (value mid) (map event xs) (value new))
       → PrintsEvents (value old) (map event (x ∷ xs)) (value new)
   step old mid new x xs true failing here rest more =
       let end = last_reported mid new xs rest failing in
       rw (end.0, end.1) (prints-cut (value old) (value mid) (event x) [] here failing)
   step old mid new x xs false holds here rest more =
-      let bound : (value mid).refused ≤ most_counted =
+      let bound : (value mid).refused ≤ max_count =
       rw (here.put_refused holds) (counted-few (value old).refused (refusal (event x))) in
       prints-more (value old) (value mid) (value new) (event x) (map event xs) here holds
       (more holds bound)
 
   one_by_one : (old new : D) (items : List A)
       → (value old).failed ≡ false
-      → (value old).refused ≤ most_counted
+      → (value old).refused ≤ max_count
       → ReportsInOrder IsReported old new items
       → PrintsEvents (value old) (map event items) (value new)
   one_by_one old new [] goes few reported = rw reported (prints-none (value old) goes few)
@@ -222,7 +222,7 @@ module _ {A D : Type 0} (IsReported : D → A → D → Type 0) (value : D → P
   -- A printer has printed the lines of exactly the events that were reported to it.
   pub prints_all : (old new : D) (items : List A)
       → (value old).failed ≡ false
-      → (value old).refused ≤ most_counted
+      → (value old).refused ≤ max_count
       → Reports IsReported old new items
       → PrintsEvents (value old) (map event items) (value new)
   prints_all old new items goes few reported = one_by_one old new items goes few reported.one_by_one
@@ -237,12 +237,12 @@ pub as_reported : (a b : PrinterValue) (events : List Event)
 as_reported a b events prints =
     subst (λ (es : List Event). PrintsEvents a es b) (map-same events) prints
 
-pub still_goes : (failed : Bool) (old new : ℕ)
+pub continues_without_failure : (failed : Bool) (old new : ℕ)
     → old < 0xFFFF_FFFF_FFFF_FFFF
     → failed ≡ false
     → new ≡ old
     → (failed || not (can_fail new)) ≡ false
-still_goes failed old new room holds same = grind (arith, nat_tests)
+continues_without_failure failed old new room holds same = grind (arith, nat_tests)
 
 pub has_stopped : (failed b : Bool) → failed ≡ true → (failed || b) ≡ true
 has_stopped true b failing = refl
@@ -261,7 +261,8 @@ pub stopped_fails : (a b : PrinterValue) (is : Bool) → b.failed ≡ is
     → StaysPrinted a b
     → (b.failed || not (can_fail b.count)) ≡ true
     → b.failed ≡ true
-stopped_fails a b is h1 goes room stays stopped = grind (arith, nat_tests, still_goes)
+stopped_fails a b is h1 goes room stays stopped = grind
+    (arith, nat_tests, continues_without_failure)
 
 failed_as : (a b : PrinterValue) (ok : Bool)
     → a.failed ≡ false

@@ -38,7 +38,7 @@ reports_read _ = false
 -- The first `read` of the bytes were consumed, and were written to the file.
 pub record HasCopied
     (bytes : List ℕ) (left old new : Option (List ℕ)) (read : ℕ) : Type 0 where
-  pub left_is : left ≡ Some (drop read bytes)
+  pub left_eq : left ≡ Some (drop read bytes)
   pub written : Appends old new (take read bytes)
 
 -- What one step copied of the bytes, by its result. At the end: nothing was left. For a PES packet:
@@ -67,7 +67,7 @@ CopiesRest bytes old new (Err f) = AppendsPrefix old new bytes
 -- Exactly `pes_packets` PES packets were copied, `gaps` gap markers among them.
 pub record HasCopiedPesPackets
     (bytes : List ℕ) (left old new : Option (List ℕ)) (pes_packets gaps : ℕ) : Type 0 where
-  pub left_is : left ≡ Some (rest_after_pes_packets pes_packets bytes)
+  pub left_eq : left ≡ Some (rest_after_pes_packets pes_packets bytes)
   pub written : Appends old new (first_pes_packets pes_packets bytes)
   pub number : count_pes_packets pes_packets bytes ≡ pes_packets
   pub gap_markers : gaps ≡ count_gap_markers pes_packets bytes

@@ -46,8 +46,8 @@ abbrev pub seen_page : Bool → Display → Option Rows
 seen_page asks_complete d = if asks_complete then d.screen else Some d.held.page
 
 -- If the receiver has received a header of its page, the printed page has 24 rows of 40 codes.
-abbrev pub IsSeenComplete : Bool → Display → Type 0
-IsSeenComplete asks_complete d =
+abbrev pub PrintsCompletePage : Bool → Display → Type 0
+PrintsCompletePage asks_complete d =
     IsTrue d.held.heard → IfSome (seen_page asks_complete d) IsPage
 
 -- All lines that `listen` prints for a receiver.

@@ -60,5 +60,5 @@ abbrev pub subtitle_events : List LoadFault → List Event
 subtitle_events faults = map subtitle_event faults
 
 -- The greatest count of faults, 2^64 - 1.
-abbrev pub most_counted : ℕ
-most_counted = 0xFFFF_FFFF_FFFF_FFFF
+abbrev pub max_count : ℕ
+max_count = 0xFFFF_FFFF_FFFF_FFFF

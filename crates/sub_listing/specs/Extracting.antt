@@ -4,7 +4,7 @@ use Rattle.std.specs.Prelude.{◌≡◌, ℕ, zero, suc, ◌+◌, ◌<◌, ◌==
 use Rattle.std.specs.Prelude.{true, false, List, [], ◌++◌, codes, decimal, length, take, drop}
 use Rattle.std.specs.Prelude.{Option, Some, None, Result, Ok, Err, if◌then◌else◌, ◌⊎◌}
 use Rattle.std.specs.Io.KnownBytes.{Appends, Keeps}
-use Rattle.sub_io.specs.Device.{AppendsPrefix, RisesIf, failed}
+use Rattle.sub_io.specs.Device.{AppendsPrefix, CountRisesIf, failed}
 use Rattle.sub_io.specs.Reading.{IfKnown}
 use Rattle.ttx_pes.specs.PesGrammar.{payload_size}
 use Rattle.ttx_pes.specs.PesPacketRange.{rest_after_pes_packets, by_pes_packet, count_pes_packets}
@@ -69,7 +69,7 @@ is_extract_write _ = false
 
 -- The bytes are `pes` PES packets, `gaps` gap markers among them, and all bytes were written to the
 -- file.
-pub record AreGiven (bytes : List ℕ) (old new : Option (List ℕ)) (pes gaps : ℕ) : Type 0 where
+pub record AreExtracted (bytes : List ℕ) (old new : Option (List ℕ)) (pes gaps : ℕ) : Type 0 where
   pub pes_packets : count_pes_packets pes bytes ≡ pes
   pub whole : rest_after_pes_packets pes bytes ≡ []
   pub gap_markers : gaps ≡ count_gap_markers pes bytes
@@ -102,7 +102,7 @@ pub record AreCut (bytes : List ℕ) (old new : Option (List ℕ)) (pes : ℕ) :
 -- bytes.
 abbrev pub Extracts :
     Option (List ℕ) → Option (List ℕ) → Option (List ℕ) → Result Extracted ExtractFault → Type 0
-Extracts known old new (Ok e) = IfKnown known (λ bytes. AreGiven bytes old new e.pes e.gaps)
+Extracts known old new (Ok e) = IfKnown known (λ bytes. AreExtracted bytes old new e.pes e.gaps)
 Extracts known old new (Err Empty) = IfKnown known (λ bytes. (bytes ≡ []) × Keeps old new)
 Extracts known old new (Err (Refused f n)) = IfKnown known (λ bytes. AreRefused bytes old new f n)
 Extracts known old new (Err (Read n)) = IfKnown known (λ bytes. AreCut bytes old new n)
@@ -134,6 +134,6 @@ pub record EndsExtract (source : SourceCall) (file out : SinkCall) (status : Sta
   pub answer : Result Extracted ExtractFault
   pub extracts : Extracts source.known file.old file.new answer
   -- The counts of failures: the source and the file failed if and only if the result says so.
-  pub source_count : RisesIf source.old_count (failed is_extract_read answer) source.new_count
-  pub file_count : RisesIf file.old_count (failed is_extract_write answer) file.new_count
+  pub source_count : CountRisesIf source.old_count (failed is_extract_read answer) source.new_count
+  pub file_count : CountRisesIf file.old_count (failed is_extract_write answer) file.new_count
   pub printed : PrintsOrFails out (extract_listing answer) status

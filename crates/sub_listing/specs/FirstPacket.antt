@@ -3,7 +3,7 @@
 use Rattle.std.specs.Prelude.{◌≡◌, ◌⊎◌, ℕ, ◌+◌, ◌≤◌, Option, Some}
 use Rattle.std.specs.Io.KnownBytes.{Keeps}
 use Rattle.sub_listing.specs.DeviceCall.{SinkCall, SourceCall}
-use Rattle.sub_listing.specs.Listing.{IsListed, PrintsListing}
+use Rattle.sub_listing.specs.Listing.{ListingRelation, PrintsListing}
 use Rattle.sub_listing.specs.declared.status.Status.{Status}
 
 -- The number, in its file, of the first PES packet of a source, before and after a call, if it is
@@ -37,7 +37,7 @@ StartsAt first source number =
 -- A source was listed, and its PES packets were counted from the number of the first one in its
 -- file.
 pub record PrintsFrom
-    (ListsFrom : ℕ → IsListed) (first : FirstNumber) (source : SourceCall) (out : SinkCall)
+    (ListsFrom : ℕ → ListingRelation) (first : FirstNumber) (source : SourceCall) (out : SinkCall)
     (status : Status)
     : Type 0 where
   pub number : ℕ

@@ -5,7 +5,7 @@ use Rattle.ttx_packet.specs.PacketAddress.{address, address_pair}
 use Rattle.ttx_packet.specs.PageHeader.{header}
 use Rattle.ttx_packet.specs.declared.Header.{Header}
 use Rattle.std.specs.Io.KnownBytes.{Appends}
-use Rattle.sub_io.specs.Device.{AppendsPrefix, RisesIf}
+use Rattle.sub_io.specs.Device.{AppendsPrefix, CountRisesIf}
 use Rattle.sub_io.specs.Reading.{IfKnown}
 use Rattle.sub_listing.specs.DeviceCall.{SinkCall, SourceCall}
 use Rattle.sub_listing.specs.Faults.{packet_line}
@@ -75,8 +75,8 @@ has_failed _ = false
 
 -- A relation that gives the possible listings of a source, from the source's bytes before and after
 -- the listing, and how the listing ends.
-abbrev pub IsListed : Type 1
-IsListed = Option (List ℕ) → Option (List ℕ) → Option Status → Listing → Type 0
+abbrev pub ListingRelation : Type 1
+ListingRelation = Option (List ℕ) → Option (List ℕ) → Option Status → Listing → Type 0
 
 -- ---- the printed text of a listing
 
@@ -98,33 +98,33 @@ pub record Lists
     (known left : Option (List ℕ)) (ending : Option Status) (listing : Listing)
     : Type 0 where
   pub outcome : Outcome
-  pub listing_is : listing ≡ listing_of outcome
+  pub listing_eq : listing ≡ listing_of outcome
   pub exact : IfKnown known (λ bytes. has_failed ending ≡ false → outcome ≡ given bytes)
   pub taken : ending ≢ None → Takes (has_failed ending) known outcome left
 
 -- A source was listed, even if it failed. The listing was printed, or the sink failed and received
 -- a prefix of it.
 pub record PrintsListing
-    (Lists : IsListed) (source : SourceCall) (out : SinkCall) (status : Status)
+    (Lists : ListingRelation) (source : SourceCall) (out : SinkCall) (status : Status)
     : Type 0 where
   pub ending : Option Status
   pub listing : Listing
   pub is_listed : Lists source.known source.left ending listing
-  pub source_count : RisesIf source.old_count (has_failed ending) source.new_count
+  pub source_count : CountRisesIf source.old_count (has_failed ending) source.new_count
   pub cut : ending ≡ None → out.new_count ≢ out.old_count
   pub printed : PrintsOrFails out listing status
 
 -- One part of the input was read, and `text` has its lines. Either each possible listing of the
 -- rest, of which there is at least one, comes after these lines; or these lines end the listing.
-abbrev pub Gives : IsListed → IsListed
+abbrev pub YieldsResults : ListingRelation → ListingRelation
     → Option (List ℕ) → Option (List ℕ) → List ℕ → Option Status → Type 0
-Gives Before After known left text None =
+YieldsResults Before After known left text None =
     ((end : Option (List ℕ)) (ending : Option Status) (more : Listing)
     → After left end ending more → Before known end ending (followed text more))
     × ((more : Listing) × After left left None more)
-Gives Before After known left text (Some status) =
+YieldsResults Before After known left text (Some status) =
     Before known left (Some status) (record { text = text; status = status })
 
 -- The sink failed before a part was read completely, so the listing has no end.
-abbrev pub IsCut : IsListed → Option (List ℕ) → Option (List ℕ) → Type 0
+abbrev pub IsCut : ListingRelation → Option (List ℕ) → Option (List ℕ) → Type 0
 IsCut Lists known left = (more : Listing) × Lists known left None more

@@ -6,7 +6,8 @@ use Rattle.ttx_pes.specs.PesGrammar.{PesValue}
 use Rattle.sub_listing.specs.Faults.{check_line}
 use Rattle.sub_rules.specs.declared.fault.CheckFault.TheVariants.{Pes}
 use Rattle.sub_listing.specs.Lines.{number_in_file, pes_line, unit_line}
-use Rattle.sub_listing.specs.Listing.{IsListed, Lists, Listing, done, followed, fault_listing}
+use Rattle.sub_listing.specs.Listing.{ListingRelation, Lists, Listing, done, followed}
+use Rattle.sub_listing.specs.Listing.{fault_listing}
 use Rattle.sub_listing.specs.FaultLine.{counted_from}
 
 -- The lines of Teletext units, the first of which has this number in its PES packet.
@@ -27,5 +28,5 @@ pes_listing first index (gives v more) =
     followed (frame_lines (number_in_file first index) v) (pes_listing first (index + 1) more)
 
 -- The PES packets of a source are listed, the first with the number `first` in its file.
-abbrev pub ListsPackets : ℕ → IsListed
+abbrev pub ListsPackets : ℕ → ListingRelation
 ListsPackets first = Lists (pes_listing first 0) (outcome_after 0) ReadsPackets

@@ -4,7 +4,7 @@ use Rattle.std.specs.Prelude.{Option}
 use Rattle.std.specs.Io.KnownBytes.{Appends, Keeps}
 use Rattle.sub_io.specs.Device.{AppendsPrefix}
 use Rattle.sub_rules.specs.declared.event.Event.{Event}
-use Rattle.sub_listing.specs.EventLines.{event_line, event_lines, most_counted, refusal, refusals}
+use Rattle.sub_listing.specs.EventLines.{event_line, event_lines, max_count, refusal, refusals}
 
 -- The state of the printer: the contents of its sink, if known, and the sink's count of failures;
 -- the number of faults counted; whether the sink failed while printing; and the number, in its
@@ -33,12 +33,12 @@ can_fail count = nat_lt count 0xFFFF_FFFF_FFFF_FFFF
 -- The number of faults after more faults. The greatest number, 2^64 - 1, also stands for any
 -- greater number.
 unfoldable pub counted : ℕ → ℕ → ℕ
-counted refused more = min (refused + more) most_counted
+counted refused more = min (refused + more) max_count
 
 -- An event was reported to a printer whose sink had not failed. The line was written and a fault
 -- counted; or the sink failed once, and received a prefix of the line.
 pub record PrintsEvent (old : PrinterValue) (event : Event) (new : PrinterValue) : Type 0 where
-  pub goes_on : old.failed ≡ false
+  pub continues : old.failed ≡ false
   pub counts_from : new.first ≡ old.first
   pub put : new.failed ≡ false → Appends old.contents new.contents (event_line old.first event)
   pub put_count : new.failed ≡ false → new.count ≡ old.count

@@ -13,7 +13,8 @@ use Rattle.stl_file.specs.declared.fault.StlFault.{StlFault}
 use Rattle.stl_file.specs.declared.progress.Progress.TheVariants.{Reading}
 use Rattle.sub_listing.specs.Faults.{stl_line}
 use Rattle.sub_listing.specs.Lines.{subtitle_line}
-use Rattle.sub_listing.specs.Listing.{IsListed, Lists, Listing, done, followed, fault_listing}
+use Rattle.sub_listing.specs.Listing.{ListingRelation, Lists, Listing, done, followed}
+use Rattle.sub_listing.specs.Listing.{fault_listing}
 
 -- The outcome of reading subtitles after `from` TTI blocks. At the end, only skipped blocks were
 -- left. For a fault of the format, no file continues with these bytes. If the source failed, it
@@ -33,7 +34,7 @@ ReadsSubtitles failed from known (gives s block more) left =
 pub record ReadsNoGsi (failed : Bool) (known : Option (List ℕ)) (outcome : Outcome)
     (left : Option (List ℕ)) : Type 0 where
   pub fault : StlFault
-  pub outcome_is : outcome ≡ fails fault 0
+  pub outcome_eq : outcome ≡ fails fault 0
   pub read : is_file_read fault ≡ failed
   pub failure :
       failed ≡ true → (bytes : List ℕ) × (length bytes < gsi_size) × Consumes known left bytes
@@ -55,12 +56,12 @@ subtitles_listing count (gives s block more) =
     followed (subtitle_line s) (subtitles_listing (count + 1) more)
 
 -- The subtitles of a file are listed.
-abbrev pub ListsSubtitles : IsListed
+abbrev pub ListsSubtitles : ListingRelation
 ListsSubtitles = Lists (subtitles_listing 0) outcome_of ReadsFile
 
 -- The rest of a listing after `count` subtitles, given the reader; `None` before the GSI block is
 -- read.
-abbrev pub ListsFrom : Option ReaderValue → ℕ → IsListed
+abbrev pub ListsFrom : Option ReaderValue → ℕ → ListingRelation
 ListsFrom None count = Lists (subtitles_listing count) outcome_of ReadsFile
 ListsFrom (Some r) count =
     Lists (subtitles_listing count) (outcome_left r) (λ failed. ReadsSubtitles failed r.block)

@@ -42,7 +42,7 @@ pub line_stays : (a b c : PrinterValue) (e : Event)
 line_stays a b c e one on =
     let before = not_before b c b.failed refl on in
     record {
-      goes_on = one.goes_on;
+      continues = one.continues;
       counts_from = on.counts_from ∙ one.counts_from;
       put = λ holds. Appends-kept _ _ _ _ (one.put (before holds)) on.kept;
       put_count = λ holds. on.same (holds ∙ sym (before holds)) ∙ one.put_count (before holds);

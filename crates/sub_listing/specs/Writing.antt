@@ -3,7 +3,7 @@
 use Rattle.std.specs.Prelude.{◌≡◌, ◌≢◌, ◌<◌, ℕ, List, [], ◌++◌, codes, decimal, length, Bool, true}
 use Rattle.std.specs.Prelude.{false, Option, Result, Ok, Err, IsOkAnd}
 use Rattle.std.specs.Io.KnownBytes.{Appends, Consumes, Keeps}
-use Rattle.sub_io.specs.Device.{AppendsPrefix, RisesIf, failed}
+use Rattle.sub_io.specs.Device.{AppendsPrefix, CountRisesIf, failed}
 use Rattle.sub_io.specs.Reading.{IfKnown}
 use Rattle.stl_file.specs.Fault.{is_normal_write}
 use Rattle.stl_file.specs.NormalForm.{NormalAnswers}
@@ -65,10 +65,10 @@ pub record EndsWork
     (things : List ℕ) (HasWorked : Work)
     : Type 0 where
   pub answer : Result ℕ WriteFault
-  pub works : HasWorked input.known input.left file.old file.new answer
+  pub has_worked : HasWorked input.known input.left file.old file.new answer
   -- The counts of failures: the input and the file failed if and only if the result says so.
-  pub input_count : RisesIf input.old_count (failed is_input_failure answer) input.new_count
-  pub file_count : RisesIf file.old_count (failed is_file_failure answer) file.new_count
+  pub input_count : CountRisesIf input.old_count (failed is_input_failure answer) input.new_count
+  pub file_count : CountRisesIf file.old_count (failed is_file_failure answer) file.new_count
   pub printed : PrintsOrFails out (work_listing things answer) status
 
 -- ---- the command `schedule`
@@ -113,8 +113,8 @@ PrintsMemory drawing known old new =
 -- ---- the command `normal`
 
 -- The maximum number of bytes to read: one more than the longest file has.
-abbrev pub most_read : ℕ
-most_read = 12800897
+abbrev pub read_limit : ℕ
+read_limit = 12800897
 
 -- The fault of an input that was not read completely. `Read`: the source failed at a byte of this
 -- block, after the consumed bytes. `Memory`: an allocation failed, which is only needed after at

@@ -5,7 +5,8 @@ ghost use Rattle.std.specs.Borrow.{GName};
 ghost use Rattle.sub_io.specs.Device.{CountsIf};
 ghost use Rattle.sub_listing.specs.DeviceCall.{CanFail, CountsFault, read_call, sink_call};
 ghost use Rattle.sub_listing.specs.LastLine.{BuffersLastLineOnly, IsAlone};
-ghost use Rattle.sub_listing.specs.Listing.{Gives, IsCut, IsListed, PrintsListing, has_failed};
+ghost use Rattle.sub_listing.specs.Listing.{YieldsResults, IsCut, ListingRelation, PrintsListing};
+ghost use Rattle.sub_listing.specs.Listing.{has_failed};
 ghost use Rattle.sub_listing.specs.Printer.{StaysPrinted, printer_value};
 ghost use Rattle.sub_listing.specs.FaultLine.{line_of, status_of};
 ghost use Rattle.sub_listing.specs.declared.status.Status.TheVariants.{Done};
@@ -32,7 +33,7 @@ pub trait Lister<I> {
     ghost pes_packets: { Self → ℕ };
 
     /// The listings that are possible from the lister's state on.
-    ghost lists: { Self → IsListed };
+    ghost lists: { Self → ListingRelation };
 
     /// A user can follow the lines while the source goes on: the lines are flushed before a read
     /// that may block.
@@ -64,7 +65,7 @@ pub trait Lister<I> {
         requires ready { ready self.old }
         requires input { CanFail (failure_count input.old) }
         requires out { CanFail (K.failure_count printer.old.out.now) }
-        requires goes_on { printer.old.failed ≡ false }
+        requires continues { printer.old.failed ≡ false }
         requires empty { text.old.items ≡ [] }
         ensures same { printer.new.out.ghost_name ≡ printer.old.out.ghost_name }
         ensures stays { StaysPrinted
@@ -72,7 +73,7 @@ pub trait Lister<I> {
             printer.old.refused printer.old.failed printer.old.first)
             (printer_value (K.contents printer.new.out.now) (K.failure_count printer.new.out.now)
             printer.new.refused printer.new.failed printer.new.first) }
-        ensures gives { printer.new.failed ≡ false → Gives (lists self.old) (lists self.new)
+        ensures gives { printer.new.failed ≡ false → YieldsResults (lists self.old) (lists self.new)
             (known input.old) (left input.new) text.new.items result }
         ensures settled { printer.new.failed ≡ false → result ≡ None
             → left input.new ≡ known input.new }
@@ -133,7 +134,7 @@ fn list_to<I, L: Lister<I>, K: Flush>(
     requires ready { L.ready lister.old }
     requires input { CanFail (L.failure_count input.old) }
     requires out { CanFail (K.failure_count printer.old.out.now) }
-    requires goes_on { printer.old.failed ≡ false }
+    requires continues { printer.old.failed ≡ false }
     ensures same { printer.new.out.ghost_name ≡ printer.old.out.ghost_name }
     ensures listing { PrintsListing (L.lists lister.old)
         (read_call L.known L.left L.failure_count input.old input.new)
@@ -168,7 +169,7 @@ fn list_to<I, L: Lister<I>, K: Flush>(
 }
 
 /// Ends a listing with the line of a fault.
-pub fn end_with(text: &mut Text, reported: &FaultLine) -> Option<Status>
+pub fn end_with_fault_line(text: &mut Text, reported: &FaultLine) -> Option<Status>
     requires { text.old.items ≡ [] }
     ensures line { text.new.items ≡ line_of reported.now }
     ensures end { result ≡ Some (status_of reported.now.kind) }

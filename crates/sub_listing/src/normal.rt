@@ -7,7 +7,7 @@ ghost use Rattle.stl_file.specs.NormalForm.{NormalAnswers};
 ghost use Rattle.stl_file.specs.Reader.{block_of_byte};
 ghost use Rattle.sub_listing.specs.DeviceCall.{CountsFault, sink_call, source_call};
 ghost use Rattle.sub_listing.specs.Writing.{EndsWork, Normalizes, ReportsRead, is_input_read};
-ghost use Rattle.sub_listing.specs.Writing.{most_read};
+ghost use Rattle.sub_listing.specs.Writing.{read_limit};
 
 use crate::status::Status;
 use crate::writing::{Work, WriteFault, write};
@@ -17,7 +17,7 @@ use sub_io::{Close, Sink, Source};
 
 /// One byte more than the longest subtitle file has: a GSI block and 99,999 TTI blocks. No byte
 /// after it can change the result.
-const MOST_READ: usize = 12_800_897;
+const READ_LIMIT: usize = 12_800_897;
 
 /// The maximum number of bytes of one read from the input.
 const PULL_CAPACITY: usize = 4096;
@@ -68,7 +68,7 @@ pub fn write_normal<S: Source, F: Close, K: Sink>(
 pub struct NormalWork;
 
 impl Work for NormalWork {
-    ghost works = { λ w. Normalizes };
+    ghost has_worked = { λ w. Normalizes };
 
     fn work<S: Source, F: Close>(
         &self,
@@ -90,7 +90,7 @@ impl Work for NormalWork {
 // Writes the normal form of the file that begins with these bytes, and stores the file.
 fn put_normal<F: Close>(bytes: &[u8], file: &mut F) -> Result<u32, NormalFault>
     requires { CanFail (F.failure_count file.old) }
-    ensures answer { (s : List ℕ) → bytes.now ≡ take most_read s
+    ensures answer { (s : List ℕ) → bytes.now ≡ take read_limit s
         → NormalAnswers s (F.contents file.old) (F.contents file.new) result }
     ensures count { CountsIf F.failure_count file.old (failed is_normal_write result) file.new }
     ensures buffered { OnOk result (F.buffered file.new ≡ 0) }
@@ -118,14 +118,14 @@ pub fn read_input<A: Allocator + Drop, S: Source>(
 ) -> Result<Vec<u8, A>, InputFault>
     requires { CanFail (S.failure_count input.old) }
     ensures bytes { IfKnown (S.remaining input.old) (λ bytes.
-        IfOk result (λ v. v.items ≡ take most_read bytes)) }
+        IfOk result (λ v. v.items ≡ take read_limit bytes)) }
     ensures read { IfErr result (ReportsRead (S.remaining input.old) (S.remaining input.new)) }
     ensures count { CountsIf S.failure_count input.old (failed is_input_read result) input.new }
 {
     let mut bytes = Vec::new(alloc);
     let mut room = [0; PULL_CAPACITY];
-    'pes_packets: while bytes.len() < MOST_READ {
-        let pes_packet = &mut room[..PULL_CAPACITY.min(MOST_READ - bytes.len())];
+    'pes_packets: while bytes.len() < READ_LIMIT {
+        let pes_packet = &mut room[..PULL_CAPACITY.min(READ_LIMIT - bytes.len())];
         match input.pull(pes_packet) {
             Ok(0) => return Ok(bytes),
             Ok(len) => {
@@ -145,7 +145,7 @@ pub fn read_input<A: Allocator + Drop, S: Source>(
 // Returns the number of the block that contains the byte with the index `len`: 0 for the first 1024
 // bytes, then one more for each 128 bytes.
 fn block_of_byte(len: usize) -> u32
-    requires { len < most_read }
+    requires { len < read_limit }
     ensures { result ≡ block_of_byte len }
 {
     (len.saturating_sub(1024 - 128) / 128) as u32

@@ -17,7 +17,7 @@ ghost use Rattle.sub_listing.specs.Printer.{StaysPrinted, printer_value};
 
 use crate::faults::{line_of_check, line_of_failed_read};
 use crate::lines::{number_in_file, push_lower_hex, push_number, push_text};
-use crate::listing::{LINES_CAPACITY, Lister, Text, end_at, end_with, list};
+use crate::listing::{LINES_CAPACITY, Lister, Text, end_at, end_with_fault_line, list};
 use crate::printer::Printer;
 use crate::printing::print_fault_line;
 use crate::status::Status;
@@ -128,7 +128,7 @@ impl<P: PesPackets> Lister<P> for PacketLister {
             Err(fault) => {
                 let pes = self.index;
                 let reported = line_of_check(CheckFault::Pes { fault, pes });
-                end_with(text, &reported.counted_from(self.first))
+                end_with_fault_line(text, &reported.counted_from(self.first))
             }
         }
     }
@@ -140,7 +140,7 @@ fn flush_lines<P: PesPackets, K: Flush>(
     printer: &mut Printer<'_, K>,
 ) -> Result<(), Stopped>
     requires out { CanFail (K.failure_count printer.old.out.now) }
-    requires goes_on { printer.old.failed ≡ false }
+    requires continues { printer.old.failed ≡ false }
     ensures same { printer.new.out.ghost_name ≡ printer.old.out.ghost_name }
     ensures stays { StaysPrinted
         (printer_value (K.contents printer.old.out.now) (K.failure_count printer.old.out.now)

@@ -97,7 +97,7 @@ impl<'a, K: Sink> Printer<'a, K> {
 
     // Writes the line of an event, and counts the event if it is a fault.
     fn print(&mut self, event: Event) -> Result<(), Stopped>
-        requires goes_on { self.old.failed ≡ false }
+        requires continues { self.old.failed ≡ false }
         requires count { CanFail (K.failure_count self.old.out.now) }
         ensures same { self.new.out.ghost_name ≡ self.old.out.ghost_name }
         ensures prints { PrintsEvent

@@ -74,7 +74,7 @@ pub struct ScheduleWork<'a> {
 }
 
 impl<'a> Work for ScheduleWork<'a> {
-    ghost works = { λ w. Schedules (drawing_within w.national w.layout w.scope) w.options.now
+    ghost has_worked = { λ w. Schedules (drawing_within w.national w.layout w.scope) w.options.now
         w.serial };
 
     fn work<S: Source, F: Close>(

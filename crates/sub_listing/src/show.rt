@@ -7,7 +7,7 @@ ghost use Rattle.sub_listing.specs.ShowListing.{IsReady, ListsFrom, ListsSubtitl
 
 use crate::faults::line_of_stl;
 use crate::lines::{push_number, push_text, push_text_digits, push_time};
-use crate::listing::{Lister, Text, end_at, end_with, list};
+use crate::listing::{Lister, Text, end_at, end_with_fault_line, list};
 use crate::printer::Printer;
 use crate::status::Status;
 use stl_file::{StlReader, Subtitle, five_digits_of};
@@ -83,7 +83,7 @@ impl<S: Source> Lister<S> for SubtitleLister {
                     self.reader = Some(reader);
                     None
                 }
-                Err(fault) => end_with(text, &line_of_stl(fault, 0)),
+                Err(fault) => end_with_fault_line(text, &line_of_stl(fault, 0)),
             };
         };
         match reader.next(input) {
@@ -93,7 +93,7 @@ impl<S: Source> Lister<S> for SubtitleLister {
                 None
             }
             Ok(None) => end_at(text, self.count, b" subtitles\n"),
-            Err(fault) => end_with(text, &line_of_stl(fault, reader.block())),
+            Err(fault) => end_with_fault_line(text, &line_of_stl(fault, reader.block())),
         }
     }
 }

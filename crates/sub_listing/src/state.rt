@@ -7,7 +7,8 @@ ghost use Rattle.sub_listing.specs.DeviceCall.{CanFail, CountsFault, sink_call};
 ghost use Rattle.sub_listing.specs.Lines.{glyph};
 ghost use Rattle.sub_listing.specs.Listing.{PrintsOrFails, done};
 ghost use Rattle.ttx_page.specs.Screen.{display};
-ghost use Rattle.sub_listing.specs.DisplayLines.{IsSeenComplete, display_text, page_text, row_text};
+ghost use Rattle.sub_listing.specs.DisplayLines.{PrintsCompletePage, display_text, page_text};
+ghost use Rattle.sub_listing.specs.DisplayLines.{row_text};
 ghost use Rattle.sub_listing.specs.DisplayLines.{seen_page, seen_text};
 
 use crate::lines::{LINE_CAPACITY, glyph, push_text, push_two_digits};
@@ -46,7 +47,7 @@ pub fn print_state<R: Receiver, K: Sink>(
     requires { CanFail (K.failure_count out.old) }
     ensures printed { PrintsOrFails (sink_call K.contents K.failure_count out.old out.new)
         (done (display_text asks_complete (display (R.state receiver.now) screen.now))) result }
-    ensures page { IsSeenComplete asks_complete (display (R.state receiver.now) screen.now) }
+    ensures page { PrintsCompletePage asks_complete (display (R.state receiver.now) screen.now) }
     ensures count { CountsFault K.failure_count out.old result out.new }
     ensures fault { result ≡ Status.Fault → K.failure_count out.old < K.failure_count out.new }
 {

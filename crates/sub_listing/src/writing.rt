@@ -32,7 +32,7 @@ pub enum WriteFault {
 /// The work of a command that writes a file.
 pub trait Work {
     /// The relation of the input, the output file and the result, each before and after the work.
-    ghost works: { Self → writing.Work };
+    ghost has_worked: { Self → writing.Work };
 
     /// Does the work of a command, and returns the number of items written. The input is read to
     /// its end before anything is written, and the file is stored at the end.
@@ -44,7 +44,7 @@ pub trait Work {
     ) -> Result<u32, WriteFault>
         requires input { CanFail (S.failure_count input.old) }
         requires file { CanFail (F.failure_count file.old) }
-        ensures works { works self.now (S.remaining input.old) (S.remaining input.new)
+        ensures has_worked { has_worked self.now (S.remaining input.old) (S.remaining input.new)
             (F.contents file.old) (F.contents file.new) result }
         ensures input_count { CountsIf S.failure_count input.old (failed is_input_failure result)
             input.new }
@@ -71,7 +71,7 @@ pub fn write<W: Work, S: Source, F: Close, K: Sink>(
         (source_call S.remaining S.failure_count input.old input.new)
         (sink_call F.contents F.failure_count file.old file.new)
         (sink_call K.contents K.failure_count out.old out.new) result
-        things.now (W.works work.now) }
+        things.now (W.has_worked work.now) }
     ensures input_count { CountsFault S.failure_count input.old result input.new }
     ensures file_count { CountsFault F.failure_count file.old result file.new }
     ensures out_count { CountsFault K.failure_count out.old result out.new }

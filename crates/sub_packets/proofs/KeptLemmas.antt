@@ -16,7 +16,7 @@ use Rattle.ttx_page.specs.Shown.{kept}
 use Rattle.ttx_page.specs.Span.{from_beginning, holds_beginning, is_open_after, text_span}
 use Rattle.ttx_page.specs.Span.{while_open}
 use Rattle.ttx_page.specs.declared.packet_kind.PacketKind.{PacketKind}
-use Rattle.ttx_page.proofs.RepeatLaws.{kept_shown}
+use Rattle.ttx_page.proofs.RepeatLaws.{shown_without_repeats}
 use Rattle.ttx_page.proofs.SpanPush.{list_any-push, span-push}
 use Rattle.ttx_page.proofs.TextSpan.{text_span-push}
 use Rattle.sub_rules.specs.Kept.{has_row, header_of_page, last_header}
@@ -113,4 +113,5 @@ pub row_of_code :
     → keeps ≡ false
     → (kept keeps page heard row column == space) ≡ false
     → has_row page heard row ≡ true
-row_of_code keeps page heard row column none e = grind (arith, nat_tests, any_found, kept_shown)
+row_of_code keeps page heard row column none e = grind
+    (arith, nat_tests, any_found, shown_without_repeats)

@@ -20,7 +20,7 @@ module _ (heard : List (List ℕ)) (s : Listener) (known : Knows heard s) where
   wrong_heard =
       first_cell-same _ _
       (λ row column is.
-      let kept_is = shown_is heard s known row column is in
+      let kept_eq = shown_is heard s known row column is in
       let received = row_of_code s.watched.keeps s.watched.page heard row column in
       let again = known.again_is row is.0 is.1 in
       grind (arith, nat_tests))
@@ -31,8 +31,8 @@ module _ (heard : List (List ℕ)) (s : Listener) (known : Knows heard s) where
   unfolding unexpected_kept unexpected_after
   unexpected_heard due first f n =
       first_cell-same _ _
-      (λ row column is. let kept_is = shown_is heard s known row column is in rw kept_is refl)
+      (λ row column is. let kept_eq = shown_is heard s known row column is in rw kept_eq refl)
 
   pub incomplete_heard :
       is_incomplete_kept s ≡ (s.watched.complete && is_open_after (kind s.watched.page) heard)
-  incomplete_heard = ap (λ (opened : Bool). s.watched.complete && opened) known.open_is
+  incomplete_heard = ap (λ (opened : Bool). s.watched.complete && opened) known.open_eq

@@ -27,7 +27,7 @@ c11_of o = option_map (λ (h : Header). c11 h) o
 c11-or : (a b : Option Header) → c11_of (option_or a b) ≡ option_or (c11_of a) (c11_of b)
 c11-or a b = grind (arith, nat_tests)
 
-pub knows_none :
+pub state_of_no_packets :
     (s : Listener)
     → s.serial ≡ None
     → s.is_open ≡ false
@@ -37,23 +37,24 @@ pub knows_none :
     → s.comparison.page ≡ blank
     → Knows [] s
 unfolding blank blank_row
-knows_none s serial opened subcode sent again page = grind (arith, nat_tests, get_or-replicate)
+state_of_no_packets s serial opened subcode sent again page = grind
+    (arith, nat_tests, get_or-replicate)
 
 module _ (heard : List (List ℕ)) (p : List ℕ) (s : Listener) (read : Option Header)
     (serial : Option Bool) (known : Knows heard s) (is_read : read ≡ header p)
-    (serial_is : serial ≡ option_or s.serial (c11_of read)) where
+    (serial_eq : serial ≡ option_or s.serial (c11_of read)) where
   serial_more : serial ≡ c11_of (first_header (heard ++ p ∷ []))
-  serial_more = grind (arith, c11-or, first_header-push, known.serial_is)
+  serial_more = grind (arith, c11-or, first_header-push, known.serial_eq)
 
   subcode_this : (h : Header) → kind s.watched.page p ≡ ThisPage h
       → Some h.subcode
       ≡ option_map (λ (x : Header). x.subcode) (last_header s.watched.page (heard ++ p ∷ []))
   subcode_this h is = rw (last_header-push s.watched.page heard p, is) refl
 
-  none_again : (h : Header) → kind s.watched.page p ≡ ThisPage h
+  no_repeated_header : (h : Header) → kind s.watched.page p ≡ ThisPage h
       → (row : ℕ) → 1 ≤ row → row ≤ 24
       → get_or (replicate 24 false) (row - 1) false ≡ has_row s.watched.page (heard ++ p ∷ []) row
-  none_again h is row low high =
+  no_repeated_header h is row low high =
       rw (has_row-push s.watched.page heard p row, is)
       (get_or-replicate 24 (row - 1) false false (omega arith))
 
@@ -70,16 +71,16 @@ module _ (heard : List (List ℕ)) (p : List ℕ) (s : Listener) (read : Option 
       })
   unfolding blank blank_row
   knows_begins h is begins = record {
-    serial_is = serial_more;
-    open_is = sym (open-this (kind s.watched.page) heard p (ap is_this_page is));
-    subcode_is = subcode_this h is;
-    sent_is = λ row low high.
+    serial_eq = serial_more;
+    open_eq = sym (open-this (kind s.watched.page) heard p (ap is_this_page is));
+    subcode_eq = subcode_this h is;
+    sent_eq = λ row low high.
         rw (first_of_row-push s.watched.keeps s.watched.page heard p row, is, begins)
         (get_or-replicate 24 (row - 1) false false (omega arith));
     page_is = λ row low high.
         rw (first_of_row-push s.watched.keeps s.watched.page heard p row, is, begins)
         (get_or-replicate 24 (row - 1) (replicate 40 space) [] (omega arith));
-    again_is = none_again h is;
+    again_is = no_repeated_header h is;
   }
 
   -- A header that keeps the text opens the page, and the received rows are kept.
@@ -92,13 +93,21 @@ module _ (heard : List (List ℕ)) (p : List ℕ) (s : Listener) (read : Option 
         again = replicate 24 false;
       })
   knows_repeat h is keeps =
-      grind (arith, nat_tests, serial_more, open-this, subcode_this, first_of_row-push, none_again)
+      grind (
+        arith,
+        nat_tests,
+        serial_more,
+        open-this,
+        subcode_this,
+        first_of_row-push,
+        no_repeated_header,
+      )
 
   module _ (other : is_this_page (kind s.watched.page p) ≡ false) where
     subcode_still : s.subcode
         ≡ option_map (λ (x : Header). x.subcode) (last_header s.watched.page (heard ++ p ∷ []))
     subcode_still =
-        let before = known.subcode_is in
+        let before = known.subcode_eq in
         let more = last_header-push s.watched.page heard p in
         grind (arith, nat_tests)
 
@@ -110,33 +119,33 @@ module _ (heard : List (List ℕ)) (p : List ℕ) (s : Listener) (read : Option 
         → is_row row (kind s.watched.page p) ≡ false)
         → Knows (heard ++ p ∷ []) (record s { serial = serial; is_open = opened })
     knows_still opened e none = record {
-      serial_is = serial_more;
-      open_is = grind (arith, nat_tests, open-other, known.open_is);
-      subcode_is = subcode_still;
-      sent_is = λ row low high.
-          let before = known.sent_is row low high in
+      serial_eq = serial_more;
+      open_eq = grind (arith, nat_tests, open-other, known.open_eq);
+      subcode_eq = subcode_still;
+      sent_eq = λ row low high.
+          let before = known.sent_eq row low high in
           let more = first_of_row-push s.watched.keeps s.watched.page heard p row in
           let no_row = none row low high in
-          let open_is = known.open_is in
+          let open_eq = known.open_eq in
           grind (arith, nat_tests);
       page_is = λ row low high.
           let before = known.page_is row low high in
           let more = first_of_row-push s.watched.keeps s.watched.page heard p row in
           let no_row = none row low high in
-          let open_is = known.open_is in
+          let open_eq = known.open_eq in
           grind (arith, nat_tests);
       again_is = λ row low high.
           let before = known.again_is row low high in
           let more = has_row-push s.watched.page heard p row in
           let no_row = none row low high in
-          let open_is = known.open_is in
+          let open_eq = known.open_eq in
           grind (arith, nat_tests);
     }
 
     module _ (y : ℕ) (low : 1 ≤ y) (high : y ≤ 24) (k : kind s.watched.page p ≡ Row y)
         (opened : s.is_open ≡ true) (width : length s.again ≡ 24) where
       open_still : s.is_open ≡ is_open_after (kind s.watched.page) (heard ++ p ∷ [])
-      open_still = grind (arith, nat_tests, open-other, known.open_is)
+      open_still = grind (arith, nat_tests, open-other, known.open_eq)
 
       again_more : (row : ℕ) → 1 ≤ row → row ≤ 24
           → get_or (set s.again (y - 1) true) (row - 1) false
@@ -144,7 +153,7 @@ module _ (heard : List (List ℕ)) (p : List ℕ) (s : Listener) (read : Option 
       again_more row a b =
           let more = has_row-push s.watched.page heard p row in
           let before = known.again_is row a b in
-          grind (arith, nat_tests, known.open_is, get_or-set_at, get_or-set_other)
+          grind (arith, nat_tests, known.open_eq, get_or-set_at, get_or-set_other)
 
       pub knows_again : get_or s.sent (y - 1) false ≡ true
           → Knows (heard ++ p ∷ []) (record s {
@@ -152,18 +161,18 @@ module _ (heard : List (List ℕ)) (p : List ℕ) (s : Listener) (read : Option 
             again = set s.again (y - 1) true;
           })
       knows_again old = record {
-        serial_is = serial_more;
-        open_is = open_still;
-        subcode_is = subcode_still;
-        sent_is = λ row a b.
+        serial_eq = serial_more;
+        open_eq = open_still;
+        subcode_eq = subcode_still;
+        sent_eq = λ row a b.
             let more = first_of_row-push s.watched.keeps s.watched.page heard p row in
-            let before = known.sent_is row a b in
-            grind (arith, nat_tests, known.open_is);
+            let before = known.sent_eq row a b in
+            grind (arith, nat_tests, known.open_eq);
         page_is = λ row a b.
             let more = first_of_row-push s.watched.keeps s.watched.page heard p row in
-            let marks = known.sent_is row a b in
+            let marks = known.sent_eq row a b in
             let before = known.page_is row a b in
-            grind (arith, nat_tests, known.open_is);
+            grind (arith, nat_tests, known.open_eq);
         again_is = again_more;
       }
 
@@ -177,18 +186,18 @@ module _ (heard : List (List ℕ)) (p : List ℕ) (s : Listener) (read : Option 
               page = set s.comparison.page (y - 1) (codes_of p);
             };
           })
-      knows_row new long tall = record {
-        serial_is = serial_more;
-        open_is = open_still;
-        subcode_is = subcode_still;
-        sent_is = λ row a b.
+      knows_row new long double_not_in_row_23 = record {
+        serial_eq = serial_more;
+        open_eq = open_still;
+        subcode_eq = subcode_still;
+        sent_eq = λ row a b.
             let more = first_of_row-push s.watched.keeps s.watched.page heard p row in
-            let before = known.sent_is row a b in
-            grind (arith, nat_tests, known.open_is, get_or-set_at, get_or-set_other);
+            let before = known.sent_eq row a b in
+            grind (arith, nat_tests, known.open_eq, get_or-set_at, get_or-set_other);
         page_is = λ row a b.
             let more = first_of_row-push s.watched.keeps s.watched.page heard p row in
-            let marks = known.sent_is row a b in
+            let marks = known.sent_eq row a b in
             let before = known.page_is row a b in
-            grind (arith, nat_tests, known.open_is, get_or-set_at, get_or-set_other);
+            grind (arith, nat_tests, known.open_eq, get_or-set_at, get_or-set_other);
         again_is = again_more;
       }

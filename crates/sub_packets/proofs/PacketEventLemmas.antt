@@ -10,7 +10,7 @@ use Rattle.sub_io.specs.Reporting.{Reports}
 use Rattle.sub_io.proofs.ReportingLemmas.{Reports-trans}
 use Rattle.sub_packets.proofs.RuleSetLemmas.{no_rules}
 use Rattle.sub_rules.specs.Events.{packet_fault, packets_reported, rules_reported}
-use Rattle.sub_packets.specs.Listener.{BreakNone, rule_set}
+use Rattle.sub_packets.specs.Listener.{BreakNoRule, rule_set}
 use Rattle.sub_rules.specs.PacketTests.{broken_rules, breaks, packet_rules}
 use Rattle.sub_rules.specs.declared.event.Event.{Event}
 use Rattle.sub_rules.specs.declared.event.Event.TheVariants.{Reported}
@@ -44,7 +44,7 @@ module _ (w : Watched) (frame from : ℕ) (before ps : List (List ℕ)) where
       ∙ rw (no_rules (λ r. breaks r w (before ++ take k ps) (get_or ps k [])) packet_rules empty)
       (append-nil (packets_reported w frame from before ps k))
 
-  pub packets_reported-none : (n : ℕ) → BreakNone w before ps n
+  pub packets_reported-none : (n : ℕ) → BreakNoRule w before ps n
       → packets_reported w frame from before ps n ≡ []
   unfolding packets_reported rules_reported
   packets_reported-none zero clean = refl
@@ -60,8 +60,8 @@ module _ (w : Watched) (frame from : ℕ) (before ps : List (List ℕ)) where
     reported_one more =
         rw (packets_reported-more k p at) (Reports-trans a b c _ _ reported more)
 
-  pub clean_one : (k : ℕ) (p : List ℕ) → get_or ps k [] ≡ p → BreakNone w before ps k
+  pub breaks_none_one_more : (k : ℕ) (p : List ℕ) → get_or ps k [] ≡ p → BreakNoRule w before ps k
       → rule_set (λ r. breaks r w (before ++ take k ps) p) packet_rules ≡ 0
-      → BreakNone w before ps (k + 1)
+      → BreakNoRule w before ps (k + 1)
   unfolding broken_rules
-  clean_one k p at clean empty j l = grind (arith, nat_tests, cases_eq, no_rules)
+  breaks_none_one_more k p at clean empty j l = grind (arith, nat_tests, cases_eq, no_rules)

@@ -22,16 +22,16 @@ use Rattle.sub_rules.specs.PacketTests.{is_of_header, is_other_mode, is_other_te
 use Rattle.sub_rules.specs.PacketTests.{is_same_subcode, is_subtitle_header}
 use Rattle.sub_rules.specs.declared.packet_rule.Watched.{Watched}
 
-turned : {P : Type 0} (r s : Bool) → Decides r P → Decides s P → not r ≡ not s
-turned r s d e = ap not (same_from_decides r s d e)
+negation_decided : {P : Type 0} (r s : Bool) → Decides r P → Decides s P → not r ≡ not s
+negation_decided r s d e = ap not (same_from_decides r s d e)
 
 pub wrong_address : (p : List ℕ) (r : Bool) → Decides r (HasExactAddress p)
     → not r ≡ not (are_code_words 0 2 p)
-wrong_address p r d = turned r (are_code_words 0 2 p) d (address_decided p)
+wrong_address p r d = negation_decided r (are_code_words 0 2 p) d (address_decided p)
 
 pub wrong_header : (p : List ℕ) (r : Bool) → Decides r (HasExactHeader p)
     → not r ≡ not (are_code_words 2 8 p)
-wrong_header p r d = turned r (are_code_words 2 8 p) d (header_decided p)
+wrong_header p r d = negation_decided r (are_code_words 2 8 p) d (header_decided p)
 
 pub header_is_zero :
     (p : List ℕ) (h : Header) → header p ≡ Some h → is_of_header (address p) ≡ true

@@ -1,5 +1,5 @@
 -- Packets that are sent again break the same rules, and the listener's state stays the same
--- (`law_of_sent_again`, `heard_again`, `kept_last`).
+-- (`law_of_sent_again`, `received_again`, `kept_last`).
 use Rattle.std.proofs.lemmas.Bool.Decides.{nat_tests}
 use Rattle.std.proofs.Common.{◌≡◌, ℕ, zero, suc, ◌<◌, Bool, true, not, ◌&&◌, ◌||◌, cond, List, []}
 use Rattle.std.proofs.Common.{◌∷◌}
@@ -16,7 +16,7 @@ use Rattle.ttx_page.specs.Span.{before_end, holds_beginning}
 use Rattle.ttx_page.proofs.SpanLists.{after-append, holds-append_right}
 use Rattle.ttx_page.proofs.TextSpan.{begins_is_header}
 use Rattle.sub_packets.proofs.KeptLemmas.{last_header-append, text_span-begins}
-use Rattle.sub_packets.specs.Listener.{BreakNone, Knows, KnowsLast, WereJudged, begins_frame}
+use Rattle.sub_packets.specs.Listener.{BreakNoRule, Knows, KnowsLast, WereJudged, begins_frame}
 use Rattle.sub_rules.specs.Kept.{last_header}
 use Rattle.sub_rules.specs.PacketRules.{first_header, header_count}
 use Rattle.sub_rules.specs.PacketTests.{broken_rules, breaks, is_other_mode, packet_rules}
@@ -54,9 +54,9 @@ breaks_equal :
 unfolding breaks
 breaks_equal w b c p same x = grind (arith, nat_tests)
 
-knows_equal :
+state_fits_equal :
     (b c : List (List ℕ)) (s : Listener) → HaveSameContent s.watched b c → Knows b s → Knows c s
-knows_equal b c s same k = grind (arith, nat_tests)
+state_fits_equal b c s same k = grind (arith, nat_tests)
 
 same_first : (o : Option Header) (h : Header)
     → option_or o (Some h) ≡ option_or (option_or o (Some h)) (Some h)
@@ -101,7 +101,7 @@ module _
         after-append (kind w.page) heard (first ∷ more) held
         ∙ sym (after-append (kind w.page) (heard ++ first ∷ others) (first ∷ more) held) in
         record {
-          header_is =
+          header_eq =
               first_after heard more h.0 h.1
               ∙ same_first (first_header heard) h.0
               ∙ sym
@@ -110,9 +110,9 @@ module _
           last_is =
               last_after heard more h.0 h.2
               ∙ sym (last_after (heard ++ first ∷ others) more h.0 h.2);
-          open_is = grind (arith, nat_tests, holds-append_right);
-          span_is = ap (before_end (kind w.page)) after;
-          text_is =
+          open_eq = grind (arith, nat_tests, holds-append_right);
+          span_eq = ap (before_end (kind w.page)) after;
+          text_eq =
               text_span-begins w.keeps w.page heard (first ∷ more) begun
               ∙ sym
               (text_span-begins w.keeps w.page (heard ++ first ∷ others) (first ∷ more) begun);
@@ -166,32 +166,32 @@ begun_by w ps begins =
 
 -- If the last packets broke no rule and are received again, the state of the listener stays the
 -- same.
-pub heard_again :
+pub received_again :
     (heard last ps : List (List ℕ)) (headers : ℕ) (s : Listener)
     → KnowsLast heard last s
     → s.last ≡ Some headers
     → last ≡ ps
-    → BreakNone s.watched heard ps (length ps)
+    → BreakNoRule s.watched heard ps (length ps)
     × KnowsLast (heard ++ ps) ps s
     × (headers ≡ header_count s.watched.page ps)
     × ((from : ℕ) → s.begun ≡ begins_frame s.watched from s.begun ps)
-heard_again heard last ps headers s known is same =
+received_again heard last ps headers s known is same =
     let j = known.last_is headers is in
     let law = law_of_sent_again s.watched j.before last j.begins in
-    let clean : BreakNone s.watched heard last (length last) =
-    subst (λ xs. BreakNone s.watched xs last (length last)) (sym j.heard_is)
+    let clean : BreakNoRule s.watched heard last (length last) =
+    subst (λ xs. BreakNoRule s.watched xs last (length last)) (sym j.heard_eq)
     (λ k l. sym (law.0 k l) ∙ j.clean k l) in
     let alike : HaveSameContent s.watched heard (heard ++ last) =
-    subst (λ xs. HaveSameContent s.watched xs (xs ++ last)) (sym j.heard_is) law.1 in
+    subst (λ xs. HaveSameContent s.watched xs (xs ++ last)) (sym j.heard_eq) law.1 in
     let begun = begun_by s.watched last j.begins in
-    let begun_is = known.begun_is headers is in (
-      subst (λ (xs : List (List ℕ)). BreakNone s.watched heard xs (length xs)) same clean,
-      grind (arith, nat_tests, knows_equal, alike),
+    let started_eq = known.started_eq headers is in (
+      subst (λ (xs : List (List ℕ)). BreakNoRule s.watched heard xs (length xs)) same clean,
+      grind (arith, nat_tests, state_fits_equal, alike),
       sym j.count ∙ ap (header_count s.watched.page) same,
       λ from.
           sym
           (rw (
-            begun_is,
+            started_eq,
             sym (ap (holds_beginning s.watched.keeps (kind s.watched.page)) same),
             begun,
           )
@@ -208,28 +208,28 @@ pub kept_last :
     → headers ≡ header_count w.page ps
     → (begins ≡ true
     → (0 < length ps) × (begins_text w.keeps (kind w.page (get_or ps 0 [])) ≡ true))
-    → (clean ≡ true → BreakNone w heard ps (length ps))
+    → (clean ≡ true → BreakNoRule w heard ps (length ps))
     → begun ≡ begins_frame w from before ps
     → KnowsLast (heard ++ ps) ps (record s {
       begun = begun;
       last = cond (begins && clean) (Some headers) None;
     })
-kept_last w heard ps headers from before begun begins clean s same known count is none begun_is
+kept_last w heard ps headers from before begun begins clean s same known count is none started_eq
     = record {
       knows = record {
-        serial_is = known.serial_is;
-        open_is = known.open_is;
-        subcode_is = known.subcode_is;
-        sent_is = known.sent_is;
+        serial_eq = known.serial_eq;
+        open_eq = known.open_eq;
+        subcode_eq = known.subcode_eq;
+        sent_eq = known.sent_eq;
         page_is = known.page_is;
         again_is = known.again_is;
       };
       last_is = λ m e.
           subst (λ v. WereJudged v (heard ++ ps) ps m) (sym same) (go begins clean is none m e);
-      begun_is = λ m e.
+      started_eq = λ m e.
           let judged = go begins clean is none m e in
           let begins_here = begun_by w ps judged.begins in
-          begun_is ∙ rw begins_here (grind (arith, nat_tests));
+          started_eq ∙ rw begins_here (grind (arith, nat_tests));
     }
   where
     first : (xs : List (List ℕ)) → 0 < length xs
@@ -242,7 +242,7 @@ kept_last w heard ps headers from before begun begins clean s same known count i
         (b q : Bool)
         → (b ≡ true
         → (0 < length ps) × (begins_text w.keeps (kind w.page (get_or ps 0 [])) ≡ true))
-        → (q ≡ true → BreakNone w heard ps (length ps))
+        → (q ≡ true → BreakNoRule w heard ps (length ps))
         → (m : ℕ)
         → cond (b && q) (Some headers) None ≡ Some m
         → WereJudged w (heard ++ ps) ps m

@@ -66,13 +66,13 @@ module _
                       (first_of_row s.watched.page
                       (text_span s.watched.keeps (kind s.watched.page) heard) a.packet_number)
                       (is ∙ cond-true _ _ _ row) refl,
-                  ← known.open_is,
+                  ← known.open_eq,
                   shut,
                 ) refl
             | inr other ↦
                 rw (
                   later_other s.watched heard p (is ∙ cond-false _ _ _ other),
-                  ← known.open_is,
+                  ← known.open_eq,
                   at,
                 ) (grind (arith, nat_tests))
           ]
@@ -80,7 +80,7 @@ module _
       plain_rules : rule_set (λ r. breaks r s.watched heard p) packet_rules ≡ 0
       plain_rules =
           let is = plain_kind some in
-          rules_are s.watched heard p s.serial known.serial_is
+          rules_are s.watched heard p s.serial known.serial_eq
           ∙ rw ((address_decided p).1 exact, at, is.0, no_header_mode s.serial)
           (grind (arith, nat_tests, plain_later))
 
@@ -100,27 +100,27 @@ module _
     module _ (none : a.packet_number ≡ 0) (coded : HasExactHeader p) (h : Header)
         (says : coded_header p ≡ Some h)
         (passes : is_skipped_header a.magazine h s ≡ true) where
-      header_is : header p ≡ Some h
+      header_eq : header p ≡ Some h
       unfolding header
-      header_is = grind (arith, nat_tests)
+      header_eq = grind (arith, nat_tests)
 
       header_kind :
           kind s.watched.page p
           ≡ cond (a.magazine == s.watched.page.magazine) EndsPage (cond (c11 h) EndsPage Other)
       unfolding kind
-      header_kind = let says = header_is in grind (arith, nat_tests)
+      header_kind = let says = header_eq in grind (arith, nat_tests)
 
       header_later : rule_set (λ r. breaks r s.watched heard p) (drop 3 packet_rules) ≡ 0
       header_later =
           let is = header_kind in
           let ends = later_ends s.watched heard p in
           let other = later_other s.watched heard p in
-          grind (arith, nat_tests, known.open_is)
+          grind (arith, nat_tests, known.open_eq)
 
       header_rules : rule_set (λ r. breaks r s.watched heard p) packet_rules ≡ 0
       header_rules =
-          rules_are s.watched heard p s.serial known.serial_is
-          ∙ rw ((address_decided p).1 exact, (header_decided p).1 coded, at, header_is)
+          rules_are s.watched heard p s.serial known.serial_eq
+          ∙ rw ((address_decided p).1 exact, (header_decided p).1 coded, at, header_eq)
           (grind (arith, nat_tests, header_later, same_mode))
 
       pub skipped_header : IsSkipped heard p s
@@ -129,7 +129,7 @@ module _
           record {
             breaks_none = header_rules;
             knows =
-                knows_still heard p s (Some h) s.serial known (sym header_is)
+                knows_still heard p s (Some h) s.serial known (sym header_eq)
                 (grind (arith, nat_tests)) (grind (arith, nat_tests)) s.is_open
                 (grind (arith, nat_tests))
                 (λ row low high opened. grind (arith, nat_tests));

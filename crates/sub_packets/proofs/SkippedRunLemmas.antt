@@ -9,10 +9,10 @@ use Rattle.std.proofs.Common.{get_or, take, refl, ◌∙◌, arith, append_assoc
 use Rattle.ttx_page.specs.PacketKind.{is_this_page, kind}
 use Rattle.ttx_page.specs.Span.{holds_beginning}
 use Rattle.sub_packets.proofs.KeptLemmas.{beginning-more, begins_not}
-use Rattle.sub_packets.specs.Listener.{BreakNone, IsAlwaysSkipped, Knows, rule_set}
+use Rattle.sub_packets.specs.Listener.{BreakNoRule, IsAlwaysSkipped, Knows, rule_set}
 use Rattle.sub_rules.specs.PacketTests.{breaks, packet_rules}
 use Rattle.sub_packets.specs.declared.listener.Listener.{Listener}
-use Rattle.sub_packets.proofs.PacketEventLemmas.{clean_one, packets_reported-skipped}
+use Rattle.sub_packets.proofs.PacketEventLemmas.{breaks_none_one_more, packets_reported-skipped}
 use Rattle.sub_rules.specs.Events.{packets_reported}
 use Rattle.sub_rules.specs.PacketRules.{header_count}
 use Rattle.sub_rules.specs.declared.packet_rule.Watched.{Watched}
@@ -26,7 +26,7 @@ pub record IsSkippedTo
     pub knows : Knows (heard ++ take n ps) s
     pub reported : packets_reported w frame from heard ps n ≡ packets_reported w frame from heard ps
         start
-    pub clean : BreakNone w heard ps start → BreakNone w heard ps n
+    pub clean : BreakNoRule w heard ps start → BreakNoRule w heard ps n
 
 pub passes_from : (a b : ℕ) (ps : List (List ℕ)) (s : Listener)
     → IsAlwaysSkipped (get_or ps a []) s
@@ -96,7 +96,8 @@ module _ (w : Watched) (ps : List (List ℕ)) (s : Listener) (same : s.watched �
               rw (take_more ps k [] l, ← append_assoc heard (take k ps) (p ∷ [])) one.knows;
           reported = packets_reported-skipped w frame from heard ps k breaks_none ∙ before.reported;
           clean =
-              λ clean. clean_one w frame from heard ps k p refl (before.clean clean) breaks_none;
+              λ clean. breaks_none_one_more w frame from heard ps k p refl (before.clean clean)
+              breaks_none;
         }
 
     skipped_from : (n : ℕ) → n + a ≤ length ps

@@ -1,6 +1,6 @@
 -- The due page stays the same between two page changes (`due_same`), so all codes that were due
 -- within the last frames can be removed from the page (`left_first`, `left_more`, `left_all`), and
--- the first cell that is left is the first unexpected cell (`unexpected_is`).
+-- the first cell that is left is the first unexpected cell (`unexpected_eq`).
 use Rattle.std.proofs.lemmas.Bool.Decides.{nat_tests}
 use Rattle.std.proofs.lemmas.List.{get_or-replicate}
 use Rattle.std.proofs.Common.{◌≡◌, ℕ, zero, suc, ◌+◌, ◌-◌, ◌<◌, ◌≤◌}
@@ -93,17 +93,17 @@ module _ (page : ℕ → Rows) (first f : ℕ) where
       → IsLeft page first f n shown left
   left_all at n shown left h1 h2 h3 h4 = grind (arith, nat_tests, was_due-same)
 
-pub unexpected_is :
+pub unexpected_eq :
     (s : Listener) (page : ℕ → Rows) (first f n : ℕ) (left : Rows) (o : Option (ℕ × ℕ))
     → IsLeft page first f n s.comparison.page left
     → MatchOption o (left ≡ blank) (λ place. DiffersFirst left blank place.0 place.1)
     → o ≡ unexpected_kept s page first f n
 unfolding unexpected_kept
-unexpected_is s page first f n left o is_left found =
+unexpected_eq s page first f n left o is_left found =
     first_difference _ left blank o
     (λ row column is.
     let rest = is_left row column is in
-    let space_is = cell-blank row column is in
+    let space_eq = cell-blank row column is in
     grind (arith, nat_tests))
     (by_cells left blank o (λ place. DiffersFirst left blank place.0 place.1) found)
 
@@ -115,16 +115,16 @@ unfolding unexpected_kept
 unexpected_none s page first f n same =
     first_cell-none _
     (λ row column is.
-    let space_is = cell-blank row column is in
+    let space_eq = cell-blank row column is in
     let equal = cells_same blank s.comparison.page same row column is in
     grind (arith, nat_tests))
 
-pub blank_stays : (left : Rows) (row column due : ℕ)
+pub blank_row_stays : (left : Rows) (row column due : ℕ)
     → row_differing (row_at left row) blank_row ≡ 0
     → column < 40
     → cell left row column ≡ unless_due due (cell left row column)
 unfolding blank_row
-blank_stays left row column due same l =
+blank_row_stays left row column due same l =
     let is = columns_zero 40 (row_at left row) blank_row same column l in
-    let space_is = get_or-replicate 40 column space 0 l in
+    let space_eq = get_or-replicate 40 column space 0 l in
     grind (arith, nat_tests)

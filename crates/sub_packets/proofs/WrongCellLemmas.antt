@@ -1,5 +1,5 @@
 -- The page that a listener stores is the one that the packets show (`shown_is`), so its first wrong
--- cell is the first wrong cell by the rules (`wrong_is`; if repeats may keep the page,
+-- cell is the first wrong cell by the rules (`wrong_eq`; if repeats may keep the page,
 -- `wrong_keeping`).
 use Rattle.std.proofs.lemmas.Bool.Decides.{nat_tests}
 use Rattle.std.proofs.Common.{◌≡◌, ℕ, ◌+◌, ◌-◌, ◌<◌, ◌≤◌, ◌⊎◌, ◌||◌, ◌==◌, Bool, true, false, not}
@@ -9,7 +9,7 @@ use Rattle.std.proofs.Common.{arith, zero, suc}
 use Rattle.std.specs.Prelude.{option_and_then}
 use Rattle.std.proofs.lemmas.List.{get_or-drop, get_or-replicate}
 use Rattle.ttx_packet.specs.OneBit.{first_below}
-use Rattle.ttx_packet.proofs.OneBitLemmas.{first_below-at, first_below-none, first_below_is}
+use Rattle.ttx_packet.proofs.OneBitLemmas.{first_below-at, first_below-none, first_below_eq}
 use Rattle.ttx_packet.specs.Parity.{code_of}
 use Rattle.ttx_packet.specs.RowPacket.{text_byte}
 use Rattle.ttx_page.specs.Page.{DiffersFirst, IsCell, Rows, blank, blank_row, cell, space}
@@ -89,11 +89,11 @@ pub record PassesFirst (test : ℕ → ℕ → Bool) (row column : ℕ) : Type 0
   pub rows_above : (r c : ℕ) → IsCell r c → r < row → test r c ≡ false
   pub cells_before : (c : ℕ) → c < column → test row c ≡ false
 
-below_same : (n : ℕ) (p q : ℕ → Bool) → ((k : ℕ) → k < n → p k ≡ q k)
+first_below_same : (n : ℕ) (p q : ℕ → Bool) → ((k : ℕ) → k < n → p k ≡ q k)
     → first_below n p ≡ first_below n q
-below_same zero p q same = refl
-below_same (suc n) p q same =
-    rw (below_same n p q (λ k l. same k (omega arith)), same n (omega arith)) refl
+first_below_same zero p q same = refl
+first_below_same (suc n) p q same =
+    rw (first_below_same n p q (λ k l. same k (omega arith)), same n (omega arith)) refl
 
 abbrev in_it : (ℕ → ℕ → Bool) → ℕ → Option (ℕ × ℕ)
 in_it test above = option_map (λ column. (above + 1, column)) (first_below 40 (test (above + 1)))
@@ -103,14 +103,14 @@ pub first_cell-same : (p q : ℕ → ℕ → Bool)
     → first_cell p ≡ first_cell q
 unfolding first_cell
 first_cell-same p q same =
-    rw (below_same 24 (λ above. is_some (first_below 40 (p (above + 1))))
+    rw (first_below_same 24 (λ above. is_some (first_below 40 (p (above + 1))))
     (λ above. is_some (first_below 40 (q (above + 1)))) (λ k l. ap is_some (in_row k l)))
     (go (first_below 24 (λ above. is_some (first_below 40 (q (above + 1))))) refl)
   where
     in_row : (above : ℕ) → above < 24
         → first_below 40 (p (above + 1)) ≡ first_below 40 (q (above + 1))
     in_row above l =
-        below_same 40 (p (above + 1)) (q (above + 1))
+        first_below_same 40 (p (above + 1)) (q (above + 1))
         (λ c m. same (above + 1) c (omega arith, omega arith, m))
 
     go : (o : Option ℕ) → first_below 24 (λ above. is_some (first_below 40 (q (above + 1)))) ≡ o
@@ -119,12 +119,13 @@ first_cell-same p q same =
     go (Some above) is =
         let first : ℕ → Bool = λ k. is_some (first_below 40 (q (k + 1))) in
         let place : Option ℕ → Option (ℕ × ℕ) = option_map (λ column. (above + 1, column)) in
-        ap place (in_row above (first_below_is 24 first above is).0)
+        ap place (in_row above (first_below_eq 24 first above is).0)
 
-below_fails : (n : ℕ) (test : ℕ → Bool) → first_below n test ≡ None
+first_below_fails : (n : ℕ) (test : ℕ → Bool) → first_below n test ≡ None
     → (k : ℕ) → k < n → test k ≡ false
-below_fails zero test none k l = absurd (omega arith)
-below_fails (suc n) test none k l = let rest = below_fails n test in grind (arith, nat_tests)
+first_below_fails zero test none k l = absurd (omega arith)
+first_below_fails (suc n) test none k l = let rest = first_below_fails n test in grind
+    (arith, nat_tests)
 
 some_in : (test : ℕ → ℕ → Bool) (above : ℕ) → is_some (first_below 40 (test (above + 1))) ≡ true
     → in_it test above ≡ None → ⊥
@@ -150,14 +151,14 @@ no_cell test none row column is = go (first_below 24 in_row) refl none
 
     go : (o : Option ℕ) → first_below 24 in_row ≡ o → option_and_then (in_it test) o ≡ None
         → test row column ≡ false
-    go (Some above) first e = absurd (some_in test above (first_below_is 24 in_row above first).1 e)
+    go (Some above) first e = absurd (some_in test above (first_below_eq 24 in_row above first).1 e)
     go None first e =
         let at : row - 1 + 1 ≡ row = omega (arith, is.0) in
         let none_there : first_below 40 (test row) ≡ None =
         none_of (first_below 40 (test row))
         (ap (λ (k : ℕ). is_some (first_below 40 (test k))) (sym at)
-        ∙ below_fails 24 in_row first (row - 1) (omega (arith, is.0, is.1))) in
-        below_fails 40 (test row) none_there column is.2
+        ∙ first_below_fails 24 in_row first (row - 1) (omega (arith, is.0, is.1))) in
+        first_below_fails 40 (test row) none_there column is.2
 
 abbrev pub FindsFirst : (ℕ → ℕ → Bool) → Option (ℕ × ℕ) → Type 0
 FindsFirst test o =
@@ -234,7 +235,7 @@ module _ (s : Listener) where
       → wrong row column ≡ (other row column || lacks row column)
   wrong_as row column keeps = grind (arith, nat_tests)
 
-  pub wrong_is : (o : Option (ℕ × ℕ))
+  pub wrong_eq : (o : Option (ℕ × ℕ))
       → s.watched.keeps ≡ false
       → MatchOption o
       ((row column : ℕ)
@@ -243,7 +244,7 @@ module _ (s : Listener) where
       (λ place. DiffersFirst s.comparison.page s.comparison.due place.0 place.1)
       → o ≡ wrong_kept s
   unfolding wrong_kept
-  wrong_is o none found =
+  wrong_eq o none found =
       first_difference wrong s.comparison.page s.comparison.due o
       (λ row column is. grind (arith, nat_tests)) found
 

@@ -11,7 +11,7 @@ pub record ComparisonValue : Type 0 where
 -- `wrong`, if known, and `blank_wrong` are the numbers of cells in which the page that is shown and
 -- the blank page differ from the due page.
 pub record IsCounted (page due : Rows) (wrong : Option ℕ) (blank_wrong : ℕ) : Type 0 where
-  pub wrong_is : IfSome wrong (λ n. n ≡ differing page due)
+  pub wrong_eq : IfSome wrong (λ n. n ≡ differing page due)
   pub blank_is : blank_wrong ≡ differing blank due
 
 -- The number of differing cells after one row changed from `before` to `after` differing cells.

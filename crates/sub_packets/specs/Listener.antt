@@ -36,13 +36,13 @@ held (Some p) = codes_of p
 -- The stored state of a listener is the one that the definitions of `sub_rules` compute from all
 -- packets received.
 pub record Knows (heard : List (List ℕ)) (s : Listener) : Type 0 where
-  pub serial_is : s.serial ≡ option_map (λ (h : Header). c11 h) (first_header heard)
-  pub open_is : s.is_open ≡ is_open_after (kind s.watched.page) heard
-  pub subcode_is :
+  pub serial_eq : s.serial ≡ option_map (λ (h : Header). c11 h) (first_header heard)
+  pub open_eq : s.is_open ≡ is_open_after (kind s.watched.page) heard
+  pub subcode_eq :
       s.subcode ≡ option_map (λ (h : Header). h.subcode) (last_header s.watched.page heard)
   -- The rows received since the text of the page began, and the codes of the first packet of each
   -- row.
-  pub sent_is : (row : ℕ) → 1 ≤ row → row ≤ 24
+  pub sent_eq : (row : ℕ) → 1 ≤ row → row ≤ 24
       → slice_index_or s.sent (row - 1) false
       ≡ is_some
       (first_of_row s.watched.page (text_span s.watched.keeps (kind s.watched.page) heard) row)
@@ -55,17 +55,17 @@ pub record Knows (heard : List (List ℕ)) (s : Listener) : Type 0 where
       → slice_index_or s.again (row - 1) false ≡ has_row s.watched.page heard row
 
 -- The first n packets of a frame, sent after the packets `before`, break no rule.
-abbrev pub BreakNone : Watched → List (List ℕ) → List (List ℕ) → ℕ → Type 0
-BreakNone w before packets n =
+abbrev pub BreakNoRule : Watched → List (List ℕ) → List (List ℕ) → ℕ → Type 0
+BreakNoRule w before packets n =
     (k : ℕ) → k < n → broken_rules w (before ++ take k packets) (slice_index_or packets k []) ≡ []
 
 -- The last packets received begin with a header that begins the text of the page, contain `headers`
 -- headers of the page, and break no rule.
 pub record WereJudged (w : Watched) (heard last : List (List ℕ)) (headers : ℕ) : Type 0 where
   pub before : List (List ℕ)
-  pub heard_is : heard ≡ before ++ last
+  pub heard_eq : heard ≡ before ++ last
   pub begins : BeginsWithHeader w last
-  pub clean : BreakNone w before last (length last)
+  pub clean : BreakNoRule w before last (length last)
   pub count : header_count w.page last ≡ headers
 
 -- The text of the page begins with a packet of a frame: with one of its first `from` packets, or
@@ -78,7 +78,7 @@ begins_frame w from before packets =
 pub record KnowsLast (heard last : List (List ℕ)) (s : Listener) : Type 0 where
   pub knows : Knows heard s
   pub last_is : (headers : ℕ) → s.last ≡ Some headers → WereJudged s.watched heard last headers
-  pub begun_is : (headers : ℕ) → s.last ≡ Some headers → s.begun ≡ true
+  pub started_eq : (headers : ℕ) → s.last ≡ Some headers → s.begun ≡ true
 
 -- ---- packets that need not be examined
 

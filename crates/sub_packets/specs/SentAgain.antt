@@ -20,11 +20,11 @@ pub record BeginsWithHeader (w : Watched) (packets : List (List ℕ)) : Type 0 w
 -- header, the last header of the page, whether the page is open, and the packets since its last
 -- header and since its text began.
 pub record HaveSameContent (w : Watched) (one other : List (List ℕ)) : Type 0 where
-  pub header_is : first_header one ≡ first_header other
+  pub header_eq : first_header one ≡ first_header other
   pub last_is : last_header w.page one ≡ last_header w.page other
-  pub open_is : is_open_after (kind w.page) one ≡ is_open_after (kind w.page) other
-  pub span_is : span (kind w.page) one ≡ span (kind w.page) other
-  pub text_is : text_span w.keeps (kind w.page) one ≡ text_span w.keeps (kind w.page) other
+  pub open_eq : is_open_after (kind w.page) one ≡ is_open_after (kind w.page) other
+  pub span_eq : span (kind w.page) one ≡ span (kind w.page) other
+  pub text_eq : text_span w.keeps (kind w.page) one ≡ text_span w.keeps (kind w.page) other
 
 -- Each packet of the list `packets` breaks the same rules after the packets `one` as after the
 -- packets `other`.

@@ -23,7 +23,7 @@ pub(crate) fn begins_with(first: bool, k: usize, begins: bool) -> bool
 
 /// Returns whether the text of the page begins with a packet of the frame that comes before packet
 /// `from`.
-pub(crate) fn has_begun_before(from: u32, begun: bool) -> bool
+pub(crate) fn has_started_before(from: u32, begun: bool) -> bool
     ensures { result ≡ (nat_lt 0 from && begun) }
 {
     from > 0 && begun
@@ -31,7 +31,7 @@ pub(crate) fn has_begun_before(from: u32, begun: bool) -> bool
 
 /// Returns whether the text of the page begins with one of the packets received so far, including
 /// the next packet, for which `begins` holds the answer.
-pub(crate) fn has_begun(begun: bool, begins: bool) -> bool
+pub(crate) fn has_started(begun: bool, begins: bool) -> bool
     ensures { result ≡ (begun || begins) }
 {
     begun || begins

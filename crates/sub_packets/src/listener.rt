@@ -21,7 +21,7 @@ ghost use Rattle.sub_rules.specs.PacketTests.{breaks, packet_rules};
 
 use crate::comparison::Comparison;
 use crate::last_heard::{
-    begins_with, counted, has_begun, has_begun_before, last_headers, stays_clean,
+    begins_with, counted, has_started, has_started_before, last_headers, stays_clean,
 };
 use crate::packet_rules::{begins_text, first_serial, is_of_mode, is_serial, text_codes};
 use crate::rule_set::report_rules;
@@ -182,7 +182,7 @@ impl Listener {
     {
         let mut headers = 0;
         let mut first = false;
-        let mut begun = has_begun_before(from, self.begun);
+        let mut begun = has_started_before(from, self.begun);
         let mut is_clean = true;
         let mut k = 0;
         while k < units.len() {
@@ -192,7 +192,7 @@ impl Listener {
             } else {
                 let heard = self.judge(&sent.packet(), frame, from + k as u32, taker);
                 first = begins_with(first, k, heard.begins);
-                begun = has_begun(begun, heard.begins);
+                begun = has_started(begun, heard.begins);
                 headers = counted(headers, heard.is_header);
                 is_clean = stays_clean(is_clean, heard.is_clean);
                 k += 1;
@@ -362,7 +362,7 @@ impl Listener {
                 if self.is_new(row) {
                     self.store(row, &text_codes(packet));
                 } else if self.is_open {
-                    self.set_again(row);
+                    self.note_repeated_row(row);
                 }
                 false
             }
@@ -429,7 +429,7 @@ impl Listener {
     }
 
     // Marks a row as received since the last header, without changing its codes.
-    fn set_again(&mut self, row: u8)
+    fn note_repeated_row(&mut self, row: u8)
         requires { (1 ≤ row) × (row ≤ 24) }
         ensures { self.new ≡ record self.old {
           again = slice_set self.old.again (row - 1) true;

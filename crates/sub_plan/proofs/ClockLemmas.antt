@@ -3,7 +3,7 @@ use Rattle.std.proofs.lemmas.Bool.Decides.{nat_tests}
 use Rattle.std.proofs.Common.{◌≡◌, ◌≢◌, ℕ, zero, suc, ◌+◌, ◌-◌, ◌/◌, ◌%◌, ◌^◌, ◌<◌}
 use Rattle.std.proofs.Common.{◌↔◌, Option, Some, None, refl, sym, ◌∙◌, arith, MatchOption}
 use Rattle.stl_file.specs.TimeCode.{day}
-use Rattle.sub_plan.specs.FrameTime.{clock, frame_below, frame_of_pts, near_frame, pts_of}
+use Rattle.sub_plan.specs.FrameTime.{clock, frame_below, frame_of_pts, frame_with_tolerance, pts_of}
 use Rattle.sub_plan.specs.FrameTime.{ticks_after}
 use Rattle.sub_plan.specs.Laws.{LawOfClock, LawOfExactClock, LawOfNearClock}
 
@@ -45,14 +45,14 @@ pub no_frame_found :
 no_frame_found origin pts none =
     let all = found_below origin pts day (frame_of_pts origin pts) refl in grind arith
 
-near_read :
+frame_with_tolerance_read :
     (origin pts frame : ℕ)
     → pts < 2 ^ 33
     → frame < day
     → ticks_after origin pts / 3600 ≡ frame
-    → near_frame origin pts ≡ Some frame
-unfolding near_frame
-near_read origin pts frame low in_day is = grind (arith, nat_tests)
+    → frame_with_tolerance origin pts ≡ Some frame
+unfolding frame_with_tolerance
+frame_with_tolerance_read origin pts frame low in_day is = grind (arith, nat_tests)
 
 ticks_of :
     (origin frame ticks pts : ℕ)
@@ -67,7 +67,7 @@ pub law_of_near_clock : LawOfNearClock
 unfolding clock
 law_of_near_clock zero origin frame ticks low in_day some few = absurd (omega arith)
 law_of_near_clock (suc n) origin frame ticks low in_day some few =
-    near_read origin _ frame (omega arith) in_day
+    frame_with_tolerance_read origin _ frame (omega arith) in_day
     (ticks_of origin frame ticks _ low in_day few refl)
 
 pub law_of_clock : LawOfClock
@@ -75,7 +75,7 @@ unfolding clock
 law_of_clock zero origin frame low in_day =
     frame_found origin (pts_of origin frame) frame in_day refl
 law_of_clock (suc n) origin frame low in_day =
-    near_read origin (pts_of origin frame) frame (omega arith) in_day
+    frame_with_tolerance_read origin (pts_of origin frame) frame (omega arith) in_day
     (ticks_of origin frame 900 (pts_of origin frame) low in_day (omega arith) (omega arith))
 
 pub exact_by :
@@ -110,9 +110,9 @@ unfolding clock
 clock_exact zero origin pts none = refl
 clock_exact (suc n) origin pts none = absurd (omega arith)
 
-pub clock_near : (within origin pts : ℕ)
+pub clock_with_tolerance : (within origin pts : ℕ)
     → within ≢ 0
-    → near_frame origin pts ≡ clock within origin pts
+    → frame_with_tolerance origin pts ≡ clock within origin pts
 unfolding clock
-clock_near zero origin pts some = absurd (some refl)
-clock_near (suc n) origin pts some = refl
+clock_with_tolerance zero origin pts some = absurd (some refl)
+clock_with_tolerance (suc n) origin pts some = refl

@@ -68,11 +68,12 @@ module _ {u v : Option (List ℕ)} {bytes_of : ℕ → List ℕ} {count : ℕ} {
       → AppendsPrefix u w (flat_map bytes_of all)
   prefix-one w {f} {left'} e p = prefix-more w (f ∷ []) left' e (rw (append-nil (bytes_of f)) p)
 
-flat_same : (f g : ℕ → List ℕ) (xs : List ℕ) → All (λ x. f x ≡ g x) xs
+flat_map_same : (f g : ℕ → List ℕ) (xs : List ℕ) → All (λ x. f x ≡ g x) xs
     → flat_map f xs ≡ flat_map g xs
-flat_same f g [] h = refl
-flat_same f g (x ∷ xs) h =
-    rw (All-head (λ y. f y ≡ g y) x xs h, flat_same f g xs (All-tail (λ y. f y ≡ g y) x xs h)) refl
+flat_map_same f g [] h = refl
+flat_map_same f g (x ∷ xs) h =
+    rw (All-head (λ y. f y ≡ g y) x xs h, flat_map_same f g xs (All-tail (λ y. f y ≡ g y) x xs h))
+    refl
 
 -- Between a base and the next base, each page transmission has the page expected at the base.
 pub stretch-bytes : (due : ℕ → Rows) (o : OptionsValue) (national : National) (serial : Bool)
@@ -85,7 +86,7 @@ unfolding steps
 stretch-bytes due o national serial first b end last s =
     let own = packets_at o.origin (sending o.page national serial (due b)) in
     let at = sending_at due o national serial in
-    flat_same own at (filter (λ f. (f - b) % o.every == 0) (range_with_len b (end - b)))
+    flat_map_same own at (filter (λ f. (f - b) % o.every == 0) (range_with_len b (end - b)))
     (All-filter (λ f. (f - b) % o.every == 0) (λ f. own f ≡ at f) (range_with_len b (end - b))
     (range_all (λ f. own f ≡ at f) b (end - b)
     (λ j low high. ap (λ page. packets_at o.origin (sending o.page national serial page) j)

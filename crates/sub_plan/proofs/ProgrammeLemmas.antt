@@ -8,25 +8,26 @@ use Rattle.std.specs.List.{range_with_len}
 use Rattle.ttx_page.specs.Page.{Rows}
 use Rattle.stl_file.specs.Subtitle.{SubtitleValue}
 use Rattle.stl_rows.specs.declared.layout.Drawing.{Drawing}
-use Rattle.stl_rows.specs.Programme.{first_in, last_out, IsProgramme, ProgrammeValue}
+use Rattle.stl_rows.specs.Programme.{first_tci, last_tco, IsProgramme, ProgrammeValue}
 use Rattle.stl_file.specs.TimeCode.{day}
 use Rattle.sub_plan.specs.Schedule.{due_in, is_sending, plan_frames, sendings, sendings_between}
 use Rattle.sub_plan.specs.Schedule.{sendings_from}
 use Rattle.sub_plan.specs.Laws.{LawOfDay}
 use Rattle.sub_plan.proofs.ScheduleBases.{range_all}
 
-pub none_in : (ts : List SubtitleValue) → None ≡ first_in ts → ts ≡ []
+pub none_in : (ts : List SubtitleValue) → None ≡ first_tci ts → ts ≡ []
 none_in [] h = refl
 none_in (t ∷ ts) h = cc
 
 last_is : (t : SubtitleValue) (ts : List SubtitleValue)
-    → last_out (t ∷ ts) ≡ Some ((get_or (t ∷ ts) (length (t ∷ ts) - 1) t).tco)
+    → last_tco (t ∷ ts) ≡ Some ((get_or (t ∷ ts) (length (t ∷ ts) - 1) t).tco)
 last_is t ts = grind (arith, nat_tests, slice_get-get_or)
 
-pub some_out : (ts : List SubtitleValue) (a : ℕ) → Some a ≡ first_in ts → None ≡ last_out ts
+pub last_tco_of_first_tci : (ts : List SubtitleValue) (a : ℕ) → Some a ≡ first_tci ts → None ≡
+    last_tco ts
     → ts ≡ []
-some_out [] a h k = refl
-some_out (t ∷ ts) a h k = let e = last_is t ts in cc
+last_tco_of_first_tci [] a h k = refl
+last_tco_of_first_tci (t ∷ ts) a h k = let e = last_is t ts in cc
 
 -- The first frame of a schedule is before its last frame, which is a frame of the day.
 pub record IsSpan (a b : ℕ) : Type 0 where
@@ -34,7 +35,7 @@ pub record IsSpan (a b : ℕ) : Type 0 where
   pub in_day : b < day
 
 pub span-rises : (drawing : Drawing) (ts : List SubtitleValue) (a b : ℕ) → IsProgramme drawing ts
-    → Some a ≡ first_in ts → Some b ≡ last_out ts → IsSpan a b
+    → Some a ≡ first_tci ts → Some b ≡ last_tco ts → IsSpan a b
 span-rises drawing [] a b ok h k = cc
 span-rises drawing (t ∷ ts) a b ok h k =
     let n : ℕ = length (t ∷ ts) - 1 in
@@ -52,7 +53,7 @@ span-rises drawing (t ∷ ts) a b ok h k =
     }
 
 pub plan_frames-is : (programme : ProgrammeValue) (every a b : ℕ)
-    → Some a ≡ first_in programme.records → Some b ≡ last_out programme.records
+    → Some a ≡ first_tci programme.records → Some b ≡ last_tco programme.records
     → sendings (due_in programme) every a b ≡ plan_frames programme every
 plan_frames-is programme every a b h k = rw (← h, ← k) refl
 
@@ -65,7 +66,7 @@ within due every first last order =
     (range_all (λ f. f ≤ last) first (last + 1 - first) (λ j b c. omega arith))
 
 day_between : (programme : ProgrammeValue) (every : ℕ) (a b : Option ℕ)
-    → a ≡ first_in programme.records → b ≡ last_out programme.records
+    → a ≡ first_tci programme.records → b ≡ last_tco programme.records
     → IsProgramme programme.drawing programme.records
     → All (λ frame. frame < day) (sendings_between (due_in programme) every a b)
 day_between programme every None b h k ok = All-nil (λ frame. frame < day)

@@ -34,7 +34,8 @@ use Rattle.sub_plan.specs.Sending.{sent_rows, sending}
 use Rattle.sub_plan.specs.Laws.{AreRowsOfOnePage, IsRowOf, IsSentPacket, LawOfCutSendings}
 use Rattle.sub_plan.specs.Laws.{LawOfSending}
 use Rattle.sub_plan.proofs.ScheduleBases.{range_all}
-use Rattle.sub_plan.proofs.SentPackets.{opener, closer, made_opener, made_closer, packet_of_header}
+use Rattle.sub_plan.proofs.SentPackets.{opener, closer, opener_values, closer_values}
+use Rattle.sub_plan.proofs.SentPackets.{packet_of_header}
 use Rattle.sub_plan.proofs.SentPackets.{packet_of_codes, row_of, row_length, row_codes, made_row}
 use Rattle.sub_plan.proofs.SentPackets.{kind_opener, kind_closer, kind_row}
 
@@ -212,12 +213,12 @@ module _ (w : PageIdValue) (national : National) (serial : Bool) (page : Rows) (
     where
       first : IsSentPacket w national serial (opener w national serial)
       first =
-          let made = made_opener w national serial ok in
+          let made = opener_values w national serial ok in
           grind (arith, nat_tests, packet_of_header, same_Some, mode_opener, kind_opener)
 
       last : IsSentPacket w national serial (closer w serial)
       last =
-          let made = made_closer w serial ok in
+          let made = closer_values w serial ok in
           grind (arith, nat_tests, packet_of_header, same_Some, mode_closer, kind_closer)
 
       each : (row : ℕ) → 1 ≤ row → row ≤ 24 → IsSentPacket w national serial (row_of w page row)

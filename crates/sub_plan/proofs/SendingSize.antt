@@ -39,9 +39,9 @@ pub law_of_size : LawOfSize
 unfolding sending
 law_of_size w national serial page = grind (arith, nat_tests, length_push, closer, short_page)
 
-blank_unsent : is_sent_row blank_row ≡ false
+blank_row_unsent : is_sent_row blank_row ≡ false
 unfolding blank_row
-blank_unsent = refl
+blank_row_unsent = refl
 
 rows_but_last : (magazine : ℕ) (page : Rows)
     → row_at page 24 ≡ blank_row
@@ -51,7 +51,7 @@ rows_but_last magazine page e =
     let test : ℕ → Bool = λ row. is_sent_row (row_at page row) in
     let rows : filter test (range_with_len 1 24) ≡ filter test (range_with_len 1 23) =
     filter-append test (range_with_len 1 23) (24 ∷ [])
-    ∙ rw (ap is_sent_row e ∙ blank_unsent, append-nil) refl in
+    ∙ rw (ap is_sent_row e ∙ blank_row_unsent, append-nil) refl in
     rw (
       length-map (filter test (range_with_len 1 24))
           (λ row. row_packet magazine row (row_at page row)),

@@ -11,7 +11,7 @@ use Rattle.std.proofs.lemmas.List.Elements.{All-append, All-replicate, All-map, 
 use Rattle.std.proofs.lemmas.List.Elements.{All-from_get_or}
 use Rattle.ttx_packet.specs.declared.header.Header.{Header}
 use Rattle.ttx_packet.specs.Hamming84.{code_word}
-use Rattle.ttx_packet.specs.PacketAddress.{IsPacket, address_words}
+use Rattle.ttx_packet.specs.PacketAddress.{IsPacket, address_code_words}
 use Rattle.ttx_packet.specs.PageHeader.{header_numbers, header_packet, IsHeader}
 use Rattle.ttx_packet.specs.PageId.{PageIdValue}
 use Rattle.ttx_packet.specs.Parity.{odd_byte}
@@ -41,12 +41,12 @@ code_words_small numbers = search (rules, All-map, code_word_small)
 odd_byte_small : (code : ℕ) → code < 0x80 → odd_byte code < 0x100
 odd_byte_small code l = grind (arith, nat_tests)
 
-packet_from : (magazine y : ℕ) (rest : List ℕ) → length (address_words magazine y ++ rest) ≡ 42
-    → All IsByte rest → IsPacket (address_words magazine y ++ rest)
+packet_from : (magazine y : ℕ) (rest : List ℕ) → length (address_code_words magazine y ++ rest) ≡ 42
+    → All IsByte rest → IsPacket (address_code_words magazine y ++ rest)
 packet_from magazine y rest size all = record {
   size = size;
-  bytes = byte_at (address_words magazine y ++ rest)
-      (All-append IsByte (address_words magazine y) rest
+  bytes = byte_at (address_code_words magazine y ++ rest)
+      (All-append IsByte (address_code_words magazine y) rest
       (code_words_small ((magazine + 8 * y) % 16 ∷ (magazine + 8 * y) / 16 ∷ [])) all);
 }
 
@@ -80,13 +80,13 @@ opener w national serial = header_packet w.magazine (watched_header w national s
 abbrev pub closer : PageIdValue → Bool → List ℕ
 closer w serial = header_packet w.magazine (closing_header serial)
 
-pub made_opener : (w : PageIdValue) (national : National) (serial : Bool) → IsWatchable w
+pub opener_values : (w : PageIdValue) (national : National) (serial : Bool) → IsWatchable w
     → IsMadeHeader w.magazine (watched_header w national serial) (opener w national serial)
-made_opener w national serial ok = search (rules, law_of_header_packet, watched_is)
+opener_values w national serial ok = search (rules, law_of_header_packet, watched_is)
 
-pub made_closer : (w : PageIdValue) (serial : Bool) → IsWatchable w
+pub closer_values : (w : PageIdValue) (serial : Bool) → IsWatchable w
     → IsMadeHeader w.magazine (closing_header serial) (closer w serial)
-made_closer w serial ok = search (rules, law_of_header_packet, closing_is)
+closer_values w serial ok = search (rules, law_of_header_packet, closing_is)
 
 abbrev pub row_of : PageIdValue → Rows → ℕ → List ℕ
 row_of w page row = row_packet w.magazine row (row_at page row)
@@ -108,13 +108,13 @@ made_row w page row ok shape one high =
 pub kind_opener : (w : PageIdValue) (national : National) (serial : Bool) → IsWatchable w
     → kind w (opener w national serial) ≡ ThisPage (watched_header w national serial)
 unfolding kind
-kind_opener w national serial ok = grind (arith, nat_tests, made_opener w national serial ok)
+kind_opener w national serial ok = grind (arith, nat_tests, opener_values w national serial ok)
 
 pub kind_closer : (w : PageIdValue) (serial : Bool) → IsWatchable w
     → kind w (closer w serial) ≡ EndsPage
 unfolding kind
 kind_closer w serial ok =
-    grind (arith, nat_tests, made_closer w serial ok, ne_eqb, eq-eqb w.magazine w.magazine refl)
+    grind (arith, nat_tests, closer_values w serial ok, ne_eqb, eq-eqb w.magazine w.magazine refl)
 
 pub kind_row : (w : PageIdValue) (page : Rows) (row : ℕ) → IsWatchable w → IsPage page → 1 ≤ row
     → row ≤ 24 → kind w (row_of w page row) ≡ Row row

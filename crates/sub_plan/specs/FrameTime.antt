@@ -33,8 +33,8 @@ ticks_after origin pts = (pts + (2 ^ 33 - origin) + 900) % 2 ^ 33
 -- The frame of the day whose ticks include this PTS of 33 bits. The ticks of a frame begin 900
 -- before the frame's own PTS. So a PTS may be a quarter of a frame early, as multiplexers may make
 -- it, and the PTSs of two fields, half a frame apart, belong to one frame (own).
-unfoldable pub near_frame : ℕ → ℕ → Option ℕ
-near_frame origin pts =
+unfoldable pub frame_with_tolerance : ℕ → ℕ → Option ℕ
+frame_with_tolerance origin pts =
     if nat_lt pts (2 ^ 33) then frame_in_day (ticks_after origin pts / 3600) else None
 
 -- A clock converts a PTS to a frame of the day, or to `None`.
@@ -46,7 +46,7 @@ Clock = ℕ → Option ℕ
 -- to the frame whose ticks include it.
 unfoldable pub clock : ℕ → ℕ → Clock
 clock zero origin pts = frame_of_pts origin pts
-clock (suc n) origin pts = near_frame origin pts
+clock (suc n) origin pts = frame_with_tolerance origin pts
 
 -- The clock that the options select.
 abbrev pub clock_of : OptionsValue → Clock

@@ -6,7 +6,7 @@ use Rattle.std.specs.Prelude.{IsFalse}
 use Rattle.std.specs.List.{flat_map}
 use Rattle.ttx_packet.specs.declared.header.Header.{Header}
 use Rattle.ttx_packet.specs.PacketAddress.{IsPacket}
-use Rattle.ttx_packet.specs.PageHeader.{c11, header, HasExactWords}
+use Rattle.ttx_packet.specs.PageHeader.{c11, header, HasExactCodeWords}
 use Rattle.ttx_packet.specs.PageId.{PageIdValue}
 use Rattle.ttx_packet.specs.RowPacket.{row_packet}
 use Rattle.ttx_page.specs.declared.packet_kind.PacketKind.TheVariants.{ThisPage}
@@ -42,7 +42,7 @@ LawOfSending =
 pub record IsSentPacket
     (w : PageIdValue) (national : National) (serial : Bool) (packet : List ℕ) : Type 0 where
   pub whole : IsPacket packet
-  pub exact : HasExactWords packet
+  pub exact : HasExactCodeWords packet
   pub mode : (h : Header) → header packet ≡ Some h → c11 h ≡ serial
   pub page_header : (h : Header)
       → kind w packet ≡ ThisPage h

@@ -10,7 +10,7 @@ use Rattle.ttx_page.specs.Page.{Rows}
 use Rattle.ttx_pes.specs.PesGrammar.{PesValue, canonical_packet, numbered_frame}
 use Rattle.stl_rows.specs.declared.national.National.{National}
 use Rattle.stl_rows.specs.DuePage.{due}
-use Rattle.stl_rows.specs.Programme.{ProgrammeValue, first_in, last_out}
+use Rattle.stl_rows.specs.Programme.{ProgrammeValue, first_tci, last_tco}
 use Rattle.sub_plan.specs.FrameTime.{pts_of}
 use Rattle.sub_plan.specs.Options.{OptionsValue}
 use Rattle.sub_plan.specs.Sending.{sending}
@@ -78,8 +78,8 @@ sendings_between due every (Some first) (Some last) = sendings due every first l
 abbrev pub plan_frames : ProgrammeValue → ℕ → List ℕ
 plan_frames programme every =
     sendings_between (due_in programme) every
-    (first_in programme.records)
-    (last_out programme.records)
+    (first_tci programme.records)
+    (last_tco programme.records)
 
 -- The bytes of a programme's schedule: one PES packet for each frame with a page transmission.
 abbrev pub plan : ProgrammeValue → OptionsValue → Bool → List ℕ

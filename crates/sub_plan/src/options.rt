@@ -3,7 +3,7 @@
 ghost use Rattle.std.specs.Prelude.{◌≡◌, ◌≢◌, ℕ, ◌^◌, ◌<◌, ◌≤◌, ◌↔◌, ◌⊎◌, None, Some, Err};
 ghost use Rattle.std.specs.Prelude.{IfErr, IfOk, false, true};
 ghost use Rattle.stl_file.specs.TimeCode.{day};
-ghost use Rattle.sub_plan.specs.FrameTime.{clock_of, frame_of_pts, near_frame, pts_of};
+ghost use Rattle.sub_plan.specs.FrameTime.{clock_of, frame_of_pts, frame_with_tolerance, pts_of};
 ghost use Rattle.sub_plan.specs.declared.fault.OptionFault.TheVariants.{Every, Origin, Pace};
 ghost use Rattle.sub_plan.specs.declared.fault.OptionFault.TheVariants.{Within};
 
@@ -305,7 +305,7 @@ fn exact_frame(origin: u64, pts: u64) -> Option<u32>
 // frame's own PTS.
 fn nearest_frame(origin: u64, pts: u64) -> Option<u32>
     requires { origin < 2 ^ 33 }
-    ensures { result ≡ near_frame origin pts }
+    ensures { result ≡ frame_with_tolerance origin pts }
 {
     if pts >= PTS_END {
         return None;

@@ -187,10 +187,10 @@ pub fn schedule<K: Sink>(
     ensures nothing { result ≡ Err NoSubtitles → sink.new ≡ sink.old }
     ensures count { CountsIf K.failure_count sink.old (failed is_plan_write result) sink.new }
 {
-    let Some(first) = programme.first_in() else {
+    let Some(first) = programme.first_tci() else {
         return Err(PlanFault::NoSubtitles);
     };
-    let Some(last) = programme.last_out() else {
+    let Some(last) = programme.last_tco() else {
         return Err(PlanFault::NoSubtitles);
     };
     match send_all(programme, options, serial, first, last, sink) {

@@ -21,9 +21,9 @@ files_of (ask.Extract recording pes stream) = files.Extract recording.now pes.no
 files_of (ask.Survey recording options) = files.ReadPes recording.now
 
 -- The request reads at least one file.
-abbrev pub reads_one : FileNames → Bool
-reads_one files.None = false
-reads_one _ = true
+abbrev pub reads_input : FileNames → Bool
+reads_input files.None = false
+reads_input _ = true
 
 -- The request reads two files.
 abbrev pub reads_two : FileNames → Bool
@@ -31,7 +31,7 @@ reads_two (files.ReadBoth first second) = true
 reads_two _ = false
 
 -- The request writes a file.
-abbrev pub writes_one : FileNames → Bool
-writes_one (files.Write input output) = true
-writes_one (files.Extract input output) = true
-writes_one _ = false
+abbrev pub writes_file : FileNames → Bool
+writes_file (files.Write input output) = true
+writes_file (files.Extract input output) = true
+writes_file _ = false

@@ -15,11 +15,11 @@ word_decided b =
     Decides-below_or (λ n. b == code_word n) (λ n. b ≡ code_word n) (is_word_below b)
     (λ n. Decides-eqb b (code_word n)) refl (λ _. refl) 16
 
-words_decided :
+code_words_decided :
     (from n : ℕ) (p : List ℕ)
     → Decides (are_code_words from n p) ((k : ℕ) → k < n → IsCodeWord (slice_index p (from + k)))
 unfolding are_code_words
-words_decided from n p =
+code_words_decided from n p =
     Decides-below_and (λ k. is_word_below (slice_index p (from + k)) 16)
     (λ k. IsCodeWord (slice_index p (from + k))) (λ m. are_code_words from m p)
     (λ k. word_decided (slice_index p (from + k))) refl (λ _. refl) n
@@ -30,7 +30,7 @@ address_decided p =
     (λ h k l.
     let here : 0 + k ≡ k = omega arith in subst (λ n. IsCodeWord (slice_index p n)) here (h k l))
     (λ h k l. h (0 + k) (omega arith))
-    (words_decided 0 2 p)
+    (code_words_decided 0 2 p)
 
 pub header_decided : (p : List ℕ) → Decides (are_code_words 2 8 p) (HasExactHeader p)
 header_decided p =
@@ -39,4 +39,4 @@ header_decided p =
     let here : 2 + (k - 2) ≡ k = omega arith in
     subst (λ n. IsCodeWord (slice_index p n)) here (h (k - 2) (omega arith)))
     (λ h k l. h (2 + k) (omega arith) (omega arith))
-    (words_decided 2 8 p)
+    (code_words_decided 2 8 p)

@@ -33,7 +33,7 @@ odd_same :
     → b ≡ c
 odd_same b c lb lc ob oc e = grind (arith, one_odd)
 
-address_is :
+address_eq :
     (p : List ℕ) (m n : ℕ)
     → m < 16
     → n < 16
@@ -42,7 +42,7 @@ address_is :
     → address p
     ≡ Some (record { magazine = (m + 0x10 * n) % 8; packet_number = (m + 0x10 * n) / 8 })
 unfolding address
-address_is p m n lm ln e f = grind (arith, decoded-code_word)
+address_eq p m n lm ln e f = grind (arith, decoded-code_word)
 
 same_address :
     (p q : List ℕ)
@@ -57,7 +57,7 @@ same_address p q x y e =
     let d = y 1 (omega arith) in
     let f =
     same_Some _ _
-    (sym (address_is p a.0 b.0 a.1 b.1 a.2 b.2) ∙ e ∙ address_is q c.0 d.0 c.1 d.1 c.2 d.2) in
+    (sym (address_eq p a.0 b.0 a.1 b.1 a.2 b.2) ∙ e ∙ address_eq q c.0 d.0 c.1 d.1 c.2 d.2) in
     grind (arith, nat_tests)
 
 pub code_at : (bytes : List ℕ) (k : ℕ)

@@ -14,9 +14,9 @@ pub gap_length-is :
 unfolding gap_length
 gap_length-is frames n h1 = grind (arith, nat_tests)
 
-pub active_faults_before_is :
+pub active_faults_before_eq :
     (g : Criteria) (frames : Transmission) (n f : ℕ)
     → 0 < n
     → active_faults_before g frames n f ≡ active_faults_at g frames n (end_before frames n f)
 unfolding active_faults_before
-active_faults_before_is g frames n f h1 = grind (arith, nat_tests)
+active_faults_before_eq g frames n f h1 = grind (arith, nat_tests)

@@ -1,6 +1,6 @@
 -- The table of the rules of a frame's end. A property of each rule in the table holds of any rule,
 -- `each_end_rule`; no fault is active if and only if no rule is broken, `rules_none`,
--- `no_active_faults_is`; if no event of a rule passes a test, no event at a frame's end does,
+-- `no_active_faults_eq`; if no event of a rule passes a test, no event at a frame's end does,
 -- `end_any`.
 use Rattle.std.proofs.lemmas.Bool.Decides.{nat_tests}
 use Rattle.std.proofs.Common.{◌≡◌, ℕ, Bool, true, false, List, [], ◌∷◌, Option, Some, None}
@@ -30,13 +30,14 @@ rules_none s none = ap not (go end_rules)
     go [] = refl
     go (rule ∷ rules) = rw (none rule) (go rules)
 
-pub no_active_faults_is : (s : ActiveFaults) → has_no_active_faults s ≡ true → s ≡ no_active_faults
+pub no_active_faults_eq : (s : ActiveFaults) → has_no_active_faults s ≡ true → s ≡ no_active_faults
 unfolding end_rules
-no_active_faults_is s e = grind (arith, nat_tests)
+no_active_faults_eq s e = grind (arith, nat_tests)
 
-pub none_at : (s : ActiveFaults) → has_no_active_faults s ≡ true → (rule : EndRule) → broken_at rule
+pub no_active_fault_at : (s : ActiveFaults) → has_no_active_faults s ≡ true → (rule : EndRule) →
+    broken_at rule
     s ≡ None
-none_at s e rule = ap (broken_at rule) (no_active_faults_is s e) ∙ nothing_at rule
+no_active_fault_at s e rule = ap (broken_at rule) (no_active_faults_eq s e) ∙ nothing_at rule
 
 from_none : (rule : EndRule) (a b : ℕ) (o : Option (ℕ × ℕ)) (f : ℕ)
     → rule_events rule None a o f ≡ rule_events rule None b o f

@@ -7,7 +7,7 @@ use Rattle.sub_rules.specs.Events.{end_before, events_at_end, gap_length, is_gap
 use Rattle.sub_rules.specs.Events.{is_incomplete, is_late, is_unfinished, latest, order_events}
 use Rattle.sub_rules.specs.Events.{first_unfinished_before, first_unfinished_in_frames}
 use Rattle.sub_rules.specs.Events.{first_unfinished_in_gap, active_faults_at}
-use Rattle.sub_rules.specs.Events.{active_faults_before, unfinished_since}
+use Rattle.sub_rules.specs.Events.{active_faults_before, unfinished_run_start}
 use Rattle.sub_rules.specs.FrameRules.{Criteria, frame_at}
 use Rattle.sub_rules.specs.PesPacketEvents.{steps_at_end, steps_of_arrival, steps_of_gap}
 use Rattle.sub_rules.specs.Transmission.{SentFrame, Transmission}
@@ -70,10 +70,10 @@ module _ (g : Criteria) (xs ys : Transmission) (n : ℕ)
           frame_at-same i,
         ) refl
 
-    pub unfinished_since-same : (k f : ℕ) → k ≤ n
-        → unfinished_since g xs k f ≡ unfinished_since g ys k f
-    unfolding unfinished_since
-    unfinished_since-same k f l =
+    pub unfinished_run_start-same : (k f : ℕ) → k ≤ n
+        → unfinished_run_start g xs k f ≡ unfinished_run_start g ys k f
+    unfolding unfinished_run_start
+    unfinished_run_start-same k f l =
         rw (
           gap_first_unfinished_same k (first_unfinished_in_frames g xs k) (f - latest xs k) l,
           first_unfinished_same k l,
@@ -84,11 +84,11 @@ module _ (g : Criteria) (xs ys : Transmission) (n : ℕ)
         first_unfinished_before g ys k f
     unfolding first_unfinished_before
     first_unfinished_before-same zero f l = refl
-    first_unfinished_before-same (suc k) f l = unfinished_since-same (suc k) (f - 1) l
+    first_unfinished_before-same (suc k) f l = unfinished_run_start-same (suc k) (f - 1) l
 
     pub is_late-same : (k f : ℕ) → k ≤ n → is_late g xs k f ≡ is_late g ys k f
     unfolding is_late
-    is_late-same k f l = rw (unfinished_since-same k f l, frame_at-same 0) refl
+    is_late-same k f l = rw (unfinished_run_start-same k f l, frame_at-same 0) refl
 
     is_silent-same : (k f : ℕ) → is_silent g xs k f ≡ is_silent g ys k f
     unfolding is_silent
@@ -119,7 +119,7 @@ module _ (g : Criteria) (xs ys : Transmission) (n : ℕ)
     steps_at_end-same i k f l m =
         rw (
           first_unfinished_before-same i f l,
-          unfinished_since-same k f m,
+          unfinished_run_start-same k f m,
           is_late-same k f m,
           events_at_end-same i k f l m,
         ) refl

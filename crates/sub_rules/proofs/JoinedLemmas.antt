@@ -13,7 +13,7 @@ use lib.Seq.{take-append-le}
 use Rattle.sub_rules.specs.Events.{packets_reported}
 use Rattle.sub_rules.specs.FrameRules.{Criteria, frame_at, packets_before, packets_of_frame}
 use Rattle.sub_rules.specs.PesPacketEvents.{steps_of_each}
-use Rattle.sub_rules.specs.PesPackets.{PesPacket, frames_of, goes_on_with, joined, joined_after}
+use Rattle.sub_rules.specs.PesPackets.{PesPacket, frames_of, continues_with, joined, joined_after}
 use Rattle.sub_rules.specs.PesPackets.{sent_after}
 use Rattle.sub_rules.specs.PesPackets.{with_packets}
 use Rattle.sub_rules.specs.PesPackets.PesPacket.{Skipped, Sent}
@@ -21,22 +21,22 @@ use Rattle.sub_rules.specs.Transmission.{SentFrame, Transmission}
 use Rattle.sub_rules.specs.declared.packet_rule.Watched.{Watched}
 use Rattle.sub_rules.proofs.PacketLists.{Each-append}
 
-pub goes_on-none : (sent : Transmission) (s : SentFrame) → goes_on_with 0 sent s ≡ false
-goes_on-none [] s = refl
-goes_on-none (first ∷ sent) s = refl
+pub continues-none : (sent : Transmission) (s : SentFrame) → continues_with 0 sent s ≡ false
+continues-none [] s = refl
+continues-none (first ∷ sent) s = refl
 
 pub sent_after-other : (within : ℕ) (sent : Transmission) (s : SentFrame)
-    → goes_on_with within sent s ≡ false
+    → continues_with within sent s ≡ false
     → sent_after within sent s ≡ sent ++ s ∷ []
 sent_after-other within sent s other = rw other refl
 
 pub sent_after-same : (within : ℕ) (sent : Transmission) (s : SentFrame)
-    → goes_on_with within sent s ≡ true
+    → continues_with within sent s ≡ true
     → sent_after within sent s ≡ with_packets s.packets sent
 sent_after-same within sent s same = rw same refl
 
 pub sent_after-none : (sent : Transmission) (s : SentFrame) → sent_after 0 sent s ≡ sent ++ s ∷ []
-sent_after-none sent s = sent_after-other 0 sent s (goes_on-none sent s)
+sent_after-none sent s = sent_after-other 0 sent s (continues-none sent s)
 
 pub joined_after-append : (within : ℕ) (sent xs ys : Transmission)
     → joined_after within sent (xs ++ ys)
@@ -140,31 +140,31 @@ with_packets-all packets (s ∷ next ∷ frames) l =
 
 module _ (P : List ℕ → Type 0) where
   -- The property P holds of each packet of each frame of the transmission.
-  abbrev pub EachRead : Transmission → Type 0
-  EachRead frames = AllByRecursion (λ (s : SentFrame). AllByRecursion P s.packets) frames
+  abbrev pub EachReadPacket : Transmission → Type 0
+  EachReadPacket frames = AllByRecursion (λ (s : SentFrame). AllByRecursion P s.packets) frames
 
-  read_with : (packets : List (List ℕ)) (sent : Transmission) → EachRead sent
+  read_with : (packets : List (List ℕ)) (sent : Transmission) → EachReadPacket sent
       → AllByRecursion P packets
-      → EachRead (with_packets packets sent)
+      → EachReadPacket (with_packets packets sent)
   unfolding with_packets
   read_with packets [] each more = each
   read_with packets (s ∷ []) each more = (Each-append P s.packets packets each.0 more, tt)
   read_with packets (s ∷ next ∷ frames) each more =
       (each.0, read_with packets (next ∷ frames) each.1 more)
 
-  pub sent_after-read : (within : ℕ) (sent : Transmission) (s : SentFrame) → EachRead sent
+  pub sent_after-read : (within : ℕ) (sent : Transmission) (s : SentFrame) → EachReadPacket sent
       → AllByRecursion P s.packets
-      → EachRead (sent_after within sent s)
-  sent_after-read within sent s each more = go (goes_on_with within sent s)
+      → EachReadPacket (sent_after within sent s)
+  sent_after-read within sent s each more = go (continues_with within sent s)
     where
-      go : (same : Bool) → EachRead (cond same (with_packets s.packets sent) (sent ++ s ∷ []))
+      go : (same : Bool) → EachReadPacket (cond same (with_packets s.packets sent) (sent ++ s ∷ []))
       go true = read_with s.packets sent each more
       go false =
           Each-append (λ (x : SentFrame). AllByRecursion P x.packets) sent (s ∷ []) each (more, tt)
 
-  pub joined_after-read : (within : ℕ) (sent frames : Transmission) → EachRead sent
-      → EachRead frames
-      → EachRead (joined_after within sent frames)
+  pub joined_after-read : (within : ℕ) (sent frames : Transmission) → EachReadPacket sent
+      → EachReadPacket frames
+      → EachReadPacket (joined_after within sent frames)
   unfolding joined_after
   joined_after-read within sent [] each more = each
   joined_after-read within sent (s ∷ frames) each more =

@@ -48,11 +48,18 @@ announced_first (e ∷ es) = announced_first es
 ended_first : (run : SkippedRun) → first_reported (ended_run run) ≡ None
 ended_first run = grind (arith, nat_tests)
 
-pub all_first : (reported : List Event)
+pub first_of_all_announced : (reported : List Event)
     → first_reported (all_announced no_run reported ++ ended_run (skipped_after_all no_run
     reported))
     ≡ first_reported reported
-all_first reported = grind (arith, nat_tests, first_of_two, ended_first, or-none, announced_first)
+first_of_all_announced reported = grind (
+  arith,
+  nat_tests,
+  first_of_two,
+  ended_first,
+  or-none,
+  announced_first,
+)
 
 -- The events that end active faults report no fault, so after the last frame the first fault is
 -- that of the unread bytes.
@@ -114,22 +121,22 @@ walk : (g : Criteria) (at_once : g.within ≡ 0) (done all first : Transmission)
     (read_until_skipped pes_packets g.unread).frames
     ++ closing_events (record g { unread = u }) first (length first))
 unfolding steps_of_each frames_of read_until_skipped reported_plain at_pes
-walk g at_once done all first n pes [] u after size all_is first_is u_is closing =
-    ap first_reported (closing refl pes) ∙ rw (all_is, first_is, u_is) refl
-walk g at_once done all first n pes (Skipped v ∷ pes_packets) u after size all_is first_is u_is
+walk g at_once done all first n pes [] u after size all_eq first_is u_is closing =
+    ap first_reported (closing refl pes) ∙ rw (all_eq, first_is, u_is) refl
+walk g at_once done all first n pes (Skipped v ∷ pes_packets) u after size all_eq first_is u_is
     closing =
     let long : length first ≡ n = ap length (first_is ∙ append-nil done) ∙ size in
     ap Some (own_unread n v)
     ∙ ap (λ (k : ℕ). Some (unread_fault k (Some v))) (sym long)
     ∙ sym (closing_first (record g { unread = u }) first (length first) v refl u_is)
-walk g at_once done all first n pes (Sent s ∷ pes_packets) u after size all_is first_is u_is
+walk g at_once done all first n pes (Sent s ∷ pes_packets) u after size all_eq first_is u_is
     closing =
     let h : Criteria = record g { unread = u } in
     let next = done ++ s ∷ [] in
     let stop = read_until_skipped pes_packets g.unread in
     let longer : length next ≡ suc n = length-append done (s ∷ []) ∙ omega (arith, size) in
     let all_next : all ≡ next ++ frames_of pes_packets =
-    all_is ∙ sym (append_assoc done (s ∷ []) (frames_of pes_packets)) in
+    all_eq ∙ sym (append_assoc done (s ∷ []) (frames_of pes_packets)) in
     let first_next : first ≡ next ++ stop.frames =
     first_is ∙ sym (append_assoc done (s ∷ []) stop.frames) in
     let same : frame_events g next n ≡ frame_events h first n =
@@ -137,14 +144,14 @@ walk g at_once done all first n pes (Sent s ∷ pes_packets) u after size all_is
     ∙ frame_events-prefix g u next [] n (omega arith)
     ∙ sym (frame_events-prefix h u next stop.frames n (omega arith))
     ∙ ap (λ (fs : Transmission). frame_events h fs n) (sym first_next) in
-    let goes_on : sent_after g.within done s ≡ next =
+    let continues : sent_after g.within done s ≡ next =
     ap (λ (w : ℕ). sent_after w done s) at_once ∙ sent_after-none done s in
     let here = steps_of_sent g done n s in
     let rest : List CheckStep = steps_of_each g next (suc n) pes_packets in
     let others : List Event = reported_plain h first (suc n) stop.frames in
     let closed : List Event = closing_events h first (length first) in
     ap (λ (sent : Transmission). first_reported (emitted_by pes
-    ((here ++ steps_of_each g sent (suc n) pes_packets) ++ after))) goes_on
+    ((here ++ steps_of_each g sent (suc n) pes_packets) ++ after))) continues
     ∙ ap (λ (ms : List CheckStep). first_reported (emitted_by pes ms))
     (append_assoc here rest after)
     ∙ ap first_reported (emitted_sent g at_once done s n pes (rest ++ after) size)
@@ -174,7 +181,7 @@ reported_of_frames g pes_packets at_once =
     let h : Criteria = until_skipped g pes_packets in
     let reported : List Event = reported_after [] (steps_of_pes_packets g pes_packets) in
     let each : List CheckStep = steps_of_each g [] 0 pes_packets in
-    all_first reported
+    first_of_all_announced reported
     ∙ steps_first [] (steps_of_pes_packets g pes_packets)
     ∙ ap (λ (fs : Transmission). first_reported (emitted_by 0
     (each ++ steps_of_pending_end g fs ++ steps_of_closing g fs (length pes_packets) (length fs))))

@@ -23,7 +23,7 @@ use Rattle.ttx_pes.specs.SentUnits.{packets_of_units}
 use Rattle.ttx_pes.specs.declared.fault.PesFault.{PesFault}
 use Rattle.stl_file.specs.TimeCode.{day}
 use Rattle.sub_plan.proofs.ClockLemmas.{found_below}
-use Rattle.sub_plan.specs.FrameTime.{Clock, clock, clock_of, near_frame}
+use Rattle.sub_plan.specs.FrameTime.{Clock, clock, clock_of, frame_with_tolerance}
 use Rattle.sub_plan.specs.Options.{OptionsValue}
 use Rattle.sub_rules.specs.FrameRules.{Unread}
 use Rattle.sub_rules.specs.FrameRules.Unread.{BadPacket, NoFrame}
@@ -39,7 +39,7 @@ use Rattle.sub_rules.specs.PesPackets.PesPacket.{Skipped, Sent}
 -- A clock converts each PTS to a frame of the day, or to none.
 clock-below :
     (within origin pts frame : ℕ) → clock within origin pts ≡ Some frame → frame < day
-unfolding clock near_frame
+unfolding clock frame_with_tolerance
 clock-below zero origin pts frame is = (found_below origin pts day (Some frame) is).0
 clock-below (suc n) origin pts frame is = grind (arith, nat_tests)
 

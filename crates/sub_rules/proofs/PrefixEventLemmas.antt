@@ -1,7 +1,7 @@
 -- The events of a frame depend only on the frames up to it: `frame_events-prefix`. So do the first
--- frame of the run with an unfinished page, `unfinished_since-prefix`, whether an unfinished page
--- is a fault, `is_late-prefix`, the active faults, `active_faults_at-prefix`, and the steps of a
--- frame.
+-- frame of the run with an unfinished page, `unfinished_run_start-prefix`, whether an unfinished
+-- page is a fault, `is_late-prefix`, the active faults, `active_faults_at-prefix`, and the steps of
+-- a frame.
 use Rattle.std.proofs.lemmas.Bool.Decides.{nat_tests}
 use Rattle.std.proofs.Common.{◌≡◌, ℕ, zero, suc, ◌-◌, ◌<◌, ◌≤◌, ◌++◌}
 use Rattle.std.proofs.Common.{length, get_or, Option, refl, arith}
@@ -12,7 +12,7 @@ use Rattle.sub_rules.specs.Events.{first_header_events, gap_length}
 use Rattle.sub_rules.specs.Events.{is_gap, is_incomplete, is_late, is_unfinished, latest}
 use Rattle.sub_rules.specs.Events.{order_events, first_unfinished_before}
 use Rattle.sub_rules.specs.Events.{first_unfinished_in_frames, first_unfinished_in_gap}
-use Rattle.sub_rules.specs.Events.{active_faults_at, active_faults_before, unfinished_since}
+use Rattle.sub_rules.specs.Events.{active_faults_at, active_faults_before, unfinished_run_start}
 use Rattle.sub_rules.specs.FrameRules.{Criteria, Unread, frame_at, packets_before, packets_of_frame}
 use Rattle.sub_rules.specs.PesPacketEvents.{steps_at_end, steps_of_arrival, steps_of_ending}
 use Rattle.sub_rules.specs.PesPacketEvents.{steps_of_gap}
@@ -82,22 +82,22 @@ module _ (g : Criteria) (u : Option Unread) (done more : Transmission) where
         frame_at-prefix i l,
       ) refl
 
-  pub unfinished_since-prefix : (n f : ℕ) → n ≤ length done
-      → unfinished_since g all n f ≡ unfinished_since h done n f
-  unfolding unfinished_since
-  unfinished_since-prefix n f l =
+  pub unfinished_run_start-prefix : (n f : ℕ) → n ≤ length done
+      → unfinished_run_start g all n f ≡ unfinished_run_start h done n f
+  unfolding unfinished_run_start
+  unfinished_run_start-prefix n f l =
       grind (arith, nat_tests, gap_first_unfinished_same, first_unfinished_same, latest-prefix)
 
   pub first_unfinished_before-prefix : (n f : ℕ) → n ≤ length done
       → first_unfinished_before g all n f ≡ first_unfinished_before h done n f
   unfolding first_unfinished_before
   first_unfinished_before-prefix zero f l = refl
-  first_unfinished_before-prefix (suc n) f l = unfinished_since-prefix (suc n) (f - 1) l
+  first_unfinished_before-prefix (suc n) f l = unfinished_run_start-prefix (suc n) (f - 1) l
 
   pub is_late-prefix : (n f : ℕ) → 0 < length done → n ≤ length done
       → is_late g all n f ≡ is_late h done n f
   unfolding is_late
-  is_late-prefix n f some l = rw (unfinished_since-prefix n f l, frame_at-prefix 0 some) refl
+  is_late-prefix n f some l = rw (unfinished_run_start-prefix n f l, frame_at-prefix 0 some) refl
 
   is_silent-prefix : (n f : ℕ) → n ≤ length done → is_silent g all n f ≡ is_silent h done n f
   unfolding is_silent
@@ -170,7 +170,7 @@ module _ (g : Criteria) (u : Option Unread) (done more : Transmission) where
         arith,
         nat_tests,
         first_unfinished_before-prefix,
-        unfinished_since-prefix,
+        unfinished_run_start-prefix,
         is_late-prefix,
         events_at_end-prefix,
       )

@@ -11,13 +11,13 @@ use Rattle.std.specs.Option.{option_or}
 use Rattle.sub_rules.specs.Events.{events_at_end, first_header_events, first_reported}
 use Rattle.sub_rules.specs.Events.{gap_length, is_late, latest, order_events}
 use Rattle.sub_rules.specs.Events.{packet_events, first_unfinished_before, active_faults_at}
-use Rattle.sub_rules.specs.Events.{unfinished_since}
+use Rattle.sub_rules.specs.Events.{unfinished_run_start}
 use Rattle.sub_rules.specs.FrameRules.{Criteria, frame_at, packets_before, packets_of_frame}
 use Rattle.sub_rules.specs.PesPacketEvents.{goes_back, steps_at_end, steps_before, steps_of_arrival}
 use Rattle.sub_rules.specs.PesPacketEvents.{steps_of_ending, steps_of_gap, steps_of_more}
 use Rattle.sub_rules.specs.PesPacketEvents.{steps_of_next}
 use Rattle.sub_rules.specs.PesPacketEvents.{steps_of_packets, steps_of_sent, steps_of_pending_end}
-use Rattle.sub_rules.specs.PesPackets.{goes_on_with}
+use Rattle.sub_rules.specs.PesPackets.{continues_with}
 use Rattle.sub_rules.specs.Transmission.{SentFrame, Transmission}
 use Rattle.sub_rules.specs.Trusted.CheckStep.{AtEnd, AtPes, Begins, Closes, Ends, GoesBack, Emits}
 use Rattle.sub_rules.specs.declared.event.Event.{Event}
@@ -25,7 +25,7 @@ use Rattle.sub_rules.specs.declared.event.Event.TheVariants.{Reported}
 use Rattle.ttx_page.specs.PacketKind.{kind}
 use Rattle.ttx_page.specs.Span.{holds_beginning}
 use Rattle.sub_rules.proofs.AnyReportedLemmas.{own_frame, own_names}
-use Rattle.sub_rules.proofs.JoinedLemmas.{goes_on-none}
+use Rattle.sub_rules.proofs.JoinedLemmas.{continues-none}
 use Rattle.sub_rules.specs.Trusted.{CheckStep, at_pes, back_of, current_pes, run_of}
 use Rattle.sub_rules.specs.Trusted.{has_no_active_faults}
 use Rattle.sub_rules.specs.Trusted.{reported_after, reported_at, trusted, trusted_up_to}
@@ -115,7 +115,7 @@ module _ (pes : ℕ) where
             → Emitting ((if back then GoesBack (first_unfinished_before g frames i f) ∷ [] else [])
             ++ (if b
             then []
-            else AtEnd f (unfinished_since g frames n f) (is_late g frames n f) ∷ [])
+            else AtEnd f (unfinished_run_start g frames n f) (is_late g frames n f) ∷ [])
             ++ map Emits (events_at_end g frames i n f)) (events_at_end g frames i n f)
         go true true = emitting_emits (events_at_end g frames i n f)
         go true false = emitting_emits (events_at_end g frames i n f)
@@ -204,10 +204,10 @@ module _ (g : Criteria) (at_once : g.within ≡ 0) where
       → emitted_by pes (steps_of_sent g sent n s ++ more)
       ≡ frame_events g (sent ++ s ∷ []) n ++ emitted_by n more
   unfolding steps_of_sent
-  emitted_sent sent s n pes more size = go (goes_on_with g.within sent s) refl
+  emitted_sent sent s n pes more size = go (continues_with g.within sent s) refl
     where
-      none_goes : goes_on_with g.within sent s ≡ false
-      none_goes = ap (λ (w : ℕ). goes_on_with w sent s) at_once ∙ goes_on-none sent s
+      none_continues : continues_with g.within sent s ≡ false
+      none_continues = ap (λ (w : ℕ). continues_with w sent s) at_once ∙ continues-none sent s
 
       next : emitted_by n (steps_of_next g sent s ++ more)
           ≡ frame_events g (sent ++ s ∷ []) n ++ emitted_by n more
@@ -225,12 +225,12 @@ module _ (g : Criteria) (at_once : g.within ≡ 0) where
           ∙ ap (λ (l : List Event). l ++ emitted_by n more)
           (own_names n (frame_events g frames n) (own_frame g frames n))))
 
-      go : (same : Bool) → goes_on_with g.within sent s ≡ same
+      go : (same : Bool) → continues_with g.within sent s ≡ same
           → emitted_by pes ((if same
           then AtPes n ∷ steps_of_more g sent s.packets
           else steps_of_pending_end g sent ++ AtPes n ∷ steps_of_next g sent s) ++ more)
           ≡ frame_events g (sent ++ s ∷ []) n ++ emitted_by n more
-      go true e = absurd (true≢false (sym e ∙ none_goes))
+      go true e = absurd (true≢false (sym e ∙ none_continues))
       go false e =
           ap (λ (ms : List CheckStep). emitted_by pes
           ((ms ++ AtPes n ∷ steps_of_next g sent s) ++ more))

@@ -8,7 +8,7 @@ use Rattle.std.specs.List.{list_all}
 use Rattle.std.proofs.lemmas.Bool.{leb-true, le-leb}
 use Rattle.std.proofs.lemmas.Bool.Decides.{Decides-by_and, Decides-below_and}
 use Rattle.std.proofs.lemmas.Bool.Decides.{nat_tests}
-use Rattle.ttx_packet.proofs.OneBitLemmas.{first_below_is}
+use Rattle.ttx_packet.proofs.OneBitLemmas.{first_below_eq}
 use Rattle.ttx_packet.specs.OneBit.{first_below}
 use Rattle.stl_rows.specs.declared.national.NationalBits.{NationalBits}
 use Rattle.sub_rules.specs.PacketTests.{is_same_bit, is_same_option}
@@ -48,16 +48,24 @@ pub each_below : (test : ℕ → Bool) (n : ℕ) → all_below test n ≡ true �
     → test k ≡ true
 each_below test n = (below test (λ k. test k ≡ true) (λ k. holds (test k)) n).0
 
-pub below_none : (n : ℕ) (test : ℕ → Bool) → first_below n test ≡ None
+pub first_below_none : (n : ℕ) (test : ℕ → Bool) → first_below n test ≡ None
     → (k : ℕ) → k < n → test k ≡ false
-below_none zero test e k l = absurd (omega arith)
-below_none (suc n) test e k l = let before = below_none n test in grind (arith, nat_tests)
+first_below_none zero test e k l = absurd (omega arith)
+first_below_none (suc n) test e k l = let before = first_below_none n test in grind
+    (arith, nat_tests)
 
-pub below_before : (n : ℕ) (test : ℕ → Bool) (x : ℕ) → first_below n test ≡ Some x
+pub first_below_least : (n : ℕ) (test : ℕ → Bool) (x : ℕ) → first_below n test ≡ Some x
     → (k : ℕ) → k < x → test k ≡ false
-below_before zero test x e k l = grind arith
-below_before (suc n) test x e k l =
-    grind (arith, nat_tests, below_before n test x, below_none n test, first_below_is n test x)
+first_below_least zero test x e k l = grind arith
+first_below_least (suc n) test x e k l =
+    grind (
+      arith,
+      nat_tests,
+      first_below_least n test x,
+      first_below_none n test,
+      first_below_eq n
+          test x,
+    )
 
 pub each_of :
     {A : Type 0} (test : A → Bool) (P : A → Type 0)

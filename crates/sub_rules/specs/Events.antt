@@ -168,15 +168,15 @@ first_unfinished_in_frames g frames (suc i) =
 
 -- The first frame of the current run of frame ends with an unfinished page, at the end of frame f,
 -- after n frames of the transmission; `None` if the page is finished there.
-unfoldable pub unfinished_since : Criteria → Transmission → ℕ → ℕ → Option ℕ
-unfinished_since g frames n f =
+unfoldable pub unfinished_run_start : Criteria → Transmission → ℕ → ℕ → Option ℕ
+unfinished_run_start g frames n f =
     first_unfinished_in_gap g frames n (first_unfinished_in_frames g frames n) (f - latest frames n)
 
 -- The first frame of the current run of frame ends with an unfinished page, at the end before that
 -- of frame f, with n frames of the transmission up to there.
 unfoldable pub first_unfinished_before : Criteria → Transmission → ℕ → ℕ → Option ℕ
 first_unfinished_before g frames zero f = None
-first_unfinished_before g frames (suc i) f = unfinished_since g frames (suc i) (f - 1)
+first_unfinished_before g frames (suc i) f = unfinished_run_start g frames (suc i) (f - 1)
 
 -- The next frame is the TCO of a subtitle whose page was never finished: the subtitle began at or
 -- after the first unfinished end of the run. A subtitle that began before the first frame of the
@@ -198,7 +198,7 @@ is_overdue g first (Some first_unfinished) f =
 -- `within` is 0, each unfinished end is a fault, otherwise only overdue ones.
 unfoldable pub is_late : Criteria → Transmission → ℕ → ℕ → Bool
 is_late g frames n f =
-    g.within == 0 || is_overdue g (frame_at frames 0) (unfinished_since g frames n f) f
+    g.within == 0 || is_overdue g (frame_at frames 0) (unfinished_run_start g frames n f) f
 
 -- The code was due in the cell at frame f or at one of the n frames before f, but not before the
 -- frame `first`.
@@ -312,13 +312,13 @@ events_at_end g frames i n f =
 -- A subtitle is due before this frame: the first TCI is earlier.
 abbrev pub is_early : Option ℕ → ℕ → Bool
 is_early None frame = false
-is_early (Some first_in) frame = nat_lt first_in frame
+is_early (Some first_tci) frame = nat_lt first_tci frame
 
 -- The events for the number of frame i of the transmission: the first frame must not be after the
 -- first TCI, and each other frame must be after the previous one.
 unfoldable pub order_events : Criteria → Transmission → ℕ → List Event
 order_events g frames zero =
-    if is_early g.first_in (frame_at frames 0)
+    if is_early g.first_tci (frame_at frames 0)
     then Reported (fault.Early (frame_at frames 0)) ∷ []
     else []
 order_events g frames (suc i) =
@@ -378,21 +378,21 @@ unread_fault pes None = fault.Empty
 -- The transmission is too short: the last TCO is after this frame.
 abbrev pub is_short : Option ℕ → ℕ → Bool
 is_short None frame = false
-is_short (Some last_out) frame = nat_lt frame last_out
+is_short (Some last_tco) frame = nat_lt frame last_tco
 
 -- At the last end, the page is unfinished, but that is no fault yet: the page could have become
 -- right in a frame that is missing.
 unfoldable pub is_pending : Criteria → Transmission → Bool
 is_pending g frames =
     let n = length frames in
-    is_some (unfinished_since g frames n (end_frame frames))
+    is_some (unfinished_run_start g frames n (end_frame frames))
     && not (is_late g frames n (end_frame frames))
 
 -- The event `Late` after the last frame, if the last TCO is after that frame, or if the page is
 -- unfinished at its end but that is no fault yet.
 abbrev pub late_events : Criteria → Transmission → List Event
 late_events g frames =
-    if is_short g.last_out (end_frame frames) || is_pending g frames
+    if is_short g.last_tco (end_frame frames) || is_pending g frames
     then Reported (fault.Late (end_frame frames)) ∷ []
     else []
 

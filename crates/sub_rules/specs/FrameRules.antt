@@ -9,7 +9,7 @@ use Rattle.ttx_page.specs.Span.{holds_header, is_open_after}
 use Rattle.ttx_pes.specs.declared.fault.PesFault.{PesFault}
 use Rattle.stl_rows.specs.DuePage.{tci_of_ending}
 use Rattle.stl_rows.specs.Judged.{JudgedValue, has_refused, is_undecided_in}
-use Rattle.stl_rows.specs.Programme.{ProgrammeValue, first_in, last_out}
+use Rattle.stl_rows.specs.Programme.{ProgrammeValue, first_tci, last_tco}
 use Rattle.sub_plan.specs.Options.{OptionsValue}
 use Rattle.sub_plan.specs.Schedule.{due_in}
 use Rattle.sub_rules.specs.Kept.{IsRight}
@@ -30,8 +30,8 @@ pub data Unread : Type 0 where
 --   pace         maximum distance of PES packets in frames, if it is limited
 --   due          the due page at each frame
 --   ending       the TCI of the subtitle with a given TCO
---   first_in     the first TCI
---   last_out     the last TCO
+--   first_tci     the first TCI
+--   last_tco     the last TCO
 --   any_refused  subtitles of the file were rejected
 --   undecided    the frames at which the due page is unknown because of rejected subtitles
 --   unread       why the rest of the PES file cannot be read, if it cannot
@@ -42,8 +42,8 @@ pub record Criteria : Type 0 where
   pub pace : Option ℕ
   pub due : ℕ → Rows
   pub ending : ℕ → Option ℕ
-  pub first_in : Option ℕ
-  pub last_out : Option ℕ
+  pub first_tci : Option ℕ
+  pub last_tco : Option ℕ
   pub any_refused : Bool
   pub undecided : ℕ → Bool
   pub unread : Option Unread
@@ -68,8 +68,8 @@ criteria_with programme watched every within pace unread = record {
   pace = pace;
   due = due_in programme;
   ending = tci_of_ending programme.records;
-  first_in = first_in programme.records;
-  last_out = last_out programme.records;
+  first_tci = first_tci programme.records;
+  last_tco = last_tco programme.records;
   any_refused = false;
   undecided = λ frame. false;
   unread = unread;

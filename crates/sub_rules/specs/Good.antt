@@ -6,7 +6,7 @@ use Rattle.std.specs.Prelude.{◌≡◌, ℕ, ◌+◌, ◌<◌, ◌≤◌, List,
 use Rattle.std.specs.Prelude.{All, IfSome, IsTrue, IsFalse, Option}
 use Rattle.ttx_packet.specs.declared.header.Header.{Header}
 use Rattle.ttx_packet.specs.PacketAddress.{PacketAddress, address}
-use Rattle.ttx_packet.specs.PageHeader.{header, HasExactWords}
+use Rattle.ttx_packet.specs.PageHeader.{header, HasExactCodeWords}
 use Rattle.ttx_packet.specs.PageHeader.{c4, c5, c6, c7, c10, c11}
 use Rattle.ttx_packet.specs.PageId.{PageIdValue}
 use Rattle.ttx_page.specs.declared.packet_kind.PacketKind.TheVariants.{ThisPage}
@@ -17,7 +17,7 @@ use Rattle.ttx_page.specs.Shown.{shown}
 use Rattle.ttx_page.specs.Span.{holds_header, span}
 use Rattle.stl_rows.specs.declared.national.National.{National}
 use Rattle.stl_rows.specs.SubSets.{sub_set}
-use Rattle.stl_rows.specs.Programme.{ProgrammeValue, first_in, last_out}
+use Rattle.stl_rows.specs.Programme.{ProgrammeValue, first_tci, last_tco}
 use Rattle.sub_plan.specs.Options.{OptionsValue}
 use Rattle.sub_plan.specs.Schedule.{due_in}
 use Rattle.sub_plan.specs.Sending.{national_bits}
@@ -115,11 +115,11 @@ pub record KeepsRules
   pub not_empty : 0 < length transmission
   pub rising : IsRising transmission
   pub whole : EachPacket (λ packet. length packet ≡ 42) transmission
-  pub starts : IfSome (first_in programme.records) (λ tci. first_frame transmission ≤ tci)
-  pub lasts : IfSome (last_out programme.records) (λ tco. tco ≤ last_frame transmission)
+  pub starts : IfSome (first_tci programme.records) (λ tci. first_frame transmission ≤ tci)
+  pub lasts : IfSome (last_tco programme.records) (λ tco. tco ≤ last_frame transmission)
   -- Rule 2: the address bytes of each packet, and all eight coded bytes of each packet X/0, are
   -- Hamming 8/4 code words without a wrong bit.
-  pub exact : EachPacket HasExactWords transmission
+  pub exact : EachPacket HasExactCodeWords transmission
   -- Rule 3: all page headers, of any page and magazine, have the same C11, magazine serial.
   pub serial : EachPacket (λ one. EachPacket (IsInOneMode one) transmission) transmission
   -- Rule 4: each header of the page has the control bits of a subtitle, with the national option of

@@ -33,7 +33,7 @@ has_row page packets row =
 pub record IsRight
     (keeps : Bool) (page : PageIdValue) (packets : List (List ℕ)) (due : Rows) (row column : ℕ)
     : Type 0 where
-  pub kept_is : kept keeps page packets row column ≡ cell due row column
+  pub kept_eq : kept keeps page packets row column ≡ cell due row column
   pub again : cell due row column ≢ space → IsTrue (has_row page packets row)
 
 -- If repeats must not keep the page, a cell is right if and only if it shows the due code. So

@@ -14,11 +14,11 @@ use Rattle.sub_rules.specs.Events.{closing_events, events_at_end, first_header_e
 use Rattle.sub_rules.specs.Events.{first_reported, gap_length, is_late, latest, order_events}
 use Rattle.sub_rules.specs.Events.{packet_events, packets_reported, first_unfinished_before}
 use Rattle.sub_rules.specs.Events.{active_faults_at}
-use Rattle.sub_rules.specs.Events.{unfinished_since, unread_fault}
+use Rattle.sub_rules.specs.Events.{unfinished_run_start, unread_fault}
 use Rattle.sub_rules.specs.Fault.{check_code, fault_row, place_of}
 use Rattle.sub_rules.specs.FrameRules.{Criteria, Unread, end_frame, frame_at, packets_before}
 use Rattle.sub_rules.specs.FrameRules.{packets_of_frame}
-use Rattle.sub_rules.specs.PesPackets.{PesPacket, frames_of, goes_on_with, joined}
+use Rattle.sub_rules.specs.PesPackets.{PesPacket, frames_of, continues_with, joined}
 use Rattle.sub_rules.specs.PesPackets.{read_until_skipped}
 use Rattle.sub_rules.specs.PesPackets.{sent_after}
 use Rattle.sub_rules.specs.PesPackets.PesPacket.{Skipped, Sent}
@@ -54,7 +54,7 @@ steps_at_end g frames i n f =
     steps_before g (first_unfinished_before g frames i f)
     ++ (if g.within == 0
     then []
-    else AtEnd f (unfinished_since g frames n f) (is_late g frames n f) ∷ [])
+    else AtEnd f (unfinished_run_start g frames n f) (is_late g frames n f) ∷ [])
     ++ map Emits (events_at_end g frames i n f)
 
 -- The steps at the ends of n frames of the day without a PES packet, which follow the first i
@@ -118,7 +118,7 @@ steps_of_next g sent s =
 -- The steps for a PES packet of frame s, sent after the frames `sent`.
 unfoldable pub steps_of_sent : Criteria → Transmission → ℕ → SentFrame → List CheckStep
 steps_of_sent g sent pes s =
-    if goes_on_with g.within sent s
+    if continues_with g.within sent s
     then AtPes pes ∷ steps_of_more g sent s.packets
     else steps_of_pending_end g sent ++ AtPes pes ∷ steps_of_next g sent s
 
@@ -174,8 +174,8 @@ is_after _ _ = false
 
 -- The fault `refusal` belongs to a skipped packet directly after the packet of the fault `last`,
 -- and has the same number.
-unfoldable pub goes_on : CheckFault → CheckFault → Bool
-goes_on last refusal =
+unfoldable pub continues : CheckFault → CheckFault → Bool
+continues last refusal =
     (fault_row refusal).is_skipped
     && is_after (place_of last) (place_of refusal)
     && ((check_code refusal).number == (check_code last).number)
@@ -191,13 +191,13 @@ abbrev pub no_run : SkippedRun
 no_run = record { last = None; many = false }
 
 -- The fault continues a run whose last fault is `last`; false if there is no run.
-abbrev pub goes_on_after : Option CheckFault → CheckFault → Bool
-goes_on_after None refusal = false
-goes_on_after (Some last) refusal = goes_on last refusal
+abbrev pub continues_after : Option CheckFault → CheckFault → Bool
+continues_after None refusal = false
+continues_after (Some last) refusal = continues last refusal
 
 -- The event continues the run of skipped packets.
 unfoldable pub joins : SkippedRun → Event → Bool
-joins run (Reported refusal) = goes_on_after run.last refusal
+joins run (Reported refusal) = continues_after run.last refusal
 joins run event = false
 
 -- The run that ends with this fault; no run if the packet of the fault is not skipped.
@@ -209,7 +209,7 @@ run_with refusal many = record {
 
 -- The run of skipped packets after an event.
 unfoldable pub skipped_run_after : SkippedRun → Event → SkippedRun
-skipped_run_after run (Reported refusal) = run_with refusal (goes_on_after run.last refusal)
+skipped_run_after run (Reported refusal) = run_with refusal (continues_after run.last refusal)
 skipped_run_after run event = no_run
 
 -- The event `SkippedUntil` for the last fault of a run; none if there is no run.

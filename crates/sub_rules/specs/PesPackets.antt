@@ -137,15 +137,15 @@ with_packets packets (s ∷ []) =
 with_packets packets (s ∷ next ∷ frames) = s ∷ with_packets packets (next ∷ frames)
 
 -- With `--within`, a PES packet with the frame number of the last frame belongs to that frame.
-abbrev pub goes_on_with : ℕ → Transmission → SentFrame → Bool
-goes_on_with within [] s = false
-goes_on_with within (first ∷ sent) s =
+abbrev pub continues_with : ℕ → Transmission → SentFrame → Bool
+continues_with within [] s = false
+continues_with within (first ∷ sent) s =
     not (within == 0) && (end_frame (first ∷ sent) == s.frame)
 
 -- The transmission after one more PES packet.
 abbrev pub sent_after : ℕ → Transmission → SentFrame → Transmission
 sent_after within sent s =
-    if goes_on_with within sent s then with_packets s.packets sent else sent ++ s ∷ []
+    if continues_with within sent s then with_packets s.packets sent else sent ++ s ∷ []
 
 -- The transmission after more PES packets.
 unfoldable pub joined_after : ℕ → Transmission → Transmission → Transmission

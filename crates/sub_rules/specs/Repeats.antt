@@ -8,14 +8,14 @@
 -- require them.
 use Rattle.std.specs.Prelude.{◌≡◌, ◌↔◌, ℕ, ◌+◌, ◌-◌, ◌<◌, ◌≤◌, ◌⊎◌, Bool, true, false, []}
 use Rattle.std.specs.Prelude.{length, take, slice_index_or, All, IfSome, IsTrue, IsFalse}
-use Rattle.ttx_packet.specs.PageHeader.{HasExactWords}
+use Rattle.ttx_packet.specs.PageHeader.{HasExactCodeWords}
 use Rattle.ttx_packet.specs.PageId.{PageIdValue}
 use Rattle.ttx_page.specs.Noise.{ErasesPage}
 use Rattle.ttx_page.specs.Page.{IsCell, cell, space}
 use Rattle.ttx_page.specs.PacketKind.{kind}
 use Rattle.ttx_page.specs.Shown.{kept}
 use Rattle.ttx_page.specs.Span.{is_open_after, text_span}
-use Rattle.stl_rows.specs.Programme.{ProgrammeValue, first_in, last_out}
+use Rattle.stl_rows.specs.Programme.{ProgrammeValue, first_tci, last_tco}
 use Rattle.sub_plan.specs.Options.{OptionsValue}
 use Rattle.sub_plan.specs.Schedule.{due_in}
 use Rattle.sub_rules.specs.Good.{HoldsHeader, IsCleanSpan, IsInOneMode, KeepsPace, KeepsRules}
@@ -74,9 +74,9 @@ pub record KeepsRulesBy
   pub not_empty : 0 < length transmission
   pub rising : IsRising transmission
   pub whole : EachPacket (λ packet. length packet ≡ 42) transmission
-  pub starts : IfSome (first_in programme.records) (λ tci. first_frame transmission ≤ tci)
-  pub lasts : IfSome (last_out programme.records) (λ tco. tco ≤ last_frame transmission)
-  pub exact : EachPacket HasExactWords transmission
+  pub starts : IfSome (first_tci programme.records) (λ tci. first_frame transmission ≤ tci)
+  pub lasts : IfSome (last_tco programme.records) (λ tco. tco ≤ last_frame transmission)
+  pub exact : EachPacket HasExactCodeWords transmission
   pub serial : EachPacket (λ one. EachPacket (IsInOneMode one) transmission) transmission
   -- Rule 4: each header of the page has the control bits of a subtitle. It erases the page or, if
   -- repeats may keep the page, repeats it.

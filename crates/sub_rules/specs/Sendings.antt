@@ -7,5 +7,5 @@ use Rattle.sub_rules.specs.Transmission.{Transmission}
 pub record IsSentFrame (frames : Transmission) (i frame : ℕ) (packets : List (List ℕ)) : Type 0
   where
     pub there : i < length frames
-    pub frame_is : frame_at frames i ≡ frame
+    pub frame_eq : frame_at frames i ≡ frame
     pub packets_are : packets_of_frame frames i ≡ packets

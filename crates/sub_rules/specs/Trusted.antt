@@ -58,10 +58,10 @@ current_pes (AtPes pes ∷ past) = pes
 current_pes (m ∷ past) = current_pes past
 
 -- The frame of the last PES packet; 0 before the first PES packet.
-unfoldable pub last_begun : List CheckStep → ℕ
-last_begun [] = 0
-last_begun (Begins f ∷ past) = f
-last_begun (m ∷ past) = last_begun past
+unfoldable pub last_packet_frame : List CheckStep → ℕ
+last_packet_frame [] = 0
+last_packet_frame (Begins f ∷ past) = f
+last_packet_frame (m ∷ past) = last_packet_frame past
 
 -- The first frame of the run of ends with an unfinished page, up to the last end; `None` if the
 -- page was finished there.
@@ -94,7 +94,8 @@ is_emitted m = false
 -- fault. If the page is wrong for too long, this is the frame since which it is wrong.
 unfoldable pub invalidated_by : List CheckStep → Event → Option ℕ
 invalidated_by past (Reported f) =
-    invalidated_frame (last_begun past) (late_of past) (fault_row f).invalidates (fault_row f).place
+    invalidated_frame (last_packet_frame past) (late_of past) (fault_row f).invalidates
+    (fault_row f).place
 invalidated_by past event = None
 
 -- The step reports that a frame is not after the previous one.
@@ -165,7 +166,8 @@ trusted_up_to past (Some f) = trusted (run_of past) (first_correct_of past)
 abbrev pub closing_at : List CheckStep → Bool → ℕ
 closing_at past left =
     unwrap_or (first_unfinished_of past)
-    (if left then unwrap_or (back_of past) (last_begun past) else suc (last_begun past))
+    (if left then unwrap_or (back_of past) (last_packet_frame past) else suc
+    (last_packet_frame past))
 
 -- The event with `pes` as the PES packet number of its fault. `pes` counts skipped packets too.
 unfoldable pub at_pes : ℕ → Event → Event

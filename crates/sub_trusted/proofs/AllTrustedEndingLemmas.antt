@@ -21,27 +21,31 @@ use Rattle.sub_rules.specs.Trusted.CheckStep.{AtPes, Closes, Ends, Emits}
 use Rattle.sub_rules.specs.declared.event.Event.{Event}
 use Rattle.sub_rules.specs.declared.event.Event.TheVariants.{Trusted}
 use Rattle.sub_trusted.proofs.TrustedEndingLemmas.{ending}
-use Rattle.sub_trusted.proofs.TrustedKeptLemmas.{Closed, Opens, opens_emitted, run_found, run_low}
+use Rattle.sub_trusted.proofs.TrustedKeptLemmas.{Closed, Opens, opens_emitted, run_found}
+use Rattle.sub_trusted.proofs.TrustedKeptLemmas.{run_at_most}
 use Rattle.sub_trusted.proofs.TrustedKeptLemmas.{no_faults_before}
-use Rattle.sub_trusted.proofs.TrustedKeptLemmas.{up_of, correct_found}
-use Rattle.sub_trusted.proofs.TrustedLookLemmas.{Backs, Looks, with_end}
+use Rattle.sub_trusted.proofs.TrustedKeptLemmas.{run_facts_of, correct_found}
+use Rattle.sub_trusted.proofs.TrustedLookLemmas.{WrongSince, ChecksFrameEnd, with_end}
 use Rattle.sub_trusted.proofs.AllTrustedStretchLemmas.{Fits, end_back, own_in}
 use Rattle.sub_trusted.proofs.LateInvalidationLemmas.{end_invalidation, header_none}
 use Rattle.sub_trusted.proofs.AllTrustedLeadLemmas.{IsReported, Leads, Leads-append, Leads-both}
 use Rattle.sub_trusted.proofs.AllTrustedLeadLemmas.{Leads-cons}
 use Rattle.sub_trusted.proofs.AllTrustedLeadLemmas.{Leads-nil, put_reported, reported_left}
-use Rattle.sub_trusted.proofs.EmittedStepLemmas.{AreEmitted, invalidation_of, is_order, kept_some}
+use Rattle.sub_trusted.proofs.EmittedStepLemmas.{AreEmitted, invalidation_of, is_order}
+use Rattle.sub_trusted.proofs.EmittedStepLemmas.{run_was_there}
 use Rattle.sub_trusted.proofs.EmittedStepLemmas.{emitted}
 use Rattle.sub_trusted.proofs.AllTrustedKeptLemmas.{Follows, invalidation_reported, end_follows}
 use Rattle.sub_trusted.proofs.AllTrustedKeptLemmas.{end_orders}
 use Rattle.sub_trusted.proofs.AllTrustedKeptLemmas.{end_past, follows_emitted, top, correct_kept}
 use Rattle.sub_trusted.proofs.AllTrustedKeptLemmas.{correct_now}
-use Rattle.sub_trusted.proofs.AllTrustedStepLemmas.{Open, Past, Sending, clean_still, in_part}
+use Rattle.sub_trusted.proofs.AllTrustedStepLemmas.{Open, FramesEnded, Sending, clean_without_doubt}
+use Rattle.sub_trusted.proofs.AllTrustedStepLemmas.{in_part}
 use Rattle.sub_trusted.proofs.AllTrustedStepLemmas.{later_in}
 use Rattle.sub_trusted.proofs.AllTrustedStepLemmas.{sending_emits}
 use Rattle.sub_trusted.proofs.TrustedFrameLemmas.{count_most, risen, risen_low}
 use Rattle.sub_rules.proofs.TrustedLemmas.{past_after}
-use Rattle.sub_rules.specs.Trusted.{CheckStep, back_of, closing_at, is_emitted, last_begun, late_of}
+use Rattle.sub_rules.specs.Trusted.{CheckStep, back_of, closing_at, is_emitted, last_packet_frame}
+use Rattle.sub_rules.specs.Trusted.{late_of}
 use Rattle.sub_rules.specs.Trusted.{stays_fault_free}
 use Rattle.sub_laws.specs.CleanStretch.{IsEnd}
 use Rattle.sub_trusted.specs.TrustedFrames.{rising_part}
@@ -55,8 +59,8 @@ put_when : (c : Bool) (run whole : Option ℕ) (x from w : ℕ) → c ≡ true �
     → whole ≡ Some w
     → w < x
     → Contains (if c then trusted run whole x else []) (Trusted from (x - 1))
-put_when c run whole x from w is run_is first_correct_is l =
-    rw is (put_reported run whole x from w run_is first_correct_is l)
+put_when c run whole x from w is run_eq first_correct_eq l =
+    rw is (put_reported run whole x from w run_eq first_correct_eq l)
 
 header_orders : (g : Criteria) (frames : Transmission) (n : ℕ)
     → list_any is_order (first_header_events g frames n) ≡ false
@@ -76,11 +80,11 @@ in_run : (run whole : Option ℕ) (w : ℕ) → (if is_none run then None else w
 in_run None whole w e = absurd (none-some w e)
 in_run (Some from) whole w e = (from, refl, e)
 
-run_there : (run : Option ℕ) (has : Bool) (f : ℕ) → has ≡ true
+run_at_header : (run : Option ℕ) (has : Bool) (f : ℕ) → has ≡ true
     → ((from : ℕ) → run ≡ Some from → from ≤ f)
     → (from : ℕ) × (from ≤ f) × (option_or run (if has then Some f else None) ≡ Some from)
-run_there None has f header low = (f, le_refl f, rw header refl)
-run_there (Some from) has f header low = (from, low from refl, refl)
+run_at_header None has f header low = (f, le_refl f, rw header refl)
+run_at_header (Some from) has f header low = (from, low from refl, refl)
 
 module _ (g : Criteria) (frames : Transmission) (a b i : ℕ)
     (fits : Fits g frames a b i) where
@@ -115,20 +119,21 @@ module _ (g : Criteria) (frames : Transmission) (a b i : ℕ)
       → Opens g frames 0 n (packets_of_frame frames n) t
       → run_of t ≡ Some from
       → has_no_active_faults (active_faults_before g frames n (frame_at frames n)) ≡ true
-  active_before_own n from t there opens is = grind (arith, nat_tests, up_of, no_faults_before)
+  active_before_own n from t there opens is = grind
+      (arith, nat_tests, run_facts_of, no_faults_before)
 
   end_before_own : (n : ℕ) (t : List CheckStep) → n < length frames → OpenHere n t → i < n
       → IsEnd (rising_part frames) n (frame_at frames n - 1)
   end_before_own n t there (opens, sending) l =
       let (from, low, run) = sending.follows.run l in
-      let h = up_of g frames 0 n (frame_at frames n) from t opens.keeps opens.rises run in
+      let h = run_facts_of g frames 0 n (frame_at frames n) from t opens.keeps opens.rises run in
       let up = h.up in
       end_back frames n (frame_at frames n) h.some (in_part g frames a b i fits n there h)
       (omega arith) (omega arith)
 
   finishing : (n : ℕ) (t u v : List CheckStep) → n < length frames → OpenHere n t
-      → Looks g frames (suc n) (frame_at frames n) t u
-      → Backs g frames n (frame_at frames n) u
+      → ChecksFrameEnd g frames (suc n) (frame_at frames n) t u
+      → WrongSince g frames n (frame_at frames n) u
       → AreEmitted u v (events_at_end g frames n (suc n) (frame_at frames n))
       → (i ≤ n → invalidation_of u (events_at_end g frames n (suc n) (frame_at frames n)) ≡ None)
       → Finishing n v
@@ -147,9 +152,9 @@ module _ (g : Criteria) (frames : Transmission) (a b i : ℕ)
             (active_faults_at g frames (suc n) f) f)
             (λ l. none (omega arith));
         clean = λ l.
-            so.clean_is
-            ∙ clean_still (stays_fault_free u) (invalidation_of u es)
-            (looks.clean_is ∙ sending.clean l)
+            so.clean_eq
+            ∙ clean_without_doubt (stays_fault_free u) (invalidation_of u es)
+            (looks.clean_eq ∙ sending.clean l)
             (none l);
         fault_free = λ l. elim (cases_lt i n) [
           | inl below ↦
@@ -168,15 +173,15 @@ module _ (g : Criteria) (frames : Transmission) (a b i : ℕ)
             let at = here n same in
             let high = fits.high in
             let in_it = fits.there in
-            so.first_unfinished_is
-            ∙ looks.first_unfinished_is
+            so.first_unfinished_eq
+            ∙ looks.first_unfinished_eq
             ∙ fits.finished (suc n) f (own_in frames n (omega arith)) (omega arith);
         low = λ from is.
             let run : run_of t ≡ Some from =
-            sym looks.run_is
-            ∙ (kept_some (run_of u) (invalidation_of u es) from (sym so.run_is ∙ is)).0 in
-            let first = run_low g frames n from (opens.keeps.run from run) in
-            let rise = (up_of g frames 0 n f from t opens.keeps opens.rises run).up in
+            sym looks.run_eq
+            ∙ (run_was_there (run_of u) (invalidation_of u es) from (sym so.run_eq ∙ is)).0 in
+            let first = run_at_most g frames n from (opens.keeps.run from run) in
+            let rise = (run_facts_of g frames 0 n f from t opens.keeps opens.rises run).up in
             omega arith;
       }
 
@@ -195,8 +200,8 @@ module _ (g : Criteria) (frames : Transmission) (a b i : ℕ)
       in_part_low l =
           later_in g frames a b i fits n (packets_of_frame frames n) t there (opens, sending) l
 
-      go : (u : List CheckStep) → Looks g frames (suc n) (frame_at frames n) t u
-          → Backs g frames n (frame_at frames n) u
+      go : (u : List CheckStep) → ChecksFrameEnd g frames (suc n) (frame_at frames n) t u
+          → WrongSince g frames n (frame_at frames n) u
           → (o : Option ℕ) → invalidation_of u es ≡ o
           → Lead (Finishing n) u (map Emits es)
       go u looks backs None is =
@@ -233,7 +238,8 @@ module _ (g : Criteria) (frames : Transmission) (a b i : ℕ)
   ended_now : (n : ℕ) (t : List CheckStep) → Finishing n t
       → Follow (suc n) (frame_at frames (suc n - 1) + 1)
       (Ends (frame_at frames n) (has n) (fault_free_at n) ∷ t)
-  unfolding run_of first_correct_of last_begun first_unfinished_of late_of back_of stays_fault_free
+  unfolding run_of first_correct_of last_packet_frame first_unfinished_of late_of back_of
+      stays_fault_free
       reports_order_fault
   ended_now n t fin =
       let f : ℕ = frame_at frames n in
@@ -254,7 +260,7 @@ module _ (g : Criteria) (frames : Transmission) (a b i : ℕ)
                   let at = here n same in
                   let header : has n ≡ true =
                   subst (λ (k : ℕ). has k ≡ true) same fits.header in
-                  let (from, low, is) = run_there (run_of t) (has n) f header fin.low in
+                  let (from, low, is) = run_at_header (run_of t) (has n) f header fin.low in
                   (from, omega arith, rw (clean, fault_free) is)
             ];
         low = λ from w is held.
@@ -295,7 +301,7 @@ module _ (g : Criteria) (frames : Transmission) (a b i : ℕ)
       }
 
   pub ending_leads : (n : ℕ) (t : List CheckStep) → n < length frames → OpenHere n t
-      → Lead (Past g frames a b i fits (suc n)) t (steps_of_ending g frames n)
+      → Lead (FramesEnded g frames a b i fits (suc n)) t (steps_of_ending g frames n)
   ending_leads n t there (opens, sending) =
       let f : ℕ = frame_at frames n in
       let last : CheckStep = Ends f (has n) (fault_free_at n) in
@@ -325,14 +331,14 @@ module _ (g : Criteria) (frames : Transmission) (a b i : ℕ)
           (λ same. none) (λ l x invalidation. absurd (none-some x (sym none ∙ invalidation))))
 
   pub closing_reported : (pes : ℕ) (t : List CheckStep)
-      → Past g frames a b i fits (length frames) t
+      → FramesEnded g frames a b i fits (length frames) t
       → (list_any is_emitted t
       || (g.any_refused || not
       (reports_none (closing_of_pes_packets g frames pes (length frames)))))
       ≡ true
       → IsReported (top g frames a b i fits) b
       (reported_after t (steps_of_closing g frames pes (length frames)))
-  unfolding reported_after reported_at run_of first_correct_of last_begun first_unfinished_of
+  unfolding reported_after reported_at run_of first_correct_of last_packet_frame first_unfinished_of
       late_of back_of stays_fault_free
       reports_order_fault
   closing_reported pes t (closed, follows) reported =
@@ -354,12 +360,12 @@ module _ (g : Criteria) (frames : Transmission) (a b i : ℕ)
       let t1 : List CheckStep = Closes (is_some g.unread) more ∷ t0 in
       let x : ℕ = closing_at t (is_some g.unread) in
       let past : b < x =
-      closing_past (first_unfinished_of t) (back_of t) (is_some g.unread) (last_begun t) b
+      closing_past (first_unfinished_of t) (back_of t) (is_some g.unread) (last_packet_frame t) b
       (λ r first_unfinished. follows.first_unfinished (omega arith) (omega arith) r
       first_unfinished)
       (λ below r is. follows.back (omega arith) (omega arith) r is) (omega arith)
       (λ left.
-      let (u, unread) = unread_is g.unread left in
+      let (u, unread) = unread_eq g.unread left in
       let l = fits.unread u unread in
       omega arith) in
       reported_left (top g frames a b i fits) b (reported_at t0 (Closes (is_some g.unread) more))
@@ -373,6 +379,6 @@ module _ (g : Criteria) (frames : Transmission) (a b i : ℕ)
             (omega arith),
       )
     where
-      unread_is : (o : Option Unread) → is_some o ≡ true → (u : Unread) × (o ≡ Some u)
-      unread_is None e = absurd (true≢false (sym e))
-      unread_is (Some u) e = (u, refl)
+      unread_eq : (o : Option Unread) → is_some o ≡ true → (u : Unread) × (o ≡ Some u)
+      unread_eq None e = absurd (true≢false (sym e))
+      unread_eq (Some u) e = (u, refl)

@@ -17,14 +17,15 @@ use Rattle.sub_rules.specs.Trusted.CheckStep.{Emits}
 use Rattle.sub_rules.specs.declared.event.Event.{Event}
 use Rattle.sub_laws.specs.CleanStretch.{IsEnd}
 use Rattle.sub_trusted.specs.TrustedFrames.{rising_part}
-use Rattle.sub_trusted.proofs.TrustedKeptLemmas.{SeesNone, correct_found}
-use Rattle.sub_trusted.proofs.TrustedLookLemmas.{Backs, Looks, with_end}
+use Rattle.sub_trusted.proofs.TrustedKeptLemmas.{ChecksNoLateness, correct_found}
+use Rattle.sub_trusted.proofs.TrustedLookLemmas.{WrongSince, ChecksFrameEnd, with_end}
 use Rattle.sub_trusted.proofs.AllTrustedStretchLemmas.{Fits}
-use Rattle.sub_trusted.proofs.LateInvalidationLemmas.{before_is, end_invalidation, seen_unfinished}
+use Rattle.sub_trusted.proofs.LateInvalidationLemmas.{before_eq, end_invalidation, seen_unfinished}
 use Rattle.sub_trusted.proofs.AllTrustedLeadLemmas.{Leads, Leads-cons, emitted_reported}
-use Rattle.sub_trusted.proofs.EmittedStepLemmas.{AreEmitted, back_past, back_to, invalidation_of}
+use Rattle.sub_trusted.proofs.EmittedStepLemmas.{AreEmitted, back_to_after, back_to}
+use Rattle.sub_trusted.proofs.EmittedStepLemmas.{invalidation_of}
 use Rattle.sub_trusted.proofs.EmittedStepLemmas.{is_order}
-use Rattle.sub_trusted.proofs.EmittedStepLemmas.{rose, emitted}
+use Rattle.sub_trusted.proofs.EmittedStepLemmas.{has_risen, emitted}
 use Rattle.sub_rules.proofs.EndRuleLemmas.{end_any}
 use Rattle.sub_rules.proofs.TrustedLemmas.{past_after}
 use Rattle.sub_rules.specs.Trusted.{CheckStep, back_of, run_of, first_unfinished_of}
@@ -62,7 +63,7 @@ module _ (g : Criteria) (frames : Transmission) (a b i : ℕ)
 
   -- The first n frames have ended, and so have all frames of the day before frame p.
   pub record Follows (n p : ℕ) (t : List CheckStep) : Type 0 where
-    pub rises : n ≤ i → rose t ≡ true
+    pub rises : n ≤ i → has_risen t ≡ true
     pub run : i < n → (from : ℕ) × (from ≤ top) × (run_of t ≡ Some from)
     pub low : (from w : ℕ) → run_of t ≡ Some from → first_correct_of t ≡ Some w → w < p
     pub whole : i < n → b < p → (w : ℕ) × (w ≤ b) × (first_correct_of t ≡ Some w)
@@ -115,16 +116,16 @@ module _ (g : Criteria) (frames : Transmission) (a b i : ℕ)
 
   -- If the page has been wrong up to the end before a frame after the stretch, it was first wrong
   -- in a frame after the stretch.
-  pub back_after : (n f r : ℕ) (u : List CheckStep) → Backs g frames n f u → 0 < n
+  pub back_after : (n f r : ℕ) (u : List CheckStep) → WrongSince g frames n f u → 0 < n
       → IsEnd (rising_part frames) n (f - 1)
       → b < f
       → back_of u ≡ Some r
       → b < r
   back_after n f r u backs some end past is =
-      fits.back n (f - 1) r end (omega arith) (sym (before_is g frames n f some) ∙ backs r is)
+      fits.back n (f - 1) r end (omega arith) (sym (before_eq g frames n f some) ∙ backs r is)
 
-  pub end_follows : (n m f q : ℕ) (t u : List CheckStep) → Looks g frames m f t u
-      → Backs g frames n f u
+  pub end_follows : (n m f q : ℕ) (t u : List CheckStep) → ChecksFrameEnd g frames m f t u
+      → WrongSince g frames n f u
       → f + 1 ≡ q
       → Follows n f t
       → (i < n → IsEnd (rising_part frames) m f)
@@ -132,11 +133,11 @@ module _ (g : Criteria) (frames : Transmission) (a b i : ℕ)
       → Follows n q u
   end_follows n m f q t u looks backs next follows end before = record {
     rises = λ l. looks.rises_is ∙ follows.rises l;
-    run = λ l. let (from, low, is) = follows.run l in (from, low, looks.run_is ∙ is);
+    run = λ l. let (from, low, is) = follows.run l in (from, low, looks.run_eq ∙ is);
     low = low;
     whole = λ l past.
         let (from, from_low, run) = follows.run l in
-        let now = looks.first_correct_is (ap is_some run) in
+        let now = looks.first_correct_eq (ap is_some run) in
         elim (cases_lt b f) [
           | inl earlier ↦
               let (w, high, is) = follows.whole l earlier in (
@@ -154,22 +155,22 @@ module _ (g : Criteria) (frames : Transmission) (a b i : ℕ)
               (w, omega arith, now ∙ is)
         ];
     first_unfinished = λ l past r is. fits.first_unfinished m f r (end l) (omega arith)
-        (sym looks.first_unfinished_is ∙ is);
+        (sym looks.first_unfinished_eq ∙ is);
     back = λ l past r is. back_after n f r u backs (omega arith) (before l) (omega arith) is;
   }
     where
       low : (from w : ℕ) → run_of u ≡ Some from → first_correct_of u ≡ Some w → w < q
       low from w is whole =
-          let run : run_of t ≡ Some from = sym looks.run_is ∙ is in
+          let run : run_of t ≡ Some from = sym looks.run_eq ∙ is in
           elim (correct_found (first_correct_of t) (seen_unfinished g frames m f) f w
-          (sym (looks.first_correct_is (ap is_some run)) ∙ whole)) [
+          (sym (looks.first_correct_eq (ap is_some run)) ∙ whole)) [
             | inl before ↦ let under = follows.low from w run before in omega arith
             | inr (none, here) ↦ omega arith
           ]
 
   -- The reports at an end after the stretch cast doubt only on frames after the stretch.
-  pub end_past : (n m f x : ℕ) (t u : List CheckStep) → Looks g frames m f t u
-      → Backs g frames n f u
+  pub end_past : (n m f x : ℕ) (t u : List CheckStep) → ChecksFrameEnd g frames m f t u
+      → WrongSince g frames n f u
       → 0 < n
       → IsEnd (rising_part frames) m f
       → IsEnd (rising_part frames) n (f - 1)
@@ -185,13 +186,13 @@ module _ (g : Criteria) (frames : Transmission) (a b i : ℕ)
         nat_tests,
         late_past,
         seen_unfinished,
-        back_past,
+        back_to_after,
         back_after,
         none-some,
         (cases_lt b f),
       )
 
-  pub end_leads : (n m f q : ℕ) (t : List CheckStep) → ((g.within == 0) ≡ true → SeesNone t)
+  pub end_leads : (n m f q : ℕ) (t : List CheckStep) → ((g.within == 0) ≡ true → ChecksNoLateness t)
       → (goes_back g ≡ false → back_of t ≡ None)
       → f + 1 ≡ q
       → Follows n f t

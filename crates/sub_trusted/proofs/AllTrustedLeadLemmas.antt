@@ -19,8 +19,8 @@ use Rattle.sub_rules.specs.Trusted.{first_correct_of}
 -- If the page was right in a run, the frames of the run before frame x are reported as trusted.
 pub put_reported : (run whole : Option ℕ) (x from w : ℕ) → run ≡ Some from → whole ≡ Some w → w < x
     → Contains (trusted run whole x) (Trusted from (x - 1))
-put_reported run whole x from w run_is first_correct_is l =
-    rw (run_is, first_correct_is, lt-ltb w x l) (0, omega arith, refl)
+put_reported run whole x from w run_eq first_correct_eq l =
+    rw (run_eq, first_correct_eq, lt-ltb w x l) (0, omega arith, refl)
 
 put_up_to : (t : List CheckStep) (d : Option ℕ) (x from w : ℕ) → d ≡ Some x → run_of t ≡ Some from
     → first_correct_of t ≡ Some w
@@ -35,8 +35,8 @@ or_none d rest x none e = grind (arith, nat_tests)
 or_some : (d rest : Option ℕ) (x y : ℕ) → d ≡ Some y → option_or d rest ≡ Some x → d ≡ Some x
 or_some d rest x y some e = grind (arith, nat_tests)
 
-pub kept_on : (run d : Option ℕ) (from : ℕ) → d ≡ None → run ≡ Some from → kept run d ≡ Some from
-kept_on run d from none is = grind (arith, nat_tests)
+pub run_stays : (run d : Option ℕ) (from : ℕ) → d ≡ None → run ≡ Some from → kept run d ≡ Some from
+run_stays run d from none is = grind (arith, nat_tests)
 
 pub emitted_reported : (t : List CheckStep) (es : List Event) (x from w : ℕ) → invalidation_of t es
     ≡ Some x
@@ -51,7 +51,7 @@ emitted_reported t (e ∷ es) x from w is run whole l =
     (λ none.
     emitted_reported (Emits e ∷ t) es x from w
     (invalidation_after t e es ∙ or_none (invalidated_by t e) (invalidation_of t es) x none is)
-    (kept_on (run_of t) (invalidated_by t e) from none run) whole l) (invalidated_by t e) refl
+    (run_stays (run_of t) (invalidated_by t e) from none run) whole l) (invalidated_by t e) refl
   where
     rest : List Event
     rest = reported_after (Emits e ∷ t) (map Emits es)

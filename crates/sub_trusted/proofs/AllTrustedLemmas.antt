@@ -34,7 +34,7 @@ use Rattle.sub_laws.proofs.PesPacketWalkLemmas.{EachSkipped}
 use Rattle.sub_trusted.proofs.TrustedFrameLemmas.{part_length, risen}
 use Rattle.sub_laws.proofs.UnreportedLemmas.{before_open, silent}
 use Rattle.std.specs.List.{list_any}
-use Rattle.sub_rules.specs.Trusted.{CheckStep, back_of, is_emitted, last_begun, run_of}
+use Rattle.sub_rules.specs.Trusted.{CheckStep, back_of, is_emitted, last_packet_frame, run_of}
 use Rattle.sub_rules.specs.Trusted.{first_unfinished_of}
 use Rattle.sub_rules.specs.Trusted.{reports_none, reported_after, reported_at, first_correct_of}
 
@@ -48,7 +48,8 @@ closing_silent : (g : Criteria) (frames : Transmission) (pes n : ℕ) (t : List 
     → (list_any is_emitted t
     || (g.any_refused || not (reports_none (closing_of_pes_packets g frames pes n)))) ≡ false
     → reported_after t (steps_of_closing g frames pes n) ≡ []
-unfolding reported_after reported_at run_of first_correct_of last_begun first_unfinished_of back_of
+unfolding reported_after reported_at run_of first_correct_of last_packet_frame first_unfinished_of
+    back_of
 closing_silent g frames pes n t e = grind (arith, nat_tests)
 
 module _ (g : Criteria) (pes_packets : List PesPacket) (a b i : ℕ)

@@ -9,17 +9,17 @@ use Rattle.sub_rules.specs.Transmission.{Transmission}
 use Rattle.sub_rules.specs.Trusted.CheckStep.{AtPes}
 use Rattle.sub_trusted.proofs.TrustedKeptLemmas.{closed_at, opens_at}
 use Rattle.sub_trusted.proofs.AllTrustedStretchLemmas.{Fits}
-use Rattle.sub_laws.proofs.GrowingFrameLemmas.{end_is, long, so_many}
+use Rattle.sub_laws.proofs.GrowingFrameLemmas.{end_eq, long, grows_length}
 use Rattle.sub_laws.proofs.PesPacketWalkLemmas.{EachSkipped, Sends, Steps, each_pes_packet, waits}
 use Rattle.sub_trusted.proofs.AllTrustedLeadLemmas.{Leads, Leads-append, Leads-cons, Leads-nil}
 use Rattle.sub_trusted.proofs.EmittedStepLemmas.{reported_of}
 use Rattle.sub_trusted.proofs.AllTrustedEndingLemmas.{ending_leads}
 use Rattle.sub_trusted.proofs.AllTrustedKeptLemmas.{Follows, top}
-use Rattle.sub_trusted.proofs.AllTrustedStepLemmas.{Open, Past, arrival_leads, more_leads}
+use Rattle.sub_trusted.proofs.AllTrustedStepLemmas.{Open, FramesEnded, arrival_leads, more_leads}
 use Rattle.sub_trusted.proofs.AllTrustedStepLemmas.{skipped_leads}
 use Rattle.sub_trusted.proofs.AllTrustedStepLemmas.{skipped_past}
 use Rattle.sub_trusted.proofs.TrustedFrameLemmas.{risen}
-use Rattle.sub_rules.specs.Trusted.{CheckStep, back_of, last_begun, late_of, run_of}
+use Rattle.sub_rules.specs.Trusted.{CheckStep, back_of, last_packet_frame, late_of, run_of}
 use Rattle.sub_rules.specs.Trusted.{first_unfinished_of}
 use Rattle.sub_rules.specs.Trusted.{stays_fault_free, reports_order_fault, first_correct_of}
 use Rattle.std.proofs.lemmas.Bool.Decides.{nat_tests}
@@ -30,7 +30,7 @@ module _ (g : Criteria) (frames : Transmission) (a b i : ℕ)
   Lead S t ms = Leads (top g frames a b i fits) b S t ms
 
   abbrev pub PastAt : ℕ → List CheckStep → Type 0
-  PastAt n t = Past g frames a b i fits n t
+  PastAt n t = FramesEnded g frames a b i fits n t
 
   abbrev OpenAt : ℕ → List (List ℕ) → List CheckStep → Type 0
   OpenAt n packets t = Open g frames a b i fits n packets t
@@ -74,20 +74,21 @@ module _ (g : Criteria) (frames : Transmission) (a b i : ℕ)
     more = more_leads g frames a b i fits;
     ending = ending_leads g frames a b i fits;
     skipped_ended = λ sent pes u t is outside past.
-        skipped_past g frames a b i fits (length sent) pes u t (so_many sent frames is)
+        skipped_past g frames a b i fits (length sent) pes u t (grows_length sent frames is)
         (λ some few.
         subst (λ (f : ℕ). (f < a) ⊎ (b < f))
-        (end_is g sent frames is (length sent - 1) (omega arith)) (outside some few)) past;
+        (end_eq g sent frames is (length sent - 1) (omega arith)) (outside some few)) past;
     skipped_open = λ sent n pes u t is size outside open_here.
         skipped_leads g frames a b i fits n pes (packets_of_frame sent n) u t
         (long g sent frames is n size)
         (λ in_it.
-        subst (λ (f : ℕ). (f < a) ⊎ (b < f)) (end_is g sent frames is n size)
+        subst (λ (f : ℕ). (f < a) ⊎ (b < f)) (end_eq g sent frames is n size)
         (outside (omega arith) (omega arith))) open_here;
   }
 
   starts : PastAt 0 []
-  unfolding run_of first_correct_of last_begun first_unfinished_of late_of back_of stays_fault_free
+  unfolding run_of first_correct_of last_packet_frame first_unfinished_of late_of back_of
+      stays_fault_free
   starts = grind (arith, nat_tests)
 
   pub pes_packets_lead : (pes_packets : List PesPacket)

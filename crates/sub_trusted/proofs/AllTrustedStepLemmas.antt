@@ -23,27 +23,28 @@ use Rattle.sub_rules.specs.declared.event.Event.{Event}
 use Rattle.sub_rules.specs.declared.event.Event.TheVariants.{Reported}
 use Rattle.sub_rules.specs.declared.packet_rule.PacketRule.{PacketRule}
 use Rattle.sub_rules.specs.declared.packet_rule.Watched.{Watched}
-use Rattle.sub_trusted.proofs.TrustedKeptLemmas.{Arrives, Closed, Keeps, Opens, Up, run_rises}
-use Rattle.sub_trusted.proofs.TrustedKeptLemmas.{up_of}
+use Rattle.sub_trusted.proofs.TrustedKeptLemmas.{GapFramesEnded, Closed, Keeps, Opens, RunFacts}
+use Rattle.sub_trusted.proofs.TrustedKeptLemmas.{run_rises}
+use Rattle.sub_trusted.proofs.TrustedKeptLemmas.{run_facts_of}
 use Rattle.sub_trusted.proofs.TrustedStepLemmas.{begins, begins_back, gap_step, more_sent}
 use Rattle.sub_trusted.proofs.TrustedStepLemmas.{order_step, skipped}
 use Rattle.sub_trusted.proofs.TrustedStepLemmas.{skipped_ended}
 use Rattle.sub_trusted.proofs.AllTrustedStretchLemmas.{Fits, end_back, gap_in}
-use Rattle.sub_trusted.proofs.LateInvalidationLemmas.{KeepsAll, before_is, order_at}
+use Rattle.sub_trusted.proofs.LateInvalidationLemmas.{KeepsAll, before_eq, order_at}
 use Rattle.sub_trusted.proofs.LateInvalidationLemmas.{packets_invalidation}
 use Rattle.sub_trusted.proofs.LateInvalidationLemmas.{skipped_at}
 use Rattle.sub_trusted.proofs.AllTrustedLeadLemmas.{Leads, Leads-append, Leads-both, Leads-cons}
 use Rattle.sub_trusted.proofs.AllTrustedLeadLemmas.{Leads-nil}
 use Rattle.sub_laws.proofs.PrefixLemmas.{RiseTo, rises_to}
 use Rattle.sub_laws.proofs.RisingEndLemmas.{latest_at}
-use Rattle.sub_trusted.proofs.EmittedStepLemmas.{back_past, back_to, invalidation_of, is_order}
-use Rattle.sub_trusted.proofs.EmittedStepLemmas.{rose, emitted}
+use Rattle.sub_trusted.proofs.EmittedStepLemmas.{back_to_after, back_to, invalidation_of, is_order}
+use Rattle.sub_trusted.proofs.EmittedStepLemmas.{has_risen, emitted}
 use Rattle.sub_trusted.proofs.AllTrustedKeptLemmas.{Follows, invalidation_reported, end_leads}
 use Rattle.sub_trusted.proofs.AllTrustedKeptLemmas.{follows_emitted}
 use Rattle.sub_trusted.proofs.AllTrustedKeptLemmas.{follows_emits, follows_to, top}
 use Rattle.sub_trusted.proofs.TrustedFrameLemmas.{count_most, part_rises, risen}
 use Rattle.sub_rules.proofs.TrustedLemmas.{past_after}
-use Rattle.sub_rules.specs.Trusted.{CheckStep, back_of, last_begun, late_of, run_of}
+use Rattle.sub_rules.specs.Trusted.{CheckStep, back_of, last_packet_frame, late_of, run_of}
 use Rattle.sub_rules.specs.Trusted.{first_unfinished_of}
 use Rattle.sub_rules.specs.Trusted.{stays_fault_free, reports_order_fault, first_correct_of}
 
@@ -83,9 +84,9 @@ unfolding order_events
 order_silent g frames n some up = grind (arith, nat_tests)
 
 -- A frame is clean as long as no frame is in doubt.
-pub clean_still : (clean : Bool) (d : Option ℕ) → clean ≡ true → d ≡ None
+pub clean_without_doubt : (clean : Bool) (d : Option ℕ) → clean ≡ true → d ≡ None
     → (clean && is_none d) ≡ true
-clean_still clean d is none = rw (is, none) refl
+clean_without_doubt clean d is none = rw (is, none) refl
 
 -- ---- packets of a frame
 
@@ -118,33 +119,34 @@ module _ (g : Criteria) (frames : Transmission) (a b i : ℕ)
   Lead S t ms = Leads (top g frames a b i fits) b S t ms
 
   -- The frames of the run rise up to frame n.
-  up_here : (n x p : ℕ) (t : List CheckStep) → Keeps g frames 0 n x t
-      → (rose t ≡ true → RiseTo frames (suc n))
+  run_frames_rise : (n x p : ℕ) (t : List CheckStep) → Keeps g frames 0 n x t
+      → (has_risen t ≡ true → RiseTo frames (suc n))
       → Follow n p t
       → i < n
-      → Up g frames n
-  up_here n x p t keeps rises follows l =
-      let (from, low, run) = follows.run l in up_of g frames 0 n x from t keeps rises run
+      → RunFacts g frames n
+  run_frames_rise n x p t keeps rises follows l =
+      let (from, low, run) = follows.run l in run_facts_of g frames 0 n x from t keeps rises run
 
-  pub in_part : (n : ℕ) → n < length frames → Up g frames n → n < risen frames
+  pub in_part : (n : ℕ) → n < length frames → RunFacts g frames n → n < risen frames
   in_part n there h =
       let most = count_most frames (length frames) (suc n) (omega arith) h.rises in omega arith
 
-  pub after_top : (n : ℕ) → Up g frames n → i < n → a ≤ frame_at frames (n - 1)
+  pub after_top : (n : ℕ) → RunFacts g frames n → i < n → a ≤ frame_at frames (n - 1)
   after_top n h l =
       let up = rises_to frames (suc n) h.rises i (n - 1) (omega arith) (omega arith) in
       let low = fits.low in
       omega arith
 
   gap_leads : (n k : ℕ) (t : List CheckStep) → n < length frames → k < gap_length frames n
-      → Arrives g frames 0 n k t
+      → GapFramesEnded g frames 0 n k t
       → Follow n (latest frames n + suc k) t
-      → Lead (λ u. Arrives g frames 0 n (suc k) u × Follow n (latest frames n + suc (suc k)) u) t
+      → Lead (λ u. GapFramesEnded g frames 0 n (suc k) u × Follow n (latest frames n + suc (suc k))
+      u) t
       (steps_at_end g frames n n (latest frames n + suc k))
   gap_leads n k t there l arrives follows =
       let f : ℕ = latest frames n + suc k in
       let q : ℕ = latest frames n + suc (suc k) in
-      Leads-both (top g frames a b i fits) b (Arrives g frames 0 n (suc k)) (Follow n q) t
+      Leads-both (top g frames a b i fits) b (GapFramesEnded g frames 0 n (suc k)) (Follow n q) t
       (steps_at_end g frames n n f) (gap_step g frames 0 n k t there l arrives).after
       (end_leads g frames a b i fits n n f q t arrives.keeps.at_once arrives.keeps.plain
       (omega arith) follows
@@ -165,35 +167,35 @@ module _ (g : Criteria) (frames : Transmission) (a b i : ℕ)
       let last = h.last in
       omega arith))
     where
-      up : i < n → Up g frames n
+      up : i < n → RunFacts g frames n
       up below =
-          up_here n (latest frames n + suc k) (latest frames n + suc k) t arrives.keeps
+          run_frames_rise n (latest frames n + suc k) (latest frames n + suc k) t arrives.keeps
           arrives.rises follows below
 
   -- The first k frames of the day before frame n of the list have ended.
-  abbrev Arriving : ℕ → ℕ → List CheckStep → Type 0
-  Arriving n k u = Arrives g frames 0 n k u × Follow n (latest frames n + suc k) u
+  abbrev GapFramesEnding : ℕ → ℕ → List CheckStep → Type 0
+  GapFramesEnding n k u = GapFramesEnded g frames 0 n k u × Follow n (latest frames n + suc k) u
 
   gaps_lead : (n k : ℕ) (t : List CheckStep) → n < length frames → k ≤ gap_length frames n
-      → Arriving n 0 t
-      → Lead (Arriving n k) t (steps_of_gap g frames n k)
+      → GapFramesEnding n 0 t
+      → Lead (GapFramesEnding n k) t (steps_of_gap g frames n k)
   unfolding steps_of_gap
   gaps_lead n zero t there l arriving =
-      Leads-nil (top g frames a b i fits) b (Arriving n 0) t arriving
+      Leads-nil (top g frames a b i fits) b (GapFramesEnding n 0) t arriving
   gaps_lead n (suc k) t there l arriving =
-      Leads-append (top g frames a b i fits) b (Arriving n k) (Arriving n (suc k)) t
+      Leads-append (top g frames a b i fits) b (GapFramesEnding n k) (GapFramesEnding n (suc k)) t
       (steps_of_gap g frames n k) (steps_at_end g frames n n (latest frames n + suc k))
       (gaps_lead n k t there (omega arith) arriving)
       (λ u so. gap_leads n k u there (omega arith) so.0 so.1)
 
   -- The first n frames of the list have ended.
-  abbrev pub Past : ℕ → List CheckStep → Type 0
-  Past n u = Closed g frames 0 n u × Follow n (frame_at frames (n - 1) + 1) u
+  abbrev pub FramesEnded : ℕ → List CheckStep → Type 0
+  FramesEnded n u = Closed g frames 0 n u × Follow n (frame_at frames (n - 1) + 1) u
 
-  order_leads : (n : ℕ) (t : List CheckStep) → n < length frames → Past n t
-      → Lead (Arriving n 0) t (map Emits (order_events g frames n))
+  order_leads : (n : ℕ) (t : List CheckStep) → n < length frames → FramesEnded n t
+      → Lead (GapFramesEnding n 0) t (map Emits (order_events g frames n))
   order_leads n t there (closed, follows) =
-      Leads-both (top g frames a b i fits) b (Arrives g frames 0 n 0)
+      Leads-both (top g frames a b i fits) b (GapFramesEnded g frames 0 n 0)
       (Follow n (latest frames n + suc 0)) t (map Emits (order_events g frames n))
       (order_step g frames 0 n t there closed).after
       (follows_emits g frames a b i fits n (latest frames n + suc 0) t
@@ -215,7 +217,7 @@ module _ (g : Criteria) (frames : Transmission) (a b i : ℕ)
           let run = closed.keeps.run from is in
           let most = count_most frames (length frames) n (omega arith) run.rises in
           let last = latest_at frames n run.rises (omega arith) in
-          let at : x ≡ last_begun t = order_at t g frames n x invalidation in
+          let at : x ≡ last_packet_frame t = order_at t g frames n x invalidation in
           let here = closed.last (omega arith) in
           elim (cases_lt n (risen frames)) [
             | inl more ↦
@@ -229,7 +231,7 @@ module _ (g : Criteria) (frames : Transmission) (a b i : ℕ)
                 let fall : b < frame_at frames (risen frames - 1) = fits.fall (omega arith) in
                 let back : frame_at frames (risen frames - 1) ≡ frame_at frames (n - 1) =
                 ap (λ (k : ℕ). frame_at frames (k - 1)) same in (
-                  back_past t x b (omega arith) (λ r is. follows.back l (omega arith) r is),
+                  back_to_after t x b (omega arith) (λ r is. follows.back l (omega arith) r is),
                   omega arith,
                 )
           ]
@@ -243,13 +245,14 @@ module _ (g : Criteria) (frames : Transmission) (a b i : ℕ)
   abbrev pub Open : ℕ → List (List ℕ) → List CheckStep → Type 0
   Open n packets u = Opens g frames 0 n packets u × Sending n u
 
-  abbrev before_it : ℕ → Option ℕ
-  before_it n = first_unfinished_before g frames n (frame_at frames n)
+  abbrev unfinished_before_end : ℕ → Option ℕ
+  unfinished_before_end n = first_unfinished_before g frames n (frame_at frames n)
 
   begins_open : (n : ℕ) (t : List CheckStep) → n < length frames
-      → Arriving n (gap_length frames n) t
-      → Lead (Open n []) (Begins (frame_at frames n) ∷ t) (steps_before g (before_it n))
-  unfolding run_of first_correct_of last_begun first_unfinished_of late_of back_of stays_fault_free
+      → GapFramesEnding n (gap_length frames n) t
+      → Lead (Open n []) (Begins (frame_at frames n) ∷ t) (steps_before g (unfinished_before_end n))
+  unfolding run_of first_correct_of last_packet_frame first_unfinished_of late_of back_of
+      stays_fault_free
       reports_order_fault
   begins_open n t there (arrives, follows) = go (goes_back g) refl
     where
@@ -257,7 +260,8 @@ module _ (g : Criteria) (frames : Transmission) (a b i : ℕ)
       now =
           follows_to g frames a b i fits n (latest frames n + suc (gap_length frames n))
           (frame_at frames n) t follows (λ from is.
-          (up_of g frames 0 n (latest frames n + suc (gap_length frames n)) from t arrives.keeps
+          (run_facts_of g frames 0 n (latest frames n + suc (gap_length frames n)) from t
+          arrives.keeps
           arrives.rises is).long)
 
       sent : List CheckStep
@@ -266,27 +270,27 @@ module _ (g : Criteria) (frames : Transmission) (a b i : ℕ)
       opens : Opens g frames 0 n [] sent
       opens = begins g frames 0 n t there arrives
 
-      clean : i ≤ n → rose t ≡ true
+      clean : i ≤ n → has_risen t ≡ true
       clean l = elim (cases_lt i n) [
         | inl below ↦
             let (from, low, is) = follows.run below in
-            run_rises (rose t) (run_of t) from arrives.keeps.falls is
+            run_rises (has_risen t) (run_of t) from arrives.keeps.falls is
         | inr not_yet ↦ follows.rises (omega arith)
       ]
 
-      after : i < n → b < frame_at frames n → (r : ℕ) → before_it n ≡ Some r → b < r
+      after : i < n → b < frame_at frames n → (r : ℕ) → unfinished_before_end n ≡ Some r → b < r
       after l past r is =
           let h =
-          up_here n (latest frames n + suc (gap_length frames n))
+          run_frames_rise n (latest frames n + suc (gap_length frames n))
           (latest frames n + suc (gap_length frames n)) t arrives.keeps arrives.rises follows l in
           let up = h.up in
           fits.back n (frame_at frames n - 1) r
           (end_back frames n (frame_at frames n) h.some (in_part n there h) (omega arith)
           (omega arith))
-          (omega arith) (sym (before_is g frames n (frame_at frames n) h.some) ∙ is)
+          (omega arith) (sym (before_eq g frames n (frame_at frames n) h.some) ∙ is)
 
       go : (c : Bool) → goes_back g ≡ c
-          → Lead (Open n []) sent (if c then GoesBack (before_it n) ∷ [] else [])
+          → Lead (Open n []) sent (if c then GoesBack (unfinished_before_end n) ∷ [] else [])
       go false is =
           let none = arrives.keeps.plain is in
           Leads-nil (top g frames a b i fits) b (Open n []) sent (
@@ -298,8 +302,10 @@ module _ (g : Criteria) (frames : Transmission) (a b i : ℕ)
             },
           )
       go true is =
-          Leads-cons (top g frames a b i fits) b (Open n []) sent (GoesBack (before_it n)) []
-          (Leads-nil (top g frames a b i fits) b (Open n []) (GoesBack (before_it n) ∷ sent) (
+          Leads-cons (top g frames a b i fits) b (Open n []) sent
+          (GoesBack (unfinished_before_end n)) []
+          (Leads-nil (top g frames a b i fits) b (Open n []) (GoesBack (unfinished_before_end n) ∷
+          sent) (
             begins_back g frames 0 n sent opens is,
             record {
               follows = record {
@@ -315,19 +321,20 @@ module _ (g : Criteria) (frames : Transmission) (a b i : ℕ)
             },
           ))
 
-  pub arrival_leads : (n : ℕ) (t : List CheckStep) → n < length frames → Past n t
+  pub arrival_leads : (n : ℕ) (t : List CheckStep) → n < length frames → FramesEnded n t
       → Lead (Open n []) t (steps_of_arrival g frames n)
   arrival_leads n t there past =
-      Leads-append (top g frames a b i fits) b (Arriving n (gap_length frames n)) (Open n []) t
+      Leads-append (top g frames a b i fits) b (GapFramesEnding n (gap_length frames n)) (Open n [])
+      t
       (map Emits (order_events g frames n) ++ steps_of_gap g frames n (gap_length frames n))
-      (Begins (frame_at frames n) ∷ steps_before g (before_it n))
-      (Leads-append (top g frames a b i fits) b (Arriving n 0)
-      (Arriving n (gap_length frames n)) t (map Emits (order_events g frames n))
+      (Begins (frame_at frames n) ∷ steps_before g (unfinished_before_end n))
+      (Leads-append (top g frames a b i fits) b (GapFramesEnding n 0)
+      (GapFramesEnding n (gap_length frames n)) t (map Emits (order_events g frames n))
       (steps_of_gap g frames n (gap_length frames n)) (order_leads n t there past)
       (λ u so. gaps_lead n (gap_length frames n) u there (le_refl (gap_length frames n)) so))
       (λ v here.
       Leads-cons (top g frames a b i fits) b (Open n []) v (Begins (frame_at frames n))
-      (steps_before g (before_it n)) (begins_open n v there here))
+      (steps_before g (unfinished_before_end n)) (begins_open n v there here))
 
   pub sending_emits : (n : ℕ) (t : List CheckStep) (es : List Event) → Sending n t
       → list_any is_order es ≡ false
@@ -340,7 +347,7 @@ module _ (g : Criteria) (frames : Transmission) (a b i : ℕ)
       back : i < n → b < frame_at frames n
           → (r : ℕ) → back_of (past_after t (map Emits es)) ≡ Some r
           → b < r
-      back l past r is = sending.back l past r (sym (emitted t es).back_is ∙ is)
+      back l past r is = sending.back l past r (sym (emitted t es).back_eq ∙ is)
 
       follow : (i < n → invalidation_of t es ≡ None)
           → Follow n (frame_at frames n) (past_after t (map Emits es))
@@ -354,8 +361,9 @@ module _ (g : Criteria) (frames : Transmission) (a b i : ℕ)
           (record {
             follows = follow (λ l. is);
             clean = λ l.
-                (emitted t es).clean_is
-                ∙ clean_still (stays_fault_free t) (invalidation_of t es) (sending.clean l) is;
+                (emitted t es).clean_eq
+                ∙ clean_without_doubt (stays_fault_free t) (invalidation_of t es) (sending.clean l)
+                is;
             back = back;
           })
       go (Some x) is = elim (cases_lt i n) [
@@ -379,7 +387,8 @@ module _ (g : Criteria) (frames : Transmission) (a b i : ℕ)
       → (n < risen frames) × (a ≤ frame_at frames n)
   later_in n packets t there (opens, sending) l =
       let h =
-      up_here n (frame_at frames n) (frame_at frames n) t opens.keeps opens.rises sending.follows
+      run_frames_rise n (frame_at frames n) (frame_at frames n) t opens.keeps opens.rises
+      sending.follows
       l in
       let low = after_top n h l in
       let up = h.up in
@@ -414,7 +423,7 @@ module _ (g : Criteria) (frames : Transmission) (a b i : ℕ)
       let (in_it, low) = later_in n packets t there (opens, sending) l in
       let at : x ≡ frame_at frames n = finds.at x invalidation in
       elim (cases_lt b (frame_at frames n)) [
-        | inl past ↦ (back_past t x b (omega arith) (sending.back l past), past)
+        | inl past ↦ (back_to_after t x b (omega arith) (sending.back l past), past)
         | inr not_past ↦
             let none = finds.calm (keeps in_it low (omega arith)) in
             absurd (none-some x (sym none ∙ invalidation))
@@ -429,8 +438,8 @@ module _ (g : Criteria) (frames : Transmission) (a b i : ℕ)
 
   pub skipped_past : (n pes : ℕ) (u : Unread) (t : List CheckStep) → n ≤ length frames
       → (0 < n → n ≤ risen frames → (frame_at frames (n - 1) < a) ⊎ (b < frame_at frames (n - 1)))
-      → Past n t
-      → Lead (Past n) t (map Emits (Reported (unread_fault pes (Some u)) ∷ []))
+      → FramesEnded n t
+      → Lead (FramesEnded n) t (map Emits (Reported (unread_fault pes (Some u)) ∷ []))
   skipped_past n pes u t within outside (closed, follows) =
       let es : List Event = Reported (unread_fault pes (Some u)) ∷ [] in
       let p : ℕ = frame_at frames (n - 1) + 1 in
@@ -443,13 +452,13 @@ module _ (g : Criteria) (frames : Transmission) (a b i : ℕ)
       let up = rises_to frames n (closed.keeps.run from run).rises i (n - 1) (omega arith)
       (omega arith) in
       let from_low = fits.low in
-      let is : Some (last_begun t) ≡ Some x = sym (skipped_at t pes u) ∙ invalidation in
-      let same : last_begun t ≡ x = same_Some (last_begun t) x is in
+      let is : Some (last_packet_frame t) ≡ Some x = sym (skipped_at t pes u) ∙ invalidation in
+      let same : last_packet_frame t ≡ x = same_Some (last_packet_frame t) x is in
       let last = closed.last (omega arith) in
       elim (outside (omega arith) most) [
         | inl before ↦ absurd (omega arith)
         | inr after ↦ (
-          back_past t x b (omega arith) (λ r is. follows.back l (omega arith) r is),
+          back_to_after t x b (omega arith) (λ r is. follows.back l (omega arith) r is),
           omega arith,
         )
       ]))
@@ -475,10 +484,10 @@ module _ (g : Criteria) (frames : Transmission) (a b i : ℕ)
       ])
       (λ l x invalidation.
       let (in_it, low) = later_in n packets t there (opens, sending) l in
-      let is : Some (last_begun t) ≡ Some x = sym (skipped_at t pes u) ∙ invalidation in
-      let same : last_begun t ≡ x = same_Some (last_begun t) x is in
+      let is : Some (last_packet_frame t) ≡ Some x = sym (skipped_at t pes u) ∙ invalidation in
+      let same : last_packet_frame t ≡ x = same_Some (last_packet_frame t) x is in
       let last = opens.last in
       elim (outside in_it) [
         | inl before ↦ absurd (omega arith)
-        | inr after ↦ (back_past t x b (omega arith) (sending.back l after), after)
+        | inr after ↦ (back_to_after t x b (omega arith) (sending.back l after), after)
       ]))

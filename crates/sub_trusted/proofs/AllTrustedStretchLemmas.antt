@@ -9,14 +9,14 @@ use Rattle.std.proofs.lemmas.List.{take-append-drop}
 use Rattle.ttx_page.specs.PacketKind.{kind}
 use Rattle.ttx_page.specs.Span.{holds_beginning}
 use Rattle.sub_rules.specs.Events.{is_late, is_unfinished, no_active_faults, active_faults_at}
-use Rattle.sub_rules.specs.Events.{unfinished_since}
+use Rattle.sub_rules.specs.Events.{unfinished_run_start}
 use Rattle.sub_rules.specs.FrameRules.{Criteria, Unread, frame_at, packets_before, packets_of_frame}
 use Rattle.sub_rules.specs.PacketTests.{breaks}
 use Rattle.sub_rules.specs.PesPacketEvents.{sent_by_pes_packets}
 use Rattle.sub_rules.specs.PesPackets.{PesPacket}
 use Rattle.sub_rules.specs.Transmission.{Transmission}
-use Rattle.sub_rules.proofs.EndRuleLemmas.{no_active_faults_is}
-use Rattle.sub_rules.proofs.PrefixEventLemmas.{packets_before-prefix, unfinished_since-prefix}
+use Rattle.sub_rules.proofs.EndRuleLemmas.{no_active_faults_eq}
+use Rattle.sub_rules.proofs.PrefixEventLemmas.{packets_before-prefix, unfinished_run_start-prefix}
 use Rattle.sub_laws.specs.CleanStretch.{IsEnd}
 use Rattle.sub_trusted.specs.TrustedFrames.{CanStay, rising_part}
 use Rattle.sub_trusted.proofs.LateInvalidationLemmas.{KeepsAll, seen_unfinished}
@@ -27,7 +27,7 @@ use Rattle.sub_trusted.proofs.TrustedFrameLemmas.{risen_low}
 use Rattle.sub_trusted.proofs.TrustedFrameLemmas.{active_faults-take}
 use Rattle.sub_laws.proofs.UnfinishedLemmas.{none_first_unfinished, first_unfinished_after}
 use Rattle.sub_laws.proofs.UnfinishedLemmas.{first_unfinished_end, unfinished_at}
-use Rattle.sub_laws.proofs.UnfinishedLemmas.{unfinished_is}
+use Rattle.sub_laws.proofs.UnfinishedLemmas.{unfinished_eq}
 use Rattle.sub_rules.specs.Trusted.{has_no_active_faults}
 
 module _ (frames : Transmission) where
@@ -100,7 +100,7 @@ pub record Fits (g : Criteria) (frames : Transmission) (a b i : ℕ) : Type 0 wh
       (n f r : ℕ)
       → IsEnd (rising_part frames) n f
       → b ≤ f
-      → unfinished_since g frames n f ≡ Some r
+      → unfinished_run_start g frames n f ≡ Some r
       → b < r
   pub last : b ≤ frame_at frames (risen frames - 1)
   pub fall : risen frames < length frames → b < frame_at frames (risen frames - 1)
@@ -138,11 +138,11 @@ module _ (g : Criteria) (pes_packets : List PesPacket) (a b : ℕ) (can : CanSta
         ∙ can.fault_free n f end low high
 
     first_unfinished_in_part : (n f : ℕ) → IsEnd part n f
-        → unfinished_since g frames n f ≡ unfinished_since g part n f
+        → unfinished_run_start g frames n f ≡ unfinished_run_start g part n f
     first_unfinished_in_part n f end =
         let few = end.1 in
-        sym (ap (λ (fs : Transmission). unfinished_since g fs n f) (take-append-drop m frames))
-        ∙ unfinished_since-prefix g g.unread part (drop m frames) n f (omega arith)
+        sym (ap (λ (fs : Transmission). unfinished_run_start g fs n f) (take-append-drop m frames))
+        ∙ unfinished_run_start-prefix g g.unread part (drop m frames) n f (omega arith)
 
     -- If `within` is 0, the last frame of the stretch is finished, since no fault is active at its
     -- end.
@@ -159,7 +159,7 @@ module _ (g : Criteria) (pes_packets : List PesPacket) (a b : ℕ) (can : CanSta
           | inl within ↦ can.finished within n b end (omega arith) (omega arith)
           | inr none ↦
               at_once_finished n b (grind (arith, nat_tests))
-              (no_active_faults_is _ (can.fault_free n b end order (omega arith)))
+              (no_active_faults_eq _ (can.fault_free n b end order (omega arith)))
         ]
 
     last_finished : unfinished_at g part up b ≡ false
@@ -171,14 +171,14 @@ module _ (g : Criteria) (pes_packets : List PesPacket) (a b : ℕ) (can : CanSta
         let to = can.unreported.stretch.to in
         let (n, end, on, l) =
         end_at part up b can.unreported.stretch.not_empty (omega arith) (omega arith) in
-        sym (unfinished_is g part up n b end) ∙ finished_there n end
+        sym (unfinished_eq g part up n b end) ∙ finished_there n end
 
-    first_low : frame_at part 0 ≤ b
-    first_low = grind (arith, nat_tests)
+    first_frame_at_most : frame_at part 0 ≤ b
+    first_frame_at_most = grind (arith, nat_tests)
 
-    finished : (n f : ℕ) → IsEnd part n f → b ≡ f → unfinished_since g frames n f ≡ None
+    finished : (n f : ℕ) → IsEnd part n f → b ≡ f → unfinished_run_start g frames n f ≡ None
     finished n f end same =
-        let low = first_low in
+        let low = first_frame_at_most in
         let k : ℕ = f - frame_at part 0 in
         let at : f ≡ frame_at part 0 + k = omega arith in
         let here : b ≡ frame_at part 0 + k = omega arith in
@@ -187,11 +187,11 @@ module _ (g : Criteria) (pes_packets : List PesPacket) (a b : ℕ) (can : CanSta
         ∙ none_first_unfinished (unfinished_at g part up) (frame_at part 0) k
         (ap (unfinished_at g part up) (sym here) ∙ last_finished)
 
-    first_unfinished : (n f r : ℕ) → IsEnd part n f → b ≤ f → unfinished_since g frames n f
+    first_unfinished : (n f r : ℕ) → IsEnd part n f → b ≤ f → unfinished_run_start g frames n f
         ≡ Some r →
         b < r
     first_unfinished n f r end past is =
-        let low = first_low in
+        let low = first_frame_at_most in
         let k : ℕ = f - frame_at part 0 in
         let at : f ≡ frame_at part 0 + k = omega arith in
         first_unfinished_after (unfinished_at g part up) (frame_at part 0) k r b
@@ -200,8 +200,8 @@ module _ (g : Criteria) (pes_packets : List PesPacket) (a b : ℕ) (can : CanSta
         is) last_finished
         (omega arith)
 
-    before_is : (k : ℕ) → k < m → packets_before frames k ≡ packets_before part k
-    before_is k l =
+    before_eq : (k : ℕ) → k < m → packets_before frames k ≡ packets_before part k
+    before_eq k l =
         let all = part_length frames in
         sym (ap (λ (fs : Transmission). packets_before fs k) (take-append-drop m frames))
         ∙ packets_before-prefix g g.unread part (drop m frames) k (omega arith)
@@ -216,7 +216,7 @@ module _ (g : Criteria) (pes_packets : List PesPacket) (a b : ℕ) (can : CanSta
         (λ (qs : List (List ℕ)). p < length qs
         → breaks r g.watched (packets_before frames k ++ take p qs) (get_or qs p []) ≡ false) ps
         (λ under.
-        rw (before_is k l)
+        rw (before_eq k l)
         (can.unreported.packets r needed k p (omega arith) under (omega arith) (omega arith))) below
 
     pub fits : (i : ℕ) → i < m → a ≤ frame_at frames i → frame_at frames i ≤ b

@@ -14,14 +14,15 @@ use Rattle.sub_rules.specs.declared.event.Event.TheVariants.{Reported, Trusted}
 use Rattle.sub_rules.proofs.TrustedLemmas.{past_after, past_after-append, reported_after-append}
 use Rattle.sub_trusted.proofs.InvalidationLemmas.{EachTrusted, OnTrusted}
 use Rattle.sub_laws.proofs.FirstFoundLemmas.{first_found}
-use Rattle.sub_rules.specs.Trusted.{CheckStep, at_pes, back_of, invalidated_by, last_begun, late_of}
+use Rattle.sub_rules.specs.Trusted.{CheckStep, at_pes, back_of, invalidated_by, last_packet_frame}
+use Rattle.sub_rules.specs.Trusted.{late_of}
 use Rattle.sub_rules.specs.Trusted.{current_pes, run_of, first_unfinished_of, stays_fault_free}
 use Rattle.sub_rules.specs.Trusted.{reports_order_fault, reported_after}
 use Rattle.sub_rules.specs.Trusted.{reported_at, trusted, trusted_up_to, first_correct_of}
 
 -- The frames have risen in all steps so far.
-abbrev pub rose : List CheckStep → Bool
-rose t = not (list_any reports_order_fault t)
+abbrev pub has_risen : List CheckStep → Bool
+has_risen t = not (list_any reports_order_fault t)
 
 -- The first frame that is no longer trusted after one of the events casts doubt on a frame.
 abbrev pub invalidation_of : List CheckStep → List Event → Option ℕ
@@ -31,15 +32,15 @@ invalidation_of t es = first_found (invalidated_by t) es
 abbrev pub back_to : List CheckStep → ℕ → ℕ
 back_to t x = unwrap_or (back_of t) x
 
-pub back_low : (t : List CheckStep) (x b : ℕ) → x ≤ b
+pub back_to_at_most : (t : List CheckStep) (x b : ℕ) → x ≤ b
     → ((r : ℕ) → back_of t ≡ Some r → r ≤ b)
     → back_to t x ≤ b
-back_low t x b low h = grind (arith, nat_tests)
+back_to_at_most t x b low h = grind (arith, nat_tests)
 
-pub back_past : (t : List CheckStep) (x b : ℕ) → b < x
+pub back_to_after : (t : List CheckStep) (x b : ℕ) → b < x
     → ((r : ℕ) → back_of t ≡ Some r → b < r)
     → b < back_to t x
-back_past t x b past h = grind (arith, nat_tests)
+back_to_after t x b past h = grind (arith, nat_tests)
 
 -- The run after an event: the run ends if a frame is in doubt.
 abbrev pub kept : Option ℕ → Option ℕ → Option ℕ
@@ -51,18 +52,18 @@ is_order e = reports_order_fault (Emits e)
 
 -- The state after the events `es` were reported.
 pub record AreEmitted (t u : List CheckStep) (es : List Event) : Type 0 where
-  pub run_is : run_of u ≡ kept (run_of t) (invalidation_of t es)
-  pub first_correct_is : first_correct_of u ≡ first_correct_of t
-  pub last_is : last_begun u ≡ last_begun t
-  pub first_unfinished_is : first_unfinished_of u ≡ first_unfinished_of t
-  pub late_is : late_of u ≡ late_of t
-  pub back_is : back_of u ≡ back_of t
-  pub rises_is : rose u ≡ (rose t && not (list_any is_order es))
-  pub clean_is : stays_fault_free u ≡ (stays_fault_free t && is_none (invalidation_of t es))
+  pub run_eq : run_of u ≡ kept (run_of t) (invalidation_of t es)
+  pub first_correct_eq : first_correct_of u ≡ first_correct_of t
+  pub last_is : last_packet_frame u ≡ last_packet_frame t
+  pub first_unfinished_eq : first_unfinished_of u ≡ first_unfinished_of t
+  pub late_eq : late_of u ≡ late_of t
+  pub back_eq : back_of u ≡ back_of t
+  pub rises_is : has_risen u ≡ (has_risen t && not (list_any is_order es))
+  pub clean_eq : stays_fault_free u ≡ (stays_fault_free t && is_none (invalidation_of t es))
 
 invalidated_same : (t : List CheckStep) (e x : Event) → invalidated_by (Emits e ∷ t) x ≡
     invalidated_by t x
-unfolding invalidated_by last_begun late_of
+unfolding invalidated_by last_packet_frame late_of
 invalidated_same t e (Reported f) = refl
 invalidated_same t e x = refl
 
@@ -72,15 +73,15 @@ invalidation_after t e [] = refl
 invalidation_after t e (x ∷ es) = rw (invalidated_same t e x, invalidation_after t e es) refl
 
 pub emitted : (t : List CheckStep) (es : List Event) → AreEmitted t (past_after t (map Emits es)) es
-unfolding past_after run_of first_correct_of last_begun first_unfinished_of late_of back_of
+unfolding past_after run_of first_correct_of last_packet_frame first_unfinished_of late_of back_of
     stays_fault_free is_order
 emitted t [] = grind (arith, nat_tests)
 emitted t (e ∷ es) = grind (arith, nat_tests, invalidation_after, (emitted (Emits e ∷ t) es))
 
 -- If the run continues after an event, it existed before, and no frame is in doubt.
-pub kept_some : (run d : Option ℕ) (from : ℕ) → kept run d ≡ Some from
+pub run_was_there : (run d : Option ℕ) (from : ℕ) → kept run d ≡ Some from
     → (run ≡ Some from) × (d ≡ None)
-kept_some run d from e = grind (arith, nat_tests)
+run_was_there run d from e = grind (arith, nat_tests)
 
 -- A report about the order of frames ends a run.
 order_invalidated : (t : List CheckStep) (e : Event) → invalidated_by t e ≡ None → is_order e ≡

@@ -1,7 +1,7 @@
 -- Shows which frame is no longer trusted after the reports about a frame's packets
 -- (`packets_invalidation`), its number (`order_at`), and its end, which may be late
 -- (`end_invalidation`). The frame from which on an end is unfinished is not after that end
--- (`seen_low`). Used for `law_of_trusted` and `law_of_trusted_repeats`.
+-- (`seen_unfinished_at_most`). Used for `law_of_trusted` and `law_of_trusted_repeats`.
 use Rattle.std.proofs.lemmas.Bool.Decides.{nat_tests}
 use Rattle.std.proofs.Common.{◌≡◌, ℕ, zero, suc, ◌+◌, ◌-◌, ◌<◌, ◌≤◌, Bool, true, false, cond, List}
 use Rattle.std.proofs.Common.{[], ◌∷◌, ◌++◌, map, take, get_or, length, max, Option, Some, None}
@@ -18,7 +18,7 @@ use Rattle.sub_rules.specs.Events.{first_header_events, gap_length, is_unfinishe
 use Rattle.sub_rules.specs.Events.{order_events, packet_fault, packets_reported, rule_events}
 use Rattle.sub_rules.specs.Events.{rules_reported, first_unfinished_in_frames}
 use Rattle.sub_rules.specs.Events.{first_unfinished_in_gap, unfinished_from}
-use Rattle.sub_rules.specs.Events.{first_unfinished_before, unfinished_since, unread_fault}
+use Rattle.sub_rules.specs.Events.{first_unfinished_before, unfinished_run_start, unread_fault}
 use Rattle.sub_rules.specs.FrameRules.{Criteria, Unread, frame_at}
 use Rattle.sub_rules.specs.PacketTests.{breaks}
 use Rattle.sub_rules.specs.Transmission.{Transmission}
@@ -27,32 +27,32 @@ use Rattle.sub_rules.specs.declared.event.Event.TheVariants.{Reported}
 use Rattle.sub_rules.specs.declared.packet_rule.PacketRule.{PacketRule}
 use Rattle.sub_rules.specs.declared.packet_rule.Watched.{Watched}
 use Rattle.sub_rules.proofs.AnyReportedLemmas.{own_end}
-use Rattle.sub_rules.proofs.EndRuleLemmas.{none_at, rules_none}
+use Rattle.sub_rules.proofs.EndRuleLemmas.{no_active_fault_at, rules_none}
 use Rattle.sub_laws.specs.CleanStretch.{is_needed}
 use Rattle.sub_trusted.proofs.InvalidationLemmas.{EachTrusted, OnTrusted, each-own}
 use Rattle.sub_laws.proofs.FirstFoundLemmas.{Finds, Finds-like, first_found, found_so_far}
 use Rattle.sub_laws.proofs.FirstFoundLemmas.{end_found, packet_found}
-use Rattle.sub_rules.specs.Trusted.{CheckStep, invalidated_by, last_begun, late_of}
+use Rattle.sub_rules.specs.Trusted.{CheckStep, invalidated_by, last_packet_frame, late_of}
 use Rattle.sub_rules.specs.Trusted.{has_no_active_faults}
 use Rattle.sub_rules.specs.Trusted.{reports_order_fault}
 use Rattle.sub_rules.specs.declared.active_faults.ActiveFaults.{ActiveFaults}
 use Rattle.sub_trusted.proofs.EmittedStepLemmas.{is_order}
 
 -- Packet k after the packets `before` breaks no rule that a receiver depends on.
-abbrev pub KeepsEach : Watched → List (List ℕ) → List (List ℕ) → ℕ → Type 0
-KeepsEach w before packets k =
+abbrev pub KeepsEachRule : Watched → List (List ℕ) → List (List ℕ) → ℕ → Type 0
+KeepsEachRule w before packets k =
     (r : PacketRule)
     → is_needed r ≡ true
     → breaks r w (before ++ take k packets) (get_or packets k []) ≡ false
 
 abbrev pub KeepsAll : Watched → List (List ℕ) → List (List ℕ) → Type 0
-KeepsAll w before packets = (k : ℕ) → k < length packets → KeepsEach w before packets k
+KeepsAll w before packets = (k : ℕ) → k < length packets → KeepsEachRule w before packets k
 
-pub keeps_joined : (w : Watched) (before xs ys : List (List ℕ))
+pub keeps_rules_append : (w : Watched) (before xs ys : List (List ℕ))
     → KeepsAll w before xs
     → KeepsAll w (before ++ xs) ys
     → KeepsAll w before (xs ++ ys)
-keeps_joined w before xs ys one two k l r needed = elim (cases_lt k (length xs)) [
+keeps_rules_append w before xs ys one two k l r needed = elim (cases_lt k (length xs)) [
   | inl early ↦
       rw (take-append-le k xs ys (omega arith), get_or_append_left xs ys [] k early)
       (one k early r needed)
@@ -80,8 +80,8 @@ module _ (t : List CheckStep) (w : Watched) (frame from : ℕ)
     rule_invalidation k r = grind (arith, nat_tests)
 
     packet_invalidation : (k : ℕ)
-        → Finds (invalidated_by t) (λ x. x ≡ frame) (KeepsEach w before packets k)
-        (KeepsEach w before packets k)
+        → Finds (invalidated_by t) (λ x. x ≡ frame) (KeepsEachRule w before packets k)
+        (KeepsEachRule w before packets k)
         (rules_reported w frame (from + k) (before ++ take k packets) (get_or packets k []))
     packet_invalidation k =
         Finds-like
@@ -102,7 +102,7 @@ module _ (t : List CheckStep) (w : Watched) (frame from : ℕ)
     packets_invalidation =
         found_so_far (packets_reported w frame from before packets)
         (λ k. rules_reported w frame (from + k) (before ++ take k packets) (get_or packets k []))
-        (KeepsEach w before packets) (length packets) refl (λ k. refl)
+        (KeepsEachRule w before packets) (length packets) refl (λ k. refl)
         (λ k l past. packet_invalidation k)
 
 module _ (P : ℕ → ℕ → Type 0) where
@@ -137,7 +137,7 @@ module _ (P : ℕ → ℕ → Type 0) where
 
 module _ (t : List CheckStep) (g : Criteria) (frames : Transmission) where
   pub order_at : (i x : ℕ) → first_found (invalidated_by t) (order_events g frames i) ≡ Some x
-      → x ≡ last_begun t
+      → x ≡ last_packet_frame t
   unfolding order_events invalidated_by
   order_at i x e = grind (arith, nat_tests)
 
@@ -157,7 +157,7 @@ order_rises g frames i none some = grind (arith, nat_tests)
 -- A skipped PES packet casts doubt on the frame of the PES packet before it.
 pub skipped_at : (t : List CheckStep) (pes : ℕ) (u : Unread)
     → first_found (invalidated_by t) (Reported (unread_fault pes (Some u)) ∷ []) ≡ Some
-    (last_begun t)
+    (last_packet_frame t)
 unfolding invalidated_by
 skipped_at t pes u = grind (arith, nat_tests)
 
@@ -181,14 +181,15 @@ pub end_invalidation : (t : List CheckStep) (before f : ℕ) (old new : ActiveFa
     (has_no_active_faults old ≡ true → has_no_active_faults new ≡ true) (end_events old before new
     f)
 end_invalidation t before f old new =
-    Finds-like (none_at new) (λ each was. rules_none new (λ rule. each rule (none_at old was rule)))
+    Finds-like (no_active_fault_at new)
+    (λ each was. rules_none new (λ rule. each rule (no_active_fault_at old was rule)))
     (end_found old before new f
     (λ rule. end_rule_invalidation t rule before f (broken_at rule old) (broken_at rule new)))
 
-pub late_low : (late : Bool) (first_unfinished : Option ℕ) (f : ℕ)
+pub late_start_at_most : (late : Bool) (first_unfinished : Option ℕ) (f : ℕ)
     → ((r : ℕ) → first_unfinished ≡ Some r → r ≤ f)
     → unwrap_or (if late then first_unfinished else None) f ≤ f
-late_low late first_unfinished f h = grind (arith, nat_tests)
+late_start_at_most late first_unfinished f h = grind (arith, nat_tests)
 
 module _ (g : Criteria) (frames : Transmission) where
   bound : (b : ℕ) (first_unfinished : Option ℕ) (un : Bool) (f r : ℕ) → unfinished_from
@@ -221,30 +222,34 @@ module _ (g : Criteria) (frames : Transmission) where
   in_frames (suc i) r e = grind (arith, nat_tests, bound, in_gap, gap_bound, (in_frames i))
 
   -- The first frame of the unfinished run at the end of frame f is not after f.
-  first_unfinished_low : (n f r : ℕ) → unfinished_since g frames n f ≡ Some r → latest frames n ≤ f
+  first_unfinished_low : (n f r : ℕ) → unfinished_run_start g frames n f ≡ Some r → latest frames n
+      ≤ f
       → r ≤ f
-  unfolding unfinished_since
+  unfolding unfinished_run_start
   first_unfinished_low n f r e l = grind (arith, nat_tests, in_gap, in_frames)
 
   -- The first frame of the unfinished run at the end before frame f is before f.
-  pub before_low : (n f r : ℕ) → first_unfinished_before g frames n f ≡ Some r
+  pub first_unfinished_before_at_most : (n f r : ℕ) → first_unfinished_before g frames n f ≡ Some r
       → (0 < n → latest frames n < f)
       → (0 < n) × (r ≤ f)
   unfolding first_unfinished_before
-  before_low n f r h1 h2 = grind (arith, nat_tests, none-some, first_unfinished_low)
+  first_unfinished_before_at_most n f r h1 h2 = grind
+      (arith, nat_tests, none-some, first_unfinished_low)
 
-  pub before_is : (n f : ℕ) → 0 < n
-      → first_unfinished_before g frames n f ≡ unfinished_since g frames n (f - 1)
+  pub before_eq : (n f : ℕ) → 0 < n
+      → first_unfinished_before g frames n f ≡ unfinished_run_start g frames n (f - 1)
   unfolding first_unfinished_before
-  before_is zero f some = absurd (omega arith)
-  before_is (suc n) f some = refl
+  before_eq zero f some = absurd (omega arith)
+  before_eq (suc n) f some = refl
 
   -- The first frame of the unfinished run that the steps of an end name: none if `within` is 0.
   abbrev pub seen_unfinished : ℕ → ℕ → Option ℕ
-  seen_unfinished n f = if g.within == 0 then None else unfinished_since g frames n f
+  seen_unfinished n f = if g.within == 0 then None else unfinished_run_start g frames n f
 
-  pub seen_is : (n f r : ℕ) → seen_unfinished n f ≡ Some r → unfinished_since g frames n f ≡ Some r
-  seen_is n f r e = grind (arith, nat_tests)
+  pub seen_eq : (n f r : ℕ) → seen_unfinished n f ≡ Some r → unfinished_run_start g frames n f ≡
+      Some r
+  seen_eq n f r e = grind (arith, nat_tests)
 
-  pub seen_low : (n f r : ℕ) → seen_unfinished n f ≡ Some r → latest frames n ≤ f → r ≤ f
-  seen_low n f r e l = first_unfinished_low n f r (seen_is n f r e) l
+  pub seen_unfinished_at_most : (n f r : ℕ) → seen_unfinished n f ≡ Some r → latest frames n ≤ f → r
+      ≤ f
+  seen_unfinished_at_most n f r e l = first_unfinished_low n f r (seen_eq n f r e) l

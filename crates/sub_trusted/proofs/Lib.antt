@@ -1,5 +1,5 @@
-pub mod AlikeLateLemmas
-pub mod AlikeProgrammeLemmas
+pub mod EqualLateLemmas
+pub mod EqualProgrammeLemmas
 pub mod AllTrustedEndingLemmas
 pub mod AllTrustedKeptLemmas
 pub mod AllTrustedLeadLemmas
@@ -10,7 +10,7 @@ pub mod AllTrustedStretchLemmas
 pub mod InvalidationLemmas
 pub mod LateInvalidationLemmas
 pub mod EmittedStepLemmas
-pub mod TrustedAlikeLemmas
+pub mod EqualTrustLemmas
 pub mod TrustedAsReadLemmas
 pub mod TrustedEndingLemmas
 pub mod TrustedFinishedLemmas

@@ -1,6 +1,6 @@
 -- If the packets that were read are on air in a stretch of frames, and its first frame has a header
 -- that begins the text of the page, the sufficient conditions hold for the packets on air, too
--- (`sufficient_too`), and the frames are finished in time (`finishes_too`). Used for
+-- (`sufficient_in_other`), and the frames are finished in time (`finishes_in_other`). Used for
 -- `law_of_trusted` and `law_of_trusted_repeats`.
 use Rattle.std.proofs.lemmas.Bool.Decides.{nat_tests}
 use Rattle.std.proofs.Common.{◌≡◌, ℕ, zero, suc, ◌+◌, ◌-◌, ◌≤◌, Bool, true, List, []}
@@ -62,8 +62,9 @@ module _ (t u : Transmission) (a b : ℕ) (rising : IsRising t) (is : IsAsRead t
       ∙ ap₂ ◌++◌ (same_to n (omega arith)) (sym (is.same (a + n) (omega arith) (omega arith)))
       ∙ sym (packets_between-split u a (a + n) (a + n + 1) is.rising (omega arith) (omega arith)))
 
-  same_since : (f : ℕ) → a ≤ f → f ≤ b → packets_between t a (f + 1) ≡ packets_between u a (f + 1)
-  same_since f low high =
+  same_packets_between : (f : ℕ) → a ≤ f → f ≤ b → packets_between t a (f + 1) ≡ packets_between u a
+      (f + 1)
+  same_packets_between f low high =
       let end : a + (f + 1 - a) ≡ f + 1 = omega arith in
       subst (λ (e : ℕ). packets_between t a e ≡ packets_between u a e) end
       (same_to (f + 1 - a) (omega arith))
@@ -75,32 +76,33 @@ module _ (keeps : Bool) (programme : ProgrammeValue) (options : OptionsValue) (t
     low_too : first_frame u ≤ a
     low_too = let first = is.first in omega arith
 
-    pub beginning_too : a ≤ b → holds_beginning keeps (kind options.page) (packets_of u a) ≡ true
-    beginning_too order = grind (arith, nat_tests)
+    pub beginning_in_other : a ≤ b → holds_beginning keeps (kind options.page) (packets_of u a) ≡
+        true
+    beginning_in_other order = grind (arith, nat_tests)
 
     pub header_too : (f : ℕ) → a ≤ f → f ≤ b → HoldsHeader options.page t f
         → HoldsHeader options.page u f
     header_too f low high holds = grind (arith, nat_tests)
 
-    pub opens_too : a ≤ b → HoldsHeader options.page u a
-    opens_too order =
-        beginning_is_header (kind options.page) keeps (packets_of u a) (beginning_too order)
+    pub opens_in_other : a ≤ b → HoldsHeader options.page u a
+    opens_in_other order =
+        beginning_is_header (kind options.page) keeps (packets_of u a) (beginning_in_other order)
 
     module _ (f : ℕ) (low : a ≤ f) (high : f ≤ b) where
       abbrev first_unfinished : List (List ℕ)
       first_unfinished = packets_between t a (f + 1)
 
-      all_t : on_air_until t f ≡ packets_between t (first_frame t) a ++ first_unfinished
-      all_t = packets_between-split t (first_frame t) a (f + 1) rising from (omega arith)
+      on_air_split_t : on_air_until t f ≡ packets_between t (first_frame t) a ++ first_unfinished
+      on_air_split_t = packets_between-split t (first_frame t) a (f + 1) rising from (omega arith)
 
-      all_u : on_air_until u f ≡ packets_between u (first_frame u) a ++ first_unfinished
-      all_u =
+      on_air_split_u : on_air_until u f ≡ packets_between u (first_frame u) a ++ first_unfinished
+      on_air_split_u =
           packets_between-split u (first_frame u) a (f + 1) is.rising low_too (omega arith)
           ∙ ap (λ (ps : List (List ℕ)). packets_between u (first_frame u) a ++ ps)
-          (sym (same_since t u a b rising is f low high))
+          (sym (same_packets_between t u a b rising is f low high))
 
-      begins_since : holds_beginning keeps (kind options.page) first_unfinished ≡ true
-      begins_since =
+      unfinished_begins_text : holds_beginning keeps (kind options.page) first_unfinished ≡ true
+      unfinished_begins_text =
           let split =
           packets_between-split t a (a + 1) (f + 1) rising (omega arith) (omega arith) in
           let both =
@@ -109,56 +111,56 @@ module _ (keeps : Bool) (programme : ProgrammeValue) (options : OptionsValue) (t
           ap (holds_beginning keeps (kind options.page)) split ∙ both ∙ rw begins refl
 
       holds : holds_header (kind options.page) first_unfinished ≡ true
-      holds = beginning_is_header (kind options.page) keeps first_unfinished begins_since
+      holds = beginning_is_header (kind options.page) keeps first_unfinished unfinished_begins_text
 
-      spanned_too : text_span keeps (kind options.page) (on_air_until t f)
+      spanned_in_other : text_span keeps (kind options.page) (on_air_until t f)
           ≡ text_span keeps (kind options.page) (on_air_until u f)
-      spanned_too =
-          ap (text_span keeps (kind options.page)) all_t
+      spanned_in_other =
+          ap (text_span keeps (kind options.page)) on_air_split_t
           ∙ ap (while_open (kind options.page) false)
           (from-later keeps (kind options.page) (packets_between t (first_frame t) a)
           first_unfinished
-          begins_since
+          unfinished_begins_text
           ∙ sym
           (from-later keeps (kind options.page) (packets_between u (first_frame u) a)
           first_unfinished
-          begins_since))
-          ∙ sym (ap (text_span keeps (kind options.page)) all_u)
+          unfinished_begins_text))
+          ∙ sym (ap (text_span keeps (kind options.page)) on_air_split_u)
 
-      kept_too : (row column : ℕ)
+      kept_in_other : (row column : ℕ)
           → kept keeps options.page (on_air_until t f) row column
           ≡ kept keeps options.page (on_air_until u f) row column
-      kept_too row column =
-          ap (λ (ps : List (List ℕ)). text_of options.page ps row column) spanned_too
+      kept_in_other row column =
+          ap (λ (ps : List (List ℕ)). text_of options.page ps row column) spanned_in_other
 
       row_too : (row : ℕ)
           → has_row options.page (on_air_until t f) row
           ≡ has_row options.page (on_air_until u f) row
       row_too row =
           ap (list_any (λ packet. is_row row (kind options.page packet)))
-          (ap (span (kind options.page)) all_t
+          (ap (span (kind options.page)) on_air_split_t
           ∙ span-later options.page (packets_between t (first_frame t) a) first_unfinished holds
           ∙ sym (span-later options.page (packets_between u (first_frame u) a) first_unfinished
           holds)
-          ∙ sym (ap (span (kind options.page)) all_u))
+          ∙ sym (ap (span (kind options.page)) on_air_split_u))
 
-      correct_too : IsCorrectPage keeps programme options.page t f
+      correct_in_other : IsCorrectPage keeps programme options.page t f
           → IsCorrectPage keeps programme options.page u f
-      correct_too whole row column named =
+      correct_in_other whole row column named =
           let right = whole row column named in
           record {
-            kept_is = sym (kept_too row column) ∙ right.kept_is;
+            kept_eq = sym (kept_in_other row column) ∙ right.kept_eq;
             again = λ other. sym (row_too row) ∙ right.again other;
           }
 
-      unended_too : is_unended (kind options.page) (on_air_until t f)
+      unended_in_other : is_unended (kind options.page) (on_air_until t f)
           ≡ is_unended (kind options.page) (on_air_until u f)
-      unended_too =
-          ap (is_unended (kind options.page)) all_t
+      unended_in_other =
+          ap (is_unended (kind options.page)) on_air_split_t
           ∙ unended-later options.page (packets_between t (first_frame t) a) first_unfinished holds
           ∙ sym (unended-later options.page (packets_between u (first_frame u) a) first_unfinished
           holds)
-          ∙ sym (ap (is_unended (kind options.page)) all_u)
+          ∙ sym (ap (is_unended (kind options.page)) on_air_split_u)
 
       holds_all : (v : Transmission) (before : List (List ℕ)) → on_air_until v f ≡ before ++
           first_unfinished
@@ -167,65 +169,66 @@ module _ (keeps : Bool) (programme : ProgrammeValue) (options : OptionsValue) (t
           ap (holds_header (kind options.page)) at
           ∙ holds-append_right (kind options.page) before first_unfinished holds
 
-      holds_t : holds_header (kind options.page) (on_air_until t f) ≡ true
-      holds_t = holds_all t (packets_between t (first_frame t) a) all_t
+      holds_header_in_t : holds_header (kind options.page) (on_air_until t f) ≡ true
+      holds_header_in_t = holds_all t (packets_between t (first_frame t) a) on_air_split_t
 
-      open_too : is_open_after (kind options.page) (on_air_until t f)
+      open_in_other : is_open_after (kind options.page) (on_air_until t f)
           ≡ is_open_after (kind options.page) (on_air_until u f)
-      open_too =
-          rw (holds_t, holds_all u (packets_between u (first_frame u) a) all_u) unended_too
+      open_in_other =
+          rw (holds_header_in_t, holds_all u (packets_between u (first_frame u) a) on_air_split_u)
+          unended_in_other
 
-    stretch_too : IsRepeatedStretch keeps t options a b → IsRepeatedStretch keeps u options a b
-    stretch_too stretch = record {
+    stretch_in_other : IsRepeatedStretch keeps t options a b → IsRepeatedStretch keeps u options a b
+    stretch_in_other stretch = record {
       first = low_too;
       rising = is.rising;
       sends = λ f low high.
           subst
           (λ (ps : List (List ℕ)).
           SendsText keeps options.page ps (kept keeps options.page (on_air_until u f)))
-          (ap (drop 0) (same_since t u a b rising is f low high))
+          (ap (drop 0) (same_packets_between t u a b rising is f low high))
           (subst
           (λ (ps : List (List ℕ)).
           SendsText keeps options.page (on_air t a 0 f) (text_of options.page ps))
-          (spanned_too f low high) (stretch.sends f low high));
+          (spanned_in_other f low high) (stretch.sends f low high));
       repeats = λ start low high.
           let (f, after, before, found) = stretch.repeats start low high in
           (f, after, before, header_too f (omega arith) (omega arith) found);
     }
 
-    due_too : (f row column code : ℕ) → IsDueWithin programme t options f row column code
+    due_in_other : (f row column code : ℕ) → IsDueWithin programme t options f row column code
         → IsDueWithin programme u options f row column code
-    due_too f row column code h1 = grind (arith, nat_tests)
+    due_in_other f row column code h1 = grind (arith, nat_tests)
 
-    pub sufficient_too : IsSufficientRepeats keeps programme t options a b
+    pub sufficient_in_other : IsSufficientRepeats keeps programme t options a b
         → IsSufficientRepeats keeps programme u options a b
-    sufficient_too enough = record {
-      stretch = stretch_too enough.stretch;
+    sufficient_in_other enough = record {
+      stretch = stretch_in_other enough.stretch;
       codes = λ f row column low high named.
-          subst (IsDueWithin programme u options f row column) (kept_too f low high row column)
-          (due_too f row column (kept keeps options.page (on_air_until t f) row column)
+          subst (IsDueWithin programme u options f row column) (kept_in_other f low high row column)
+          (due_in_other f row column (kept keeps options.page (on_air_until t f) row column)
           (enough.codes f row column low high named));
-      whole = λ at_once f low high. correct_too f low high (enough.whole at_once f low high);
+      whole = λ at_once f low high. correct_in_other f low high (enough.whole at_once f low high);
     }
 
-    pub complete_too : CompleteWithin t options a b → CompleteWithin u options a b
-    complete_too complete f low high held =
-        sym (unended_too f low high) ∙ complete f low high (holds_t f low high)
+    pub complete_in_other : CompleteWithin t options a b → CompleteWithin u options a b
+    complete_in_other complete f low high held =
+        sym (unended_in_other f low high) ∙ complete f low high (holds_header_in_t f low high)
 
-    pub some_too : (one to : ℕ) → a ≤ one → to ≤ b
+    pub some_in_other : (one to : ℕ) → a ≤ one → to ≤ b
         → SomeFinishedBy keeps programme t options one to
         → SomeFinishedBy keeps programme u options one to
-    some_too one to low high (f, after, before, finished) = (
+    some_in_other one to low high (f, after, before, finished) = (
       f,
       after,
       before,
       record {
-        whole = correct_too f (le_trans low after) (le_trans before high) finished.whole;
+        whole = correct_in_other f (le_trans low after) (le_trans before high) finished.whole;
         ended = λ asks.
-            sym (open_too f (le_trans low after) (le_trans before high)) ∙ finished.ended asks;
+            sym (open_in_other f (le_trans low after) (le_trans before high)) ∙ finished.ended asks;
       },
     )
 
-    pub finishes_too : FinishesInTimeBy keeps programme t options a b
+    pub finishes_in_other : FinishesInTimeBy keeps programme t options a b
         → FinishesInTimeBy keeps programme u options a b
-    finishes_too finishes = grind (arith, nat_tests, some_too)
+    finishes_in_other finishes = grind (arith, nat_tests, some_in_other)

@@ -15,12 +15,14 @@ use Rattle.sub_rules.specs.PesPacketEvents.{steps_at_end, steps_of_ending}
 use Rattle.sub_rules.specs.Transmission.{Transmission}
 use Rattle.sub_rules.specs.Trusted.CheckStep.{Ends, Emits}
 use Rattle.sub_rules.specs.declared.event.Event.{Event}
-use Rattle.sub_trusted.proofs.TrustedKeptLemmas.{Closed, IsAbove, IsCorrectFrom, Opens, FaultFree}
+use Rattle.sub_trusted.proofs.TrustedKeptLemmas.{Closed, IsAfterFrames, IsCorrectFrom, Opens}
+use Rattle.sub_trusted.proofs.TrustedKeptLemmas.{FaultFree}
 use Rattle.sub_trusted.proofs.TrustedKeptLemmas.{may_before}
-use Rattle.sub_trusted.proofs.TrustedKeptLemmas.{opens_emitted, run_more, run_new, run_low}
+use Rattle.sub_trusted.proofs.TrustedKeptLemmas.{opens_emitted, run_more, run_new, run_at_most}
 use Rattle.sub_trusted.proofs.TrustedKeptLemmas.{run_found}
-use Rattle.sub_trusted.proofs.TrustedKeptLemmas.{run_rises, up_of, correct_some}
-use Rattle.sub_trusted.proofs.LateInvalidationLemmas.{before_low, header_none, header_own, seen_low}
+use Rattle.sub_trusted.proofs.TrustedKeptLemmas.{run_rises, run_facts_of, correct_some}
+use Rattle.sub_trusted.proofs.LateInvalidationLemmas.{first_unfinished_before_at_most, header_none}
+use Rattle.sub_trusted.proofs.LateInvalidationLemmas.{header_own, seen_unfinished_at_most}
 use Rattle.sub_trusted.proofs.LateInvalidationLemmas.{seen_unfinished}
 use Rattle.sub_laws.proofs.PrefixLemmas.{before, rises_to}
 use Rattle.sub_laws.proofs.RisingEndLemmas.{latest_at}
@@ -29,8 +31,8 @@ use Rattle.sub_trusted.proofs.TrustedRunLemmas.{Run}
 use Rattle.sub_trusted.proofs.TrustedLookLemmas.{HasEnd}
 use Rattle.sub_trusted.proofs.TrustedStepLemmas.{Passes, Reports, end_reports}
 use Rattle.sub_trusted.proofs.TrustedStepLemmas.{keeps_end}
-use Rattle.sub_trusted.proofs.EmittedStepLemmas.{rose}
-use Rattle.sub_rules.specs.Trusted.{CheckStep, back_of, last_begun, late_of, run_of}
+use Rattle.sub_trusted.proofs.EmittedStepLemmas.{has_risen}
+use Rattle.sub_rules.specs.Trusted.{CheckStep, back_of, last_packet_frame, late_of, run_of}
 use Rattle.sub_rules.specs.Trusted.{first_unfinished_of}
 use Rattle.sub_rules.specs.Trusted.{has_no_active_faults, stays_fault_free, reports_order_fault}
 use Rattle.sub_rules.specs.Trusted.{reported_at, correct_at}
@@ -47,9 +49,9 @@ module _ (g : Criteria) (frames : Transmission) (base : ℕ) where
   -- All packets of frame n were sent, and the end of the frame was checked.
   record Ending (n : ℕ) (t : List CheckStep) : Type 0 where
     opens : Opens g frames base n (packets_of_frame frames n) t
-    first_unfinished_is : first_unfinished_of t ≡ seen_unfinished g frames (suc n)
+    first_unfinished_eq : first_unfinished_of t ≡ seen_unfinished g frames (suc n)
         (frame_at frames n)
-    first_unfinished : rose t ≡ true → (r : ℕ) → first_unfinished_of t ≡ Some r → r ≤ frame_at
+    first_unfinished : has_risen t ≡ true → (r : ℕ) → first_unfinished_of t ≡ Some r → r ≤ frame_at
         frames n
 
   abbrev has : ℕ → Bool
@@ -63,7 +65,8 @@ module _ (g : Criteria) (frames : Transmission) (base : ℕ) where
 
   ended : (n : ℕ) (t : List CheckStep) → n < length frames → Ending n t
       → Closed g frames base (suc n) (step n ∷ t)
-  unfolding run_of first_correct_of last_begun first_unfinished_of late_of back_of stays_fault_free
+  unfolding run_of first_correct_of last_packet_frame first_unfinished_of late_of back_of
+      stays_fault_free
       reports_order_fault
   ended n t there ending = record {
     keeps = record {
@@ -84,7 +87,7 @@ module _ (g : Criteria) (frames : Transmission) (base : ℕ) where
           };
       plain = ending.opens.keeps.plain;
     };
-    floor = ending.opens.floor;
+    base_at_most = ending.opens.base_at_most;
     last = λ some. ending.opens.last ∙ ap (frame_at frames) (omega arith);
     rises = ending.opens.rises;
     first_unfinished = λ r from is e.
@@ -131,7 +134,7 @@ module _ (g : Criteria) (frames : Transmission) (base : ℕ) where
           → IsCorrectFrom g frames from w
       correct_then from w is whole =
           let (clean, none, was) = kept from is in
-          let low = run_low g frames (suc n) from (run_then from is) in
+          let low = run_at_most g frames (suc n) from (run_then from is) in
           let back : frame_at frames (suc n - 1) ≡ frame_at frames n =
           ap (frame_at frames) (omega arith) in
           elim (correct_ended (run_of t) (first_correct_of t) (first_unfinished_of t)
@@ -142,7 +145,7 @@ module _ (g : Criteria) (frames : Transmission) (base : ℕ) where
                   n = suc n;
                   end = (omega arith, omega arith, inl (sym back));
                   rises = ending.opens.rises (ending.opens.clean clean).0;
-                  finished = sym ending.first_unfinished_is ∙ first_unfinished;
+                  finished = sym ending.first_unfinished_eq ∙ first_unfinished;
                 })
             | inr (earlier, some_run) ↦ elim was [
               | inl before ↦ ending.opens.keeps.whole from w before earlier
@@ -150,7 +153,7 @@ module _ (g : Criteria) (frames : Transmission) (base : ℕ) where
             ]
           ]
 
-      above_then : (from : ℕ) → run_of (step n ∷ t) ≡ Some from → IsAbove g frames base from
+      above_then : (from : ℕ) → run_of (step n ∷ t) ≡ Some from → IsAfterFrames g frames base from
       above_then from is i under =
           let (clean, none, was) = kept from is in
           let rises = ending.opens.rises (ending.opens.clean clean).0 in
@@ -162,7 +165,7 @@ module _ (g : Criteria) (frames : Transmission) (base : ℕ) where
             | inr (gone, header, here) ↦ omega arith
           ]
 
-      falls_then : rose t ≡ false → (clean : Bool) → stays_fault_free t ≡ clean
+      falls_then : has_risen t ≡ false → (clean : Bool) → stays_fault_free t ≡ clean
           → (if clean && fault_free n then option_or (run_of t)
           (if has n then Some (frame_at frames n)
           else None) else None) ≡ None
@@ -202,7 +205,7 @@ module _ (g : Criteria) (frames : Transmission) (base : ℕ) where
           es
           opens emitted (λ fault_free kept. kept))
 
-      top : (u : List CheckStep) → Opens g frames base n (packets_of_frame frames n) u → rose u
+      top : (u : List CheckStep) → Opens g frames base n (packets_of_frame frames n) u → has_risen u
           ≡ true
           → latest frames (suc n) ≤ frame_at frames n
       top u so rises =
@@ -212,7 +215,7 @@ module _ (g : Criteria) (frames : Transmission) (base : ℕ) where
           omega arith
 
       below : (u : List CheckStep) → Opens g frames base n (packets_of_frame frames n) u
-          → rose u ≡ true
+          → has_risen u ≡ true
           → 0 < n
           → latest frames n < frame_at frames n
       below u so rises some =
@@ -228,30 +231,32 @@ module _ (g : Criteria) (frames : Transmission) (base : ℕ) where
           let es : List Event = events_at_end g frames n (suc n) f in
           let low : (from : ℕ) → run_of u ≡ Some from → HasEnd g frames (suc n) f from =
           (λ from is.
-          let h = up_of g frames base n f from u so.keeps so.rises is in
-          let first = run_low g frames n from (so.keeps.run from is) in
+          let h = run_facts_of g frames base n f from u so.keeps so.rises is in
+          let first = run_at_most g frames n from (so.keeps.run from is) in
           let up = h.up in
           let back : frame_at frames n ≡ frame_at frames (suc n - 1) =
           ap (frame_at frames) (omega arith) in
           (omega arith, (omega arith, omega arith, inl back), h.rises)) in
           end_reports g frames base n (suc n) f u (Ending n)
-          (λ from is. top u so (run_rises (rose u) (run_of u) from so.keeps.falls is)) so.keeps low
+          (λ from is. top u so (run_rises (has_risen u) (run_of u) from so.keeps.falls is)) so.keeps
+          low
           (λ from is. may_before g frames base n (packets_of_frame frames n) u there so from is
           (end_frame frames))
-          (λ from is some. below u so (run_rises (rose u) (run_of u) from so.keeps.falls is) some)
+          (λ from is some. below u so (run_rises (has_risen u) (run_of u) from so.keeps.falls is)
+          some)
           (λ now v looks backs emitted.
           let so_now : Opens g frames base n (packets_of_frame frames n) now =
           record {
             keeps = keeps_end g frames base n f (suc n) f u now looks so.keeps low;
-            floor = so.floor;
+            base_at_most = so.base_at_most;
             last = looks.last_is ∙ so.last;
             rises = λ e. so.rises (sym looks.rises_is ∙ e);
             clean = λ e.
-                let both = so.clean (sym looks.clean_is ∙ e) in
+                let both = so.clean (sym looks.clean_eq ∙ e) in
                 (looks.rises_is ∙ both.0, both.1);
-            fresh = λ e. so.fresh (sym looks.clean_is ∙ e);
+            fresh = λ e. so.fresh (sym looks.clean_eq ∙ e);
             back = λ e r is.
-                (before_low g frames n f r (backs r is)
+                (first_unfinished_before_at_most g frames n f r (backs r is)
                 (below u so (sym looks.rises_is ∙ e))).1;
           } in
           record {
@@ -259,12 +264,12 @@ module _ (g : Criteria) (frames : Transmission) (base : ℕ) where
                 opens_emitted g frames base n (packets_of_frame frames n) (packets_of_frame frames
                 n)
                 now v es so_now emitted (λ fault_free kept. kept);
-            first_unfinished_is = emitted.first_unfinished_is ∙ looks.first_unfinished_is;
+            first_unfinished_eq = emitted.first_unfinished_eq ∙ looks.first_unfinished_eq;
             first_unfinished = λ rises r is.
                 let rises_is = emitted.rises_is in
                 let looked = looks.rises_is in
-                let was : rose u ≡ true = grind (arith, nat_tests) in
-                seen_low g frames (suc n) f r
-                (sym looks.first_unfinished_is ∙ sym emitted.first_unfinished_is ∙ is)
+                let was : has_risen u ≡ true = grind (arith, nat_tests) in
+                seen_unfinished_at_most g frames (suc n) f r
+                (sym looks.first_unfinished_eq ∙ sym emitted.first_unfinished_eq ∙ is)
                 (top u so was);
           })

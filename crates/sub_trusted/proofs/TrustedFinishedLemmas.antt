@@ -6,17 +6,17 @@ use Rattle.std.proofs.lemmas.Bool.{cases_lt}
 use Rattle.std.proofs.lemmas.List.{take-append-drop}
 use Rattle.stl_rows.specs.Programme.{ProgrammeValue}
 use Rattle.sub_plan.specs.Options.{OptionsValue}
-use Rattle.sub_rules.specs.Events.{active_faults_at, undecided_within, unfinished_since}
+use Rattle.sub_rules.specs.Events.{active_faults_at, undecided_within, unfinished_run_start}
 use Rattle.sub_rules.specs.FrameRules.{Criteria, Unread}
 use Rattle.sub_rules.specs.Repeats.{SomeFinishedBy}
 use Rattle.sub_rules.specs.Transmission.{Transmission}
-use Rattle.sub_rules.proofs.PrefixEventLemmas.{unfinished_since-prefix}
+use Rattle.sub_rules.proofs.PrefixEventLemmas.{unfinished_run_start-prefix}
 use Rattle.sub_laws.specs.CleanStretch.{IsEnd, criteria_unsure}
 use Rattle.sub_trusted.specs.TrustedFrames.{rising_part}
 use Rattle.sub_trusted.proofs.TrustedKeptLemmas.{MayStayCorrect}
 use Rattle.sub_laws.proofs.FinishedLemmas.{finished_of, first_unfinished_no}
 use Rattle.sub_laws.proofs.PrefixLemmas.{RiseTo, frame_at-take, take_rises}
-use Rattle.sub_laws.proofs.ActiveFaultsLemmas.{known_at}
+use Rattle.sub_laws.proofs.ActiveFaultsLemmas.{due_known_at}
 use Rattle.sub_trusted.proofs.TrustedFrameLemmas.{count_most, part_last}
 use Rattle.sub_trusted.proofs.TrustedFrameLemmas.{part_length, part_rises, risen, risen_low}
 use Rattle.sub_trusted.proofs.TrustedFrameLemmas.{unreported}
@@ -76,14 +76,15 @@ module _ (programme : ProgrammeValue) (options : OptionsValue) (unread : Option 
           ],
         )
 
-    first_unfinished_none : (g.within == 0) ≡ false → unfinished_since g part may.whole.n may.w ≡
+    first_unfinished_none : (g.within == 0) ≡ false → unfinished_run_start g part may.whole.n may.w
+        ≡
         None
     first_unfinished_none some =
         let seen = may.whole.finished in
         sym
-        (unfinished_since-prefix g g.unread part (drop (risen frames) frames) may.whole.n may.w
+        (unfinished_run_start-prefix g g.unread part (drop (risen frames) frames) may.whole.n may.w
         (omega (arith, few, part_long)))
-        ∙ ap (λ (fs : Transmission). unfinished_since g fs may.whole.n may.w)
+        ∙ ap (λ (fs : Transmission). unfinished_run_start g fs may.whole.n may.w)
         (take-append-drop (risen frames) frames)
         ∙ rw some at seen
 
@@ -102,7 +103,7 @@ module _ (programme : ProgrammeValue) (options : OptionsValue) (unread : Option 
       may.high,
       finished_of programme options unread any_refused undecided part up may.whole.n may.w
           end_in_part
-          (known_at g part may.whole.n may.w known)
+          (due_known_at g part may.whole.n may.w known)
           (first_unfinished_no programme options unread any_refused undecided part up may.whole.n
           may.w
           end_in_part

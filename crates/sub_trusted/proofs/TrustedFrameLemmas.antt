@@ -1,6 +1,6 @@
 -- The trusted frames of the rising part have no report that a receiver depends on (`unreported`),
 -- the page is open at none of their ends (`closed`), and the first trusted frame has a header that
--- begins the text (`header_there`). Used for `law_of_trusted` and `law_of_trusted_repeats`.
+-- begins the text (`begins_with_header`). Used for `law_of_trusted` and `law_of_trusted_repeats`.
 use Rattle.std.proofs.lemmas.Bool.Decides.{nat_tests}
 use Rattle.std.specs.Bool.{Decides}
 use Rattle.std.proofs.Common.{◌≡◌, ℕ, zero, suc, ◌+◌, ◌-◌, ◌<◌, ◌≤◌, inl, inr, true, false, length}
@@ -14,7 +14,7 @@ use Rattle.sub_rules.specs.FrameRules.{Criteria, frame_at, packets_of_frame}
 use Rattle.sub_rules.specs.PacketTests.{breaks}
 use Rattle.sub_rules.specs.Transmission.{Transmission, last_frame, packets_of}
 use Rattle.sub_rules.specs.declared.packet_rule.PacketRule.{PacketRule}
-use Rattle.sub_rules.proofs.EndRuleLemmas.{no_active_faults_is}
+use Rattle.sub_rules.proofs.EndRuleLemmas.{no_active_faults_eq}
 use Rattle.sub_rules.proofs.PrefixEventLemmas.{active_faults_at-prefix}
 use Rattle.sub_laws.specs.CleanStretch.{AtEnds, IsEnd, IsStretch, IsUnreported, is_needed}
 use Rattle.sub_trusted.specs.TrustedFrames.{rises_at, rising_count, rising_part}
@@ -35,10 +35,10 @@ module _ (frames : Transmission) where
   unfolding rises_at
   rises_last n h1 = grind (arith, nat_tests, rises_is)
 
-  pub count_low : (n : ℕ) → rising_count frames n ≤ n
+  pub rising_count_at_most : (n : ℕ) → rising_count frames n ≤ n
   unfolding rising_count
-  count_low zero = omega arith
-  count_low (suc n) = let rest = count_low n in grind (arith, nat_tests)
+  rising_count_at_most zero = omega arith
+  rising_count_at_most (suc n) = let rest = rising_count_at_most n in grind (arith, nat_tests)
 
   pub count_rises : (n : ℕ) → RiseTo frames (rising_count frames n)
   unfolding rising_count
@@ -51,17 +51,17 @@ module _ (frames : Transmission) where
   count_most (suc n) k l rises = elim (cases_lt n k) [
     | inl whole ↦
         let all = count_most n n (omega arith) (λ i a b. rises i a (omega arith)) in
-        grind (arith, nat_tests, count_low, rises_last)
+        grind (arith, nat_tests, rising_count_at_most, rises_last)
     | inr less ↦
         let rest = count_most n k (omega arith) rises in
-        grind (arith, nat_tests, count_low)
+        grind (arith, nat_tests, rising_count_at_most)
   ]
 
   abbrev pub risen : ℕ
   risen = rising_count frames (length frames)
 
   pub risen_low : risen ≤ length frames
-  risen_low = count_low (length frames)
+  risen_low = rising_count_at_most (length frames)
 
   pub part_length : length (rising_part frames) ≡ risen
   part_length = length-take-le risen frames risen_low
@@ -98,11 +98,11 @@ module _ (g : Criteria) (frames : Transmission) (from to : ℕ)
   abbrev part : Transmission
   part = rising_part frames
 
-  n_low : stays.n ≤ m
-  n_low = count_most frames (length frames) stays.n stays.within stays.run.rises
+  n_at_most_m : stays.n ≤ m
+  n_at_most_m = count_most frames (length frames) stays.n stays.within stays.run.rises
 
   some : 0 < m
-  some = let below = stays.run.below in let l = n_low in omega arith
+  some = let below = stays.run.below in let l = n_at_most_m in omega arith
 
   order : (i j : ℕ) → i ≤ j → j < m → frame_at frames i ≤ frame_at frames j
   order = rises_to frames m (part_rises frames)
@@ -122,14 +122,24 @@ module _ (g : Criteria) (frames : Transmission) (from to : ℕ)
   remains_fault_free n f at low high =
       let few = end_few n f at high in
       ap has_no_active_faults
-      (active_faults-take g frames m n f some (risen_low frames) (let l = n_low in omega arith))
+      (active_faults-take g frames m n f some (risen_low frames) (let l = n_at_most_m in omega
+      arith))
       ∙ stays.ends n f (end_whole n f at) few low (omega arith)
 
-  last_low : to ≤ frame_at frames (m - 1)
-  last_low = grind (arith, nat_tests, cases_lt, risen_low, order, before, n_low, rises_more)
+  end_at_most_last : to ≤ frame_at frames (m - 1)
+  end_at_most_last = grind (
+    arith,
+    nat_tests,
+    cases_lt,
+    risen_low,
+    order,
+    before,
+    n_at_most_m,
+    rises_more,
+  )
 
-  pub j_low : stays.run.j < m
-  j_low = let b = stays.run.below in let l = n_low in omega arith
+  pub j_less_than_m : stays.run.j < m
+  j_less_than_m = let b = stays.run.below in let l = n_at_most_m in omega arith
 
   stretch : IsStretch part from to
   stretch =
@@ -142,8 +152,8 @@ module _ (g : Criteria) (frames : Transmission) (from to : ℕ)
         some,
         frame_at-take,
         order,
-        j_low,
-        last_low,
+        j_less_than_m,
+        end_at_most_last,
       )
 
   packets_fault_free : (r : PacketRule) (i k : ℕ)
@@ -154,7 +164,7 @@ module _ (g : Criteria) (frames : Transmission) (from to : ℕ)
       → frame_at frames i ≤ to
       → breaks r g.watched (before frames i k) (packet_at frames i k) ≡ false
   packets_fault_free r i k needed l below low high =
-      grind (arith, nat_tests, cases_lt, later, order, j_low, part_rises)
+      grind (arith, nat_tests, cases_lt, later, order, j_less_than_m, part_rises)
 
   pub unreported : IsUnreported g part from to
   unreported = record {
@@ -165,25 +175,25 @@ module _ (g : Criteria) (frames : Transmission) (from to : ℕ)
         grind (arith, nat_tests, packets-take, frame_at-take, take-take, packets_fault_free);
     content = λ n f at low high.
         ap (λ (s : ActiveFaults). s.content)
-        (no_active_faults_is _ (remains_fault_free n f at low high));
+        (no_active_faults_eq _ (remains_fault_free n f at low high));
     gap = λ n f at low high.
         ap (λ (s : ActiveFaults). s.gap)
-        (no_active_faults_is _ (remains_fault_free n f at low high));
+        (no_active_faults_eq _ (remains_fault_free n f at low high));
     undecided = λ n f at low high.
         ap (λ (s : ActiveFaults). s.undecided)
-        (no_active_faults_is _ (remains_fault_free n f at low high));
+        (no_active_faults_eq _ (remains_fault_free n f at low high));
   }
 
   pub closed : AtEnds (λ n f. IsFalse (active_faults_at g part n f).incomplete) part from to
   closed n f at low high =
       ap (λ (s : ActiveFaults). s.incomplete)
-      (no_active_faults_is _ (remains_fault_free n f at low high))
+      (no_active_faults_eq _ (remains_fault_free n f at low high))
 
-  pub header_there :
+  pub begins_with_header :
       holds_beginning g.watched.keeps (kind g.watched.page) (packets_of part from) ≡ true
-  header_there =
+  begins_with_header =
       let all = part_length frames in
       any_passes (λ p. begins_text g.watched.keeps (kind g.watched.page p)) part stays.run.j from
-      (let l = j_low in omega arith)
-      (frame_at-take frames m stays.run.j j_low ∙ stays.run.at)
-      (grind (arith, nat_tests, packets-take, j_low))
+      (let l = j_less_than_m in omega arith)
+      (frame_at-take frames m stays.run.j j_less_than_m ∙ stays.run.at)
+      (grind (arith, nat_tests, packets-take, j_less_than_m))

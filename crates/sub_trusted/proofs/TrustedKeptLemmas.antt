@@ -1,5 +1,5 @@
 -- The tracker's state for clean frames, whatever `within` is: after frames that have ended
--- (`Keeps`), before the next frame (`Arrives`), while it is sent (`Opens`), and at its end
+-- (`Keeps`), before the next frame (`GapFramesEnded`), while it is sent (`Opens`), and at its end
 -- (`Closed`). The frames that are reported as trusted are those of a run (`passes_before`); a run
 -- continues with a frame (`run_more`) or begins with it (`run_new`). Used for `law_of_trusted` and
 -- `law_of_trusted_repeats`.
@@ -19,16 +19,16 @@ use Rattle.sub_rules.specs.Transmission.{Transmission}
 use Rattle.sub_rules.specs.Trusted.CheckStep.{AtPes}
 use Rattle.sub_rules.specs.declared.event.Event.{Event}
 use Rattle.sub_rules.specs.declared.packet_rule.PacketRule.{PacketRule}
-use Rattle.sub_rules.proofs.EndLemmas.{gap_length-is, active_faults_before_is}
+use Rattle.sub_rules.proofs.EndLemmas.{gap_length-is, active_faults_before_eq}
 use Rattle.sub_laws.specs.CleanStretch.{IsEnd, is_needed}
 use Rattle.sub_trusted.proofs.LateInvalidationLemmas.{KeepsAll, seen_unfinished}
 use Rattle.sub_laws.proofs.PrefixLemmas.{RiseTo, before, packet_at, rises_to}
 use Rattle.sub_laws.proofs.RisingEndLemmas.{latest_at}
-use Rattle.sub_trusted.proofs.EmittedStepLemmas.{AreEmitted, invalidation_of, kept_some}
-use Rattle.sub_trusted.proofs.EmittedStepLemmas.{orders_invalidated, rose}
+use Rattle.sub_trusted.proofs.EmittedStepLemmas.{AreEmitted, invalidation_of, run_was_there}
+use Rattle.sub_trusted.proofs.EmittedStepLemmas.{orders_invalidated, has_risen}
 use Rattle.sub_trusted.proofs.TrustedRunLemmas.{EndsFaultFree, Run, Stays, StaysTo}
 use Rattle.sub_rules.specs.PesPacketEvents.{goes_back}
-use Rattle.sub_rules.specs.Trusted.{CheckStep, back_of, last_begun, late_of, run_of}
+use Rattle.sub_rules.specs.Trusted.{CheckStep, back_of, last_packet_frame, late_of, run_of}
 use Rattle.sub_rules.specs.Trusted.{first_unfinished_of}
 use Rattle.sub_rules.specs.Trusted.{has_no_active_faults, stays_fault_free, reports_order_fault}
 use Rattle.sub_rules.specs.Trusted.{correct_at, first_correct_of}
@@ -50,7 +50,7 @@ correct_found whole first_unfinished f w e = grind (arith, nat_tests)
 
 -- No end is checked for lateness since `within` is 0: no frame is noted from which on the page has
 -- been wrong, and in each run the page was right.
-pub record SeesNone (t : List CheckStep) : Type 0 where
+pub record ChecksNoLateness (t : List CheckStep) : Type 0 where
   pub first_unfinished : first_unfinished_of t ≡ None
   pub late : late_of t ≡ None
   pub whole : is_some (run_of t) ≡ true → is_some (first_correct_of t) ≡ true
@@ -77,14 +77,14 @@ module _ (g : Criteria) (frames : Transmission) where
     pub whole : IsCorrectFrom from w
 
   -- The frame `from` is after all of the first `base` frames of the list.
-  abbrev pub IsAbove : ℕ → ℕ → Type 0
-  IsAbove base from = (i : ℕ) → i < base → frame_at frames i < from
+  abbrev pub IsAfterFrames : ℕ → ℕ → Type 0
+  IsAfterFrames base from = (i : ℕ) → i < base → frame_at frames i < from
 
   -- The frames `from` to `to` may stay; they are after the first `base` frames of the list, and if
   -- all frames rise they are before frame `late`.
   pub record MayStayBetween (base late from to : ℕ) : Type 0 where
-    pub stands : MayStayCorrect from to
-    pub above : IsAbove base from
+    pub may_stay_correct : MayStayCorrect from to
+    pub above : IsAfterFrames base from
     pub early : RiseTo frames (length frames) → to < late
 
   -- A run may be trusted up to the frame before y; if all frames rise, up to the frame before
@@ -119,7 +119,7 @@ module _ (g : Criteria) (frames : Transmission) where
       ≡ Some from
       → invalidation_of t es ≡ None
   calm t u es emitted from
-      is = (kept_some (run_of t) (invalidation_of t es) from (sym emitted.run_is ∙ is)).1
+      is = (run_was_there (run_of t) (invalidation_of t es) from (sym emitted.run_eq ∙ is)).1
 
   -- An end up to which at most n frames were sent is before frame n of the list.
   pub end_under : (n : ℕ) → RiseTo frames (suc n) → (m f : ℕ) → IsEnd frames m f → m ≤ n
@@ -140,14 +140,14 @@ module _ (g : Criteria) (frames : Transmission) where
       let up = rises_to frames n rises m (n - 1) (omega arith) (omega arith) in omega arith
 
   -- If a run continues, the frames rise up to frame n, and frame n - 1 is the latest one.
-  pub record Up (n : ℕ) : Type 0 where
+  pub record RunFacts (n : ℕ) : Type 0 where
     pub some : 0 < n
     pub last : latest frames n ≡ frame_at frames (n - 1)
     pub rises : RiseTo frames (suc n)
     pub up : frame_at frames (n - 1) < frame_at frames n
     pub long : latest frames n + suc (gap_length frames n) ≡ frame_at frames n
 
-  pub gap_end : (n k : ℕ) → n < length frames → k < gap_length frames n → Up n
+  pub gap_end : (n k : ℕ) → n < length frames → k < gap_length frames n → RunFacts n
       → IsEnd frames n (latest frames n + suc k)
   gap_end n k there l h =
       let last = h.last in
@@ -182,8 +182,8 @@ module _ (g : Criteria) (frames : Transmission) where
       → has_no_active_faults (active_faults_at g frames m e) ≡ true
   fault_free_own n m e fault_free same end high = grind (arith, nat_tests)
 
-  pub run_low : (n from : ℕ) → Run g frames n from → from ≤ frame_at frames (n - 1)
-  run_low n from run =
+  pub run_at_most : (n from : ℕ) → Run g frames n from → from ≤ frame_at frames (n - 1)
+  run_at_most n from run =
       let below = run.below in
       let at = run.at in
       let up = rises_to frames n run.rises run.j (n - 1) (omega arith) (omega arith) in
@@ -237,9 +237,9 @@ module _ (g : Criteria) (frames : Transmission) (base : ℕ) where
     pub ends : (from : ℕ) → run_of t ≡ Some from → EndsFaultFree g frames n from x
     pub whole : (from w : ℕ) → run_of t ≡ Some from → first_correct_of t ≡ Some w → IsCorrectFrom g
         frames from w
-    pub above : (from : ℕ) → run_of t ≡ Some from → IsAbove g frames base from
-    pub falls : rose t ≡ false → run_of t ≡ None
-    pub at_once : (g.within == 0) ≡ true → SeesNone t
+    pub above : (from : ℕ) → run_of t ≡ Some from → IsAfterFrames g frames base from
+    pub falls : has_risen t ≡ false → run_of t ≡ None
+    pub at_once : (g.within == 0) ≡ true → ChecksNoLateness t
     pub plain : goes_back g ≡ false → back_of t ≡ None
 
   pub keeps_to : (n x y : ℕ) (t : List CheckStep) → Keeps n x t
@@ -261,7 +261,7 @@ module _ (g : Criteria) (frames : Transmission) (base : ℕ) where
       let low = at.low in
       let same : y ≡ y - 1 + 1 = omega arith in
       record {
-        stands = record {
+        may_stay_correct = record {
           stays = subst (Stays g frames from) same (record {
             n = n;
             within = may.within;
@@ -289,56 +289,57 @@ module _ (g : Criteria) (frames : Transmission) (base : ℕ) where
   keeps_emitted n x t u es keeps emitted = record {
     run = λ from is. keeps.run from (was from is);
     ends = λ from is. keeps.ends from (was from is);
-    whole = λ from w is whole. keeps.whole from w (was from is) (sym emitted.first_correct_is ∙
+    whole = λ from w is whole. keeps.whole from w (was from is) (sym emitted.first_correct_eq ∙
         whole);
     above = λ from is. keeps.above from (was from is);
     falls = falls;
     at_once = λ e.
         let none = keeps.at_once e in
         record {
-          first_unfinished = emitted.first_unfinished_is ∙ none.first_unfinished;
-          late = emitted.late_is ∙ none.late;
+          first_unfinished = emitted.first_unfinished_eq ∙ none.first_unfinished;
+          late = emitted.late_eq ∙ none.late;
           whole = λ there. still_some (none.whole (was_some there));
         };
-    plain = λ e. emitted.back_is ∙ keeps.plain e;
+    plain = λ e. emitted.back_eq ∙ keeps.plain e;
   }
     where
       was_some : is_some (run_of u) ≡ true → is_some (run_of t) ≡ true
-      was_some there = let run_is = emitted.run_is in grind (arith, nat_tests)
+      was_some there = let run_eq = emitted.run_eq in grind (arith, nat_tests)
 
       still_some : is_some (first_correct_of t) ≡ true → is_some (first_correct_of u) ≡ true
-      still_some whole = let first_correct_is = emitted.first_correct_is in grind (arith, nat_tests)
+      still_some whole = let first_correct_eq = emitted.first_correct_eq in grind (arith, nat_tests)
 
       was : (from : ℕ) → run_of u ≡ Some from → run_of t ≡ Some from
-      was from is = (kept_some (run_of t) (invalidation_of t es) from (sym emitted.run_is ∙ is)).0
+      was from is = (run_was_there (run_of t) (invalidation_of t es) from
+          (sym emitted.run_eq ∙ is)).0
 
-      falls : rose u ≡ false → run_of u ≡ None
+      falls : has_risen u ≡ false → run_of u ≡ None
       falls e =
-          let run_is = emitted.run_is in
+          let run_eq = emitted.run_eq in
           let rises_is = emitted.rises_is in
           let before = keeps.falls in
           let orders = orders_invalidated t es in
           grind (arith, nat_tests)
 
   -- The first k frames of the day before frame n of the list have ended.
-  pub record Arrives (n k : ℕ) (t : List CheckStep) : Type 0 where
+  pub record GapFramesEnded (n k : ℕ) (t : List CheckStep) : Type 0 where
     pub keeps : Keeps n (latest frames n + suc k) t
-    pub floor : base ≤ n
-    pub rises : rose t ≡ true → RiseTo frames (suc n)
+    pub base_at_most : base ≤ n
+    pub rises : has_risen t ≡ true → RiseTo frames (suc n)
     pub back :
-        rose t ≡ true
+        has_risen t ≡ true
         → (r : ℕ)
         → back_of t ≡ Some r
         → (0 < n) × (r ≤ latest frames n + k)
 
-  pub up_of : (n x from : ℕ) (t : List CheckStep) → Keeps n x t
-      → (rose t ≡ true → RiseTo frames (suc n))
+  pub run_facts_of : (n x from : ℕ) (t : List CheckStep) → Keeps n x t
+      → (has_risen t ≡ true → RiseTo frames (suc n))
       → run_of t ≡ Some from
-      → Up g frames n
-  up_of n x from t keeps so is =
+      → RunFacts g frames n
+  run_facts_of n x from t keeps so is =
       let run = keeps.run from is in
       let some : 0 < n = let below = run.below in omega arith in
-      let rises = so (run_rises (rose t) (run_of t) from keeps.falls is) in
+      let rises = so (run_rises (has_risen t) (run_of t) from keeps.falls is) in
       let last = latest_at frames n run.rises some in
       let up = rises n some (omega arith) in
       let long = gap_length-is frames n some in
@@ -347,25 +348,25 @@ module _ (g : Criteria) (frames : Transmission) (base : ℕ) where
   -- If a run continues, no fault is active at the end before frame f.
   pub no_faults_before : (n f from : ℕ) (t : List CheckStep) → n < length frames → Keeps n f t
       → run_of t ≡ Some from
-      → Up g frames n
+      → RunFacts g frames n
       → latest frames n < f
       → f ≤ frame_at frames n
       → has_no_active_faults (active_faults_before g frames n f) ≡ true
   no_faults_before n f from t there keeps is h after high =
       let some = h.some in
-      rw (active_faults_before_is g frames n f some) (go (nat_lt (latest frames n + 1) f) refl)
+      rw (active_faults_before_eq g frames n f some) (go (nat_lt (latest frames n + 1) f) refl)
     where
       go : (b : Bool) → nat_lt (latest frames n + 1) f ≡ b
           → has_no_active_faults
           (active_faults_at g frames n (if b then f - 1 else frame_at frames (n - 1)))
           ≡ true
       go false e =
-          let low = run_low g frames n from (keeps.run from is) in
+          let low = run_at_most g frames n from (keeps.run from is) in
           let last = h.last in
           keeps.ends from is n (frame_at frames (n - 1)) (h.some, omega arith, inl refl) (le_refl n)
           low (omega arith)
       go true e =
-          let low = run_low g frames n from (keeps.run from is) in
+          let low = run_at_most g frames n from (keeps.run from is) in
           let last = h.last in
           let long = h.long in
           let later : latest frames n + 1 < f = grind (arith, nat_tests) in
@@ -378,14 +379,14 @@ module _ (g : Criteria) (frames : Transmission) (base : ℕ) where
   -- The first n frames of the list have ended, and no later frame of the day has.
   pub record Closed (n : ℕ) (t : List CheckStep) : Type 0 where
     pub keeps : Keeps n (frame_at frames (n - 1) + 1) t
-    pub floor : base ≤ n
-    pub last : 0 < n → last_begun t ≡ frame_at frames (n - 1)
-    pub rises : rose t ≡ true → RiseTo frames n
+    pub base_at_most : base ≤ n
+    pub last : 0 < n → last_packet_frame t ≡ frame_at frames (n - 1)
+    pub rises : has_risen t ≡ true → RiseTo frames n
     pub first_unfinished :
         (r from : ℕ) → run_of t ≡ Some from → first_unfinished_of t ≡ Some r → r ≤ frame_at frames
         (n - 1)
     pub back :
-        rose t ≡ true
+        has_risen t ≡ true
         → (r : ℕ)
         → back_of t ≡ Some r
         → (0 < n) × (r ≤ frame_at frames (n - 1))
@@ -394,33 +395,44 @@ module _ (g : Criteria) (frames : Transmission) (base : ℕ) where
   -- far.
   pub record Opens (n : ℕ) (packets : List (List ℕ)) (t : List CheckStep) : Type 0 where
     pub keeps : Keeps n (frame_at frames n) t
-    pub floor : base ≤ suc n
-    pub last : last_begun t ≡ frame_at frames n
-    pub rises : rose t ≡ true → RiseTo frames (suc n)
+    pub base_at_most : base ≤ suc n
+    pub last : last_packet_frame t ≡ frame_at frames n
+    pub rises : has_risen t ≡ true → RiseTo frames (suc n)
     pub clean :
         (stays_fault_free t) ≡ true
-        → (rose t ≡ true) × KeepsAll g.watched (packets_before frames n) packets
+        → (has_risen t ≡ true) × KeepsAll g.watched (packets_before frames n) packets
     pub fresh : stays_fault_free t ≡ true → base ≤ n
-    pub back : rose t ≡ true → (r : ℕ) → back_of t ≡ Some r → r ≤ frame_at frames n
+    pub back : has_risen t ≡ true → (r : ℕ) → back_of t ≡ Some r → r ≤ frame_at frames n
 
   pub closed_at : (n pes : ℕ) (t : List CheckStep) → Closed n t → Closed n (AtPes pes ∷ t)
-  unfolding run_of first_correct_of last_begun first_unfinished_of late_of back_of stays_fault_free
+  unfolding run_of first_correct_of last_packet_frame first_unfinished_of late_of back_of
+      stays_fault_free
       reports_order_fault
   closed_at n pes t closed = grind (arith, nat_tests)
 
-  pub rose_before : (t u : List CheckStep) (es : List Event) → AreEmitted t u es → rose u ≡ true
-      → rose t ≡ true
+  pub rose_before : (t u : List CheckStep) (es : List Event) → AreEmitted t u es → has_risen u ≡
+      true
+      → has_risen t ≡ true
   rose_before t u es emitted e = let rises_is = emitted.rises_is in grind (arith, nat_tests)
 
   pub closed_emitted : (n : ℕ) (t u : List CheckStep) (es : List Event) → Closed n t → AreEmitted t
       u es
       → Closed n u
   closed_emitted n t u es closed emitted =
-      grind (arith, nat_tests, keeps_emitted, rose, kept_some, invalidation_of, rose_before)
+      grind (
+        arith,
+        nat_tests,
+        keeps_emitted,
+        has_risen,
+        run_was_there,
+        invalidation_of,
+        rose_before,
+      )
 
   pub opens_at : (n pes : ℕ) (packets : List (List ℕ)) (t : List CheckStep) → Opens n packets t
       → Opens n packets (AtPes pes ∷ t)
-  unfolding run_of first_correct_of last_begun first_unfinished_of late_of back_of stays_fault_free
+  unfolding run_of first_correct_of last_packet_frame first_unfinished_of late_of back_of
+      stays_fault_free
       reports_order_fault
   opens_at n pes packets t opens = grind (arith, nat_tests)
 
@@ -444,7 +456,7 @@ module _ (g : Criteria) (frames : Transmission) (base : ℕ) where
         arith,
         nat_tests,
         keeps_emitted,
-        rose,
+        has_risen,
         invalidation_of,
         before,
         orders_invalidated,

@@ -1,5 +1,6 @@
--- The tracker's state for the steps at the end of a frame (`Looks`, `Backs`); the reports at an end
--- may be taken as those after its step (`with_end`). Used for `law_of_trusted` and
+-- The tracker's state for the steps at the end of a frame (`ChecksFrameEnd`, `WrongSince`); the
+-- reports at an end may be taken as those after its step (`with_end`). Used for `law_of_trusted`
+-- and
 -- `law_of_trusted_repeats`.
 use Rattle.std.proofs.lemmas.Bool.Decides.{nat_tests}
 use Rattle.std.proofs.Common.{◌≡◌, ℕ, ◌≤◌, true, false, not}
@@ -15,28 +16,28 @@ use Rattle.sub_rules.specs.PesPacketEvents.{goes_back, steps_at_end}
 use Rattle.sub_rules.specs.Transmission.{Transmission}
 use Rattle.sub_rules.specs.Trusted.CheckStep.{Emits}
 use Rattle.sub_laws.specs.CleanStretch.{IsEnd}
-use Rattle.sub_trusted.proofs.TrustedKeptLemmas.{SeesNone}
+use Rattle.sub_trusted.proofs.TrustedKeptLemmas.{ChecksNoLateness}
 use Rattle.sub_trusted.proofs.LateInvalidationLemmas.{seen_unfinished}
 use Rattle.sub_laws.proofs.PrefixLemmas.{RiseTo}
-use Rattle.sub_trusted.proofs.EmittedStepLemmas.{rose}
-use Rattle.sub_rules.specs.Trusted.{CheckStep, back_of, last_begun, late_of, run_of}
+use Rattle.sub_trusted.proofs.EmittedStepLemmas.{has_risen}
+use Rattle.sub_rules.specs.Trusted.{CheckStep, back_of, last_packet_frame, late_of, run_of}
 use Rattle.sub_rules.specs.Trusted.{first_unfinished_of}
 use Rattle.sub_rules.specs.Trusted.{stays_fault_free, reports_order_fault, reported_at, correct_at}
 use Rattle.sub_rules.specs.Trusted.{first_correct_of}
 
 module _ (g : Criteria) (frames : Transmission) where
   -- The end of frame f was checked, with the packets of n frames.
-  pub record Looks (n f : ℕ) (t u : List CheckStep) : Type 0 where
-    pub run_is : run_of u ≡ run_of t
-    pub first_correct_is :
+  pub record ChecksFrameEnd (n f : ℕ) (t u : List CheckStep) : Type 0 where
+    pub run_eq : run_of u ≡ run_of t
+    pub first_correct_eq :
         is_some (run_of t) ≡ true
         → first_correct_of u ≡ option_or (first_correct_of t)
         (correct_at f (seen_unfinished g frames n f))
-    pub last_is : last_begun u ≡ last_begun t
-    pub rises_is : rose u ≡ rose t
-    pub clean_is : stays_fault_free u ≡ stays_fault_free t
-    pub first_unfinished_is : first_unfinished_of u ≡ seen_unfinished g frames n f
-    pub late_is :
+    pub last_is : last_packet_frame u ≡ last_packet_frame t
+    pub rises_is : has_risen u ≡ has_risen t
+    pub clean_eq : stays_fault_free u ≡ stays_fault_free t
+    pub first_unfinished_eq : first_unfinished_of u ≡ seen_unfinished g frames n f
+    pub late_eq :
         late_of u
         ≡ (if not (g.within == 0) && is_late g frames n f then seen_unfinished g frames n f
         else None)
@@ -44,24 +45,25 @@ module _ (g : Criteria) (frames : Transmission) where
 
   -- The state names the frame from which on the page has been wrong up to the end before frame f,
   -- as the rules define it.
-  abbrev pub Backs : ℕ → ℕ → List CheckStep → Type 0
-  Backs i f u = (r : ℕ) → back_of u ≡ Some r → first_unfinished_before g frames i f ≡ Some r
+  abbrev pub WrongSince : ℕ → ℕ → List CheckStep → Type 0
+  WrongSince i f u = (r : ℕ) → back_of u ≡ Some r → first_unfinished_before g frames i f ≡ Some r
 
   -- If `within` is not 0 an end has a step of its own; otherwise such a step would change nothing.
   -- So the reports may be taken as those after the step.
   pub with_end : (T : List CheckStep → List CheckStep → Type 0) (i n f : ℕ) (t : List CheckStep)
-      → ((g.within == 0) ≡ true → SeesNone t)
+      → ((g.within == 0) ≡ true → ChecksNoLateness t)
       → (goes_back g ≡ false → back_of t ≡ None)
       → ((v : List CheckStep) (m : CheckStep) (ms : List CheckStep)
       → reported_at v m ≡ []
       → T (m ∷ v) ms
       → T v (m ∷ ms))
       → ((u : List CheckStep)
-      → Looks n f t u
-      → Backs i f u
+      → ChecksFrameEnd n f t u
+      → WrongSince i f u
       → T u (map Emits (events_at_end g frames i n f)))
       → T t (steps_at_end g frames i n f)
-  unfolding reported_at run_of first_correct_of last_begun first_unfinished_of late_of back_of
+  unfolding reported_at run_of first_correct_of last_packet_frame first_unfinished_of late_of
+      back_of
       stays_fault_free reports_order_fault
   with_end T i n f t none plain cons so = grind (arith, nat_tests, none-some)
 

@@ -28,14 +28,16 @@ use Rattle.sub_laws.proofs.DelayLemmas.{law_of_repeated_stretch}
 use Rattle.sub_laws.proofs.GoodLemmas.{rises_each}
 use Rattle.sub_laws.proofs.NoneKeepsLemmas.{complete_unreported, sufficient_of}
 use Rattle.sub_laws.proofs.PrefixLemmas.{end_at, first-same, last-same}
-use Rattle.sub_laws.proofs.ActiveFaultsLemmas.{known_back}
+use Rattle.sub_laws.proofs.ActiveFaultsLemmas.{due_known_before}
 use Rattle.sub_laws.proofs.StretchLemmas.{law_of_stretch}
 use Rattle.sub_laws.proofs.SufficientDelayLemmas.{enough_repeats, finishes_unreported}
 use Rattle.sub_trusted.proofs.InvalidationLemmas.{OnTrusted}
-use Rattle.sub_trusted.proofs.TrustedAsReadLemmas.{beginning_too, complete_too, finishes_too}
-use Rattle.sub_trusted.proofs.TrustedAsReadLemmas.{opens_too, some_too, sufficient_too}
+use Rattle.sub_trusted.proofs.TrustedAsReadLemmas.{beginning_in_other, complete_in_other}
+use Rattle.sub_trusted.proofs.TrustedAsReadLemmas.{finishes_in_other}
+use Rattle.sub_trusted.proofs.TrustedAsReadLemmas.{opens_in_other, some_in_other}
+use Rattle.sub_trusted.proofs.TrustedAsReadLemmas.{sufficient_in_other}
 use Rattle.sub_trusted.proofs.TrustedFinishedLemmas.{finished_there}
-use Rattle.sub_trusted.proofs.TrustedFrameLemmas.{closed, header_there, unreported}
+use Rattle.sub_trusted.proofs.TrustedFrameLemmas.{closed, begins_with_header, unreported}
 use Rattle.sub_trusted.proofs.TrustedKeptLemmas.{MayStayCorrect}
 use Rattle.sub_trusted.proofs.TrustedSkippedLemmas.{skipped_outside}
 use Rattle.sub_trusted.proofs.TrustedPesPacketLemmas.{all_stay_within}
@@ -62,72 +64,72 @@ module _ (programme : ProgrammeValue) (options : OptionsValue) (unread : Option 
     fault_free : IsUnreported g part from to
     fault_free = unreported g frames from to may.stays
 
-    closed_there : NoneOpen g part from to
-    closed_there = closed g frames from to may.stays
+    none_open_in_part : NoneOpen g part from to
+    none_open_in_part = closed g frames from to may.stays
 
     begins : holds_beginning options.keeps (kind options.page) (packets_of part from) ≡ true
-    begins = header_there g frames from to may.stays
+    begins = begins_with_header g frames from to may.stays
 
     module _ (on_air : Transmission) (is : IsAsRead part on_air from to) where
-      enough_there : IsSufficientRepeats options.keeps programme on_air options from to
-      enough_there =
-          sufficient_too options.keeps programme options part on_air from to fault_free.rising
+      sufficient_repeats_hold : IsSufficientRepeats options.keeps programme on_air options from to
+      sufficient_repeats_hold =
+          sufficient_in_other options.keeps programme options part on_air from to fault_free.rising
           fault_free.stretch.from is begins
           (enough_repeats programme options unread any_refused undecided part from to fault_free)
 
-      begins_there :
+      first_frame_begins_text :
           holds_beginning options.keeps (kind options.page) (packets_of on_air from) ≡ true
-      begins_there =
-          beginning_too options.keeps programme options part on_air from to fault_free.rising
+      first_frame_begins_text =
+          beginning_in_other options.keeps programme options part on_air from to fault_free.rising
           fault_free.stretch.from is begins fault_free.stretch.in_order
 
-      opens_there : HoldsHeader options.page on_air from
-      opens_there =
-          opens_too options.keeps programme options part on_air from to fault_free.rising
+      holds_header_at_start : HoldsHeader options.page on_air from
+      holds_header_at_start =
+          opens_in_other options.keeps programme options part on_air from to fault_free.rising
           fault_free.stretch.from is begins fault_free.stretch.in_order
 
-      finishes_there : IsProgramme programme.drawing programme.records
+      finishes_in_time_in_part : IsProgramme programme.drawing programme.records
           → FinishesInTimeBy options.keeps programme on_air options from to
-      finishes_there holds =
-          finishes_too options.keeps programme options part on_air from to fault_free.rising
+      finishes_in_time_in_part holds =
+          finishes_in_other options.keeps programme options part on_air from to fault_free.rising
           fault_free.stretch.from is begins
           (finishes_unreported programme options unread any_refused undecided part from to
           fault_free
-          closed_there
+          none_open_in_part
           holds)
 
-      some_there : 0 < options.within
+      some_end_finished : 0 < options.within
           → SomeFinishedBy options.keeps programme on_air options from to
-      some_there within =
+      some_end_finished within =
           let some : (options.within == 0) ≡ false = grind (arith, nat_tests) in
-          some_too options.keeps programme options part on_air from to fault_free.rising
+          some_in_other options.keeps programme options part on_air from to fault_free.rising
           fault_free.stretch.from is begins from to (le_refl from) (le_refl to)
           (finished_there programme options unread any_refused undecided frames from to may some)
 
       may_stay : IsProgramme programme.drawing programme.records
           → MayStayBy programme on_air options from to
       may_stay holds = record {
-        header = begins_there;
+        header = first_frame_begins_text;
         trusted =
             (law_of_repeated_stretch options.keeps programme on_air options from to
-            enough_there.stretch enough_there.codes).1
-            (finishes_there holds);
-        finished = some_there;
+            sufficient_repeats_hold.stretch sufficient_repeats_hold.codes).1
+            (finishes_in_time_in_part holds);
+        finished = some_end_finished;
       }
 
       may_stay_at_once : options.keeps ≡ false → options.within ≡ 0
           → MayStay programme on_air options from to
       may_stay_at_once none at_once = record {
-        header = opens_there;
+        header = holds_header_at_start;
         trusted =
             law_of_stretch programme on_air options from to
-            (sufficient_of programme on_air options from to none at_once enough_there);
+            (sufficient_of programme on_air options from to none at_once sufficient_repeats_hold);
         complete = λ asks.
-            complete_too options.keeps programme options part on_air from to fault_free.rising
+            complete_in_other options.keeps programme options part on_air from to fault_free.rising
             fault_free.stretch.from is begins
             (complete_unreported programme part options unread any_refused undecided from to at_once
             fault_free
-            asks closed_there);
+            asks none_open_in_part);
       }
 
 pub law_of_trusted_repeats : LawOfTrustedRepeats
@@ -175,7 +177,8 @@ known g part from to fault_free f x first near low high order =
     let up = rises_each part fault_free.rising in
     let (n, end, on, l) =
     end_at part up x fault_free.stretch.not_empty (omega arith) (omega arith) in
-    known_back g part n x (frame_at part 0) g.within (fault_free.undecided n x end low high) f order
+    due_known_before g part n x (frame_at part 0) g.within (fault_free.undecided n x end low high) f
+    order
     near
     (inl (omega arith))
 

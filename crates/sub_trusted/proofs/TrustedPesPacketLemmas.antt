@@ -30,12 +30,13 @@ use Rattle.sub_trusted.proofs.TrustedStepLemmas.{Passes, arrival, more_sent, ski
 use Rattle.sub_trusted.proofs.InvalidationLemmas.{EachTrusted, OnTrusted, each-announced}
 use Rattle.sub_trusted.proofs.InvalidationLemmas.{each-ended}
 use Rattle.sub_trusted.proofs.InvalidationLemmas.{each-own, each-weaker}
-use Rattle.sub_laws.proofs.GrowingFrameLemmas.{long, so_many}
+use Rattle.sub_laws.proofs.GrowingFrameLemmas.{long, grows_length}
 use Rattle.sub_laws.proofs.PesPacketWalkLemmas.{EachSkipped, Sends, Steps, each_pes_packet, waits}
 use Rattle.sub_trusted.proofs.EmittedStepLemmas.{Goes, Goes-append, Goes-nil, Goes-pes, Goes-emits}
-use Rattle.sub_trusted.proofs.EmittedStepLemmas.{each_put, rose, reported_of}
+use Rattle.sub_trusted.proofs.EmittedStepLemmas.{each_put, has_risen, reported_of}
 use Rattle.std.specs.Prelude.{⊤}
-use Rattle.sub_rules.specs.Trusted.{CheckStep, back_of, closing_at, is_emitted, last_begun, late_of}
+use Rattle.sub_rules.specs.Trusted.{CheckStep, back_of, closing_at, is_emitted, last_packet_frame}
+use Rattle.sub_rules.specs.Trusted.{late_of}
 use Rattle.sub_rules.specs.Trusted.{run_of, first_unfinished_of, stays_fault_free}
 use Rattle.sub_rules.specs.Trusted.{reports_order_fault, reports_none}
 use Rattle.sub_rules.specs.Trusted.{reported_after, reported_at, trusted, first_correct_of}
@@ -67,7 +68,7 @@ module _ (g : Criteria) (frames : Transmission) (base : ℕ) where
         more_sent g frames base n packets more t there opens;
     ending = ending g frames base;
     skipped_ended = λ sent pes u t is requested closed.
-        skipped_ended g frames base (length sent) pes u t (so_many sent frames is) closed;
+        skipped_ended g frames base (length sent) pes u t (grows_length sent frames is) closed;
     skipped_open = λ sent n pes u t is size requested opens.
         skipped g frames base n pes (packets_of_frame sent n) u t (long g sent frames is n size)
         opens;
@@ -119,7 +120,7 @@ module _ (g : Criteria) (frames : Transmission) (base : ℕ) where
 
   closing : (pes : ℕ) (t : List CheckStep) → Closed g frames base (length frames) t
       → EachTrusted Last (reported_after t (steps_of_closing g frames pes (length frames)))
-  unfolding reported_after reported_at run_of first_correct_of last_begun first_unfinished_of
+  unfolding reported_after reported_at run_of first_correct_of last_packet_frame first_unfinished_of
       late_of back_of stays_fault_free
       reports_order_fault
   closing pes t closed =
@@ -139,10 +140,10 @@ module _ (g : Criteria) (frames : Transmission) (base : ℕ) where
           let below = (closed.keeps.run from run).below in
           let at = closed.last (omega arith) in
           let top =
-          end_low (first_unfinished_of t) (back_of t) (is_some g.unread) (last_begun t)
+          end_low (first_unfinished_of t) (back_of t) (is_some g.unread) (last_packet_frame t)
           (λ r is. let low = closed.first_unfinished r from run is in omega arith)
           (λ r is.
-          let rises = run_rises (rose t) (run_of t) from closed.keeps.falls run in
+          let rises = run_rises (has_risen t) (run_of t) from closed.keeps.falls run in
           let low = (closed.back rises r is).1 in
           omega arith) in
           subst
@@ -194,7 +195,7 @@ module _ (g : Criteria) (frames : Transmission) (base : ℕ) where
       close)
       (each-weaker P Last (reported_after t first)
       (λ from to p. record {
-        stands = p.stands;
+        may_stay_correct = p.may_stay_correct;
         above = p.above;
         early = λ rises.
             let low = p.early rises in
@@ -205,7 +206,8 @@ module _ (g : Criteria) (frames : Transmission) (base : ℕ) where
 
 module _ (g : Criteria) (frames : Transmission) where
   pub start : Closed g frames 0 0 []
-  unfolding run_of first_correct_of last_begun first_unfinished_of late_of back_of stays_fault_free
+  unfolding run_of first_correct_of last_packet_frame first_unfinished_of late_of back_of
+      stays_fault_free
   start = grind (arith, nat_tests)
 
   reported_stays : (pes_packets : List PesPacket) → sent_by_pes_packets g pes_packets ≡ frames

@@ -28,19 +28,19 @@ use Rattle.sub_rules.proofs.JoinedLemmas.{steps_of_each-append}
 use Rattle.sub_rules.proofs.TrustedLemmas.{past_after, reported_after-append}
 use Rattle.sub_trusted.specs.TrustedFrames.{IsSkippedOutside}
 use Rattle.sub_trusted.proofs.TrustedPesPacketLemmas.{Last, SendsOn, all_pass, each_passes, start}
-use Rattle.sub_trusted.proofs.TrustedKeptLemmas.{Keeps, SeesNone, run_rises}
+use Rattle.sub_trusted.proofs.TrustedKeptLemmas.{Keeps, ChecksNoLateness, run_rises}
 use Rattle.sub_trusted.proofs.TrustedStepLemmas.{Passes}
 use Rattle.sub_trusted.proofs.InvalidationLemmas.{EachTrusted, OnTrusted, each-announced}
 use Rattle.sub_trusted.proofs.InvalidationLemmas.{each-ended}
 use Rattle.sub_trusted.proofs.InvalidationLemmas.{each-weaker}
-use Rattle.sub_laws.proofs.GrowingFrameLemmas.{Grows, frame_is, grows}
+use Rattle.sub_laws.proofs.GrowingFrameLemmas.{Grows, frame_eq, grows}
 use Rattle.sub_trusted.proofs.LateInvalidationLemmas.{skipped_at}
 use Rattle.sub_laws.proofs.PrefixLemmas.{RiseTo, last-same}
-use Rattle.sub_trusted.proofs.EmittedStepLemmas.{Goes, Goes-emits, back_low, back_to}
-use Rattle.sub_trusted.proofs.EmittedStepLemmas.{invalidation_of, rose}
+use Rattle.sub_trusted.proofs.EmittedStepLemmas.{Goes, Goes-emits, back_to_at_most, back_to}
+use Rattle.sub_trusted.proofs.EmittedStepLemmas.{invalidation_of, has_risen}
 use Rattle.sub_trusted.proofs.EmittedStepLemmas.{emitted}
 use Rattle.sub_trusted.proofs.TrustedFrameLemmas.{part_length, part_rises}
-use Rattle.sub_rules.specs.Trusted.{CheckStep, back_of, last_begun, late_of, run_of}
+use Rattle.sub_rules.specs.Trusted.{CheckStep, back_of, last_packet_frame, late_of, run_of}
 use Rattle.sub_rules.specs.Trusted.{first_unfinished_of}
 use Rattle.sub_rules.specs.Trusted.{stays_fault_free, reports_order_fault, reported_after}
 use Rattle.sub_rules.specs.Trusted.{reported_at, first_correct_of}
@@ -75,7 +75,7 @@ module _ (g : Criteria) (earlier : List PesPacket) (u : Unread) (later : List Pe
     same i under =
         let grown : Grows sent frames =
         subst (Grows sent) (before_all g earlier later u) (grows g.within sent (frames_of later)) in
-        frame_is g sent frames grown (n - 1) (omega arith) i (omega arith)
+        frame_eq g sent frames grown (n - 1) (omega arith) i (omega arith)
 
     abbrev first : List CheckStep
     first = steps_of_each g [] 0 earlier
@@ -86,10 +86,10 @@ module _ (g : Criteria) (earlier : List PesPacket) (u : Unread) (later : List Pe
     before : Goes (Passes g sent 0) (SendsOn g sent 0 sent) [] first
     before = each_passes g sent 0 [] 0 [] earlier refl (inl (inr refl, start g sent))
 
-    last_is : last_begun t ≡ end_frame sent
+    last_is : last_packet_frame t ≡ end_frame sent
     last_is = grind (arith, nat_tests, before)
 
-    sees_none : (g.within == 0) ≡ true → SeesNone t
+    sees_none : (g.within == 0) ≡ true → ChecksNoLateness t
     sees_none e = grind (arith, nat_tests, before)
 
     plain : goes_back g ≡ false → back_of t ≡ None
@@ -98,11 +98,11 @@ module _ (g : Criteria) (earlier : List PesPacket) (u : Unread) (later : List Pe
       | inr (later, k, size, opens) ↦ opens.keeps.plain e
     ]
 
-    back_high : rose t ≡ true → (r : ℕ) → back_of t ≡ Some r → r ≤ end_frame sent
-    back_high rises r is = grind (arith, nat_tests, before)
+    back_at_most_end : has_risen t ≡ true → (r : ℕ) → back_of t ≡ Some r → r ≤ end_frame sent
+    back_at_most_end rises r is = grind (arith, nat_tests, before)
 
-    run_up : (from : ℕ) → run_of t ≡ Some from → rose t ≡ true
-    run_up from is = grind (arith, nat_tests, before, run_rises, rose)
+    run_up : (from : ℕ) → run_of t ≡ Some from → has_risen t ≡ true
+    run_up from is = grind (arith, nat_tests, before, run_rises, has_risen)
 
     abbrev pes : ℕ
     pes = length earlier
@@ -116,16 +116,16 @@ module _ (g : Criteria) (earlier : List PesPacket) (u : Unread) (later : List Pe
     abbrev v : List CheckStep
     v = past_after now (map Emits es)
 
-    now_last : last_begun now ≡ end_frame sent
-    unfolding last_begun
-    now_last = last_is
+    last_packet_frame_eq : last_packet_frame now ≡ end_frame sent
+    unfolding last_packet_frame
+    last_packet_frame_eq = last_is
 
-    invalidation : invalidation_of now es ≡ Some (last_begun now)
+    invalidation : invalidation_of now es ≡ Some (last_packet_frame now)
     invalidation = skipped_at now pes u
 
     -- A skipped PES packet ends each run.
     run_none : run_of v ≡ None
-    run_none = let so = emitted now es in rw invalidation at so.run_is
+    run_none = let so = emitted now es in rw invalidation at so.run_eq
 
     gone : (from : ℕ) → run_of v ≡ Some from → ⊥
     gone from is = none-some from (sym run_none ∙ is)
@@ -133,20 +133,20 @@ module _ (g : Criteria) (earlier : List PesPacket) (u : Unread) (later : List Pe
     unclean : stays_fault_free v ≡ false
     unclean =
         let so = emitted now es in
-        let is = so.clean_is in
+        let is = so.clean_eq in
         let ends_it = invalidation in
         grind (arith, nat_tests)
 
-    now_rose : rose v ≡ true → rose t ≡ true
+    risen_before_now : has_risen v ≡ true → has_risen t ≡ true
     unfolding reports_order_fault
-    now_rose e = let so = emitted now es in let is = so.rises_is in grind (arith, nat_tests)
+    risen_before_now e = let so = emitted now es in let is = so.rises_is in grind (arith, nat_tests)
 
-    now_back : back_of v ≡ back_of t
+    back_of_eq : back_of v ≡ back_of t
     unfolding back_of
-    now_back = (emitted now es).back_is
+    back_of_eq = (emitted now es).back_eq
 
     keeps : (k x : ℕ) → Keeps g frames n k x v
-    unfolding run_of first_correct_of last_begun first_unfinished_of late_of stays_fault_free
+    unfolding run_of first_correct_of last_packet_frame first_unfinished_of late_of stays_fault_free
         reports_order_fault
     keeps k x = record {
       run = λ from is. absurd (gone from is);
@@ -158,20 +158,20 @@ module _ (g : Criteria) (earlier : List PesPacket) (u : Unread) (later : List Pe
           let so = emitted now es in
           let before = sees_none e in
           record {
-            first_unfinished = so.first_unfinished_is ∙ before.first_unfinished;
-            late = so.late_is ∙ before.late;
+            first_unfinished = so.first_unfinished_eq ∙ before.first_unfinished;
+            late = so.late_eq ∙ before.late;
             whole = λ there. absurd (true≢false (sym there ∙ ap is_some run_none));
           };
-      plain = λ e. now_back ∙ plain e;
+      plain = λ e. back_of_eq ∙ plain e;
     }
 
     sends : SendsOn g frames n sent v
     sends = go (g.within == 0) refl
       where
-        last_now : last_begun v ≡ frame_at frames (n - 1)
+        last_now : last_packet_frame v ≡ frame_at frames (n - 1)
         last_now =
             let so = emitted now es in
-            so.last_is ∙ now_last ∙ sym (same (n - 1) (omega arith))
+            so.last_is ∙ last_packet_frame_eq ∙ sym (same (n - 1) (omega arith))
 
         up : (i : ℕ) → 0 < i → i < n → frame_at frames (i - 1) < frame_at frames i
         up i positive under =
@@ -180,9 +180,9 @@ module _ (g : Criteria) (earlier : List PesPacket) (u : Unread) (later : List Pe
             let rise = rises i positive under in
             omega arith
 
-        back : rose v ≡ true → (r : ℕ) → back_of v ≡ Some r → r ≤ frame_at frames (n - 1)
+        back : has_risen v ≡ true → (r : ℕ) → back_of v ≡ Some r → r ≤ frame_at frames (n - 1)
         back rises r is =
-            let high = back_high (now_rose rises) r (sym now_back ∙ is) in
+            let high = back_at_most_end (risen_before_now rises) r (sym back_of_eq ∙ is) in
             let own = same (n - 1) (omega arith) in
             omega arith
 
@@ -191,7 +191,7 @@ module _ (g : Criteria) (earlier : List PesPacket) (u : Unread) (later : List Pe
           inl e,
           record {
             keeps = keeps n (frame_at frames (n - 1) + 1);
-            floor = le_refl n;
+            base_at_most = le_refl n;
             last = λ below. last_now;
             rises = λ so. up;
             first_unfinished = λ r from is so. absurd (gone from is);
@@ -204,7 +204,7 @@ module _ (g : Criteria) (earlier : List PesPacket) (u : Unread) (later : List Pe
           omega arith,
           record {
             keeps = keeps (n - 1) (frame_at frames (n - 1));
-            floor = omega arith;
+            base_at_most = omega arith;
             last = last_now;
             rises = λ so i positive under. up i positive (omega arith);
             clean = λ clean. absurd (true≢false (sym clean ∙ unclean));
@@ -220,12 +220,13 @@ module _ (g : Criteria) (earlier : List PesPacket) (u : Unread) (later : List Pe
         (All-cons (OnTrusted Outside) (Reported (unread_fault pes (Some u))) []
         tt (All-nil (OnTrusted Outside)))
         (λ x from w invalidated run whole under.
-        let at : last_begun now ≡ x = same_Some (last_begun now) x (sym invalidation ∙ invalidated)
+        let at : last_packet_frame now ≡ x = same_Some (last_packet_frame now) x
+        (sym invalidation ∙ invalidated)
         in
-        let last = now_last in
+        let last = last_packet_frame_eq in
         let low : back_to now x ≤ end_frame sent =
-        back_low now x (end_frame sent) (omega arith)
-        (λ r is. back_high (run_up from run) r is) in
+        back_to_at_most now x (end_frame sent) (omega arith)
+        (λ r is. back_at_most_end (run_up from run) r is) in
         inr (omega arith)) (λ z so. z)).each
 
     pub each_outside : EachTrusted Outside (all_of_pes_packets g all)
@@ -285,7 +286,7 @@ skipped_outside g pes_packets from to reported earlier later u is some few =
     let all = part_length frames in
     let rises : RiseTo sent (length sent) = (λ i positive under.
     let up = part_rises frames i positive (omega arith) in
-    let own = frame_is g sent frames grown (length sent - 1) size i (omega arith) in
-    let last = frame_is g sent frames grown (length sent - 1) size (i - 1) (omega arith) in
+    let own = frame_eq g sent frames grown (length sent - 1) size i (omega arith) in
+    let last = frame_eq g sent frames grown (length sent - 1) size (i - 1) (omega arith) in
     omega arith) in
     grind (arith, nat_tests, last-same, each_outside)

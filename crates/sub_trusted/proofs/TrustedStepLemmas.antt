@@ -21,32 +21,36 @@ use Rattle.sub_rules.specs.Transmission.{Transmission}
 use Rattle.sub_rules.specs.Trusted.CheckStep.{Begins, GoesBack, Emits}
 use Rattle.sub_rules.specs.declared.event.Event.{Event}
 use Rattle.sub_rules.specs.declared.event.Event.TheVariants.{Reported}
-use Rattle.sub_trusted.proofs.TrustedKeptLemmas.{Arrives, Closed, IsCorrectFrom, Keeps, MayEnd}
+use Rattle.sub_trusted.proofs.TrustedKeptLemmas.{GapFramesEnded, Closed, IsCorrectFrom, Keeps}
+use Rattle.sub_trusted.proofs.TrustedKeptLemmas.{MayEnd}
 use Rattle.sub_trusted.proofs.TrustedKeptLemmas.{MayStayBetween}
 use Rattle.sub_trusted.proofs.TrustedKeptLemmas.{Opens}
-use Rattle.sub_trusted.proofs.TrustedKeptLemmas.{closed_emitted, Up, calm, end_few}
+use Rattle.sub_trusted.proofs.TrustedKeptLemmas.{closed_emitted, RunFacts, calm, end_few}
 use Rattle.sub_trusted.proofs.TrustedKeptLemmas.{may_before, opens_emitted, gap_end, keeps_emitted}
 use Rattle.sub_trusted.proofs.TrustedKeptLemmas.{keeps_to}
-use Rattle.sub_trusted.proofs.TrustedKeptLemmas.{passes_before, run_low, no_faults_before, up_of}
+use Rattle.sub_trusted.proofs.TrustedKeptLemmas.{passes_before, run_at_most, no_faults_before}
+use Rattle.sub_trusted.proofs.TrustedKeptLemmas.{run_facts_of}
 use Rattle.sub_trusted.proofs.TrustedKeptLemmas.{correct_found}
 use Rattle.sub_trusted.proofs.TrustedKeptLemmas.{rose_before, run_rises, correct_some}
 use Rattle.sub_trusted.proofs.InvalidationLemmas.{OnTrusted}
-use Rattle.sub_trusted.proofs.LateInvalidationLemmas.{end_invalidation, end_own, keeps_joined}
-use Rattle.sub_trusted.proofs.LateInvalidationLemmas.{late_low, order_at}
+use Rattle.sub_trusted.proofs.LateInvalidationLemmas.{end_invalidation, end_own, keeps_rules_append}
+use Rattle.sub_trusted.proofs.LateInvalidationLemmas.{late_start_at_most, order_at}
 use Rattle.sub_trusted.proofs.LateInvalidationLemmas.{order_own, order_rises, packets_invalidation}
 use Rattle.sub_trusted.proofs.LateInvalidationLemmas.{packets_own}
-use Rattle.sub_trusted.proofs.LateInvalidationLemmas.{before_low, skipped_at, seen_low}
+use Rattle.sub_trusted.proofs.LateInvalidationLemmas.{first_unfinished_before_at_most, skipped_at}
+use Rattle.sub_trusted.proofs.LateInvalidationLemmas.{seen_unfinished_at_most}
 use Rattle.sub_trusted.proofs.LateInvalidationLemmas.{seen_unfinished}
 use Rattle.sub_laws.proofs.PrefixLemmas.{RiseTo, before}
 use Rattle.sub_laws.proofs.RisingEndLemmas.{latest_at}
 use Rattle.sub_trusted.proofs.EmittedStepLemmas.{Goes, Goes-append, Goes-cons, Goes-nil, Goes-emits}
-use Rattle.sub_trusted.proofs.EmittedStepLemmas.{AreEmitted, back_low, back_to, invalidation_of}
+use Rattle.sub_trusted.proofs.EmittedStepLemmas.{AreEmitted, back_to_at_most, back_to}
+use Rattle.sub_trusted.proofs.EmittedStepLemmas.{invalidation_of}
 use Rattle.sub_trusted.proofs.EmittedStepLemmas.{is_order}
-use Rattle.sub_trusted.proofs.EmittedStepLemmas.{kept_some, rose}
-use Rattle.sub_trusted.proofs.TrustedLookLemmas.{Backs, HasEnd, Looks, with_end}
+use Rattle.sub_trusted.proofs.EmittedStepLemmas.{run_was_there, has_risen}
+use Rattle.sub_trusted.proofs.TrustedLookLemmas.{WrongSince, HasEnd, ChecksFrameEnd, with_end}
 use Rattle.sub_trusted.proofs.TrustedRunLemmas.{EndsFaultFree}
 use Rattle.sub_rules.proofs.EndLemmas.{gap_length-is}
-use Rattle.sub_rules.specs.Trusted.{CheckStep, back_of, last_begun, late_of, run_of}
+use Rattle.sub_rules.specs.Trusted.{CheckStep, back_of, last_packet_frame, late_of, run_of}
 use Rattle.sub_rules.specs.Trusted.{first_unfinished_of}
 use Rattle.sub_rules.specs.Trusted.{has_no_active_faults, stays_fault_free, reports_order_fault}
 use Rattle.sub_rules.specs.Trusted.{reported_at, first_correct_of}
@@ -71,7 +75,7 @@ module _ (g : Criteria) (frames : Transmission) (base : ℕ) where
       passes_before g frames base (end_frame frames) n x y t keeps may (le_refl (end_frame frames))
       (omega arith)
 
-  pub keeps_end : (n x m f : ℕ) (t u : List CheckStep) → Looks g frames m f t u
+  pub keeps_end : (n x m f : ℕ) (t u : List CheckStep) → ChecksFrameEnd g frames m f t u
       → Keeps g frames base n x t
       → ((from : ℕ) → run_of t ≡ Some from → HasEnd g frames m f from)
       → Keeps g frames base n x u
@@ -81,7 +85,7 @@ module _ (g : Criteria) (frames : Transmission) (base : ℕ) where
     whole = λ from w is whole.
         let run = was from is in
         elim (correct_found (first_correct_of t) (seen_unfinished g frames m f) f w
-        (sym (looks.first_correct_is (ap is_some run)) ∙ whole)) [
+        (sym (looks.first_correct_eq (ap is_some run)) ∙ whole)) [
           | inl before ↦ keeps.whole from w run before
           | inr (none, here) ↦
               let (l, end, rises) = low from run in
@@ -89,21 +93,21 @@ module _ (g : Criteria) (frames : Transmission) (base : ℕ) where
               (record { low = l; n = m; end = end; rises = rises; finished = none })
         ];
     above = λ from is. keeps.above from (was from is);
-    falls = λ e. looks.run_is ∙ keeps.falls (sym looks.rises_is ∙ e);
+    falls = λ e. looks.run_eq ∙ keeps.falls (sym looks.rises_is ∙ e);
     at_once = λ e.
         let none : seen_unfinished g frames m f ≡ None = rw e refl in
         record {
-          first_unfinished = looks.first_unfinished_is ∙ none;
-          late = looks.late_is ∙ rw e refl;
+          first_unfinished = looks.first_unfinished_eq ∙ none;
+          late = looks.late_eq ∙ rw e refl;
           whole = λ there.
-              ap is_some (looks.first_correct_is (sym (ap is_some looks.run_is) ∙ there))
+              ap is_some (looks.first_correct_eq (sym (ap is_some looks.run_eq) ∙ there))
               ∙ correct_some (first_correct_of t) (seen_unfinished g frames m f) f none;
         };
     plain = λ e. looks.plain e ∙ keeps.plain e;
   }
     where
       was : (from : ℕ) → run_of u ≡ Some from → run_of t ≡ Some from
-      was from is = sym looks.run_is ∙ is
+      was from is = sym looks.run_eq ∙ is
 
   -- The reports at the end of frame f cast doubt on no later frame.
   pub end_reports : (n m f : ℕ) (t : List CheckStep) (S : List CheckStep → Type 0)
@@ -117,8 +121,8 @@ module _ (g : Criteria) (frames : Transmission) (base : ℕ) where
       → MayEnd g frames (end_frame frames) n f y)
       → ((from : ℕ) → run_of t ≡ Some from → 0 < n → latest frames n < f)
       → ((u v : List CheckStep)
-      → Looks g frames m f t u
-      → Backs g frames n f u
+      → ChecksFrameEnd g frames m f t u
+      → WrongSince g frames n f u
       → AreEmitted u v (events_at_end g frames n m f)
       → S v)
       → Reports S t (steps_at_end g frames n m f)
@@ -129,30 +133,33 @@ module _ (g : Criteria) (frames : Transmission) (base : ℕ) where
       (end_own Passes (active_faults_before g frames n f) (end_before frames n f)
       (active_faults_at g frames m f) f)
       (λ x from w invalidation run whole l.
-      let was : run_of t ≡ Some from = sym looks.run_is ∙ run in
+      let was : run_of t ≡ Some from = sym looks.run_eq ∙ run in
       let at : x ≡ unwrap_or (late_of u) f =
       (end_invalidation u (end_before frames n f) f (active_faults_before g frames n f)
       (active_faults_at g frames m f)).at x invalidation in
       let top : unwrap_or (late_of u) f ≤ f =
-      rw looks.late_is
-      (late_low (not (g.within == 0) && is_late g frames m f) (seen_unfinished g frames m f) f
-      (λ r first_unfinished. seen_low g frames m f r first_unfinished (high from was))) in
+      rw looks.late_eq
+      (late_start_at_most (not (g.within == 0) && is_late g frames m f) (seen_unfinished g frames m
+      f) f
+      (λ r first_unfinished. seen_unfinished_at_most g frames m f r first_unfinished
+      (high from was))) in
       let back : back_to u x ≤ f =
-      back_low u x f (omega arith)
-      (λ r is. (before_low g frames n f r (backs r is) (past from was)).1) in
+      back_to_at_most u x f (omega arith)
+      (λ r is. (first_unfinished_before_at_most g frames n f r (backs r is) (past from was)).1) in
       passes n f (back_to u x) u (keeps_end n f m f t u looks keeps low)
       (may from was (back_to u x) back) from w run whole l)
       (λ v emitted. after u v looks backs emitted))
 
   pub gap_step : (n k : ℕ) (t : List CheckStep) → n < length frames → k < gap_length frames n
-      → Arrives g frames base n k t
-      → Reports (Arrives g frames base n (suc k)) t
+      → GapFramesEnded g frames base n k t
+      → Reports (GapFramesEnded g frames base n (suc k)) t
       (steps_at_end g frames n n (latest frames n + suc k))
   gap_step n k t there l arrives =
       let f : ℕ = latest frames n + suc k in
       let keeps = arrives.keeps in
       let es : List Event = events_at_end g frames n n f in
-      end_reports n n f t (Arrives g frames base n (suc k)) (λ from is. omega arith) keeps low may
+      end_reports n n f t (GapFramesEnded g frames base n (suc k)) (λ from is. omega arith) keeps
+      low may
       (λ from is some. omega arith)
       (λ u v looks backs emitted. record {
         keeps =
@@ -161,25 +168,27 @@ module _ (g : Criteria) (frames : Transmission) (base : ℕ) where
             in
             keeps_to g frames base n f (latest frames n + suc (suc k)) v kept
             (λ from is. fault_free u v looks emitted from is (kept.ends from is));
-        floor = arrives.floor;
+        base_at_most = arrives.base_at_most;
         rises = λ e.
-            let was : rose t ≡ true =
+            let was : has_risen t ≡ true =
             let rises_is = emitted.rises_is in
             let looked = looks.rises_is in
             grind (arith, nat_tests) in
             arrives.rises was;
         back = λ e r is.
-            before_low g frames n f r (backs r (sym emitted.back_is ∙ is)) (λ some. omega arith);
+            first_unfinished_before_at_most g frames n f r (backs r (sym emitted.back_eq ∙ is))
+            (λ some. omega arith);
       })
     where
-      up : (from : ℕ) → run_of t ≡ Some from → Up g frames n
+      up : (from : ℕ) → run_of t ≡ Some from → RunFacts g frames n
       up from is =
-          up_of g frames base n (latest frames n + suc k) from t arrives.keeps arrives.rises is
+          run_facts_of g frames base n (latest frames n + suc k) from t arrives.keeps arrives.rises
+          is
 
       low : (from : ℕ) → run_of t ≡ Some from → HasEnd g frames n (latest frames n + suc k) from
       low from is =
           let run = arrives.keeps.run from is in
-          let first = run_low g frames n from run in
+          let first = run_at_most g frames n from run in
           let last = (up from is).last in
           (omega arith, gap_end g frames n k there l (up from is), run.rises)
 
@@ -197,7 +206,7 @@ module _ (g : Criteria) (frames : Transmission) (base : ℕ) where
           }
 
       fault_free : (u v : List CheckStep)
-          → Looks g frames n (latest frames n + suc k) t u
+          → ChecksFrameEnd g frames n (latest frames n + suc k) t u
           → AreEmitted u v (events_at_end g frames n n (latest frames n + suc k))
           → (from : ℕ) → run_of v ≡ Some from
           → EndsFaultFree g frames n from (latest frames n + suc k)
@@ -206,9 +215,9 @@ module _ (g : Criteria) (frames : Transmission) (base : ℕ) where
           let f : ℕ = latest frames n + suc k in
           let none = calm g frames u v (events_at_end g frames n n f) emitted from is in
           let was : run_of t ≡ Some from =
-          sym looks.run_is
-          ∙ (kept_some (run_of u) (invalidation_of u (events_at_end g frames n n f)) from
-          (sym emitted.run_is ∙ is)).0 in
+          sym looks.run_eq
+          ∙ (run_was_there (run_of u) (invalidation_of u (events_at_end g frames n n f)) from
+          (sym emitted.run_eq ∙ is)).0 in
           let h = up from was in
           elim (cases_lt e f) [
             | inl before ↦ ends m e end few after before
@@ -234,12 +243,13 @@ module _ (g : Criteria) (frames : Transmission) (base : ℕ) where
           ]
 
   gaps : (n k : ℕ) (t : List CheckStep) → n < length frames → k ≤ gap_length frames n
-      → Arrives g frames base n 0 t
-      → Reports (Arrives g frames base n k) t (steps_of_gap g frames n k)
+      → GapFramesEnded g frames base n 0 t
+      → Reports (GapFramesEnded g frames base n k) t (steps_of_gap g frames n k)
   unfolding steps_of_gap
-  gaps n zero t there l arrives = Goes-nil Passes (Arrives g frames base n 0) t arrives
+  gaps n zero t there l arrives = Goes-nil Passes (GapFramesEnded g frames base n 0) t arrives
   gaps n (suc k) t there l arrives =
-      Goes-append Passes (Arrives g frames base n k) (Arrives g frames base n (suc k)) t
+      Goes-append Passes (GapFramesEnded g frames base n k) (GapFramesEnded g frames base n (suc k))
+      t
       (steps_of_gap g frames n k) (steps_at_end g frames n n (latest frames n + suc k))
       (gaps n k t there (omega arith) arrives)
       (λ u so. gap_step n k u there (omega arith) so)
@@ -252,22 +262,34 @@ module _ (g : Criteria) (frames : Transmission) (base : ℕ) where
       → run_of t ≡ Some from
       → x ≤ frame_at frames (n - 1)
       → back_to t x ≤ frame_at frames (n - 1)
-  closed_back n x from t closed run low = grind (arith, nat_tests, back_low, run_rises, rose)
+  closed_back n x from t closed run low = grind (
+    arith,
+    nat_tests,
+    back_to_at_most,
+    run_rises,
+    has_risen,
+  )
 
   opens_back : (n x from : ℕ) (packets : List (List ℕ)) (t : List CheckStep)
       → Opens g frames base n packets t
       → run_of t ≡ Some from
       → x ≤ frame_at frames n
       → back_to t x ≤ frame_at frames n
-  opens_back n x from packets t opens run low = grind (arith, nat_tests, back_low, run_rises, rose)
+  opens_back n x from packets t opens run low = grind (
+    arith,
+    nat_tests,
+    back_to_at_most,
+    run_rises,
+    has_risen,
+  )
 
   pub order_step : (n : ℕ) (t : List CheckStep) → n < length frames → Closed g frames base n t
-      → Reports (Arrives g frames base n 0) t (map Emits (order_events g frames n))
+      → Reports (GapFramesEnded g frames base n 0) t (map Emits (order_events g frames n))
   order_step n t there closed =
-      Goes-emits Passes (Arrives g frames base n 0) t (order_events g frames n)
+      Goes-emits Passes (GapFramesEnded g frames base n 0) t (order_events g frames n)
       (order_own Passes g frames n)
       (λ x from w invalidation run whole l.
-      let at : x ≡ last_begun t = order_at t g frames n x invalidation in
+      let at : x ≡ last_packet_frame t = order_at t g frames n x invalidation in
       let below = (closed.keeps.run from run).below in
       let last = closed.last (omega arith) in
       passes n (frame_at frames (n - 1) + 1) (back_to t x) t closed.keeps
@@ -285,25 +307,25 @@ module _ (g : Criteria) (frames : Transmission) (base : ℕ) where
             let below = run.below in
             let last = latest_at frames n run.rises (omega arith) in
             kept.ends from is m e end few after (omega arith));
-        floor = closed.floor;
+        base_at_most = closed.base_at_most;
         rises = λ e. up u emitted e;
         back = λ e r is. back u emitted e r is;
       })
     where
-      back : (u : List CheckStep) → AreEmitted t u (order_events g frames n) → rose u ≡ true
+      back : (u : List CheckStep) → AreEmitted t u (order_events g frames n) → has_risen u ≡ true
           → (r : ℕ) → back_of u ≡ Some r
           → (0 < n) × (r ≤ latest frames n + 0)
       back u emitted e r is =
           let rose_then = rose_before g frames base t u (order_events g frames n) emitted e in
-          let (some, low) = closed.back rose_then r (sym emitted.back_is ∙ is) in
+          let (some, low) = closed.back rose_then r (sym emitted.back_eq ∙ is) in
           let last = latest_at frames n (closed.rises rose_then) some in
           (some, omega arith)
 
-      up : (u : List CheckStep) → AreEmitted t u (order_events g frames n) → rose u ≡ true
+      up : (u : List CheckStep) → AreEmitted t u (order_events g frames n) → has_risen u ≡ true
           → RiseTo frames (suc n)
       up u emitted e i a b =
           let rises_is = emitted.rises_is in
-          let was : rose t ≡ true = grind (arith, nat_tests) in
+          let was : has_risen t ≡ true = grind (arith, nat_tests) in
           let none : list_any is_order (order_events g frames n) ≡ false =
           grind (arith, nat_tests) in
           elim (cases_lt i n) [
@@ -315,9 +337,10 @@ module _ (g : Criteria) (frames : Transmission) (base : ℕ) where
           ]
 
   pub begins : (n : ℕ) (t : List CheckStep) → n < length frames
-      → Arrives g frames base n (gap_length frames n) t
+      → GapFramesEnded g frames base n (gap_length frames n) t
       → Opens g frames base n [] (Begins (frame_at frames n) ∷ t)
-  unfolding run_of first_correct_of last_begun first_unfinished_of late_of back_of stays_fault_free
+  unfolding run_of first_correct_of last_packet_frame first_unfinished_of late_of back_of
+      stays_fault_free
       reports_order_fault
   begins n t there arrives =
       let keeps = arrives.keeps in
@@ -326,7 +349,8 @@ module _ (g : Criteria) (frames : Transmission) (base : ℕ) where
           run = keeps.run;
           ends = λ from is m e end few after high.
               let long =
-              (up_of g frames base n (latest frames n + suc (gap_length frames n)) from t keeps
+              (run_facts_of g frames base n (latest frames n + suc (gap_length frames n)) from t
+              keeps
               arrives.rises is).long in
               keeps.ends from is m e end few after (omega arith);
           whole = keeps.whole;
@@ -341,11 +365,11 @@ module _ (g : Criteria) (frames : Transmission) (base : ℕ) where
               };
           plain = keeps.plain;
         };
-        floor = (let low = arrives.floor in omega arith);
+        base_at_most = (let low = arrives.base_at_most in omega arith);
         last = refl;
         rises = arrives.rises;
         clean = λ e. (e, λ k l. absurd (omega arith));
-        fresh = λ e. arrives.floor;
+        fresh = λ e. arrives.base_at_most;
         back = λ e r is.
             let (some, low) = arrives.back e r is in
             let long = gap_length-is frames n some in
@@ -358,9 +382,10 @@ module _ (g : Criteria) (frames : Transmission) (base : ℕ) where
   pub begins_back : (n : ℕ) (t : List CheckStep) → Opens g frames base n [] t → goes_back g ≡ true
       → Opens g frames base n [] (GoesBack (first_unfinished_before g frames n (frame_at frames n))
       ∷ t)
-  unfolding run_of first_correct_of last_begun first_unfinished_of late_of back_of stays_fault_free
+  unfolding run_of first_correct_of last_packet_frame first_unfinished_of late_of back_of
+      stays_fault_free
       reports_order_fault
-  begins_back n t opens back = grind (arith, nat_tests, before_low, latest_at)
+  begins_back n t opens back = grind (arith, nat_tests, first_unfinished_before_at_most, latest_at)
 
   goes_back_reports : (n : ℕ) (t : List CheckStep) (b : Bool) → goes_back g ≡ b
       → Opens g frames base n [] t
@@ -378,13 +403,13 @@ module _ (g : Criteria) (frames : Transmission) (base : ℕ) where
       → Reports (Opens g frames base n []) t (steps_of_arrival g frames n)
   unfolding reported_at
   arrival n t there closed =
-      Goes-append Passes (Arrives g frames base n (gap_length frames n))
+      Goes-append Passes (GapFramesEnded g frames base n (gap_length frames n))
       (Opens g frames base n []) t
       (map Emits (order_events g frames n) ++ steps_of_gap g frames n (gap_length frames n))
       (Begins (frame_at frames n)
       ∷ steps_before g (first_unfinished_before g frames n (frame_at frames n)))
-      (Goes-append Passes (Arrives g frames base n 0)
-      (Arrives g frames base n (gap_length frames n)) t (map Emits (order_events g frames n))
+      (Goes-append Passes (GapFramesEnded g frames base n 0)
+      (GapFramesEnded g frames base n (gap_length frames n)) t (map Emits (order_events g frames n))
       (steps_of_gap g frames n (gap_length frames n)) (order_step n t there closed)
       (λ u so. gaps n (gap_length frames n) u there (le_refl (gap_length frames n)) so))
       (λ v here.
@@ -417,7 +442,8 @@ module _ (g : Criteria) (frames : Transmission) (base : ℕ) where
       (λ u emitted.
       opens_emitted g frames base n packets (packets ++ more) t u es opens emitted
       (λ none kept.
-      keeps_joined g.watched (packets_before frames n) packets more kept (finds.fault_free none)))
+      keeps_rules_append g.watched (packets_before frames n) packets more kept
+      (finds.fault_free none)))
 
   pub skipped_ended : (n pes : ℕ) (u : Unread) (t : List CheckStep) → n ≤ length frames
       → Closed g frames base n t
@@ -428,8 +454,8 @@ module _ (g : Criteria) (frames : Transmission) (base : ℕ) where
       (All-cons (OnTrusted Passes) (Reported (unread_fault pes (Some u))) [] tt
       (All-nil (OnTrusted Passes)))
       (λ x from w invalidation run whole l.
-      let is : Some (last_begun t) ≡ Some x = sym (skipped_at t pes u) ∙ invalidation in
-      let same : last_begun t ≡ x = same_Some (last_begun t) x is in
+      let is : Some (last_packet_frame t) ≡ Some x = sym (skipped_at t pes u) ∙ invalidation in
+      let same : last_packet_frame t ≡ x = same_Some (last_packet_frame t) x is in
       let below = (closed.keeps.run from run).below in
       let last = closed.last (omega arith) in
       passes n (frame_at frames (n - 1) + 1) (back_to t x) t closed.keeps
@@ -448,8 +474,8 @@ module _ (g : Criteria) (frames : Transmission) (base : ℕ) where
       (All-cons (OnTrusted Passes) (Reported (unread_fault pes (Some u))) [] tt
       (All-nil (OnTrusted Passes)))
       (λ x from w invalidation run whole l.
-      let is : Some (last_begun t) ≡ Some x = sym (skipped_at t pes u) ∙ invalidation in
-      let same : last_begun t ≡ x = same_Some (last_begun t) x is in
+      let is : Some (last_packet_frame t) ≡ Some x = sym (skipped_at t pes u) ∙ invalidation in
+      let same : last_packet_frame t ≡ x = same_Some (last_packet_frame t) x is in
       let last = opens.last in
       passes n (frame_at frames n) (back_to t x) t opens.keeps
       (may_before g frames base n packets t there opens from run (end_frame frames) (back_to t x)

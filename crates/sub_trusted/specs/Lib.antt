@@ -1,3 +1,3 @@
-pub mod TrustedAlike
+pub mod EqualTrust
 pub mod TrustedFrames
 pub mod TrustedRepeats

@@ -2,7 +2,7 @@
 //! on air is reported as trusted.
 //!
 //! The functions have no body: the contract of each is a law about the definitions of `specs/`.
-ghost use Rattle.sub_trusted.specs.TrustedAlike.{LawOfTrustedAlike};
+ghost use Rattle.sub_trusted.specs.EqualTrust.{LawOfEqualTrust};
 ghost use Rattle.sub_trusted.specs.TrustedFrames.{LawOfAllTrusted, LawOfTrusted};
 ghost use Rattle.sub_trusted.specs.TrustedFrames.{LawOfTrustedKnown};
 ghost use Rattle.sub_trusted.specs.TrustedRepeats.{LawOfTrustedRepeats};
@@ -34,8 +34,8 @@ pub fn law_of_trusted_known()
 /// Whatever the refused subtitles contained, trusted frames are reported as trusted, in one event,
 /// if anything is reported. If `within` is not 0, this holds up to each frame at whose end the page
 /// is right.
-pub fn law_of_trusted_alike()
-    ensures { LawOfTrustedAlike }
+pub fn law_of_equal_trust()
+    ensures { LawOfEqualTrust }
 {}
 
 /// If there is any report of a PES file, or subtitles were refused, each stretch without reports

@@ -14,6 +14,6 @@
 mod laws;
 
 pub use laws::{
-    law_of_all_trusted, law_of_trusted, law_of_trusted_alike, law_of_trusted_known,
+    law_of_all_trusted, law_of_equal_trust, law_of_trusted, law_of_trusted_known,
     law_of_trusted_repeats,
 };

@@ -1,5 +1,5 @@
 -- The contract of clap, applied to the program's own commands. Main lemmas: command_in-parsed,
--- refusals-parsed and IsFaultOfCommand-refused; asked_for-met.
+-- refusals-parsed and IsFaultOfCommand-refused; request_by_command-met.
 use Rattle.std.proofs.Common.{◌≡◌, ◌≢◌, ◌∙◌, true, false, List, [], Option, Some, None, Ok, Err}
 use Rattle.std.proofs.Common.{Bool, ◌||◌}
 use Rattle.std.proofs.Common.{refl, ap, subst, sym, inl, inr, arith, drop, get_or, ◌+◌, ◌≤◌}
@@ -29,7 +29,7 @@ use Rattle.sub_words.specs.Commands.{texts_of}
 use Rattle.sub_words.specs.declared.command.Argument.{Argument}
 use Rattle.sub_words.specs.Requests.{Requested, IsFaultIn, IsFaultOfCommand, IsReadExactly}
 use Rattle.sub_words.specs.Requests.{IsReadGivenMemory}
-use Rattle.sub_words.specs.Requests.{asked_for, requested_in, is_own}
+use Rattle.sub_words.specs.Requests.{request_by_command, requested_in, is_own}
 use Rattle.sub_request.specs.declared.request.Request.{Request}
 use Rattle.sub_request.specs.declared.request.UsageFault.{UsageFault}
 use Rattle.sub_request.specs.declared.request.UsageFault.TheVariants as fault
@@ -110,7 +110,7 @@ read_exactly requested (Err f) is = own-fault requested f is
 fault-read : (arguments : List Text) (requested : Result Requested UsageFault) (f : UsageFault)
     → arguments ≢ []
     → clap_refusals arguments ≡ []
-    → asked_for arguments ≡ Some requested
+    → request_by_command arguments ≡ Some requested
     → IsFaultIn requested f
     → IsFaultOfCommand arguments f
 fault-read arguments requested fault.Memory some taken is read = some
@@ -124,7 +124,7 @@ pub fault-of_read :
     UsageFault)
     → arguments ≢ []
     → clap_refusals arguments ≡ []
-    → asked_for arguments ≡ Some requested
+    → request_by_command arguments ≡ Some requested
     → IsReadGivenMemory requested result
     → IfErr result (IsFaultOfCommand arguments)
 fault-of_read arguments requested (Ok r) some taken is read = tt
@@ -187,13 +187,13 @@ IsFaultOfCommand-refused app arguments e is_program fails passes other =
       λ sound. other (subst Q is_program passes sound),
     )
 
-pub asked_for-met : {Z : Type 0} (arguments : List Text) (met : Option (Box SubCommand Z))
+pub request_by_command-met : {Z : Type 0} (arguments : List Text) (met : Option (Box SubCommand Z))
     → (name : Text) (rows : List Row)
     → subcommand_rows met ≡ command_in arguments
     → Some name ≡ option_map (λ sub. (out-SubCommand (box_value sub)).name.now) met
     → Some rows ≡ option_map (λ p. p.1) (subcommand_rows met)
-    → asked_for arguments ≡ Some (requested_in name rows)
-asked_for-met arguments None name rows is e f = cc
-asked_for-met arguments (Some sub) name rows is e f = rw (← is) cc
+    → request_by_command arguments ≡ Some (requested_in name rows)
+request_by_command-met arguments None name rows is e f = cc
+request_by_command-met arguments (Some sub) name rows is e f = rw (← is) cc
 
 pub ruleset values = (first_value-rows)

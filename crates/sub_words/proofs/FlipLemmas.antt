@@ -16,9 +16,9 @@ use Rattle.sub_request.specs.declared.listening.Flip.{Flip}
 use Rattle.sub_words.specs.Laws.{LawOfFlips}
 use Rattle.sub_words.specs.Texts.{comma, flip_of_text, flips_of_text, is_same_byte, items_after}
 
-near_itself : (sent : List ℕ) → AreNear sent sent
-near_itself [] = tt
-near_itself (x ∷ xs) = (inl refl, near_itself xs)
+is_near_itself : (sent : List ℕ) → AreNear sent sent
+is_near_itself [] = tt
+is_near_itself (x ∷ xs) = (inl refl, is_near_itself xs)
 
 near-set : (sent got : List ℕ) (k bit : ℕ)
     → AreNear sent got
@@ -106,4 +106,4 @@ law_of_flips text flips number packet is =
     grind (arith, nat_tests) in
     (items_after-keeps flip_of_text is_same_byte (IsNoise packet number)
     (IsNoise-more packet number) [] texts flips
-    (record { near = near_itself packet; as_sent = λ f is apart. refl }) read).near
+    (record { near = is_near_itself packet; as_sent = λ f is apart. refl }) read).near

@@ -58,8 +58,8 @@ options_of every rows = do
       })
 
 -- The argument `[--within N]` as an option: the page must be right within 0 to 50 frames.
-abbrev pub allowing_of : OptionsValue → List Row → Result OptionsValue UsageFault
-allowing_of options rows = do
+abbrev pub with_within_value : OptionsValue → List Row → Result OptionsValue UsageFault
+with_within_value options rows = do
   frames ← ok_or (between 0 50 (number_of_text (argument (codes "within") rows))) fault.Within
   Ok (record options { within = frames })
 
@@ -74,8 +74,8 @@ pacing_of options rows =
     (first_of (codes "pace") rows) (Ok options)
 
 -- The argument `[--keeping]` as an option: if the flag is set, repeats may keep the page.
-abbrev pub keeping_of : OptionsValue → List Row → OptionsValue
-keeping_of options rows =
+abbrev pub with_keeping_value : OptionsValue → List Row → OptionsValue
+with_keeping_value options rows =
     if is_given (codes "keeping") rows then record options { keeps = true } else options
 
 -- The national option of the argument `[--option O]`.

@@ -12,7 +12,8 @@ use Rattle.stl_rows.specs.declared.layout.Layout.{Layout}
 use Rattle.stl_rows.specs.declared.national.National.{National}
 use Rattle.sub_plan.specs.Options.{OptionsValue}
 use Rattle.mpeg_ts.specs.declared.survey_options.SurveyOptions.{SurveyOptions}
-use Rattle.sub_words.specs.Arguments.{PesRequested, allowing_of, argument, is_given, keeping_of}
+use Rattle.sub_words.specs.Arguments.{PesRequested, with_within_value, argument, is_given}
+use Rattle.sub_words.specs.Arguments.{with_keeping_value}
 use Rattle.sub_words.specs.Arguments.{listed_of}
 use Rattle.sub_words.specs.Arguments.{layout_of, national_of, options_of, pacing_of}
 use Rattle.sub_words.specs.Arguments.{packet_size_of, pes_selection_of, required_pid_of, scope_of}
@@ -86,20 +87,21 @@ packets_requested rows = do
   Ok (Packets pes)
 
 -- The names of an input and an output; the fault `SameFile` if they are equal.
-abbrev pub unlike : Text → Text → Result (Text × Text) UsageFault
-unlike input output = if bytes_eq input output then Err fault.SameFile else Ok (input, output)
+abbrev pub different_names : Text → Text → Result (Text × Text) UsageFault
+different_names input output = if bytes_eq input output then Err fault.SameFile else Ok
+    (input, output)
 
 -- The request of `normal IN OUT`, or the first fault of its arguments.
 abbrev pub normal_requested : List Row → Result Requested UsageFault
 normal_requested rows = do
-  names ← unlike (argument (codes "in") rows) (argument (codes "out") rows)
+  names ← different_names (argument (codes "in") rows) (argument (codes "out") rows)
   Ok (Normal names.0 names.1)
 
 -- The request of `schedule STL PES [--page P] [--every N] [--origin T] [--option O] [--serial]
 -- [--layout TEXT] [--from TIME] [--to TIME] [--open]`, or the first fault of its arguments.
 abbrev pub schedule_requested : List Row → Result Requested UsageFault
 schedule_requested rows = do
-  names ← unlike (argument (codes "stl") rows) (argument (codes "pes") rows)
+  names ← different_names (argument (codes "stl") rows) (argument (codes "pes") rows)
   options ← options_of (number_of_text (argument (codes "every") rows)) rows
   national ← national_of rows
   layout ← layout_of rows
@@ -113,12 +115,12 @@ abbrev pub check_requested : List Row → Result Requested UsageFault
 check_requested rows = do
   plain ← options_of (number_of_text (argument (codes "every") rows)) rows
   national ← national_of rows
-  allowing ← allowing_of plain rows
+  allowing ← with_within_value plain rows
   pes ← pes_selection_of rows
   layout ← layout_of rows
   pacing ← pacing_of allowing rows
   scope ← scope_of rows
-  let options = keeping_of pacing rows in
+  let options = with_keeping_value pacing rows in
       let all = is_given (codes "all") rows in
       Ok (Check (argument (codes "stl") rows) pes options national layout scope all)
 
@@ -128,7 +130,7 @@ check_requested rows = do
 abbrev pub listen_requested : List Row → Result Requested UsageFault
 listen_requested rows = do
   plain ← options_of (Some 1) rows
-  options ← allowing_of plain rows
+  options ← with_within_value plain rows
   pes ← pes_selection_of rows
   at ← ok_or (frame_of_text (argument (codes "at") rows)) fault.BadTime
   skip ← ok_or (number_of_text (argument (codes "skip") rows)) fault.BadSkip
@@ -140,7 +142,7 @@ listen_requested rows = do
 -- The request of `extract TS PES --pid P [--packet-size S]`, or the first fault of its arguments.
 abbrev pub extract_requested : List Row → Result Requested UsageFault
 extract_requested rows = do
-  names ← unlike (argument (codes "recording") rows) (argument (codes "pes") rows)
+  names ← different_names (argument (codes "recording") rows) (argument (codes "pes") rows)
   pid ← required_pid_of rows
   packet_size ← packet_size_of rows
   Ok (Extract names.0 names.1 (record { pid = pid; packet_size = packet_size }))
@@ -195,19 +197,19 @@ IsReadGivenMemory requested result =
 -- ---- the arguments of a command
 
 -- The request of the command that the arguments name, or the fault of the command's arguments.
-abbrev pub asked_for : List Text → Option (Result Requested UsageFault)
-asked_for arguments = option_map (λ command. requested_in command.0 command.1)
+abbrev pub request_by_command : List Text → Option (Result Requested UsageFault)
+request_by_command arguments = option_map (λ command. requested_in command.0 command.1)
     (command_in arguments)
 
 -- `clap` accepts the arguments, and the request is that of the command that they name.
 pub record IsRequestOfCommand (arguments : List Text) (request : Request) : Type 0 where
   pub taken : clap_refusals arguments ≡ []
-  pub requested : asked_for arguments ≡ Some (Ok (requested_by request))
+  pub requested : request_by_command arguments ≡ Some (Ok (requested_by request))
 
 -- `clap` accepts the arguments, and this is the first fault of the command that they name.
 pub record Breaks (arguments : List Text) (fault : UsageFault) : Type 0 where
   pub taken : clap_refusals arguments ≡ []
-  pub broken : asked_for arguments ≡ Some (Err fault)
+  pub broken : request_by_command arguments ≡ Some (Err fault)
 
 -- The meaning of a fault of the command line. `Words`: `clap` refuses the arguments. `Memory`:
 -- memory ran out, so only that there are arguments is known. `Open` is impossible, since parsing

@@ -2,8 +2,9 @@
 ghost use Rattle.std.specs.Prelude.{◌≡◌, IfErr, IfOk, ok_or, option_map, true};
 ghost use Rattle.std.specs.Result.{result_map_both};
 ghost use Rattle.clap.specs.Words.{first_of, found_of, rows_of};
-ghost use Rattle.sub_words.specs.Arguments.{allowing_of, argument, is_given, layout_of, listed_of};
-ghost use Rattle.sub_words.specs.Arguments.{given_as, keeping_of, options_of, pacing_of};
+ghost use Rattle.sub_words.specs.Arguments.{with_within_value, argument, is_given, layout_of};
+ghost use Rattle.sub_words.specs.Arguments.{listed_of};
+ghost use Rattle.sub_words.specs.Arguments.{given_as, with_keeping_value, options_of, pacing_of};
 ghost use Rattle.sub_words.specs.Arguments.{packet_size_of};
 ghost use Rattle.sub_words.specs.Arguments.{pes_selection_of, range_given_of, required_pid_of};
 ghost use Rattle.sub_words.specs.Arguments.{scope_of, stream_of, survey_options_of};
@@ -26,7 +27,7 @@ use ttx_pes::PesPacketRange;
 
 /// Returns the text of an option, or `None` if the user left it out and it has no default.
 #[tactic(auto, using(crate::proofs::CommandLemmas::values))]
-pub fn given_at<'a>(matches: &ArgMatches<'a>, id: &str) -> Option<&'a str>
+pub fn argument_at<'a>(matches: &ArgMatches<'a>, id: &str) -> Option<&'a str>
     ensures { option_map (λ text. text.now) result
         ≡ first_of id.now (rows_of (found_of matches.now)) }
 {
@@ -37,7 +38,7 @@ pub fn given_at<'a>(matches: &ArgMatches<'a>, id: &str) -> Option<&'a str>
 pub fn text_at<'a>(matches: &ArgMatches<'a>, id: &str) -> &'a str
     ensures { result.now ≡ argument id.now (rows_of (found_of matches.now)) }
 {
-    given_at(matches, id).unwrap_or("")
+    argument_at(matches, id).unwrap_or("")
 }
 
 /// Returns whether a flag is set. `clap` stores the text `true` or `false` for a flag.
@@ -73,8 +74,11 @@ pub fn options_at<'a>(matches: &ArgMatches<'a>, every: Option<u64>) -> Result<Op
 /// # Errors
 ///
 /// Returns only `Within`.
-pub fn allowing_at<'a>(matches: &ArgMatches<'a>, options: Options) -> Result<Options, UsageFault>
-    ensures { result ≡ allowing_of options (rows_of (found_of matches.now)) }
+pub fn with_within_option<'a>(
+    matches: &ArgMatches<'a>,
+    options: Options,
+) -> Result<Options, UsageFault>
+    ensures { result ≡ with_within_value options (rows_of (found_of matches.now)) }
 {
     let frames = parse_number(text_at(matches, "within"));
     options
@@ -91,7 +95,7 @@ pub fn allowing_at<'a>(matches: &ArgMatches<'a>, options: Options) -> Result<Opt
 pub fn pacing_at<'a>(matches: &ArgMatches<'a>, options: Options) -> Result<Options, UsageFault>
     ensures { result ≡ pacing_of options (rows_of (found_of matches.now)) }
 {
-    let Some(text) = given_at(matches, "pace") else {
+    let Some(text) = argument_at(matches, "pace") else {
         return Ok(options);
     };
     // A text that is no number counts as out of range, like 0.
@@ -100,8 +104,8 @@ pub fn pacing_at<'a>(matches: &ArgMatches<'a>, options: Options) -> Result<Optio
 }
 
 /// Returns the options, in which repeats may keep the page if `--keeping` is given.
-pub fn keeping_at<'a>(matches: &ArgMatches<'a>, options: Options) -> Options
-    ensures { result ≡ keeping_of options (rows_of (found_of matches.now)) }
+pub fn with_keeping_flag<'a>(matches: &ArgMatches<'a>, options: Options) -> Options
+    ensures { result ≡ with_keeping_value options (rows_of (found_of matches.now)) }
 {
     if flag_at(matches, "keeping") {
         options.keeping()
@@ -133,7 +137,7 @@ fn usage_fault_of(fault: OptionFault) -> UsageFault
 pub fn layout_at<'a>(matches: &ArgMatches<'a>) -> Result<Layout, UsageFault>
     ensures { result ≡ layout_of (rows_of (found_of matches.now)) }
 {
-    match given_at(matches, "layout") {
+    match argument_at(matches, "layout") {
         Some(text) => Layout::parse(text).ok_or(UsageFault::BadLayout),
         None => Ok(Layout::default()),
     }
@@ -163,7 +167,7 @@ fn frame_at<'a>(matches: &ArgMatches<'a>, id: &str) -> Result<Option<u32>, Usage
     ensures { result ≡ ok_or (given_as frame_of_text id.now (rows_of (found_of matches.now)))
         UsageFault.BadTime }
 {
-    match given_at(matches, id) {
+    match argument_at(matches, id) {
         Some(text) => Ok(Some(parse_time(text).ok_or(UsageFault::BadTime)?)),
         None => Ok(None),
     }
@@ -196,7 +200,7 @@ pub fn packet_size_at<'a>(matches: &ArgMatches<'a>) -> Result<PacketSize, UsageF
 fn stream_at<'a>(matches: &ArgMatches<'a>) -> Result<Option<TransportStream>, UsageFault>
     ensures { result ≡ stream_of (rows_of (found_of matches.now)) }
 {
-    let pid = match given_at(matches, "pid") {
+    let pid = match argument_at(matches, "pid") {
         Some(text) => Some(parse_pid(text).ok_or(UsageFault::Pid)?),
         None => None,
     };
@@ -215,11 +219,11 @@ pub fn survey_options_at<'a>(matches: &ArgMatches<'a>) -> Result<SurveyOptions, 
     let Ok(page) = PageId::parse(text_at(matches, "page")) else {
         return Err(UsageFault::BadPage);
     };
-    let pid = match given_at(matches, "pid") {
+    let pid = match argument_at(matches, "pid") {
         Some(text) => Some(parse_pid(text).ok_or(UsageFault::Pid)?),
         None => None,
     };
-    let packet_size = match given_at(matches, "packet-size") {
+    let packet_size = match argument_at(matches, "packet-size") {
         Some(text) => Some(parse_packet_size(text).ok_or(UsageFault::PacketSize)?),
         None => None,
     };
@@ -234,7 +238,7 @@ pub fn survey_options_at<'a>(matches: &ArgMatches<'a>) -> Result<SurveyOptions, 
 fn range_at<'a>(matches: &ArgMatches<'a>) -> Result<Option<PesPacketRange>, UsageFault>
     ensures { result ≡ range_given_of (rows_of (found_of matches.now)) }
 {
-    match given_at(matches, "pes") {
+    match argument_at(matches, "pes") {
         Some(text) => Ok(Some(parse_range(text).ok_or(UsageFault::Range)?)),
         None => Ok(None),
     }
@@ -277,7 +281,7 @@ pub fn list_at<'a, T: Item + Drop>(
         ≡ listed_of T.parsed T.same id.now (rows_of (found_of matches.now))) }
     ensures memory { IfErr result (λ fault. fault ≡ UsageFault.Memory) }
 {
-    match given_at(matches, id) {
+    match argument_at(matches, id) {
         Some(text) => parse_list(alloc, text).map_err(|_| UsageFault::Memory),
         None => Ok(Some(Vec::new(alloc))),
     }

@@ -6,7 +6,7 @@ use std::alloc::Global;
 
 /// Prints `clap`'s own message on standard error if `clap` refuses the arguments. The message is
 /// not specified.
-pub fn explain_words<E: Eprint>(alloc: Global, arguments: &[&str], errors: &E) {
+pub fn explain_usage<E: Eprint>(alloc: Global, arguments: &[&str], errors: &E) {
     if arguments.is_empty() || requests_help(arguments) || requests_version(arguments) {
         return;
     }

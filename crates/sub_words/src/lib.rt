@@ -22,10 +22,10 @@ mod reading;
 mod times;
 mod version;
 
-pub use explaining::explain_words;
+pub use explaining::explain_usage;
 pub use laws::law_of_flips;
 pub use lists::{Item, parse_list};
 pub use numbers::parse_number;
-pub use parsing::ParseWords;
+pub use parsing::ParseArguments;
 pub use pes_selection::{parse_packet_size, parse_pid, parse_range};
 pub use times::{parse_receiver, parse_time};

@@ -17,7 +17,7 @@ use sub_request::{Request, UsageFault};
 /// Parses the arguments of the command line as a request.
 ///
 /// The type `Request` is in a lower crate, so the function that parses it is in a trait.
-pub trait ParseWords<'a>: Sized {
+pub trait ParseArguments<'a>: Sized {
     /// Parses the arguments of the command line, of which the first is the program's name.
     ///
     /// If the arguments request help or the version, nothing else is read. Otherwise the request is
@@ -33,7 +33,7 @@ pub trait ParseWords<'a>: Sized {
     fn parse(alloc: Global, arguments: &'a [&'a str]) -> Result<Self, UsageFault>;
 }
 
-impl<'a> ParseWords<'a> for Request<'a> {
+impl<'a> ParseArguments<'a> for Request<'a> {
     fn parse(alloc: Global, arguments: &'a [&'a str]) -> Result<Request<'a>, UsageFault>
         ensures request { IfOk result (IsRequestOf (texts_of arguments.now)) }
         ensures fault { IfErr result (IsFaultOf (texts_of arguments.now)) }

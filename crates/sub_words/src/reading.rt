@@ -7,8 +7,8 @@ ghost use Rattle.sub_words.specs.Requests.{packet_requested};
 ghost use Rattle.sub_words.specs.Requests.{packets_requested, schedule_requested, survey_requested};
 
 use crate::arguments::{
-    allowing_at, flag_at, keeping_at, layout_at, list_at, options_at, pacing_at, packet_size_at,
-    pes_at, pid_at, scope_at, survey_options_at, text_at,
+    flag_at, layout_at, list_at, options_at, pacing_at, packet_size_at, pes_at, pid_at, scope_at,
+    survey_options_at, text_at, with_keeping_flag, with_within_option,
 };
 use crate::numbers::parse_number;
 use crate::times::{parse_receiver, parse_time};
@@ -116,7 +116,7 @@ fn read_check<'a>(matches: &ArgMatches<'a>) -> Result<Request<'a>, UsageFault>
     let Some(national) = National::parse(text_at(matches, "option")) else {
         return Err(UsageFault::BadOption);
     };
-    let allowing = allowing_at(matches, plain)?;
+    let allowing = with_within_option(matches, plain)?;
     let pes = match pes_at(matches) {
         Ok(pes) => pes,
         Err(fault) => return Err(fault),
@@ -127,7 +127,7 @@ fn read_check<'a>(matches: &ArgMatches<'a>) -> Result<Request<'a>, UsageFault>
     Ok(Request::Check {
         stl: text_at(matches, "stl"),
         pes,
-        options: keeping_at(matches, pacing),
+        options: with_keeping_flag(matches, pacing),
         national,
         layout,
         scope,
@@ -142,7 +142,7 @@ fn read_listen<'a>(alloc: Global, matches: &ArgMatches<'a>) -> Result<Request<'a
 {
     // `listen` does not use the repeat bound, so any valid one will do.
     let plain = options_at(matches, Some(1))?;
-    let options = allowing_at(matches, plain)?;
+    let options = with_within_option(matches, plain)?;
     let pes = match pes_at(matches) {
         Ok(pes) => pes,
         Err(fault) => return Err(fault),

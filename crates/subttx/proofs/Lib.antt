@@ -1,1 +1,1 @@
-pub mod WordsLemmas
+pub mod ArgumentTextLemmas

@@ -9,27 +9,27 @@ mod in_memory;
 
 ghost use Rattle.std.specs.Prelude.{◌≡◌, IfErr, IfOk};
 ghost use Rattle.sub_io.specs.Buffered.{failures_and_refused};
-ghost use Rattle.sub_answer.specs.Ending.{BufferHoldsOneLineOnly, known_of_files, lines_of};
+ghost use Rattle.sub_answer.specs.Ending.{BufferHoldsOneLineOnly, file_observations, lines_of};
 ghost use Rattle.sub_files.specs.FileCalls.{CallsInOrder};
 ghost use Rattle.sub_headline.specs.Run.{Answered, EndsRun, IsCause, RunsProgram};
 ghost use Rattle.subttx.specs.Words.{arguments_given};
 
-use crate::arguments::{texts_of, words_of};
+use crate::arguments::{collect_arguments, texts_of};
 use std::alloc::Global;
 use std::env::Args;
 use std::process::ExitCode;
 use std::{env, io};
-use sub_answer::{Status, open_and_answer, say_and_flush};
-use sub_files::{BUFFER, Explained, FileSystem, NAMES, SystemFiles, room};
+use sub_answer::{Status, open_and_answer, print_and_flush_usage_fault};
+use sub_files::{BUFFER, ErrorReporter, FileSystem, NAMES, SystemFiles, room};
 use sub_io::{BufferedSink, IntoWrite, Sink};
 use sub_request::{Request, UsageFault};
-use sub_words::{ParseWords, explain_words};
+use sub_words::{ParseArguments, explain_usage};
 
 // Room for the line that reports that memory ran out, in bytes.
-const LITTLE: usize = 64;
+const SMALL_BUFFER_SIZE: usize = 64;
 
 fn main(rt: HostRuntime) -> ExitCode {
-    let printer = Explained::standard_output(io::writer(&rt), &rt);
+    let printer = ErrorReporter::standard_output(io::writer(&rt), &rt);
     let mut names = [0; NAMES];
     let run = run(
         rt.alloc(),
@@ -51,7 +51,7 @@ fn explain_arguments(rt: &HostRuntime) {
                 return;
             };
             if let Some(texts) = texts_of(rt.alloc(), arguments.as_slice()) {
-                explain_words(rt.alloc(), texts.as_slice(), rt);
+                explain_usage(rt.alloc(), texts.as_slice(), rt);
             }
         }
         Err(error) => {
@@ -79,7 +79,7 @@ fn run<D: FileSystem, K: Sink>(
 ) -> Ended<K>
     requires { K.failure_count standard_output ≡ 0 }
     ensures { RunsProgram (CallsInOrder D.is_call files.old files.new)
-        (known_of_files D.Input.remaining D.Input.failure_count
+        (file_observations D.Input.remaining D.Input.failure_count
         D.Output.contents D.Output.failure_count D.Output.is_stored)
         D.Output.is_close (arguments_given given)
         K.contents K.failure_count K.is_push
@@ -88,16 +88,16 @@ fn run<D: FileSystem, K: Sink>(
     match room(alloc, BUFFER) {
         Some(mut room) => {
             let mut out = BufferedSink::new(standard_output, room.as_mut_slice());
-            let status = answer_or_say(alloc, given, files, &mut out);
+            let status = answer_or_print_fault(alloc, given, files, &mut out);
             Ended {
                 code: status.code(),
                 standard_output: out.into_inner(),
             }
         }
         None => {
-            let mut little = [0; LITTLE];
+            let mut little = [0; SMALL_BUFFER_SIZE];
             let mut out = BufferedSink::new(standard_output, &mut little);
-            let status = say_and_flush(&UsageFault::Memory, &mut out);
+            let status = print_and_flush_usage_fault(&UsageFault::Memory, &mut out);
             Ended {
                 code: status.code(),
                 standard_output: out.into_inner(),
@@ -107,7 +107,7 @@ fn run<D: FileSystem, K: Sink>(
 }
 
 // Answers the arguments, or prints why they are not answered.
-fn answer_or_say<D: FileSystem, K: Sink>(
+fn answer_or_print_fault<D: FileSystem, K: Sink>(
     alloc: Global,
     given: io::Result<Args>,
     files: &mut D,
@@ -115,7 +115,7 @@ fn answer_or_say<D: FileSystem, K: Sink>(
 ) -> Status
     requires { failures_and_refused (K.failure_count out.old.device) out.old.refused ≡ 0 }
     ensures { EndsRun (CallsInOrder D.is_call files.old files.new)
-        (known_of_files D.Input.remaining D.Input.failure_count
+        (file_observations D.Input.remaining D.Input.failure_count
         D.Output.contents D.Output.failure_count D.Output.is_stored)
         D.Output.is_close (arguments_given given)
         (BufferHoldsOneLineOnly K.contents K.failure_count K.is_push)
@@ -124,7 +124,7 @@ fn answer_or_say<D: FileSystem, K: Sink>(
 {
     match answer_given(alloc, given, files, out) {
         Ok(status) => status,
-        Err(fault) => say_and_flush(&fault, out),
+        Err(fault) => print_and_flush_usage_fault(&fault, out),
     }
 }
 
@@ -141,7 +141,7 @@ fn answer_given<D: FileSystem, K: Sink>(
 ) -> Result<Status, UsageFault>
     requires { failures_and_refused (K.failure_count out.old.device) out.old.refused ≡ 0 }
     ensures ends { IfOk result (Answered (CallsInOrder D.is_call files.old files.new)
-        (known_of_files D.Input.remaining D.Input.failure_count
+        (file_observations D.Input.remaining D.Input.failure_count
         D.Output.contents D.Output.failure_count D.Output.is_stored)
         D.Output.is_close (arguments_given given)
         (BufferHoldsOneLineOnly K.contents K.failure_count K.is_push)
@@ -151,7 +151,7 @@ fn answer_given<D: FileSystem, K: Sink>(
     ensures cause { IfErr result (IsCause (CallsInOrder D.is_call files.old files.new)
         (arguments_given given)) }
 {
-    let arguments = words_of(alloc, given)?;
+    let arguments = collect_arguments(alloc, given)?;
     let Some(texts) = texts_of(alloc, arguments.as_slice()) else {
         return Err(UsageFault::Memory);
     };

@@ -200,7 +200,7 @@ fn refuses_characters_that_an_option_lacks(rt: HostRuntime) {
 }
 
 // Returns a text field with three lines of 36 letters, and a diacritical mark as its last byte.
-fn mark_at_end() -> [u8; 112] {
+fn gap_marker_at_end() -> [u8; 112] {
     let mut text = [0x41; 112];
     (text[36], text[73], text[110], text[111]) = (0x8A, 0x8A, 0x8A, 0xC2);
     text
@@ -229,7 +229,7 @@ fn assert_shows_e(rt: &(impl Abort + Alloc<A = Global>), file: &[u8], row: u8) -
 
 #[test]
 fn reads_a_pair_over_two_blocks(rt: HostRuntime) -> Result<(), Fail> {
-    let first = block(&fields(1, 0x00, 0), &mark_at_end());
+    let first = block(&fields(1, 0x00, 0), &gap_marker_at_end());
     let file = file_of_two(&first, &block(&fields(1, 0xFF, 0), &[0x65]));
     assert_shows_e(&rt, &file, 4)
 }
@@ -247,7 +247,7 @@ fn reads_a_pair_over_padding_and_a_comment(rt: HostRuntime) -> Result<(), Fail> 
 #[test]
 fn refuses_the_diacritic_of_such_a_pair(rt: HostRuntime) {
     let mut text = [0x65; 113];
-    text[..112].copy_from_slice(&mark_at_end());
+    text[..112].copy_from_slice(&gap_marker_at_end());
     let refused = Some(RowFault {
         kind: RowFaultKind::Character,
         at: 111,

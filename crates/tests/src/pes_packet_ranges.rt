@@ -24,11 +24,11 @@ fn part_of<P: PesPackets>(all: &mut P, range: PesPacketRange) -> PartOfPesPacket
     }
 }
 
-// Asserts everything that a source of PES packets gives: the bytes `wanted`, and then `end`.
+// Asserts everything that a source of PES packets gives: the bytes `expected`, and then `end`.
 fn assert_next<P: PesPackets>(
     rt: &impl Abort,
     pes_packets: &mut P,
-    wanted: &[u8],
+    expected: &[u8],
     end: Received<()>,
     case: &(usize, u64),
 )
@@ -39,7 +39,7 @@ fn assert_next<P: PesPackets>(
         sink: MemSink::new(&mut buffer),
     };
     assert_same_in(rt, &take_all(pes_packets, &mut given), &Ok(end), case);
-    assert_same_in(rt, &given.sink.written(), &wanted, case);
+    assert_same_in(rt, &given.sink.written(), &expected, case);
 }
 
 // Asserts which bytes of three PES packets of 184 bytes each, and a few more bytes, belong to a
@@ -57,18 +57,18 @@ fn assert_output(
     assert!(rt; cut <= 560 && want.0 <= want.1 && want.1 <= cut);
     let (whole, _) = file.split_at(cut);
     let (upto, _) = whole.split_at(want.1);
-    let (_, wanted) = upto.split_at(want.0);
+    let (_, expected) = upto.split_at(want.0);
     let range = range(rt, numbers.0, numbers.1);
     let case = (cut, numbers.0);
     let mut source = MemSource::new(whole);
     let mut all = FilePesPackets::new(&mut source);
     let mut pes_packets = part_of(&mut all, range);
     assert_same_in(rt, &pes_packets.find_first(), &Ok(want.2), &case);
-    assert_next(rt, &mut pes_packets, wanted, end, &case);
+    assert_next(rt, &mut pes_packets, expected, end, &case);
     let mut drip = Drip { rest: whole };
     let mut all = FilePesPackets::new(&mut drip);
     let mut pes_packets = part_of(&mut all, range);
-    assert_next(rt, &mut pes_packets, wanted, end, &case);
+    assert_next(rt, &mut pes_packets, expected, end, &case);
 }
 
 #[rattlefmt::skip]
@@ -132,8 +132,8 @@ fn reports_where_it_failed_before_the_range(rt: HostRuntime) {
     assert_same(&rt, &pes_packets.find_first(), &Err(FailedAt { pes: 1 }));
     // After the number of the first PES packet was found, no PES packet is missing.
     assert_same(&rt, &pes_packets.find_first(), &Ok(2));
-    let (_, wanted) = file.split_at(368);
-    assert_next(&rt, &mut pes_packets, wanted, Received::End, &(200, 2));
+    let (_, expected) = file.split_at(368);
+    assert_next(&rt, &mut pes_packets, expected, Received::End, &(200, 2));
 }
 
 #[test]

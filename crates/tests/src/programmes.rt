@@ -47,8 +47,8 @@ fn assert_both_due(rt: &impl Abort, programme: &Programme) {
 // subtitles.
 fn assert_holds(rt: &impl Abort, programme: &Programme) {
     assert_same(rt, &(programme.len(), programme.is_empty()), &(2, false));
-    assert_same(rt, &programme.first_in(), &Some(TEN));
-    assert_same(rt, &programme.last_out(), &Some(TEN + 100));
+    assert_same(rt, &programme.first_tci(), &Some(TEN));
+    assert_same(rt, &programme.last_tco(), &Some(TEN + 100));
     assert_same(rt, &programme.national(), &National::German);
 }
 

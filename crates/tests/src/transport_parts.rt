@@ -2,8 +2,8 @@
 //! and after other bytes.
 
 use crate::transport_recordings::{
-    BACK_1, BEGINS_0, BEGINS_1, BEGINS_2, BEGINS_9, FILL, JUMP, JUMP_FILL, MARK_HEAD, MARK_REST,
-    NULL, PREFIX_0, WRONG_1, ZEROS, assert_output,
+    BACK_1, BEGINS_0, BEGINS_1, BEGINS_2, BEGINS_9, FILL, GAP_MARKER_HEAD, GAP_MARKER_REST, JUMP,
+    JUMP_FILL, NULL, PREFIX_0, WRONG_1, ZEROS, assert_output,
 };
 use fixtures::{FIRST, SECOND};
 
@@ -24,7 +24,7 @@ fn follows_an_announced_jump(rt: HostRuntime) {
         &BEGINS_9,
         &SECOND,
     ];
-    let gap: [&[u8]; 4] = [&FIRST, &MARK_HEAD, &MARK_REST, &SECOND];
+    let gap: [&[u8]; 4] = [&FIRST, &GAP_MARKER_HEAD, &GAP_MARKER_REST, &SECOND];
     assert_output(&rt, &others, &gap);
     assert_output(
         &rt,
@@ -59,7 +59,7 @@ fn cuts_parts_at_an_announced_jump(rt: HostRuntime) {
             &[0x47, 0x41, 0x01, 0x13],
             &SECOND,
         ],
-        &[&FIRST, &MARK_HEAD, &MARK_REST, &SECOND],
+        &[&FIRST, &GAP_MARKER_HEAD, &GAP_MARKER_REST, &SECOND],
     );
     // The first transport packet of the later PES packet announces the jump.
     assert_output(
@@ -148,7 +148,7 @@ fn reports_a_gap_after_a_pes_packet(rt: HostRuntime) {
             &BEGINS_2,
             &SECOND,
         ],
-        &[&FIRST, &MARK_HEAD, &MARK_REST, &SECOND],
+        &[&FIRST, &GAP_MARKER_HEAD, &GAP_MARKER_REST, &SECOND],
     );
     // A PES packet that the end of the recording cuts off is no gap.
     assert_output(
@@ -176,7 +176,7 @@ fn skips_a_part_that_is_not_complete(rt: HostRuntime) {
     assert_output(
         &rt,
         &[&BEGINS_0, &FIRST, &[0x47, 0x01, 0x01, 0x11], &SECOND],
-        &[&FIRST, &MARK_HEAD, &MARK_REST],
+        &[&FIRST, &GAP_MARKER_HEAD, &GAP_MARKER_REST],
     );
 }
 
@@ -201,7 +201,13 @@ fn ends_at_another_start_or_length(rt: HostRuntime) {
     assert_output(
         &rt,
         &[&BEGINS_0, &FIRST, &BEGINS_2, &start, &FIRST[4..]],
-        &[&FIRST, &MARK_HEAD, &MARK_REST, &start, &FIRST[4..]],
+        &[
+            &FIRST,
+            &GAP_MARKER_HEAD,
+            &GAP_MARKER_REST,
+            &start,
+            &FIRST[4..],
+        ],
     );
     assert_output(
         &rt,
@@ -244,7 +250,7 @@ fn finds_packets_after_other_bytes(rt: HostRuntime) {
     assert_output(
         &rt,
         &[&BEGINS_0, &FIRST, &ZEROS, &NULL, &FILL, &BEGINS_1, &SECOND],
-        &[&FIRST, &MARK_HEAD, &MARK_REST, &SECOND],
+        &[&FIRST, &GAP_MARKER_HEAD, &GAP_MARKER_REST, &SECOND],
     );
     assert_output(
         &rt,
@@ -264,8 +270,8 @@ fn finds_packets_after_other_bytes(rt: HostRuntime) {
 
 #[test]
 fn finds_packets_where_they_begin_again(rt: HostRuntime) {
-    // Two runs of unreadable bytes, with a transport packet between them, are each too short to hide
-    // lost packets.
+    // Two runs of unreadable bytes, with a transport packet between them, are each too short to
+    // hide lost packets.
     assert_output(
         &rt,
         &[

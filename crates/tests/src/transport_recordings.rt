@@ -39,10 +39,10 @@ pub(crate) const PREFIX_0: [u8; 6] = [0x47, 0x41, 0x01, 0x30, 83, 0x00];
 
 pub(crate) const BACK_1: [u8; 6] = [0x47, 0x01, 0x01, 0x31, 99, 0x00];
 
-/// The first bytes of a gap marker; the other bytes of the marker are in `MARK_REST`.
-pub(crate) const MARK_HEAD: [u8; 6] = [0x00, 0x00, 0x01, 0xBD, 0x00, 0xB2];
+/// The first bytes of a gap marker; the other bytes of the marker are in `GAP_MARKER_REST`.
+pub(crate) const GAP_MARKER_HEAD: [u8; 6] = [0x00, 0x00, 0x01, 0xBD, 0x00, 0xB2];
 
-pub(crate) const MARK_REST: [u8; 178] = [0xFF; 178];
+pub(crate) const GAP_MARKER_REST: [u8; 178] = [0xFF; 178];
 
 pub(crate) const ZEROS: [u8; 2820] = [0; 2820];
 
@@ -95,14 +95,14 @@ pub(crate) fn assert_output_of(
     number: u16,
     packet_size: PacketSize,
     recording: &[&[u8]],
-    wanted: &[&[u8]],
+    expected: &[&[u8]],
 ) {
     let mut recording_buffer = [0; 8192];
     let mut recorded = MemSink::new(&mut recording_buffer);
     put_pes_packets(&mut recorded, recording);
-    let mut wanted_buffer = [0; 2048];
-    let mut wanted_bytes = MemSink::new(&mut wanted_buffer);
-    put_pes_packets(&mut wanted_bytes, wanted);
+    let mut expected_buffer = [0; 2048];
+    let mut expected_bytes = MemSink::new(&mut expected_buffer);
+    put_pes_packets(&mut expected_bytes, expected);
     let Some(pid) = Pid::new(number) else {
         return assert!(rt; false);
     };
@@ -115,7 +115,7 @@ pub(crate) fn assert_output_of(
         pid,
         packet_size,
     );
-    for _ in 0..wanted.len() + 1 {
+    for _ in 0..expected.len() + 1 {
         match pes_packets.next(&mut gathered) {
             Ok(Received::PesPacket(())) => {}
             Ok(Received::Rest(_)) => {
@@ -125,11 +125,11 @@ pub(crate) fn assert_output_of(
             _ => break,
         }
     }
-    assert!(rt; gathered.sink.written() == wanted_bytes.written());
+    assert!(rt; gathered.sink.written() == expected_bytes.written());
 }
 
 /// Asserts the bytes that the transport packets of PID 101 (hexadecimal) carry, in packets of 188
 /// bytes.
-pub(crate) fn assert_output(rt: &impl Abort, recording: &[&[u8]], wanted: &[&[u8]]) {
-    assert_output_of(rt, 0x101, PacketSize::Plain, recording, wanted);
+pub(crate) fn assert_output(rt: &impl Abort, recording: &[&[u8]], expected: &[&[u8]]) {
+    assert_output_of(rt, 0x101, PacketSize::Plain, recording, expected);
 }

@@ -2,8 +2,9 @@
 //! is written in the test, packet by packet.
 
 use crate::transport_recordings::{
-    BACK_1, BEGINS_0, BEGINS_1, BEGINS_2, BEGINS_9, FILL, Gathered, JUMP, JUMP_FILL, MARK_HEAD,
-    MARK_REST, NULL, PREFIX_0, WRONG_1, ZEROS, assert_output, assert_output_of, put_pes_packets,
+    BACK_1, BEGINS_0, BEGINS_1, BEGINS_2, BEGINS_9, FILL, GAP_MARKER_HEAD, GAP_MARKER_REST,
+    Gathered, JUMP, JUMP_FILL, NULL, PREFIX_0, WRONG_1, ZEROS, assert_output, assert_output_of,
+    put_pes_packets,
 };
 use fixtures::{FIRST, SECOND};
 use mpeg_ts::{PacketSize, Pid, RecordingPesPackets};
@@ -32,7 +33,7 @@ fn gives_a_gap_marker_where_a_packet_is_lost(rt: HostRuntime) {
     assert_output(
         &rt,
         &[&BEGINS_0, &FIRST, &BEGINS_2, &SECOND],
-        &[&FIRST, &MARK_HEAD, &MARK_REST, &SECOND],
+        &[&FIRST, &GAP_MARKER_HEAD, &GAP_MARKER_REST, &SECOND],
     );
     // No gap marker comes before the first PES packet.
     assert_output(&rt, &[&WRONG_1, &FIRST, &BEGINS_0, &SECOND], &[&SECOND]);
@@ -43,7 +44,7 @@ fn gives_a_gap_marker_where_a_packet_is_lost(rt: HostRuntime) {
         &[
             &BEGINS_0, &FIRST, &WRONG_1, &SECOND, &WRONG_1, &SECOND, &BEGINS_1, &SECOND,
         ],
-        &[&FIRST, &MARK_HEAD, &MARK_REST, &SECOND],
+        &[&FIRST, &GAP_MARKER_HEAD, &GAP_MARKER_REST, &SECOND],
     );
     assert_output(
         &rt,
@@ -64,7 +65,7 @@ fn skips_one_repeat(rt: HostRuntime) {
     assert_output(
         &rt,
         &[&BEGINS_0, &FIRST, &BEGINS_0, &FIRST, &BEGINS_0, &FIRST],
-        &[&FIRST, &MARK_HEAD, &MARK_REST, &FIRST],
+        &[&FIRST, &GAP_MARKER_HEAD, &GAP_MARKER_REST, &FIRST],
     );
     // A transport packet with the same payload and the next counter is no repeat, and neither is
     // one with the same counter and another payload.
@@ -76,7 +77,7 @@ fn skips_one_repeat(rt: HostRuntime) {
     assert_output(
         &rt,
         &[&BEGINS_0, &FIRST, &BEGINS_0, &SECOND],
-        &[&FIRST, &MARK_HEAD, &MARK_REST, &SECOND],
+        &[&FIRST, &GAP_MARKER_HEAD, &GAP_MARKER_REST, &SECOND],
     );
     // No transport packet is a repeat across an announced jump.
     assert_output(
@@ -117,13 +118,13 @@ fn recognizes_a_repeat_by_its_first_four_bytes_and_its_payload(rt: HostRuntime) 
             &BEGINS_1,
             &SECOND,
         ],
-        &[&FIRST, &MARK_HEAD, &MARK_REST, &SECOND],
+        &[&FIRST, &GAP_MARKER_HEAD, &GAP_MARKER_REST, &SECOND],
     );
 }
 
 #[test]
 fn takes_no_wrong_packet(rt: HostRuntime) {
-    let gap: [&[u8]; 3] = [&FIRST, &MARK_HEAD, &MARK_REST];
+    let gap: [&[u8]; 3] = [&FIRST, &GAP_MARKER_HEAD, &GAP_MARKER_REST];
     assert_output(&rt, &[&BEGINS_0, &FIRST, &WRONG_1, &SECOND], &gap);
     // The transport packet is scrambled.
     assert_output(
@@ -137,7 +138,7 @@ fn takes_no_wrong_packet(rt: HostRuntime) {
     assert_output(
         &rt,
         &[&BEGINS_0, &FIRST, &full, &FILL[..183], &BEGINS_1, &SECOND],
-        &[&FIRST, &MARK_HEAD, &MARK_REST, &SECOND],
+        &[&FIRST, &GAP_MARKER_HEAD, &GAP_MARKER_REST, &SECOND],
     );
     assert_output(
         &rt,
@@ -149,7 +150,7 @@ fn takes_no_wrong_packet(rt: HostRuntime) {
             &BEGINS_1,
             &SECOND,
         ],
-        &[&FIRST, &MARK_HEAD, &MARK_REST, &SECOND],
+        &[&FIRST, &GAP_MARKER_HEAD, &GAP_MARKER_REST, &SECOND],
     );
     // Without a payload the same adaptation field is correct, and the packet's counter is ignored.
     assert_output(
@@ -218,7 +219,7 @@ fn finds_a_loss_of_15_packets_of_their_size(rt: HostRuntime) {
             &BEGINS_1,
             &SECOND,
         ],
-        &[&FIRST, &MARK_HEAD, &MARK_REST, &SECOND],
+        &[&FIRST, &GAP_MARKER_HEAD, &GAP_MARKER_REST, &SECOND],
     );
 }
 

@@ -9,7 +9,7 @@ use Rattle.mpeg_ts.specs.PacketsInStep.{lead_size}
 use Rattle.ttx_page.specs.Receiver.{RunsBy}
 use Rattle.ts_survey.specs.Requested.{keeps_requested}
 use Rattle.ts_survey.specs.Counted.{BeginsAt, BeginsStream, CountsRecording, CountsStream}
-use Rattle.ts_survey.specs.Counted.{ReadsStream, IsAtPlace, StaysRead, TakesAny, TakesBegun}
+use Rattle.ts_survey.specs.Counted.{ReadsStream, IsAtPlace, StaysRead, TakesAny, TakesStarted}
 use Rattle.ts_survey.specs.Following.{any_pes_packet}
 use Rattle.ts_survey.specs.InStep.{TakesAll, counted_on, items_from, packet_count, skipped_in}
 use Rattle.ts_survey.specs.Listed.{GoesOn}
@@ -117,7 +117,7 @@ pub takes-begun : (passed : ℕ) (mid new : Kind) (bytes : List ℕ) (is_end : B
     → BeginsStream passed mid
     → TakesOn mid bytes is_end used new
     → GoesOn mid new
-    → TakesBegun passed bytes is_end used new
+    → TakesStarted passed bytes is_end used new
 takes-begun passed Unknown Unknown bytes is_end used begins takes on = tt
 takes-begun passed Unknown (Pes g) bytes is_end used begins takes on = tt
 takes-begun passed Unknown (Stream q n) bytes is_end used begins takes on = absurd on
@@ -146,7 +146,7 @@ is_at_place-begun :
     → next ≡ drop used bytes
     → used ≤ length bytes
     → (is_unknown new ≡ true → skipped_now ≡ skipped + used)
-    → TakesBegun skipped bytes is_end used new
+    → TakesStarted skipped bytes is_end used new
     → IsAtPlace new skipped_now (received ++ more) next is_end
 is_at_place-begun
     Unknown skipped skipped_now used received more buffered bytes next is_end within is whole left
@@ -195,7 +195,7 @@ is_at_place-on :
     → next ≡ drop used bytes
     → used ≤ length bytes
     → (is_unknown old ≡ true → is_unknown new ≡ true → skipped_now ≡ skipped + used)
-    → (is_unknown old ≡ true → TakesBegun skipped bytes is_end used new)
+    → (is_unknown old ≡ true → TakesStarted skipped bytes is_end used new)
     → (is_unknown old ≡ false → GoesOn old new × TakesOn old bytes is_end used new)
     → IsAtPlace new skipped_now (received ++ more) next is_end
 is_at_place-on
@@ -270,17 +270,17 @@ pub is_at_place-next :
     → next ≡ drop used now
     → used ≤ length bytes
     → (is_unknown old ≡ true → is_unknown new ≡ true → skipped_now ≡ skipped + used)
-    → (is_unknown old ≡ true → TakesBegun skipped bytes is_end used new)
+    → (is_unknown old ≡ true → TakesStarted skipped bytes is_end used new)
     → (is_unknown old ≡ false → GoesOn old new)
     → (is_unknown old ≡ false → TakesOn old bytes is_end used new)
     → IsAtPlace new skipped_now (received ++ more) next is_end
 is_at_place-next
     old new skipped skipped_now used received more buffered now bytes next is_end is_at_place
-    more_is same passed
+    more_eq same passed
     fits known begun on taken =
     is_at_place-on old new skipped skipped_now used received more buffered bytes next is_end
     is_at_place
-    (same ∙ more_is) (passed ∙ ap (drop used) (sym same)) fits known begun
+    (same ∙ more_eq) (passed ∙ ap (drop used) (sym same)) fits known begun
     (λ is. (on is, taken is))
 
 -- Nothing came.

@@ -8,10 +8,10 @@ use Rattle.std.proofs.lemmas.List.Folds.{concat-append}
 use Rattle.std.specs.List.{concat}
 use Rattle.std.specs.Prelude.{length}
 use Rattle.mpeg_ts.specs.PacketSize.{bytes_of}
-use Rattle.ts_survey.specs.FirstLines.{FindsKind, requested_words, begins_pes, head_size}
+use Rattle.ts_survey.specs.FirstLines.{FindsKind, requested_texts, begins_pes, head_size}
 use Rattle.ts_survey.specs.FirstLines.{head_so_far}
-use Rattle.ts_survey.specs.FirstLines.{head_reported, head_words, is_pes, kind_words, size_line}
-use Rattle.ts_survey.specs.Lines.{AddsWords}
+use Rattle.ts_survey.specs.FirstLines.{head_reported, head_texts, is_pes, kind_texts, size_line}
+use Rattle.ts_survey.specs.Lines.{AddsTexts}
 use Rattle.ts_survey.specs.Listed.{GoesOn, IsReported}
 use Rattle.ts_survey.specs.Stream.{is_unknown}
 use Rattle.ts_survey.specs.declared.recording.Kind.{Kind}
@@ -30,7 +30,7 @@ no-items (x ∷ xs) none = absurd (omega arith)
 -- A recording keeps its kind, and so its line.
 kinds-on : (old new : Kind)
     → GoesOn old new
-    → (kind_words new ≡ kind_words old)
+    → (kind_texts new ≡ kind_texts old)
     × (is_unknown new ≡ is_unknown old)
     × (is_pes new ≡ is_pes old)
 kinds-on Unknown Unknown on = (refl, refl, refl)
@@ -44,8 +44,8 @@ kinds-on (Pes f) Nothing on = absurd on
 kinds-on (Stream p m) Unknown on = absurd on
 kinds-on (Stream p m) (Pes g) on = absurd on
 kinds-on (Stream p m) (Stream q n) on = (
-  ap (λ size. size_line (bytes_of size) ++ requested_words n.requested) on.size
-      ∙ ap (λ requested. size_line (bytes_of p.size) ++ requested_words requested) on.keeps.0,
+  ap (λ size. size_line (bytes_of size) ++ requested_texts n.requested) on.size
+      ∙ ap (λ requested. size_line (bytes_of p.size) ++ requested_texts requested) on.keeps.0,
   refl,
   refl,
 )
@@ -56,7 +56,7 @@ kinds-on Nothing (Stream q n) on = absurd on
 kinds-on Nothing Nothing on = (refl, refl, refl)
 
 -- An unknown kind has no line.
-unknown-words : (kind : Kind) → is_unknown kind ≡ true → kind_words kind ≡ []
+unknown-words : (kind : Kind) → is_unknown kind ≡ true → kind_texts kind ≡ []
 unknown-words Unknown is = refl
 unknown-words (Pes f) is = absurd cc
 unknown-words (Stream p m) is = absurd cc
@@ -64,9 +64,9 @@ unknown-words Nothing is = absurd cc
 
 pub adds-nothing : (kind : Kind) (text : Text)
     → is_unknown kind ≡ true
-    → AddsWords text (kind_words kind) text
+    → AddsTexts text (kind_texts kind) text
 adds-nothing kind text is =
-    subst (λ words. AddsWords text words text) (sym (unknown-words kind is)) (adds-none text)
+    subst (λ words. AddsTexts text words text) (sym (unknown-words kind is)) (adds-none text)
 
 -- Before any bytes nothing is printed.
 pub reported-start : (recording : Recording)
@@ -76,7 +76,7 @@ pub reported-start : (recording : Recording)
 reported-start recording unknown none = record {
   more = [];
   reported =
-      sym (ap (λ kind. concat (head_so_far recording.has_head [] ++ kind_words kind) ++ []) unknown
+      sym (ap (λ kind. concat (head_so_far recording.has_head [] ++ kind_texts kind) ++ []) unknown
       ∙ ap (λ has. concat (head_so_far has [] ++ []) ++ []) none);
   unknown = λ is. refl;
   none = λ no. ap is_unknown unknown;
@@ -86,7 +86,7 @@ reported-start recording unknown none = record {
 same-head : (has : Bool) (head other : List ℕ)
     → (has ≡ true → other ≡ head)
     → head_so_far has other ≡ head_so_far has head
-same-head true head other same = ap head_words (same refl)
+same-head true head other same = ap head_texts (same refl)
 same-head false head other same = refl
 
 -- More was printed for a known kind.
@@ -103,11 +103,11 @@ reported-more old new received all listing more reported on same begins none =
       reported =
           ap (λ l. l ++ more) reported.reported
           ∙ append_assoc _ reported.more more
-          ∙ ap (λ l. concat (l ++ kind_words old.kind) ++ (reported.more ++ more))
+          ∙ ap (λ l. concat (l ++ kind_texts old.kind) ++ (reported.more ++ more))
           (sym (same-head old.has_head (take head_size received) head begins))
           ∙ ap (λ words. concat (head_so_far old.has_head head ++ words) ++ (reported.more ++ more))
           (sym (kinds-on old.kind new.kind on).0)
-          ∙ ap (λ has. concat (head_so_far has head ++ kind_words new.kind) ++
+          ∙ ap (λ has. concat (head_so_far has head ++ kind_texts new.kind) ++
           (reported.more ++ more))
           (sym same);
       unknown = λ is.
@@ -139,7 +139,7 @@ heads : (before after : Bool) (received all bytes : List ℕ)
     → head_so_far after (take head_size all)
     ≡ head_so_far before (take head_size received) ++ head_reported before bytes after
 heads true true received all bytes stays begins first =
-    ap head_words (begins refl) ∙ sym (append-nil (head_words (take head_size received)))
+    ap head_texts (begins refl) ∙ sym (append-nil (head_texts (take head_size received)))
 heads true false received all bytes stays begins first = let e = stays refl in cc
 heads false after received all bytes stays begins first =
     ap (λ l. head_so_far after (take head_size l)) (first refl)
@@ -152,23 +152,23 @@ pub found-following-head :
     → new.has_head ≡ mid.has_head
     → mid.kind ≡ Unknown
     → (mid.out_of_memory ≡ false
-    → AddsWords before (head_words (take head_size bytes) ++ kind_words mid.kind) between)
+    → AddsTexts before (head_texts (take head_size bytes) ++ kind_texts mid.kind) between)
     → (mid.out_of_memory ≡ false → is_pes mid.kind ≡ begins_pes (take head_size bytes))
     → (new.out_of_memory ≡ false → mid.out_of_memory ≡ false)
-    → (new.out_of_memory ≡ false → AddsWords between (kind_words new.kind) after)
+    → (new.out_of_memory ≡ false → AddsTexts between (kind_texts new.kind) after)
     → is_pes new.kind ≡ false
     → FindsKind old bytes before after new
 found-following-head
     old mid new bytes before between after was has same unknown head pes short kind not = record {
       reported = λ enough.
-          let words = head_words (take head_size bytes) in
-          let e : head_reported old.has_head bytes new.has_head ≡ words ++ kind_words mid.kind =
+          let words = head_texts (take head_size bytes) in
+          let e : head_reported old.has_head bytes new.has_head ≡ words ++ kind_texts mid.kind =
           ap (λ had. head_reported had bytes new.has_head) was
           ∙ ap (λ is. head_so_far is (take head_size bytes)) (same ∙ has)
           ∙ sym (append-nil words)
-          ∙ ap (λ k. words ++ kind_words k) (sym unknown) in
-          subst (λ l. AddsWords before (l ++ kind_words new.kind) after) (sym e)
-          (adds-words (words ++ kind_words mid.kind) (kind_words new.kind) (head (short enough))
+          ∙ ap (λ k. words ++ kind_texts k) (sym unknown) in
+          subst (λ l. AddsTexts before (l ++ kind_texts new.kind) after) (sym e)
+          (adds-words (words ++ kind_texts mid.kind) (kind_texts new.kind) (head (short enough))
           (kind enough));
       stays = λ is. same ∙ has;
       none = λ is. let e = sym (same ∙ has) ∙ is in cc;
@@ -180,13 +180,13 @@ found-following-head
 pub found-with-head : (old new : Recording) (bytes : List ℕ) (before after : Text)
     → old.has_head ≡ true
     → new.has_head ≡ old.has_head
-    → (new.out_of_memory ≡ false → AddsWords before (kind_words new.kind) after)
+    → (new.out_of_memory ≡ false → AddsTexts before (kind_texts new.kind) after)
     → is_pes new.kind ≡ false
     → FindsKind old bytes before after new
 found-with-head old new bytes before after has same kind not = record {
   reported = λ enough.
-      let words = kind_words new.kind in
-      subst (λ was. AddsWords before (head_reported was bytes new.has_head ++ words) after)
+      let words = kind_texts new.kind in
+      subst (λ was. AddsTexts before (head_reported was bytes new.has_head ++ words) after)
       (sym has)
       (kind enough);
   stays = λ is. same ∙ is;
@@ -243,11 +243,11 @@ reported-found
     none =
     let had = head_so_far old.has_head (take head_size received) in
     let more = head_reported old.has_head bytes new.has_head in
-    let known = kind_words new.kind in
+    let known = kind_texts new.kind in
     let was : listing ≡ concat had =
     reported.reported
-    ∙ ap (λ l. concat (had ++ kind_words old.kind) ++ l) (reported.unknown is)
-    ∙ append-nil (concat (had ++ kind_words old.kind))
+    ∙ ap (λ l. concat (had ++ kind_texts old.kind) ++ l) (reported.unknown is)
+    ∙ append-nil (concat (had ++ kind_texts old.kind))
     ∙ ap (λ l. concat (had ++ l)) (unknown-words old.kind is)
     ∙ ap concat (append-nil had) in
     let now : last.bytes.items ≡ concat (more ++ known) =
@@ -343,8 +343,8 @@ pub received-all : (received buffered now bytes more : List ℕ)
     → now ≡ buffered ++ more
     → bytes ≡ now
     → received ++ more ≡ bytes
-received-all received buffered now bytes more is more_is same =
-    ap (λ l. l ++ more) (sym is) ∙ sym more_is ∙ sym same
+received-all received buffered now bytes more is more_eq same =
+    ap (λ l. l ++ more) (sym is) ∙ sym more_eq ∙ sym same
 
 -- None of it is dropped.
 pub still-buffered : (received buffered now after more : List ℕ) (used : ℕ)
@@ -353,8 +353,8 @@ pub still-buffered : (received buffered now after more : List ℕ) (used : ℕ)
     → used ≡ 0
     → after ≡ drop used now
     → after ≡ received ++ more
-still-buffered received buffered now after more used is more_is none passed =
-    passed ∙ ap (λ n. drop n now) none ∙ more_is ∙ ap (λ l. l ++ more) is
+still-buffered received buffered now after more used is more_eq none passed =
+    passed ∙ ap (λ n. drop n now) none ∙ more_eq ∙ ap (λ l. l ++ more) is
 
 pub was-none : (had has : Bool) → (had ≡ true → has ≡ true) → has ≡ false → had ≡ false
 was-none true has stays none = let e = sym (stays refl) ∙ none in cc

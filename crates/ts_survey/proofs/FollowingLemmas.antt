@@ -6,7 +6,7 @@ use Rattle.std.proofs.lemmas.List.Folds.{concat-append}
 use Rattle.std.specs.List.{concat}
 use Rattle.mpeg_ts.specs.GoodPackets.{Note, notes}
 use Rattle.mpeg_ts.specs.Joining.{JoiningValue, after_note, later_output, delivered, has_ended}
-use Rattle.mpeg_ts.specs.Joining.{nothing_joined}
+use Rattle.mpeg_ts.specs.Joining.{initial_joining}
 use Rattle.mpeg_ts.specs.PacketsInStep.{items_of}
 use Rattle.mpeg_ts.specs.Stream.{stream_output}
 use Rattle.mpeg_ts.proofs.CarriedLemmas.{carried_given}
@@ -119,5 +119,5 @@ pub law_of_following : {T : Type 0} (IsTaken : T → List ℕ → T → Type 0) 
 unfolding stream_output
 law_of_following IsTaken number distance recording old new is =
     subst (λ l. TakesBytes IsTaken old l new) (carried_given number distance recording)
-    (follows IsTaken nothing_joined (notes distance number 0 (items_of distance recording)) old new
+    (follows IsTaken initial_joining (notes distance number 0 (items_of distance recording)) old new
     is)

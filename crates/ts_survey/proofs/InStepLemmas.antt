@@ -14,42 +14,42 @@ use Rattle.mpeg_ts.specs.declared.packet_size.PacketSize.TheVariants.{Plain, Tim
 use Rattle.mpeg_ts.specs.declared.packet_size.PacketSize.TheVariants.{ErrorCorrected}
 use Rattle.mpeg_ts.specs.PacketsInStep.{Item, Packet, Skipped, begins_packet}
 use Rattle.mpeg_ts.proofs.StreamLemmas.{index-append, index-following, items_end, items_packet}
-use Rattle.mpeg_ts.proofs.StreamLemmas.{items_room, items_skipped}
+use Rattle.mpeg_ts.proofs.StreamLemmas.{items_at_most_bytes, items_skipped}
 use Rattle.ttx_page.specs.Receiver.{RunsBy}
 use Rattle.ttx_page.proofs.RunLemmas.{RunsBy-append}
-use Rattle.ts_survey.specs.InStep.{AreFound, LawOfTwoCalls, following, counted_on}
+use Rattle.ts_survey.specs.InStep.{ItemsFound, LawOfTwoCalls, following, counted_on}
 use Rattle.ts_survey.specs.InStep.{loss_reported, items_from, packet_count, skipped_after}
 use Rattle.ts_survey.specs.InStep.{skipped_in}
 use Rattle.ts_survey.specs.InStep.{reported_of}
 use Rattle.ts_survey.specs.declared.packets_in_step.PacketsInStep.{PacketsInStep}
 
 -- The distance of packets.
-pub size_near : (size : PacketSize) → 188 ≤ bytes_of size
-size_near Plain = omega arith
-size_near TimeStamped = omega arith
-size_near ErrorCorrected = omega arith
+pub size_at_least_188 : (size : PacketSize) → 188 ≤ bytes_of size
+size_at_least_188 Plain = omega arith
+size_at_least_188 TimeStamped = omega arith
+size_at_least_188 ErrorCorrected = omega arith
 
 pub size_far : (size : PacketSize) → bytes_of size ≤ 204
 size_far Plain = omega arith
 size_far TimeStamped = omega arith
 size_far ErrorCorrected = omega arith
 
-pub ruleset sizes = (size_near, size_far)
+pub ruleset sizes = (size_at_least_188, size_far)
 
 -- Whether a packet begins depends on the bytes that have come, and on what follows.
-pub begins_by : (distance place : ℕ) (in_step : Bool) (bytes more : List ℕ)
+pub begins_by_needed_bytes : (distance place : ℕ) (in_step : Bool) (bytes more : List ℕ)
     → place < length bytes
     → begins_packet distance in_step (drop place (bytes ++ more))
     ≡ ((slice_index bytes place == 0x47)
     && (in_step || (slice_index (bytes ++ more) (place + distance) == 0x47)))
-begins_by distance place in_step bytes more below =
+begins_by_needed_bytes distance place in_step bytes more below =
     grind (arith, nat_tests, index-append, get_or-drop)
 
 -- Nothing follows.
-pub nothing_more : (bytes more : List ℕ) → more ≡ [] → bytes ++ more ≡ bytes
-nothing_more bytes more none = ap (λ l. bytes ++ l) none ∙ append-nil bytes
+pub append_nothing : (bytes more : List ℕ) → more ≡ [] → bytes ++ more ≡ bytes
+append_nothing bytes more none = ap (λ l. bytes ++ l) none ∙ append-nil bytes
 
-pub ruleset starts = (index-append, index-following, begins_by, nothing_more)
+pub ruleset starts = (index-append, index-following, begins_by_needed_bytes, append_nothing)
 
 -- Bytes that begin with a packet.
 prefix_packet : (distance : ℕ) (in_step : Bool) (bytes : List ℕ)
@@ -60,7 +60,7 @@ prefix_packet : (distance : ℕ) (in_step : Bool) (bytes : List ℕ)
     ≡ Packet (take 188 bytes) ∷ items_from distance true (drop distance bytes)
 unfolding items_from
 prefix_packet distance in_step bytes h1 h2 h3 =
-    grind (arith, nat_tests, items_packet, items_room, length-drop)
+    grind (arith, nat_tests, items_packet, items_at_most_bytes, length-drop)
 
 -- Bytes of which the first is skipped.
 prefix_skipped : (distance : ℕ) (in_step : Bool) (bytes : List ℕ)
@@ -70,7 +70,7 @@ prefix_skipped : (distance : ℕ) (in_step : Bool) (bytes : List ℕ)
     → items_from distance in_step bytes ≡ Skipped ∷ items_from distance false (drop 1 bytes)
 unfolding items_from
 prefix_skipped distance in_step bytes h1 h2 h3 =
-    grind (arith, nat_tests, items_skipped, items_room, length-drop)
+    grind (arith, nat_tests, items_skipped, items_at_most_bytes, length-drop)
 
 -- Fewer bytes than a packet has.
 pub prefix_end : (distance : ℕ) (in_step : Bool) (bytes : List ℕ)
@@ -241,7 +241,7 @@ pub found_none :
     (bytes : List ℕ) (is_end : Bool)
     → old.number ≤ 0xFFFF_FFFF_FFFF_FFFF
     → old.skipped ≤ 0xFFFF_FFFF_FFFF_FFFF
-    → AreFound IsTaken old before bytes is_end old.lead 0 old before
+    → ItemsFound IsTaken old before bytes is_end old.lead 0 old before
 unfolding packet_count skipped_after skipped_in reported_of
 found_none IsTaken old before bytes is_end number skipped = record {
   found = [];
@@ -263,7 +263,7 @@ module _
     (before reported after : T) (bytes : List ℕ) (is_end : Bool) (at place rest : ℕ)
   where
     found_more : (those : List Item)
-        → AreFound IsTaken old before bytes is_end at 0 mid reported
+        → ItemsFound IsTaken old before bytes is_end at 0 mid reported
         → ((more : List ℕ)
         → (is_end ≡ true → more ≡ [])
         → items_from (bytes_of mid.size) mid.in_step (drop at (bytes ++ more))
@@ -274,7 +274,7 @@ module _
         → new.number ≡ counted_on mid.number (packet_count those)
         → new.skipped ≡ counted_on mid.skipped (skipped_in those + rest)
         → new.size ≡ mid.size
-        → AreFound IsTaken old before bytes is_end place rest new after
+        → ItemsFound IsTaken old before bytes is_end place rest new after
     found_more those first stand up_to taken run number skipped size =
         let of_number = packet_count-append first.found those in
         let of_skipped = skipped_in-append first.found those in
@@ -312,7 +312,7 @@ module _
 pub found_packet :
     {T : Type 0} (IsTaken : T → List ℕ → T → Type 0) (old mid new : PacketsInStep)
     (before reported after : T) (bytes packet : List ℕ) (is_end : Bool) (at : ℕ)
-    → AreFound IsTaken old before bytes is_end at 0 mid reported
+    → ItemsFound IsTaken old before bytes is_end at 0 mid reported
     → at + 188 ≤ length bytes
     → 188 ≤ bytes_of mid.size
     → mid.skipped ≤ 0xFFFF_FFFF_FFFF_FFFF
@@ -321,13 +321,13 @@ pub found_packet :
     → begins_packet (bytes_of mid.size) mid.in_step (drop at (bytes ++ more)) ≡ true)
     → new ≡ record mid { in_step = true; number = counted_on mid.number 1; run = 0 }
     → IsTaken reported packet after
-    → AreFound IsTaken old before bytes is_end (at + bytes_of mid.size) 0 new after
+    → ItemsFound IsTaken old before bytes is_end (at + bytes_of mid.size) 0 new after
 unfolding packet_count skipped_after skipped_in reported_of
 found_packet IsTaken old mid new before reported after bytes packet is_end at first there near small
     is
     begins next taken =
     subst (λ (s : PacketsInStep).
-    AreFound IsTaken old before bytes is_end (at + bytes_of mid.size) 0 s after) (sym next)
+    ItemsFound IsTaken old before bytes is_end (at + bytes_of mid.size) 0 s after) (sym next)
     (found_more IsTaken old mid
     (record mid { in_step = true; number = counted_on mid.number 1; run = 0 })
     before reported after bytes is_end at (at + bytes_of mid.size) 0 (Packet packet ∷ []) first
@@ -347,7 +347,7 @@ found_packet IsTaken old mid new before reported after bytes packet is_end at fi
 pub found_skips :
     {T : Type 0} (IsTaken : T → List ℕ → T → Type 0) (old mid new : PacketsInStep)
     (before reported after : T) (bytes : List ℕ) (is_end : Bool) (at next : ℕ)
-    → AreFound IsTaken old before bytes is_end at 0 mid reported
+    → ItemsFound IsTaken old before bytes is_end at 0 mid reported
     → at + 188 ≤ length bytes
     → 188 ≤ bytes_of mid.size
     → mid.number ≤ 0xFFFF_FFFF_FFFF_FFFF
@@ -367,7 +367,7 @@ pub found_skips :
     }
     → RunsBy IsTaken reported
     (reported_of (bytes_of mid.size) mid.run (replicate (next - at) Skipped)) after
-    → AreFound IsTaken old before bytes is_end next 0 new after
+    → ItemsFound IsTaken old before bytes is_end next 0 new after
 found_skips IsTaken old mid new before reported after bytes is_end at next first there near small
     small_run skips behind_at stand is taken =
     let run : mid.run ≤ 0xFFFF_FFFF_FFFF_FFFF =
@@ -376,7 +376,8 @@ found_skips IsTaken old mid new before reported after bytes is_end at next first
     let count : suc (next - (at + 1)) ≡ next - at = omega arith in
     let passed = skipped_in-skipped (next - at) in
     let none_in = packet_count-skipped (next - at) in
-    subst (λ (s : PacketsInStep). AreFound IsTaken old before bytes is_end next 0 s after) (sym is)
+    subst (λ (s : PacketsInStep). ItemsFound IsTaken old before bytes is_end next 0 s after)
+        (sym is)
     (found_more IsTaken old mid
     (record mid {
       in_step = false;
@@ -403,8 +404,8 @@ found_skips IsTaken old mid new before reported after bytes is_end at next first
 found_ahead :
     {T : Type 0} (IsTaken : T → List ℕ → T → Type 0) (old new : PacketsInStep) (before after : T)
     (bytes more : List ℕ) (is_end : Bool) (place : ℕ)
-    → AreFound IsTaken old before bytes false place 0 new after
-    → AreFound IsTaken old before (bytes ++ more) is_end place 0 new after
+    → ItemsFound IsTaken old before bytes false place 0 new after
+    → ItemsFound IsTaken old before (bytes ++ more) is_end place 0 new after
 found_ahead IsTaken old new before after bytes more is_end place first = record {
   found = first.found;
   stand = λ rest none. rw (append_assoc bytes more rest) (first.stand (more ++ rest)

@@ -11,9 +11,9 @@ use Rattle.mpeg_ts.specs.declared.survey_options.SurveyOptions.{SurveyOptions}
 use Rattle.ttx_page.specs.Receiver.{RunsBy}
 use Rattle.ts_survey.specs.Requested.{KeepsRequested, keeps_requested, others_followed}
 use Rattle.ts_survey.specs.Counted.{IsAtPlace}
-use Rattle.ts_survey.specs.FirstLines.{head_size, head_so_far, kind_words}
+use Rattle.ts_survey.specs.FirstLines.{head_size, head_so_far, kind_texts}
 use Rattle.ts_survey.specs.InStep.{TakesAll}
-use Rattle.ts_survey.specs.Lines.{AddsWords}
+use Rattle.ts_survey.specs.Lines.{AddsTexts}
 use Rattle.ts_survey.specs.Listed.{GoesOn, IsAsRequested, IsReported, ReportsEnd, ReportsSurvey}
 use Rattle.ts_survey.specs.Listed.{over_line, packets_in, skipped_of}
 use Rattle.ts_survey.specs.Stream.{is_unknown}
@@ -150,13 +150,13 @@ has-head false kind known none = let e = sym (none refl) ∙ known in cc
 pub ends-reported : (recording : Recording) (mid new : Text) (skipped number : ℕ)
     → skipped ≡ skipped_of recording
     → number ≡ packets_in recording.kind
-    → AddsWords mid (over_line skipped number) new
+    → AddsTexts mid (over_line skipped number) new
     → ReportsEnd recording new
 ends-reported recording mid new skipped number is are over = record {
   before = mid;
   over =
-      subst (λ n. AddsWords mid (over_line (skipped_of recording) n) new) are
-      (subst (λ n. AddsWords mid (over_line n number) new) is over);
+      subst (λ n. AddsTexts mid (over_line (skipped_of recording) n) new) are
+      (subst (λ n. AddsTexts mid (over_line n number) new) is over);
 }
 
 -- The recording is over.
@@ -201,7 +201,7 @@ reported-end
             ∙ sym (append_assoc before (first.bytes.items ++ mid) words)
             ∙ ap (λ l. l ++ words)
             (reported.reported
-            ∙ ap (λ has. concat (head_so_far has head ++ kind_words kind) ++ reported.more)
+            ∙ ap (λ has. concat (head_so_far has head ++ kind_texts kind) ++ reported.more)
             is_head);
       },
     )

@@ -4,7 +4,7 @@ use Rattle.std.proofs.Common.{subst}
 use Rattle.std.proofs.Common.{append-nil}
 use Rattle.std.proofs.lemmas.List.{append_assoc}
 use Rattle.std.proofs.lemmas.List.Folds.{concat-append}
-use Rattle.ts_survey.specs.Lines.{AddsWords}
+use Rattle.ts_survey.specs.Lines.{AddsTexts}
 use Rattle.ts_survey.specs.Text.{Adds}
 use Rattle.ts_survey.specs.declared.text.Text.{Text}
 
@@ -14,7 +14,7 @@ was_complete false b stays whole = refl
 was_complete true b stays whole = let e = sym (stays refl) ∙ whole in cc
 
 -- No words.
-pub adds-none : (text : Text) → AddsWords text [] text
+pub adds-none : (text : Text) → AddsTexts text [] text
 adds-none text = record {
   added = λ whole. sym (append-nil text.bytes.items);
   stays_lost = λ lost. lost;
@@ -41,8 +41,8 @@ adds-last {old = old} {new = new} {word = word} last =
 
 -- Words followed by others.
 pub adds-words : {old mid new : Text} (words more : List (List ℕ))
-    → AddsWords old words mid
-    → AddsWords mid more new
-    → AddsWords old (words ++ more) new
+    → AddsTexts old words mid
+    → AddsTexts mid more new
+    → AddsTexts old (words ++ more) new
 adds-words {old = old} {mid = mid} {new = new} words more first then =
     subst (λ bytes. Adds old bytes new) (sym (concat-append words more)) (adds-word first then)

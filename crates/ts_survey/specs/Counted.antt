@@ -42,10 +42,10 @@ pub record TakesStream
   pub taken : TakesAll keeps_requested first start bytes is_end used packets multiplex
 
 -- The same for a recording that was recognised as a stream.
-abbrev pub TakesBegun : ℕ → List ℕ → Bool → ℕ → Kind → Type 0
-TakesBegun passed bytes is_end used (Stream packets multiplex) =
+abbrev pub TakesStarted : ℕ → List ℕ → Bool → ℕ → Kind → Type 0
+TakesStarted passed bytes is_end used (Stream packets multiplex) =
     TakesStream passed bytes is_end used packets multiplex
-TakesBegun passed bytes is_end used _ = ⊤
+TakesStarted passed bytes is_end used _ = ⊤
 
 -- The packets of a stream were found in the bytes that came, except for those still kept; in all of
 -- them at the end.

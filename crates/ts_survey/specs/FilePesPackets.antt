@@ -5,5 +5,5 @@ use Rattle.std.specs.Prelude.{List, length}
 use Rattle.ttx_pes.specs.Reading.{is_start}
 
 -- The bytes have another start code.
-abbrev pub has_other_start : List ℕ → Bool
-has_other_start bytes = nat_le 6 (length bytes) && not (is_start bytes)
+abbrev pub has_other_start_code : List ℕ → Bool
+has_other_start_code bytes = nat_le 6 (length bytes) && not (is_start bytes)

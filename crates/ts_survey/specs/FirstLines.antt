@@ -4,7 +4,7 @@ use Rattle.std.specs.Prelude.{◌≡◌, ◌==◌, ◌&&◌, ◌||◌, not, nat_
 use Rattle.std.specs.Prelude.{if◌then◌else◌, List, [], ◌∷◌, ◌++◌, Option, Some, None, codes, length}
 use Rattle.std.specs.Prelude.{slice_index, take}
 use Rattle.mpeg_ts.specs.PacketSize.{bytes_of}
-use Rattle.ts_survey.specs.Lines.{AddsWords, line_end, number_word}
+use Rattle.ts_survey.specs.Lines.{AddsTexts, line_end, number_word}
 use Rattle.ts_survey.specs.Stream.{is_unknown}
 use Rattle.ts_survey.specs.Text.{hex_word}
 use Rattle.ts_survey.specs.declared.recording.Kind.{Kind}
@@ -23,8 +23,8 @@ abbrev pub space_of : List ℕ → List ℕ
 space_of word = if length word == 0 then [] else codes " "
 
 -- `survey 1`, and `head HEX`: the first bytes of the recording.
-abbrev pub head_words : List ℕ → List (List ℕ)
-head_words head =
+abbrev pub head_texts : List ℕ → List (List ℕ)
+head_texts head =
     codes "survey 1\nhead" ∷ space_of head ∷ hex_word head ∷ line_end ∷ []
 
 -- `size N`: the distance of packets.
@@ -36,17 +36,17 @@ abbrev pub teletext_line : ℕ → List (List ℕ)
 teletext_line pid = codes "teletext" ∷ number_word pid ∷ line_end ∷ []
 
 -- The requested PID is followed from the first packet on.
-abbrev pub requested_words : Option ℕ → List (List ℕ)
-requested_words None = []
-requested_words (Some pid) = teletext_line pid
+abbrev pub requested_texts : Option ℕ → List (List ℕ)
+requested_texts None = []
+requested_texts (Some pid) = teletext_line pid
 
 -- The kind of a recording: a file of PES packets, a transport stream, or neither.
-abbrev pub kind_words : Kind → List (List ℕ)
-kind_words Unknown = []
-kind_words (Pes file) = codes "size 0\n" ∷ []
-kind_words (Stream packets multiplex) =
-    size_line (bytes_of packets.size) ++ requested_words multiplex.requested
-kind_words Nothing = codes "nothing\n" ∷ []
+abbrev pub kind_texts : Kind → List (List ℕ)
+kind_texts Unknown = []
+kind_texts (Pes file) = codes "size 0\n" ∷ []
+kind_texts (Stream packets multiplex) =
+    size_line (bytes_of packets.size) ++ requested_texts multiplex.requested
+kind_texts Nothing = codes "nothing\n" ∷ []
 
 -- ---- when they are printed
 
@@ -66,7 +66,7 @@ is_pes _ = false
 
 -- `survey 1` and `head` are printed as soon as their bytes have come.
 abbrev pub head_so_far : Bool → List ℕ → List (List ℕ)
-head_so_far has_head head = if has_head then head_words head else []
+head_so_far has_head head = if has_head then head_texts head else []
 
 -- They are printed only once.
 abbrev pub head_reported : Bool → List ℕ → Bool → List (List ℕ)
@@ -77,8 +77,8 @@ pub record FindsKind (old : Recording) (bytes : List ℕ) (before after : Text) 
     : Type 0 where
   pub reported :
       new.out_of_memory ≡ false
-      → AddsWords before
-      (head_reported old.has_head bytes new.has_head ++ kind_words new.kind) after
+      → AddsTexts before
+      (head_reported old.has_head bytes new.has_head ++ kind_texts new.kind) after
   pub stays : old.has_head ≡ true → new.has_head ≡ true
   pub none : new.has_head ≡ false → is_unknown new.kind ≡ true
   pub pes :

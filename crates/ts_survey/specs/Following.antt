@@ -3,7 +3,7 @@ use Rattle.std.specs.Prelude.{◌≡◌, ℕ, List, [], ◌∷◌, ◌++◌, Mat
 use Rattle.std.specs.List.{concat}
 use Rattle.mpeg_ts.specs.Carried.{carried}
 use Rattle.mpeg_ts.specs.GoodPackets.{Note, notes}
-use Rattle.mpeg_ts.specs.Joining.{JoiningValue, after_note, delivered, has_ended, nothing_joined}
+use Rattle.mpeg_ts.specs.Joining.{JoiningValue, after_note, delivered, has_ended, initial_joining}
 use Rattle.mpeg_ts.specs.PacketsInStep.{items_of}
 use Rattle.ttx_page.specs.Receiver.{RunsBy}
 
@@ -45,6 +45,6 @@ FollowsNotes {T} IsTaken j old (note ∷ more) new =
 abbrev pub LawOfFollowing : {T : Type 0} → (T → List ℕ → T → Type 0) → Type 0
 LawOfFollowing {T} IsTaken =
     (number distance : ℕ) (recording : List ℕ) (old new : T)
-    → FollowsNotes IsTaken nothing_joined old
+    → FollowsNotes IsTaken initial_joining old
     (notes distance number 0 (items_of distance recording)) new
     → TakesBytes IsTaken old (carried number distance recording) new

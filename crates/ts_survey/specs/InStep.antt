@@ -55,7 +55,7 @@ following is_end bytes place = if is_end then length bytes - place else 0
 -- (at the end none do), the bytes begin with these items, followed by those from `place` on. The
 -- packets and gaps among them were processed. They are counted, and so are the bytes that belong to
 -- none, with `rest` more after them.
-pub record AreFound
+pub record ItemsFound
     {T : Type 0} (IsTaken : T → List ℕ → T → Type 0) (old : PacketsInStep) (before : T)
     (bytes : List ℕ) (is_end : Bool) (place rest : ℕ) (new : PacketsInStep) (after : T)
     : Type 0 where
@@ -80,7 +80,7 @@ pub record TakesAll
     : Type 0 where
   pub within : used ≤ length bytes
   pub found :
-      AreFound IsTaken old before bytes is_end (used + new.lead)
+      ItemsFound IsTaken old before bytes is_end (used + new.lead)
       (following is_end bytes (used + new.lead)) new after
   pub left : length bytes < used + new.lead + bytes_needed (bytes_of new.size) new.in_step
   pub all :

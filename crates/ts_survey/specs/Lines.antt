@@ -7,8 +7,8 @@ use Rattle.ts_survey.specs.Text.{Adds}
 use Rattle.ts_survey.specs.declared.text.Text.{Text}
 
 -- Words were added, one after another.
-abbrev pub AddsWords : Text → List (List ℕ) → Text → Type 0
-AddsWords old words new = Adds old (concat words) new
+abbrev pub AddsTexts : Text → List (List ℕ) → Text → Type 0
+AddsTexts old words new = Adds old (concat words) new
 
 -- A number.
 abbrev pub number_word : ℕ → List ℕ

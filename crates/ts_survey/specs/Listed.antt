@@ -8,9 +8,9 @@ use Rattle.std.specs.List.{concat}
 use Rattle.mpeg_ts.specs.declared.survey_options.SurveyOptions.{SurveyOptions}
 use Rattle.ts_survey.specs.Requested.{KeepsRequested, others_followed}
 use Rattle.ts_survey.specs.Counted.{CountsRecording}
-use Rattle.ts_survey.specs.FirstLines.{begins_pes, head_size, head_so_far, head_words, is_pes}
-use Rattle.ts_survey.specs.FirstLines.{kind_words}
-use Rattle.ts_survey.specs.Lines.{AddsWords, line_end, number_word}
+use Rattle.ts_survey.specs.FirstLines.{begins_pes, head_size, head_so_far, head_texts, is_pes}
+use Rattle.ts_survey.specs.FirstLines.{kind_texts}
+use Rattle.ts_survey.specs.Lines.{AddsTexts, line_end, number_word}
 use Rattle.ts_survey.specs.Stream.{is_unknown}
 use Rattle.ts_survey.specs.declared.multiplex.Multiplex.{Multiplex}
 use Rattle.ts_survey.specs.declared.packets_in_step.PacketsInStep.{PacketsInStep}
@@ -72,7 +72,7 @@ skipped_of r = skipped_by r.kind r.skipped
 -- Whatever was printed before, the last line says that the recording is over.
 pub record ReportsEnd (r : Recording) (new : Text) : Type 0 where
   pub before : Text
-  pub over : AddsWords before (over_line (skipped_of r) (packets_in r.kind)) new
+  pub over : AddsTexts before (over_line (skipped_of r) (packets_in r.kind)) new
 
 -- ---- the lines of a recording
 
@@ -81,7 +81,7 @@ pub record IsReported (recording : Recording) (received listing : List ℕ) : Ty
   pub more : List ℕ
   pub reported :
       listing ≡ concat (head_so_far recording.has_head (take head_size received)
-      ++ kind_words recording.kind) ++ more
+      ++ kind_texts recording.kind) ++ more
   pub unknown : is_unknown recording.kind ≡ true → more ≡ []
   pub none : recording.has_head ≡ false → is_unknown recording.kind ≡ true
   pub pes :
@@ -101,7 +101,7 @@ pub record IsSurveyed
   pub counted : CountsRecording received last.kind
   pub between : List ℕ
   pub listed :
-      listing ≡ concat (head_words (take head_size received) ++ kind_words last.kind) ++ between
+      listing ≡ concat (head_texts (take head_size received) ++ kind_texts last.kind) ++ between
       ++ concat (over_line (skipped_of last) (packets_in last.kind))
 
 -- They were printed after what was there.

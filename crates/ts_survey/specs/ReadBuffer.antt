@@ -8,8 +8,8 @@ read_buffer_size = 135168
 
 -- At most so many bytes are kept of those that were examined: the longest PES packet of a file
 -- without its last byte, or more.
-abbrev pub most_kept : ℕ
-most_kept = 65541
+abbrev pub most_retained_bytes : ℕ
+most_retained_bytes = 65541
 
 -- Bytes came from a source, and are kept after those before.
 pub record BuffersMore (old new : List ℕ) (left next : Option (List ℕ)) : Type 0 where

@@ -22,12 +22,12 @@ pub fn begin_pts(
     if let Some(picture) = picture {
         carrier.take_lead(pts, &picture, text);
     }
-    let pcr = near_if_due(carrier, clocks, place, pts, number);
-    carrier.note_begun(pts, pcr, text);
+    let pcr = pcr_to_compare(carrier, clocks, place, pts, number);
+    carrier.note_pts(pts, pcr, text);
 }
 
 // Returns the PCR close to a PTS of a PID, if they are to be compared.
-fn near_if_due(
+fn pcr_to_compare(
     carrier: &Carrier,
     clocks: &[Clock],
     place: u8,

@@ -14,7 +14,7 @@ const BUFFER_SIZE: usize = 135_168;
 
 /// The number of bytes that are read at once; fewer come from a feed. A source that reads ahead at
 /// most as many puts them here directly from its device.
-const AT_ONCE: usize = 65_536;
+const READ_SIZE: usize = 65_536;
 
 /// The result of reading.
 #[derive(Clone, Copy)]
@@ -73,7 +73,7 @@ impl ReadBuffer {
     {
         let len = self.len;
         let bytes = self.bytes.as_mut_slice();
-        let end = bytes.len().min(len.saturating_add(AT_ONCE));
+        let end = bytes.len().min(len.saturating_add(READ_SIZE));
         let count = source.pull(&mut bytes[len..end])?;
         self.len = len + count;
         Ok(Received {

@@ -2,7 +2,7 @@
 ghost use Rattle.std.specs.Prelude.{◌≡◌, IfSome};
 
 use crate::adaptation::is_scrambled;
-use crate::clock::{SECOND, Strange};
+use crate::clock::{SECOND, IrregularPcr};
 use crate::given::Given;
 use crate::lead::{Lead, Picture};
 use crate::pes_header::PesHeader;
@@ -19,12 +19,12 @@ use ttx_packet::PageId;
 const PENDING: usize = 4;
 
 /// The number of packets after an irregular PCR up to which counters show what happened.
-pub const INSPECTED: u64 = 5000;
+pub const INSPECTED_PACKETS: u64 = 5000;
 
 /// An irregular PCR, and the PTS around it.
 #[derive(Clone, Copy, Default)]
 struct Pending {
-    strange: Strange,
+    strange: IrregularPcr,
     before: Option<u64>,
     after: Option<u64>,
 }
@@ -159,7 +159,7 @@ impl Carrier {
     }
 
     /// Notes a PCR of its programme: the next one is compared with what has begun.
-    pub fn note_pcr(&mut self, strange: Option<Strange>, pids: &Pids, text: &mut Text)
+    pub fn note_pcr(&mut self, strange: Option<IrregularPcr>, pids: &Pids, text: &mut Text)
         ensures { self.new.pid ≡ self.old.pid }
     {
         if let Some(strange) = strange {
@@ -169,7 +169,7 @@ impl Carrier {
     }
 
     // Keeps an irregular PCR. If there is no room, the oldest is printed at once.
-    fn add_pending(&mut self, strange: Strange, pids: &Pids, text: &mut Text)
+    fn add_pending(&mut self, strange: IrregularPcr, pids: &Pids, text: &mut Text)
         ensures { self.new.pid ≡ self.old.pid }
     {
         if self.pending.len() == PENDING {
@@ -184,7 +184,7 @@ impl Carrier {
 
     /// Notes a PTS that began in a packet: irregular PCRs before it use it, and if a second has
     /// passed since the last comparison, it is compared with the clock.
-    pub fn note_begun(&mut self, pts: u64, pcr: Option<u64>, text: &mut Text)
+    pub fn note_pts(&mut self, pts: u64, pcr: Option<u64>, text: &mut Text)
         ensures { self.new.pid ≡ self.old.pid }
     {
         for one in self.pending.as_mut_slice().iter_mut() {
@@ -238,14 +238,14 @@ impl Carrier {
             return false;
         };
         let second = one.strange.second;
-        let is_known = match number {
-            Some(number) => number > second.saturating_add(INSPECTED),
+        let is_known_section = match number {
+            Some(number) => number > second.saturating_add(INSPECTED_PACKETS),
             None => true,
         };
-        if is_known {
+        if is_known_section {
             self.report_first(pids, text);
         }
-        is_known
+        is_known_section
     }
 
     // Prints the first irregular PCR, if there is one.

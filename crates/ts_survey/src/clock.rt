@@ -7,17 +7,17 @@ use mpeg_ts::{PACKET, announces_jump};
 pub const SECOND: u64 = 90_000;
 
 /// A PCR is never late before so many ticks: 0.1 s (ISO/IEC 13818-1).
-const LEAST: u64 = 9_000;
+const LEAST_LATENESS: u64 = 9_000;
 
 /// The number of intervals whose median is the usual one; fewer say nothing.
-const KNOWN: usize = 100;
+const MEDIAN_INTERVALS: usize = 100;
 
 const FEWEST: usize = 5;
 
 /// The last numbers of a kind.
 #[derive(Clone, Copy)]
 struct Numbers {
-    kept: [u64; KNOWN],
+    kept: [u64; MEDIAN_INTERVALS],
     count: usize,
     next: usize,
 }
@@ -26,7 +26,7 @@ impl Numbers {
     // Returns an empty list.
     fn new() -> Numbers {
         Numbers {
-            kept: [0; KNOWN],
+            kept: [0; MEDIAN_INTERVALS],
             count: 0,
             next: 0,
         }
@@ -35,8 +35,8 @@ impl Numbers {
     // Adds a number, in place of the oldest if the list is full.
     fn add(&mut self, number: u64) {
         put_at(&mut self.kept, self.next, number);
-        self.next = (self.next % KNOWN + 1) % KNOWN;
-        if self.count < KNOWN {
+        self.next = (self.next % MEDIAN_INTERVALS + 1) % MEDIAN_INTERVALS;
+        if self.count < MEDIAN_INTERVALS {
             self.count += 1;
         }
     }
@@ -44,20 +44,20 @@ impl Numbers {
     // Returns the median, the upper of two; 0 if there are no numbers.
     fn middle(&self) -> u64 {
         let mut sorted = self.kept;
-        let (some, _) = sorted.split_at_mut(self.count.min(KNOWN));
-        middle_of(some)
+        let (some, _) = sorted.split_at_mut(self.count.min(MEDIAN_INTERVALS));
+        median_of(some)
     }
 }
 
 // Puts a number at a place, if there is that place.
-fn put_at(kept: &mut [u64; KNOWN], place: usize, number: u64) {
-    if place < KNOWN {
+fn put_at(kept: &mut [u64; MEDIAN_INTERVALS], place: usize, number: u64) {
+    if place < MEDIAN_INTERVALS {
         kept[place] = number;
     }
 }
 
 // Returns the median of numbers, which it sorts; 0 if there are none.
-fn middle_of(numbers: &mut [u64]) -> u64 {
+fn median_of(numbers: &mut [u64]) -> u64 {
     numbers.sort_unstable();
     match numbers.get(numbers.len() / 2) {
         Some(number) => *number,
@@ -71,12 +71,12 @@ fn is_usual(ticks: u64, count: usize, middle: u64) -> bool {
     if ticks >= CLOCK / 2 {
         return false;
     }
-    ticks <= LEAST || count < FEWEST || ticks <= middle.saturating_mul(3)
+    ticks <= LEAST_LATENESS || count < FEWEST || ticks <= middle.saturating_mul(3)
 }
 
 /// A PCR that comes late, or goes back: the packets of the two, and what is usual.
 #[derive(Clone, Copy, Default)]
-pub struct Strange {
+pub struct IrregularPcr {
     pub first: u64,
     pub second: u64,
     pub ticks: u64,
@@ -120,7 +120,7 @@ impl Clock {
 
     /// Processes a PCR in the packet with this number, and prints it once a second. Returns in
     /// which way it is irregular, if it is.
-    pub fn take(&mut self, pcr: u64, number: u64, text: &mut Text) -> Option<Strange> {
+    pub fn take(&mut self, pcr: u64, number: u64, text: &mut Text) -> Option<IrregularPcr> {
         let is_due = match self.reported {
             None => true,
             Some(reported) => forward(reported, pcr) >= SECOND,
@@ -139,7 +139,7 @@ impl Clock {
     }
 
     // Compares a PCR with the one before.
-    fn compare(&mut self, last: u64, at: u64, pcr: u64, number: u64) -> Option<Strange> {
+    fn compare(&mut self, last: u64, at: u64, pcr: u64, number: u64) -> Option<IrregularPcr> {
         let ticks = forward(last, pcr);
         let packets = number.saturating_sub(at);
         if self.is_usual(ticks) {
@@ -147,7 +147,7 @@ impl Clock {
             self.packets.add(packets);
             return None;
         }
-        Some(Strange {
+        Some(IrregularPcr {
             first: at,
             second: number,
             ticks,

@@ -3,22 +3,22 @@ ghost use Rattle.std.specs.Prelude.{◌≡◌, ◌<◌, [], IfSome};
 ghost use Rattle.std.specs.Prelude.{length, true};
 ghost use Rattle.ts_survey.specs.Requested.{KeepsRequested, is_requested, keeps_requested};
 ghost use Rattle.ts_survey.specs.Requested.{others_followed};
-ghost use Rattle.ts_survey.specs.FirstLines.{requested_words, teletext_line};
-ghost use Rattle.ts_survey.specs.Lines.{AddsWords};
+ghost use Rattle.ts_survey.specs.FirstLines.{requested_texts, teletext_line};
+ghost use Rattle.ts_survey.specs.Lines.{AddsTexts};
 ghost use Rattle.ts_survey.specs.Payload as specs;
 
 use crate::adaptation::{payload_in, pcr_base};
 use crate::announcements::{report_pages, report_programme, report_stream};
 use crate::begun::begin_pts;
-use crate::carrier::{Carrier, INSPECTED};
-use crate::clock::{Clock, Strange};
+use crate::carrier::{Carrier, INSPECTED_PACKETS};
+use crate::clock::{Clock, IrregularPcr};
 use crate::lead::Picture;
 use crate::packets_in_step::TakesPackets;
 use crate::pes_header::stream_id_in;
 use crate::pictures::Pictures;
-use crate::pid_state::{Link, NONE, NULL_PID, PidState, Pids, link_of};
+use crate::pid_state::{PacketLink, NO_INDEX, NULL_PID, PidState, Pids, link_of};
 use crate::section::{FIRST_PMT, Stream, pmt_pid_at, programme_of, stream_at};
-use crate::tables::{SECTION_ROOM, Section, Tables, parts_of};
+use crate::tables::{SECTION_CAPACITY, Section, Tables, parts_of};
 use crate::text::Text;
 use mpeg_ts::{PACKET, announces_jump, begins, pid_of};
 use std::alloc::Global;
@@ -57,8 +57,8 @@ impl Multiplex {
         ensures requested { IfSome result (λ multiplex. (multiplex.requested ≡ requested)
             × (multiplex.page ≡ page) × (others_followed multiplex ≡ [])) }
         // The requested PID is followed from here on.
-        ensures reported { IfSome result (λ multiplex. AddsWords text.old
-            (requested_words multiplex.requested) text.new) }
+        ensures reported { IfSome result (λ multiplex. AddsTexts text.old
+            (requested_texts multiplex.requested) text.new) }
     {
         let pids = Pids::new(alloc)?;
         let mut all = Multiplex {
@@ -93,7 +93,7 @@ impl Multiplex {
         ensures requested { KeepsRequested self.old self.new }
     {
         let mut state = self.pids.get(pid);
-        if state.table != NONE {
+        if state.table != NO_INDEX {
             return;
         }
         if let Some(place) = self.tables.add() {
@@ -111,7 +111,7 @@ impl Multiplex {
             Some(requested) => requested == pid,
             None => true,
         };
-        if state.carrier != NONE || !is_requested || self.carriers.len() >= MOST {
+        if state.carrier != NO_INDEX || !is_requested || self.carriers.len() >= MOST {
             return;
         }
         if self.add_carrier(pid, text).is_none() {
@@ -124,7 +124,7 @@ impl Multiplex {
         requires { length self.old.carriers.items < 64 }
         ensures requested { is_requested self.old.requested pid ≡ true → KeepsRequested self.old
             self.new }
-        ensures reported { IfSome result (λ _. AddsWords text.old (teletext_line pid) text.new) }
+        ensures reported { IfSome result (λ _. AddsTexts text.old (teletext_line pid) text.new) }
     {
         let place = self.carriers.len();
         let carrier = Carrier::new(self.alloc, pid, self.page)?;
@@ -146,7 +146,7 @@ impl Multiplex {
     {
         let mut state = self.pids.get(pid);
         let place = self.clocks.len();
-        if pid == NULL_PID || state.clock != NONE || place >= MOST {
+        if pid == NULL_PID || state.clock != NO_INDEX || place >= MOST {
             return;
         }
         if self.clocks.push(Clock::new(pid)).is_err() {
@@ -163,7 +163,7 @@ impl Multiplex {
     {
         let mut state = self.pids.get(pid);
         let place = self.videos.len();
-        if state.video != NONE || place >= MOST {
+        if state.video != NO_INDEX || place >= MOST {
             return;
         }
         if self.videos.push(Pictures::new(pid)).is_err() {
@@ -232,7 +232,8 @@ impl Multiplex {
     // Processes a packet of interest: few are, and doing this out of line takes no registers of the
     // loop over all packets.
     #[inline(never)]
-    fn show_on(&mut self, place: u8, kind: u8, link: Link, packet: &[u8; PACKET], text: &mut Text)
+    fn show_on(&mut self, place: u8, kind: u8, link: PacketLink, packet: &[u8; PACKET], text: &mut
+        Text)
         ensures requested { KeepsRequested self.old self.new }
     {
         let Some(pictures) = self.videos.get_mut(place as usize) else {
@@ -269,14 +270,14 @@ impl Multiplex {
         let strange = clock.take(pcr, self.number, text);
         let pid = clock.pid();
         if strange.is_some() {
-            let at = self.number.saturating_add(INSPECTED + 1);
+            let at = self.number.saturating_add(INSPECTED_PACKETS + 1);
             self.settle_at = self.settle_at.min(at);
         }
         self.note_pcr(pid, strange, text);
     }
 
     // Passes a PCR of this PCR_PID to each PID of its programme.
-    fn note_pcr(&mut self, clock_pid: u16, strange: Option<Strange>, text: &mut Text)
+    fn note_pcr(&mut self, clock_pid: u16, strange: Option<IrregularPcr>, text: &mut Text)
         ensures requested { KeepsRequested self.old self.new }
     {
         for carrier in self.carriers.iter_mut() {
@@ -315,10 +316,10 @@ impl Multiplex {
     fn read(&mut self, pid: u16, state: &PidState, packet: &[u8; PACKET], text: &mut Text)
         ensures requested { KeepsRequested self.old self.new }
     {
-        if state.table != NONE {
+        if state.table != NO_INDEX {
             self.read_sections(state.table, packet, text);
         }
-        if state.clock != NONE {
+        if state.clock != NO_INDEX {
             self.read_clock(state.clock, packet, text);
         }
         if begins(packet) && is_unknown(state) {
@@ -342,10 +343,10 @@ impl Multiplex {
     fn follow_on(&mut self, state: &PidState, packet: &[u8; PACKET], text: &mut Text)
         ensures requested { KeepsRequested self.old self.new }
     {
-        if state.video != NONE {
+        if state.video != NO_INDEX {
             self.show(state, packet, text);
         }
-        if state.carrier != NONE {
+        if state.carrier != NO_INDEX {
             self.carry(state, packet, text);
         }
     }
@@ -388,7 +389,7 @@ impl Multiplex {
     fn read_tables(&mut self, table: u8, text: &mut Text)
         ensures requested { KeepsRequested self.old self.new }
     {
-        for _ in 0..SECTION_ROOM {
+        for _ in 0..SECTION_CAPACITY {
             if !self.read_table(table, text) {
                 return;
             }
@@ -556,7 +557,7 @@ fn note_pcr_of(
     carrier: &mut Carrier,
     pids: &Pids,
     clock_pid: u16,
-    strange: Option<Strange>,
+    strange: Option<IrregularPcr>,
     text: &mut Text,
 )
     ensures { carrier.new.pid ≡ carrier.old.pid }
@@ -570,12 +571,12 @@ fn note_pcr_of(
 // one test in place of four, since each packet of a recording comes here.
 #[inline(always)]
 fn is_followed(state: &PidState) -> bool {
-    state.table & state.clock & state.video & state.carrier != NONE
+    state.table & state.clock & state.video & state.carrier != NO_INDEX
 }
 
 // Returns whether it is unknown what a PID carries.
 fn is_unknown(state: &PidState) -> bool {
-    state.carrier == NONE && state.table == NONE && !state.is_other
+    state.carrier == NO_INDEX && state.table == NO_INDEX && !state.is_other
 }
 
 // Returns whether the first data byte of a PES packet is in the payload in which it begins.

@@ -82,7 +82,7 @@ impl Notes {
         let watched = receiver.watched();
         let (kind, header) = PacketKind::with_header(watched, packet);
         self.note_kind(&kind, receiver.open(), packet, heard);
-        self.note_other(watched, packet, header, pid, text);
+        self.note_any_packet(watched, packet, header, pid, text);
     }
 
     // Notes a packet of this kind for a receiver of the page.
@@ -98,7 +98,7 @@ impl Notes {
     }
 
     // Notes a packet, with its header of any page, if it has one.
-    fn note_other(
+    fn note_any_packet(
         &mut self,
         watched: PageId,
         packet: &Packet,

@@ -11,8 +11,8 @@ ghost use Rattle.mpeg_ts.specs.PacketsInStep.{Skipped, begins_packet, bytes_need
 ghost use Rattle.ttx_page.specs.Receiver.{RunsBy};
 ghost use Rattle.ts_survey.specs.Counted.{BeginsAt};
 ghost use Rattle.ts_survey.specs.Following.{any_pes_packet};
-ghost use Rattle.ts_survey.specs.InStep.{AreFound, TakesAll, counted_on, items_from, reported_of};
-ghost use Rattle.ts_survey.specs.ReadBuffer.{most_kept};
+ghost use Rattle.ts_survey.specs.InStep.{ItemsFound, TakesAll, counted_on, items_from, reported_of};
+ghost use Rattle.ts_survey.specs.ReadBuffer.{most_retained_bytes};
 
 use crate::text::Text;
 use mpeg_ts::{PACKET, PacketSize, SYNC_BYTE};
@@ -164,7 +164,7 @@ impl PacketsInStep {
         // Exactly the packets of the bytes are processed, in order, each once, and the gaps; they
         // and the skipped bytes are counted.
         ensures all { TakesAll M.is_taken self.old to.old bytes.now is_end result self.new to.new }
-        ensures kept { length bytes.now ≤ result + most_kept }
+        ensures kept { length bytes.now ≤ result + most_retained_bytes }
     {
         let at = self.find(bytes, is_end, to, text);
         self.lead = at.saturating_sub(bytes.len());
@@ -185,7 +185,7 @@ impl PacketsInStep {
         to: &mut M,
         text: &mut Text,
     ) -> usize
-        ensures found { AreFound M.is_taken self.old to.old bytes.now is_end result 0
+        ensures found { ItemsFound M.is_taken self.old to.old bytes.now is_end result 0
             self.new to.new }
         ensures left { length bytes.now
             < result + bytes_needed (bytes_of self.new.size) self.new.in_step }

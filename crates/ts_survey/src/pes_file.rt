@@ -3,7 +3,7 @@ ghost use Rattle.std.specs.Prelude.{◌≡◌, ◌≤◌, ◌<◌, ◌+◌, IfNo
 ghost use Rattle.std.specs.Prelude.{length};
 ghost use Rattle.ttx_pes.specs.Reading as reading;
 ghost use Rattle.ts_survey.specs.FilePesPackets as pes_packets;
-ghost use Rattle.ts_survey.specs.ReadBuffer.{most_kept};
+ghost use Rattle.ts_survey.specs.ReadBuffer.{most_retained_bytes};
 
 use crate::pes_lines::PesLines;
 use crate::text::Text;
@@ -27,8 +27,8 @@ fn is_start(bytes: &[u8]) -> bool
 }
 
 // Returns whether the bytes begin with another start code.
-fn has_other_start(bytes: &[u8]) -> bool
-    ensures { result ≡ pes_packets.has_other_start bytes.now }
+fn has_other_start_code(bytes: &[u8]) -> bool
+    ensures { result ≡ pes_packets.has_other_start_code bytes.now }
 {
     bytes.len() >= 6 && !is_start(bytes)
 }
@@ -36,8 +36,8 @@ fn has_other_start(bytes: &[u8]) -> bool
 // Returns the size of the complete PES packet at the beginning of the bytes, from its length field.
 fn complete_size(bytes: &[u8]) -> Option<usize>
     ensures some { IfSome result (λ size. (6 ≤ size) × (size ≤ length bytes.now)) }
-    ensures unfinished { IfNone result (pes_packets.has_other_start bytes.now ≡ false
-        → length bytes.now < most_kept) }
+    ensures unfinished { IfNone result (pes_packets.has_other_start_code bytes.now ≡ false
+        → length bytes.now < most_retained_bytes) }
 {
     if bytes.len() < 6 {
         return None;
@@ -65,13 +65,13 @@ impl PesFile {
     /// Processes the PES packets of the bytes, and returns how many bytes are no longer needed.
     pub fn take(&mut self, bytes: &[u8], is_end: bool, text: &mut Text) -> usize
         ensures within { result ≤ length bytes.now }
-        ensures kept { length bytes.now ≤ result + most_kept }
+        ensures kept { length bytes.now ≤ result + most_retained_bytes }
     {
         if self.is_damaged {
             return bytes.len();
         }
         let rest = self.take_complete(bytes, text);
-        if has_other_start(rest) {
+        if has_other_start_code(rest) {
             self.report_damage(b" start\n", text);
             return bytes.len();
         }
@@ -88,8 +88,8 @@ impl PesFile {
 
     // Processes the complete PES packets at the beginning of the bytes, and returns the rest.
     fn take_complete<'a>(&mut self, bytes: &'a [u8], text: &mut Text) -> &'a [u8]
-        ensures unfinished { pes_packets.has_other_start result.now ≡ false
-            → length result.now < most_kept }
+        ensures unfinished { pes_packets.has_other_start_code result.now ≡ false
+            → length result.now < most_retained_bytes }
         ensures within { length result.now ≤ length bytes.now }
     {
         let mut rest = bytes;

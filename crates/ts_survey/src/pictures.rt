@@ -6,7 +6,7 @@ use crate::clock::SECOND;
 use crate::forms::{Form, FormReader};
 use crate::lead::Picture;
 use crate::pes_header::PesHeader;
-use crate::pid_state::Link;
+use crate::pid_state::PacketLink;
 use crate::text::{CLOCK, Text, forward};
 use mpeg_ts::{PACKET, announces_jump, begins, has_adaptation, has_payload, is_wrong};
 
@@ -94,19 +94,20 @@ impl Pictures {
     }
 
     /// Processes a packet of interest of the PID, whose stream_type in the PMT is `kind`.
-    pub fn take(&mut self, packet: &[u8; PACKET], kind: u8, link: Link, text: &mut Text) {
+    pub fn take(&mut self, packet: &[u8; PACKET], kind: u8, link: PacketLink, text: &mut Text) {
         if packet[1] >= 0x80 {
             return;
         }
         if has_payload(packet) {
-            self.take_once(packet, kind, link, text);
+            self.take_unless_repeat(packet, kind, link, text);
         } else if begins_access(packet) {
             self.flags_next = true;
         }
     }
 
     // Processes a packet with a payload, which may be a repeat.
-    fn take_once(&mut self, packet: &[u8; PACKET], kind: u8, link: Link, text: &mut Text) {
+    fn take_unless_repeat(&mut self, packet: &[u8; PACKET], kind: u8, link: PacketLink, text: &mut
+        Text) {
         if self.is_repeat(packet, link) {
             self.has_repeat = true;
             return;
@@ -119,9 +120,9 @@ impl Pictures {
     }
 
     // Returns whether a packet repeats the last one.
-    fn is_repeat(&self, packet: &[u8; PACKET], link: Link) -> bool {
+    fn is_repeat(&self, packet: &[u8; PACKET], link: PacketLink) -> bool {
         match link {
-            Link::Same => {}
+            PacketLink::Same => {}
             _ => return false,
         }
         let (old_header, _) = self.packet.split_at(4);
@@ -133,7 +134,7 @@ impl Pictures {
     }
 
     // Counts breaks of the counter and scrambled packets among the pictures.
-    fn count_lost(&mut self, packet: &[u8; PACKET], link: Link) {
+    fn count_lost(&mut self, packet: &[u8; PACKET], link: PacketLink) {
         match self.reach {
             Reach::Within => {
                 self.lost = counted_if(is_after_loss(packet, link), self.lost);
@@ -144,14 +145,14 @@ impl Pictures {
     }
 
     // Processes a packet that continues a picture, or begins one.
-    fn go_on(&mut self, packet: &[u8; PACKET], kind: u8, link: Link, text: &mut Text) {
+    fn go_on(&mut self, packet: &[u8; PACKET], kind: u8, link: PacketLink, text: &mut Text) {
         if begins(packet) {
             self.is_flagged = self.flags_next || begins_access(packet);
             self.flags_next = false;
             self.is_first = false;
         }
         if is_wrong(packet) {
-            self.go_on_unread(packet, kind, text);
+            self.process_unreadable(packet, kind, text);
         } else {
             self.read_header(packet, kind, link, text);
         }
@@ -159,7 +160,7 @@ impl Pictures {
 
     // Processes a payload that can't be read. If it is scrambled, a picture may begin in it,
     // without a time.
-    fn go_on_unread(&mut self, packet: &[u8; PACKET], kind: u8, text: &mut Text) {
+    fn process_unreadable(&mut self, packet: &[u8; PACKET], kind: u8, text: &mut Text) {
         self.header.clear();
         self.header_left = 0;
         if begins(packet) && is_scrambled(packet) {
@@ -168,7 +169,7 @@ impl Pictures {
     }
 
     // A picture begins once the header of its PES packet is complete.
-    fn read_header(&mut self, packet: &[u8; PACKET], kind: u8, link: Link, text: &mut Text) {
+    fn read_header(&mut self, packet: &[u8; PACKET], kind: u8, link: PacketLink, text: &mut Text) {
         let payload = payload_in(packet);
         let before = if begins(packet) { 0 } else { self.header.len() };
         if self.header.take(payload, begins(packet), follows(link)) {
@@ -314,18 +315,18 @@ fn is_over(reach: Reach) -> bool {
 }
 
 // Returns whether a packet is known to be the next one of its PID.
-fn follows(link: Link) -> bool {
+fn follows(link: PacketLink) -> bool {
     match link {
-        Link::Next => true,
+        PacketLink::Next => true,
         _ => false,
     }
 }
 
 // Returns whether something is lost before a packet that is no repeat.
-fn is_after_loss(packet: &[u8; PACKET], link: Link) -> bool {
+fn is_after_loss(packet: &[u8; PACKET], link: PacketLink) -> bool {
     match link {
-        Link::Broken => true,
-        Link::Same => !announces_jump(packet),
+        PacketLink::Broken => true,
+        PacketLink::Same => !announces_jump(packet),
         _ => false,
     }
 }

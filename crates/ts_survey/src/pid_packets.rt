@@ -1,7 +1,7 @@
 //! The packets of a PID, and the receiver of what they carry.
 ghost use Rattle.std.specs.Prelude.{◌≡◌, List, ℕ, [], false, true};
 ghost use Rattle.mpeg_ts.specs.GoodPackets.{Loss, note_of};
-ghost use Rattle.mpeg_ts.specs.Joining.{after_note, delivered, has_ended, nothing_joined};
+ghost use Rattle.mpeg_ts.specs.Joining.{after_note, delivered, has_ended, initial_joining};
 ghost use Rattle.mpeg_ts.specs.Joining.{link_after, repeats};
 ghost use Rattle.mpeg_ts.specs.Parts.{is_seam};
 ghost use Rattle.mpeg_ts.specs.TransportPacket.{has_payload, is_wrong};
@@ -33,7 +33,7 @@ pub struct PidPackets<T> {
 impl<T: TakesPesPackets> PidPackets<T> {
     /// Returns the state before the first packet.
     pub fn new(to: T) -> Self
-        ensures joining { result.joining ≡ nothing_joined }
+        ensures joining { result.joining ≡ initial_joining }
         ensures to { result.to ≡ to }
     {
         PidPackets {

@@ -10,7 +10,7 @@ pub const PIDS: usize = 8192;
 pub const NULL_PID: u16 = 0x1FFF;
 
 /// The index of nothing.
-pub const NONE: u8 = 0xFF;
+pub const NO_INDEX: u8 = 0xFF;
 
 /// A flag of a counter: a jump was announced after its packet (discontinuity_indicator), by one
 /// without a payload.
@@ -18,7 +18,7 @@ const JUMP: u8 = 0x80;
 
 /// How a packet follows the one before it in its PID, by continuity_counter.
 #[derive(Clone, Copy, PartialEq, Eq)]
-pub enum Link {
+pub enum PacketLink {
     /// The counter continues, or nothing came before.
     Next,
     /// A jump of the counter is announced, here or since the one before.
@@ -41,7 +41,8 @@ pub struct PidState {
     /// The PCR_PID of the programme that named it last, and stream_type there; 0 for none.
     pub clock_pid: u16,
     pub kind: u8,
-    /// The indices of its sections, its clock, its pictures and its PES packets; `NONE` for none.
+    /// The indices of its sections, its clock, its pictures and its PES packets; `NO_INDEX` for
+    /// none.
     pub table: u8,
     pub clock: u8,
     pub video: u8,
@@ -78,16 +79,16 @@ fn unknown() -> PidState {
         last: 0,
         clock_pid: NULL_PID,
         kind: 0,
-        table: NONE,
-        clock: NONE,
-        video: NONE,
-        carrier: NONE,
+        table: NO_INDEX,
+        clock: NO_INDEX,
+        video: NO_INDEX,
+        carrier: NO_INDEX,
         is_other: false,
     }
 }
 
 // Returns so many unknown PIDs; `None` if memory runs out.
-fn all_unknown(alloc: Global, count: usize) -> Option<Vec<PidState>> {
+fn unknown_pids(alloc: Global, count: usize) -> Option<Vec<PidState>> {
     let mut states = Vec::new(alloc);
     for _ in 0..count {
         match states.push(unknown()) {
@@ -153,27 +154,27 @@ fn is_break(before: &PidState, packet: &[u8; PACKET]) -> bool {
 }
 
 /// Returns how the last packet with a payload, which is this one, follows the one before.
-pub fn link_of(state: &PidState, packet: &[u8; PACKET]) -> Link {
+pub fn link_of(state: &PidState, packet: &[u8; PACKET]) -> PacketLink {
     let distance = counter_distance(state.before, state.counter);
     if state.first == state.last {
-        Link::Next
+        PacketLink::Next
     } else if state.before >= JUMP {
-        Link::Announced
+        PacketLink::Announced
     } else if distance == 0 {
-        Link::Same
+        PacketLink::Same
     } else if announces_jump(packet) {
-        Link::Announced
+        PacketLink::Announced
     } else if distance == 1 {
-        Link::Next
+        PacketLink::Next
     } else {
-        Link::Broken
+        PacketLink::Broken
     }
 }
 
 impl Pids {
     /// Returns the state with all PIDs unknown; `None` if memory runs out.
     pub fn new(alloc: Global) -> Option<Pids> {
-        let states = all_unknown(alloc, PIDS)?;
+        let states = unknown_pids(alloc, PIDS)?;
         Some(Pids {
             states,
             breaks: no_breaks(),
@@ -247,7 +248,7 @@ impl Pids {
         if is_broken_between(&self.breaks, pid, first, second) {
             return b" broken";
         }
-        if others_go_over(&self.states, pid as usize, first) {
+        if others_span_packet(&self.states, pid as usize, first) {
             return b" whole";
         }
         b" unknown"
@@ -263,16 +264,16 @@ fn is_broken_between(breaks: &[Break], pid: u16, first: u64, second: u64) -> boo
 }
 
 // Returns whether packets of another PID came up to a packet, and after it.
-fn others_go_over(states: &[PidState], pid: usize, first: u64) -> bool {
+fn others_span_packet(states: &[PidState], pid: usize, first: u64) -> bool {
     if pid >= states.len() {
-        return goes_over(states, first);
+        return spans_packet(states, first);
     }
     let (before, here) = states.split_at(pid);
     let (_, following) = here.split_at(1);
-    goes_over(before, first) || goes_over(following, first)
+    spans_packet(before, first) || spans_packet(following, first)
 }
 
 // Returns whether packets of one of these PIDs came up to a packet, and after it.
-fn goes_over(states: &[PidState], first: u64) -> bool {
+fn spans_packet(states: &[PidState], first: u64) -> bool {
     states.iter().any(|state| state.first != 0 && state.first <= first && first < state.last)
 }

@@ -1,13 +1,13 @@
 //! A recording of any kind: bytes come, and lines are made.
 ghost use Rattle.std.specs.Prelude.{◌≡◌, ◌≤◌, ◌+◌, ◌++◌, IfSome, false, length, take, true};
 ghost use Rattle.mpeg_ts.specs.PacketSize.{bytes_of};
-ghost use Rattle.ts_survey.specs.Counted.{BeginsStream, StaysRead, TakesBegun};
-ghost use Rattle.ts_survey.specs.FirstLines.{FindsKind, begins_pes, head_size, head_words};
-ghost use Rattle.ts_survey.specs.FirstLines.{is_pes, kind_words, size_line, space_of};
-ghost use Rattle.ts_survey.specs.Lines.{AddsWords};
+ghost use Rattle.ts_survey.specs.Counted.{BeginsStream, StaysRead, TakesStarted};
+ghost use Rattle.ts_survey.specs.FirstLines.{FindsKind, begins_pes, head_size, head_texts};
+ghost use Rattle.ts_survey.specs.FirstLines.{is_pes, kind_texts, size_line, space_of};
+ghost use Rattle.ts_survey.specs.Lines.{AddsTexts};
 ghost use Rattle.ts_survey.specs.Listed.{GoesOn, IsAsRequested, ReportsEnd, over_line};
 ghost use Rattle.ts_survey.specs.Listed.{packets_in, skipped_of};
-ghost use Rattle.ts_survey.specs.ReadBuffer.{most_kept};
+ghost use Rattle.ts_survey.specs.ReadBuffer.{most_retained_bytes};
 ghost use Rattle.ts_survey.specs.Stream.{TakesOn, is_unknown};
 
 use crate::multiplex::Multiplex;
@@ -23,13 +23,13 @@ const HEAD: usize = 11;
 
 /// The number of bytes that are examined together for the distance of packets; and how many at
 /// most.
-const INSPECTED: usize = 65_536;
+const INSPECTED_PACKETS: usize = 65_536;
 
 const MOST_INSPECTED: u64 = 0x100_0000;
 
 // Bytes in which no distance was found are not needed again, except for the last ones, which may
 // begin one.
-const KEPT: usize = 1024;
+const RETAINED_BYTES: usize = 1024;
 
 /// The kind of a recording.
 #[derive(Drop)]
@@ -91,7 +91,8 @@ impl Recording {
     pub fn take(&mut self, bytes: &[u8], is_end: bool, first: &mut Text, text: &mut Text) -> usize
         ensures within { result ≤ length bytes.now }
         // Few bytes are kept, so there is room for more.
-        ensures kept { self.new.out_of_memory ≡ false → length bytes.now ≤ result + most_kept }
+        ensures kept { self.new.out_of_memory ≡ false → length bytes.now ≤ result +
+            most_retained_bytes }
         ensures requested { self.new.requested ≡ self.old.requested }
         ensures as_requested { IsAsRequested self.old.requested self.old.kind
             → IsAsRequested self.new.requested self.new.kind }
@@ -107,14 +108,14 @@ impl Recording {
             → result ≡ 0 }
         ensures enough { is_end ≡ false → self.old.has_head ≡ false → self.new.has_head ≡ true
             → head_size ≤ length bytes.now }
-        ensures goes_on { is_unknown self.old.kind ≡ false → (first.new ≡ first.old)
+        ensures continues { is_unknown self.old.kind ≡ false → (first.new ≡ first.old)
             × (self.new.has_head ≡ self.old.has_head)
             × GoesOn self.old.kind self.new.kind }
         // All packets of a stream in the bytes are processed, in order, each once.
         ensures taken { is_unknown self.old.kind ≡ false
             → TakesOn self.old.kind bytes.now is_end result self.new.kind }
         ensures begun { is_unknown self.old.kind ≡ true
-            → TakesBegun self.old.skipped bytes.now is_end result self.new.kind }
+            → TakesStarted self.old.skipped bytes.now is_end result self.new.kind }
         ensures passed { is_unknown self.old.kind ≡ true → is_unknown self.new.kind ≡ true
             → self.new.skipped ≡ self.old.skipped + result }
     {
@@ -131,7 +132,7 @@ impl Recording {
     fn find_kind(&mut self, bytes: &[u8], is_end: bool, first: &mut Text) -> usize
         ensures within { result ≤ length bytes.now }
         ensures kept { is_unknown self.new.kind ≡ true → self.new.out_of_memory ≡ false
-            → length bytes.now ≤ result + most_kept }
+            → length bytes.now ≤ result + most_retained_bytes }
         ensures same { self.new.requested ≡ self.old.requested }
         ensures as_requested { IsAsRequested self.old.requested self.old.kind
             → IsAsRequested self.new.requested self.new.kind }
@@ -165,7 +166,7 @@ impl Recording {
     #[tactic(auto, using(crate::proofs::ListedLemmas::what_goes_on))]
     fn flush_pending(&mut self, bytes: &[u8], is_end: bool, text: &mut Text) -> usize
         ensures within { result ≤ length bytes.now }
-        ensures kept { length bytes.now ≤ result + most_kept }
+        ensures kept { length bytes.now ≤ result + most_retained_bytes }
         // For a stream these are all its packets, in order, each once; at the end none is left.
         ensures taken { TakesOn self.old.kind bytes.now is_end result self.new.kind }
         ensures kind { GoesOn self.old.kind self.new.kind }
@@ -190,8 +191,8 @@ impl Recording {
             → IsAsRequested self.new.requested self.new.kind }
         ensures has_head { self.new.has_head ≡ true }
         ensures reported { is_unknown self.old.kind ≡ true → self.new.out_of_memory ≡ false
-            → AddsWords first.old
-            (head_words (take head_size bytes.now) ++ kind_words self.new.kind) first.new }
+            → AddsTexts first.old
+            (head_texts (take head_size bytes.now) ++ kind_texts self.new.kind) first.new }
         ensures pes { is_unknown self.old.kind ≡ true → self.new.out_of_memory ≡ false
             → is_pes self.new.kind ≡ begins_pes (take head_size bytes.now) }
         ensures short { self.new.out_of_memory ≡ false → self.old.out_of_memory ≡ false }
@@ -216,14 +217,14 @@ impl Recording {
     fn inspect(&mut self, bytes: &[u8], is_end: bool, first: &mut Text) -> usize
         ensures within { result ≤ length bytes.now }
         ensures kept { is_unknown self.new.kind ≡ true → self.new.out_of_memory ≡ false
-            → length bytes.now ≤ result + most_kept }
+            → length bytes.now ≤ result + most_retained_bytes }
         ensures same { self.new.requested ≡ self.old.requested }
         ensures as_requested { IsAsRequested self.old.requested self.old.kind
             → IsAsRequested self.new.requested self.new.kind }
         ensures has_head { self.new.has_head ≡ self.old.has_head }
         ensures short { self.new.out_of_memory ≡ false → self.old.out_of_memory ≡ false }
         ensures reported { is_unknown self.old.kind ≡ true → self.new.out_of_memory ≡ false
-            → AddsWords first.old (kind_words self.new.kind) first.new }
+            → AddsTexts first.old (kind_texts self.new.kind) first.new }
         ensures not_pes { is_unknown self.old.kind ≡ true → is_pes self.new.kind ≡ false }
         ensures begins { is_unknown self.old.kind ≡ true
             → BeginsStream self.old.skipped self.new.kind }
@@ -236,8 +237,8 @@ impl Recording {
             self.begin(size, first);
             return 0;
         }
-        let used = if bytes.len() > INSPECTED {
-            bytes.len() - KEPT
+        let used = if bytes.len() > INSPECTED_PACKETS {
+            bytes.len() - RETAINED_BYTES
         } else {
             0
         };
@@ -261,7 +262,7 @@ impl Recording {
         ensures has_head { self.new.has_head ≡ self.old.has_head }
         ensures short { self.new.out_of_memory ≡ false → self.old.out_of_memory ≡ false }
         ensures reported { self.new.out_of_memory ≡ false
-            → AddsWords first.old (kind_words self.new.kind) first.new }
+            → AddsTexts first.old (kind_texts self.new.kind) first.new }
         ensures not_pes { is_unknown self.old.kind ≡ true → is_pes self.new.kind ≡ false }
         ensures begins { is_unknown self.old.kind ≡ true
             → BeginsStream self.old.skipped self.new.kind }
@@ -361,7 +362,7 @@ fn head_in(bytes: &[u8]) -> &[u8]
 // Prints the first bytes of a recording.
 fn put_head(head: &[u8], text: &mut Text)
     requires { length head.now ≤ head_size }
-    ensures { AddsWords text.old (head_words head.now) text.new }
+    ensures { AddsTexts text.old (head_texts head.now) text.new }
 {
     text.put(b"survey 1\nhead");
     text.put(space_before(head));
@@ -381,7 +382,7 @@ fn space_before(word: &[u8]) -> &'static [u8]
 
 // Prints the distance of the packets of a stream.
 fn put_size(size: PacketSize, text: &mut Text)
-    ensures { AddsWords text.old (size_line (bytes_of size)) text.new }
+    ensures { AddsTexts text.old (size_line (bytes_of size)) text.new }
 {
     text.put(b"size");
     text.number(size.bytes() as u64);
@@ -390,7 +391,7 @@ fn put_size(size: PacketSize, text: &mut Text)
 
 // Prints that a recording is over: the bytes that belong to no packet, and its packets.
 fn put_over(skipped: u64, number: u64, text: &mut Text)
-    ensures { AddsWords text.old (over_line skipped number) text.new }
+    ensures { AddsTexts text.old (over_line skipped number) text.new }
 {
     text.put(b"over");
     text.number(skipped);

@@ -13,10 +13,10 @@ const MOST_PIDS: usize = 128;
 const MOST_SECTIONS: usize = 1024;
 
 /// Room for the longest section and one more payload.
-pub const SECTION_ROOM: usize = 4288;
+pub const SECTION_CAPACITY: usize = 4288;
 
 /// A section.
-pub type Section = ArrayVec<u8, SECTION_ROOM>;
+pub type Section = ArrayVec<u8, SECTION_CAPACITY>;
 
 /// The sections of a PID, as far as they have come.
 #[derive(Drop)]
@@ -27,7 +27,7 @@ struct Partial {
 
 /// A section that is known.
 #[derive(Clone, Copy)]
-struct Known {
+struct KnownSection {
     name: SectionName,
     crc: [u8; 4],
 }
@@ -36,7 +36,7 @@ struct Known {
 #[derive(Drop)]
 pub struct Tables {
     partials: Vec<Partial>,
-    known: Vec<Known>,
+    known: Vec<KnownSection>,
 }
 
 impl Partial {
@@ -78,7 +78,7 @@ impl Partial {
 
 // Adds bytes, if there is room for them.
 fn add_to(received: &mut Section, bytes: &[u8]) {
-    if bytes.len() > SECTION_ROOM - received.len() {
+    if bytes.len() > SECTION_CAPACITY - received.len() {
         return;
     }
     let _ = received.try_extend_from_slice(bytes);
@@ -168,7 +168,7 @@ impl Tables {
         let Some(crc) = section.last_chunk::<4>() else {
             return false;
         };
-        if is_known(self.known.as_slice(), name, crc) || crc_of(section) != 0 {
+        if is_known_section(self.known.as_slice(), name, crc) || crc_of(section) != 0 {
             return false;
         }
         let is_there = is_named(self.known.as_slice(), name);
@@ -184,7 +184,7 @@ impl Tables {
         if self.known.len() >= MOST_SECTIONS {
             return false;
         }
-        self.known.push(Known { name, crc }).is_ok()
+        self.known.push(KnownSection { name, crc }).is_ok()
     }
 
     // Replaces the section with this name.
@@ -196,7 +196,7 @@ impl Tables {
 }
 
 // Sets the CRC_32 of a known section if it has this name.
-fn set_crc(one: &mut Known, name: SectionName, crc: [u8; 4]) {
+fn set_crc(one: &mut KnownSection, name: SectionName, crc: [u8; 4]) {
     if is_same_name(one.name, name) {
         one.crc = crc;
     }
@@ -208,12 +208,12 @@ fn is_same_name(one: SectionName, other: SectionName) -> bool {
 }
 
 // Returns whether a section with this name is known.
-fn is_named(known: &[Known], name: SectionName) -> bool {
+fn is_named(known: &[KnownSection], name: SectionName) -> bool {
     known.iter().any(|one| is_same_name(one.name, name))
 }
 
 // Returns whether a section with this name and CRC_32 is known.
-fn is_known(known: &[Known], name: SectionName, crc: &[u8; 4]) -> bool {
+fn is_known_section(known: &[KnownSection], name: SectionName, crc: &[u8; 4]) -> bool {
     known
         .iter()
         .any(|one| is_same_name(one.name, name) && one.crc == *crc)
@@ -226,11 +226,11 @@ pub fn parts_of<'a>(packet: &[u8; PACKET], payload: &'a [u8]) -> (&'a [u8], Opti
         return (payload, None);
     }
     let (pointer, rest) = payload.split_at(1);
-    let (before, following) = split_there(rest, pointer[0]);
+    let (before, following) = split_at_length(rest, pointer[0]);
     (before, Some(following))
 }
 
 // Splits the bytes at a place.
-fn split_there(bytes: &[u8], place: u8) -> (&[u8], &[u8]) {
+fn split_at_length(bytes: &[u8], place: u8) -> (&[u8], &[u8]) {
     bytes.split_at((place as usize).min(bytes.len()))
 }

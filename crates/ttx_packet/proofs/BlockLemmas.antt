@@ -47,7 +47,7 @@ below_in_chunk b a n xs room below k =
     let here = below (a + k) in grind (arith, nat_tests, get_or-chunk, get_or_past, length-chunk)
 
 -- The first `to` of the n elements of `out` are f of the elements of `xs` at the same places.
-pub record IsMadeTo (f : ℕ → ℕ) (xs : List ℕ) (n to : ℕ) (out : List ℕ) : Type 0 where
+pub record IsMappedPrefix (f : ℕ → ℕ) (xs : List ℕ) (n to : ℕ) (out : List ℕ) : Type 0 where
   pub size : length out ≡ n
   pub done : take to out ≡ map f (take to xs)
 
@@ -57,8 +57,8 @@ pub block_more : (f : ℕ → ℕ) (xs out ys : List ℕ) (n a w k m : ℕ)
     → length xs ≡ n
     → m ≤ n
     → ys ≡ map f (chunk a w xs)
-    → IsMadeTo f xs n a out
-    → IsMadeTo f xs n m (put_mid a k out ys)
+    → IsMappedPrefix f xs n a out
+    → IsMappedPrefix f xs n m (put_mid a k out ys)
 block_more f xs out ys n a w k m e width size room block to =
     let long : length ys ≡ w =
     ap length block ∙ length-map (chunk a w xs) f ∙ length-chunk a w xs (omega arith) in
@@ -71,11 +71,11 @@ block_more f xs out ys n a w k m e width size room block to =
           ∙ ap (map f) (sym (take-add a w xs) ∙ ap (λ n. take n xs) (sym e));
     }
 
-pub made_complete : (f : ℕ → ℕ) (xs out : List ℕ) (n : ℕ)
+pub mapped_completely : (f : ℕ → ℕ) (xs out : List ℕ) (n : ℕ)
     → length xs ≡ n
-    → IsMadeTo f xs n n out
+    → IsMappedPrefix f xs n n out
     → out ≡ map f xs
-made_complete f xs out n size to = grind (arith, nat_tests, take_all)
+mapped_completely f xs out n size to = grind (arith, nat_tests, take_all)
 
 -- If the mask of a block is empty and no item before the block passes the test, no item up to the
 -- end of the block passes.

@@ -1,4 +1,4 @@
--- The eleven control bits of a page header as a number: control_is reassembles them from a header.
+-- The eleven control bits of a page header as a number: control_eq reassembles them from a header.
 use Rattle.std.proofs.Common.{◌≡◌, ℕ, ◌+◌, ◌*◌, ◌<◌, Bool, true, ◌==◌, arith, refl, eqb-true}
 use Rattle.std.proofs.lemmas.Bool.Decides.{nat_tests}
 use Rattle.std.specs.Prelude.{bit_and}
@@ -24,6 +24,6 @@ put_together n =
     + 0x80 * nibble (set_in n 0x80) (set_in n 0x100) (set_in n 0x200) (set_in n 0x400)
 
 -- Each number below 2048 equals the sum of its eleven bits, by computation.
-pub control_is : (n : ℕ) → n < 0x800 → put_together n ≡ n
-control_is n small =
+pub control_eq : (n : ℕ) → n < 0x800 → put_together n ≡ n
+control_eq n small =
     eqb-true _ _ (agree_below_at (λ n. put_together n == n) (λ n. true) 0x800 n refl small)

@@ -8,7 +8,7 @@ use Rattle.std.proofs.lemmas.Bool.Decides.{nat_tests}
 use Rattle.ttx_packet.specs.OneBit.{IsNear, is_near}
 use Rattle.ttx_packet.specs.Hamming84.{IsCodeWord, Decodes, code_word, decoded}
 use Rattle.ttx_packet.specs.declared.hamming.TheConstants.{DECODED}
-use Rattle.ttx_packet.proofs.OneBitLemmas.{first_below_is, near_from_test}
+use Rattle.ttx_packet.proofs.OneBitLemmas.{first_below_eq, near_from_test}
 
 abbrev is_number : Option ℕ → ℕ → Bool
 is_number None n = false
@@ -46,7 +46,7 @@ decoded_from g n (l, inr changed) =
 -- A byte that decodes to a number differs from the number's code word in at most one bit.
 pub decodes_from : (g n : ℕ) → decoded g ≡ Some n → Decodes g n
 unfolding decoded
-decodes_from g n e = let r = first_below_is 16 (λ n. is_near (code_word n) g) n e in
+decodes_from g n e = let r = first_below_eq 16 (λ n. is_near (code_word n) g) n e in
     (r.0, near_from_test (code_word n) g r.1)
 
 pub decoded-near : (sent got : ℕ) → IsCodeWord sent → IsNear sent got → decoded got ≡ decoded sent
@@ -59,21 +59,21 @@ code_word_is_exact n l = (n, l, refl)
 abbrev entry : ℕ → Option ℕ
 entry b = cond (nat_eq (get_or DECODED b 0) 255) None (Some (get_or DECODED b 0 % 16))
 
-abbrev same_answer : Option ℕ → Option ℕ → Bool
-same_answer None None = true
-same_answer None (Some y) = false
-same_answer (Some x) None = false
-same_answer (Some x) (Some y) = nat_eq x y
+abbrev is_same_result : Option ℕ → Option ℕ → Bool
+is_same_result None None = true
+is_same_result None (Some y) = false
+is_same_result (Some x) None = false
+is_same_result (Some x) (Some y) = nat_eq x y
 
-same_answer-true : (a b : Option ℕ) → same_answer a b ≡ true → a ≡ b
-same_answer-true a b e = grind (arith, nat_tests)
+is_same_result-true : (a b : Option ℕ) → is_same_result a b ≡ true → a ≡ b
+is_same_result-true a b e = grind (arith, nat_tests)
 
 -- The table `DECODED` agrees with the definition of decoding, by computation for all 256 bytes.
 pub decoded-by_table : (b : ℕ) → b < 0x100 → decoded b ≡ entry b
 unfolding decoded is_near
 decoded-by_table b l =
-    same_answer-true _ _
-    (agree_below_at (λ b. same_answer (decoded b) (entry b)) (λ b. true) 0x100 b refl l)
+    is_same_result-true _ _
+    (agree_below_at (λ b. is_same_result (decoded b) (entry b)) (λ b. true) 0x100 b refl l)
 
 -- If the entry of a byte in the table `DECODED` is below 16, the byte is a code word, by
 -- computation for all 256 bytes.

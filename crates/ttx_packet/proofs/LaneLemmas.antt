@@ -55,9 +55,9 @@ abbrev mirrors : ℕ → ℕ
 mirrors x = swapped 1 0x55 (swapped 2 0x33 (swapped 4 0x0F x))
 
 -- The three swapping steps reverse the bits of a byte, by computation for all 256 bytes.
-mirrors_is : (x : ℕ) → x < 0x100 → mirrors x ≡ mirror x
+mirrors_eq : (x : ℕ) → x < 0x100 → mirrors x ≡ mirror x
 unfolding mirror
-mirrors_is x l =
+mirrors_eq x l =
     eqb-true _ _ (agree_below_at (λ x. nat_eq (mirrors x) (mirror x)) (λ x. true) 0x100 x refl l)
 
 pub mirror_lanes : (v a b c : List ℕ)
@@ -67,7 +67,7 @@ pub mirror_lanes : (v a b c : List ℕ)
     → c ≡ map (swapped 1 0x55) b
     → c ≡ map mirror v
 mirror_lanes v a b c fits ea eb ec =
-    rw (ec, eb, ea, map-map, map-map) (same_lanes mirrors mirror v 0x100 mirrors_is fits)
+    rw (ec, eb, ea, map-map, map-map) (same_lanes mirrors mirror v 0x100 mirrors_eq fits)
 
 pub folded_lanes : (v : List ℕ) (n k : ℕ) → length v ≡ n
     → zip2 bit_xor v (zip2 down v (replicate n k)) ≡ map (folded k) v
@@ -89,9 +89,9 @@ last_bit x = bit_and (folds x) 1
 
 -- The lowest bit after the three folding steps is 0 exactly for bytes with an even number of ones,
 -- by computation for all 256 bytes.
-last_bit_is : (x : ℕ) → x < 0x100 → nat_eq (last_bit x) 0 ≡ is_even x
+last_bit_eq : (x : ℕ) → x < 0x100 → nat_eq (last_bit x) 0 ≡ is_even x
 unfolding is_odd count_ones ones_in
-last_bit_is x l = agree_below_at (λ x. nat_eq (last_bit x) 0) is_even 0x100 x refl l
+last_bit_eq x l = agree_below_at (λ x. nat_eq (last_bit x) 0) is_even 0x100 x refl l
 
 pub even_lanes : (v a b c : List ℕ)
     → length v ≡ 16
@@ -114,16 +114,16 @@ even_lanes v a b c long fits ea eb ec =
     ∙ ap mask_l
     (ap (map (λ x. nat_eq x 0)) bits
     ∙ map-map (λ x. nat_eq x 0) last_bit v
-    ∙ same_lanes (λ x. nat_eq (last_bit x) 0) is_even v 0x100 last_bit_is fits)
+    ∙ same_lanes (λ x. nat_eq (last_bit x) 0) is_even v 0x100 last_bit_eq fits)
 
 abbrev odd_code : ℕ → ℕ
 odd_code x = bit_or x (bit_xor (folds x) 1 * 2 ^ 7 % 2 ^ 8)
 
 -- Setting bit 8 of a code if its number of ones is even gives the odd byte of the code, by
 -- computation for all 128 codes.
-odd_code_is : (x : ℕ) → x < 0x80 → odd_code x ≡ odd_byte x
+odd_code_eq : (x : ℕ) → x < 0x80 → odd_code x ≡ odd_byte x
 unfolding is_odd count_ones ones_in
-odd_code_is x l =
+odd_code_eq x l =
     eqb-true _ _ (agree_below_at (λ x. nat_eq (odd_code x) (odd_byte x)) (λ x. true) 0x80 x refl l)
 
 pub odd_lanes : (v a b c : List ℕ)
@@ -149,4 +149,4 @@ odd_lanes v a b c long codes ea eb ec =
     ∙ map-map (λ x. up x 7) turned v
     in
     zip2_of_maps bit_or (λ x. x) (λ x. up (turned x) 7) v (sym (map-id v)) tops
-    ∙ same_lanes odd_code odd_byte v 0x80 odd_code_is codes
+    ∙ same_lanes odd_code odd_byte v 0x80 odd_code_eq codes

@@ -14,7 +14,7 @@ use Rattle.std.proofs.lemmas.List.Elements.{All-from_recursion}
 use Rattle.ttx_packet.specs.declared.header.Header.{Header}
 use Rattle.ttx_packet.specs.Hamming84.{IsCodeWord, code_word}
 use Rattle.ttx_packet.specs.Parity.{is_odd, odd_byte}
-use Rattle.ttx_packet.specs.PacketAddress.{address, address_words}
+use Rattle.ttx_packet.specs.PacketAddress.{address, address_code_words}
 use Rattle.ttx_packet.specs.PageHeader.{bit, nibble, coded_header, header, header_numbers}
 use Rattle.ttx_packet.specs.PageHeader.{header_packet, IsHeader, c4, c5, c6, c7, c8, c9, c10, c11}
 use Rattle.ttx_packet.specs.PageHeader.{c12, c13, c14, placed, HasOddHeaderText}
@@ -22,25 +22,25 @@ use Rattle.ttx_packet.specs.RowPacket.{row_packet}
 use Rattle.ttx_packet.specs.Laws.{IsMadeHeader, LawOfHeaderPacket, LawOfRowPacket}
 use Rattle.ttx_packet.proofs.Hamming84Lemmas.{decoded-code_word, code_word_is_exact}
 use Rattle.ttx_packet.proofs.ParityLemmas.{odd_of_code, code_of_odd}
-use Rattle.ttx_packet.proofs.ControlLemmas.{bit_small, nibble_small, control_is}
+use Rattle.ttx_packet.proofs.ControlLemmas.{bit_small, nibble_small, control_eq}
 
 numbers_small : (h : Header) → IsHeader h → All (λ n. n < 16) (header_numbers h)
 numbers_small h is = search (rules, nibble_small, bit_small, All-from_recursion)
 
-subcode_is : (n : ℕ) (b c d : Bool) → n < 0x4000 → n / 128 % 2 ≡ 0
+subcode_eq : (n : ℕ) (b c d : Bool) → n < 0x4000 → n / 128 % 2 ≡ 0
     → n % 16 + 16 * ((n / 16 % 8 + 8 * bit b) % 8) + 256 * (n / 256 % 16) + 4096 *
     ((n / 4096 % 4 + 4 * bit c + 8 * bit d) % 4) ≡ n
-subcode_is n b c d l gap = grind (arith, nat_tests)
+subcode_eq n b c d l gap = grind (arith, nat_tests)
 
 control_of : (n s2 s4 : ℕ) (c4 c5 c6 : Bool) → s2 < 8 → s4 < 4
     → (s2 + 8 * bit c4) / 8 + 2 * ((s4 + 4 * bit c5 + 8 * bit c6) / 4) ≡ bit c4 + 2 *
     (bit c5 + 2 * bit c6)
 control_of n s2 s4 c4 c5 c6 l m = omega (arith, bit_small c4, bit_small c5, bit_small c6)
 
-coded_is : (magazine : ℕ) (h : Header) → IsHeader h
+coded_eq : (magazine : ℕ) (h : Header) → IsHeader h
     → coded_header (header_packet magazine h) ≡ Some h
 unfolding coded_header header_packet
-coded_is magazine h is =
+coded_eq magazine h is =
     let small = λ (k : ℕ). numbers_small h is k 0 in
     let e2 = decoded-code_word _ (small 0 (omega arith)) in
     let e3 = decoded-code_word _ (small 1 (omega arith)) in
@@ -51,11 +51,11 @@ coded_is magazine h is =
     let e8 = decoded-code_word _ (small 6 (omega arith)) in
     let e9 = decoded-code_word _ (small 7 (omega arith)) in
     let page : h.page % 16 + 16 * (h.page / 16) ≡ h.page = omega arith in
-    let subcode = subcode_is h.subcode (c4 h) (c5 h) (c6 h) is.subcode is.no_bit_8 in
+    let subcode = subcode_eq h.subcode (c4 h) (c5 h) (c6 h) is.subcode is.no_bit_8 in
     let low =
     control_of h.control.0 (h.subcode / 16 % 8) (h.subcode / 4096 % 4) (c4 h) (c5 h) (c6 h)
     (omega arith) (omega arith) in
-    let control = control_is h.control.0 is.control in
+    let control = control_eq h.control.0 is.control in
     rw (e2, e3, e4, e5, e6, e7, e8, e9, page, subcode, low, control) refl
 
 coded_exact : (magazine : ℕ) (h : Header) → IsHeader h → (k : ℕ) → 2 ≤ k → k < 10
@@ -69,16 +69,16 @@ coded_exact magazine h is (suc (suc k)) a b =
     (rw (get_or-map code_word (header_numbers h) k 0 0 (omega arith))
     (code_word_is_exact _ (numbers_small h is k 0 (omega arith))))
 
-pub address_is : (magazine y : ℕ) (rest : List ℕ) → magazine < 8 → y < 32
-    → address (address_words magazine y ++ rest) ≡ Some
+pub address_eq : (magazine y : ℕ) (rest : List ℕ) → magazine < 8 → y < 32
+    → address (address_code_words magazine y ++ rest) ≡ Some
     (record { magazine = magazine; packet_number = y })
 unfolding address
-address_is magazine y rest m l =
+address_eq magazine y rest m l =
     let low = decoded-code_word ((magazine + 8 * y) % 16) (omega arith) in
     grind (arith, nat_tests, decoded-code_word)
 
 address_exact : (magazine y : ℕ) (rest : List ℕ) → magazine < 8 → y < 32 → (k : ℕ) → k < 2
-    → IsCodeWord (slice_index (address_words magazine y ++ rest) k)
+    → IsCodeWord (slice_index (address_code_words magazine y ++ rest) k)
 address_exact magazine y rest m l zero b =
     code_word_is_exact ((magazine + 8 * y) % 16) (omega arith)
 address_exact magazine y rest m l (suc zero) b = search (rules, code_word_is_exact)
@@ -101,7 +101,7 @@ header_text magazine h place from below =
 pub law_of_header_packet : LawOfHeaderPacket
 unfolding header_packet header
 law_of_header_packet magazine h m is =
-    search (rules, address_is, coded_is, address_exact, coded_exact, header_text)
+    search (rules, address_eq, coded_eq, address_exact, coded_exact, header_text)
 
 placed_bit : (n k : ℕ)
     → k < 11
@@ -130,9 +130,9 @@ header_packet-placed magazine h =
     (rw (at 3 (omega arith), at 4 (omega arith), at 5 (omega arith), at 6 (omega arith))
     (rw (at 7 (omega arith), at 8 (omega arith), at 9 (omega arith), at 10 (omega arith)) refl))
 
-pub made_placed : (magazine : ℕ) (h : Header) → magazine < 8 → h.page < 0x100
+pub header_reads_back : (magazine : ℕ) (h : Header) → magazine < 8 → h.page < 0x100
     → IsMadeHeader magazine (placed h) (header_packet magazine h)
-made_placed magazine h m page =
+header_reads_back magazine h m page =
     subst (IsMadeHeader magazine (placed h)) (header_packet-placed magazine h)
     (law_of_header_packet magazine (placed h) m
     (record {
@@ -146,7 +146,7 @@ pub law_of_row_packet : LawOfRowPacket
 unfolding row_packet header
 law_of_row_packet magazine y codes m one small forty all =
     let text = map odd_byte codes in
-    let at = address_is magazine y text m small in
+    let at = address_eq magazine y text m small in
     let byte : (column : ℕ) → column < 40
     → slice_index (row_packet magazine y codes) (column + 2) ≡ odd_byte
     (slice_index codes column) = λ column l.

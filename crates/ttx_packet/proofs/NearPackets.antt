@@ -6,7 +6,7 @@ use Rattle.std.proofs.lemmas.Bool.Decides.{nat_tests}
 use Rattle.ttx_packet.specs.OneBit.{IsNear, AreNear}
 use Rattle.ttx_packet.specs.Hamming84.{IsCodeWord}
 use Rattle.ttx_packet.specs.PacketAddress.{decoded_at, address, PacketAddress, HasExactAddress}
-use Rattle.ttx_packet.specs.PageHeader.{coded_header, header, HasExactHeader, HasExactWords}
+use Rattle.ttx_packet.specs.PageHeader.{coded_header, header, HasExactHeader, HasExactCodeWords}
 use Rattle.ttx_packet.proofs.Hamming84Lemmas.{decoded-near}
 
 pub near_at : (sent got : List ℕ) (k : ℕ) → AreNear sent got
@@ -29,7 +29,7 @@ coded_header-near : (sent got : List ℕ) → HasExactHeader sent → AreNear se
 unfolding coded_header
 coded_header-near sent got exact near = grind (arith, nat_tests, decoded_at-near)
 
-pub header-near : (sent got : List ℕ) → HasExactWords sent → AreNear sent got
+pub header-near : (sent got : List ℕ) → HasExactCodeWords sent → AreNear sent got
     → header got ≡ header sent
 unfolding header
 header-near sent got exact near = rw (address-near sent got exact.0 near) (go (address sent) refl)

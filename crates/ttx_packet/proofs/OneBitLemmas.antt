@@ -3,10 +3,10 @@ use Rattle.std.proofs.Common.{◌≡◌, ℕ, zero, suc, ◌<◌, Bool, true, fa
 use Rattle.std.proofs.lemmas.Bool.Decides.{nat_tests}
 use Rattle.ttx_packet.specs.OneBit.{IsNear, first_below, is_near}
 
-pub first_below_is : (n : ℕ) (test : ℕ → Bool) (x : ℕ) → first_below n test ≡ Some x
+pub first_below_eq : (n : ℕ) (test : ℕ → Bool) (x : ℕ) → first_below n test ≡ Some x
     → (x < n) × (test x ≡ true)
-first_below_is zero test x e = grind arith
-first_below_is (suc n) test x e = let below = first_below_is n test x in grind (arith, nat_tests)
+first_below_eq zero test x e = grind arith
+first_below_eq (suc n) test x e = let below = first_below_eq n test x in grind (arith, nat_tests)
 
 pub first_below-none : (n : ℕ) (test : ℕ → Bool) → ((k : ℕ) → k < n → test k ≡ false)
     → first_below n test ≡ None

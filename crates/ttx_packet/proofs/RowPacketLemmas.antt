@@ -13,8 +13,8 @@ pub record IsFirstEven (packet : List ℕ) (found : Option ℕ) : Type 0 where
   pub value : found ≡ first_even_byte packet
   pub odd : IsNone found ↔ HasOddText packet
 
-text_is : (packet : List ℕ) (k : ℕ) → get_or (drop 2 packet) k 0 ≡ text_byte packet k
-text_is packet k = grind (arith, nat_tests, get_or-drop)
+text_eq : (packet : List ℕ) (k : ℕ) → get_or (drop 2 packet) k 0 ≡ text_byte packet k
+text_eq packet k = grind (arith, nat_tests, get_or-drop)
 
 pub first_even-at : (packet : List ℕ) (column : ℕ)
     → column < 40
@@ -22,9 +22,9 @@ pub first_even-at : (packet : List ℕ) (column : ℕ)
     → IsFirstEven packet (Some column)
 unfolding first_even_byte
 first_even-at packet column small first =
-    let here : is_even (text_byte packet column) ≡ true = rw text_is at first.passes in record {
+    let here : is_even (text_byte packet column) ≡ true = rw text_eq at first.passes in record {
       value = sym (first_below-at 40 (λ k. is_even (text_byte packet k)) column small here
-          (λ k l. rw text_is at (first.before k l)));
+          (λ k l. rw text_eq at (first.before k l)));
       odd = (λ n. absurd cc, λ odd. let both = odd column small in grind (arith, nat_tests));
     }
 
@@ -34,6 +34,6 @@ pub first_even-none : (packet : List ℕ)
 unfolding first_even_byte
 first_even-none packet none = record {
   value = sym (first_below-none 40 (λ k. is_even (text_byte packet k))
-      (λ k l. rw text_is at (none k l)));
-  odd = (λ n k l. let odd = rw text_is at (none k l) in grind (arith, nat_tests), λ all. refl);
+      (λ k l. rw text_eq at (none k l)));
+  odd = (λ n k l. let odd = rw text_eq at (none k l) in grind (arith, nat_tests), λ all. refl);
 }

@@ -73,17 +73,18 @@ module _ (packet bytes : List ℕ) (is : map mirror bytes ≡ packet) (long : le
       → IsCodeWord (slice_index packet k) × (decoded_at packet k ≡ Some n)
   word_at k n l word = rw (← sent_at k l) (word.1, word.2)
 
-pub exact_words : (packet : List ℕ) → IsCodeWord (slice_index packet 0)
+pub has_exact_code_words : (packet : List ℕ) → IsCodeWord (slice_index packet 0)
     → IsCodeWord (slice_index packet 1) → HasExactAddress packet
-exact_words packet first second zero l = first
-exact_words packet first second (suc zero) l = second
-exact_words packet first second (suc (suc k)) l = absurd (omega arith)
+has_exact_code_words packet first second zero l = first
+has_exact_code_words packet first second (suc zero) l = second
+has_exact_code_words packet first second (suc (suc k)) l = absurd (omega arith)
 
-pub exact_coded_words : (p : List ℕ) → IsCodeWord (slice_index p 2) → IsCodeWord (slice_index p 3)
+pub coded_has_exact_code_words : (p : List ℕ) → IsCodeWord (slice_index p 2) → IsCodeWord
+    (slice_index p 3)
     → IsCodeWord (slice_index p 4) → IsCodeWord (slice_index p 5) → IsCodeWord (slice_index p 6)
     → IsCodeWord (slice_index p 7) → IsCodeWord (slice_index p 8) → IsCodeWord (slice_index p 9)
     → HasExactHeader p
-exact_coded_words p b2 b3 b4 b5 b6 b7 b8 b9 k low high =
+coded_has_exact_code_words p b2 b3 b4 b5 b6 b7 b8 b9 k low high =
     elim (cases_lt k 6) [
       | inl l ↦ grind (arith, cases_eq k 2, cases_eq k 3, cases_eq k 4, cases_eq k 5)
       | inr l ↦ grind (arith, cases_eq k 6, cases_eq k 7, cases_eq k 8, cases_eq k 9)

@@ -8,7 +8,7 @@ use Rattle.ttx_packet.specs.Hamming84.{Decodes, decoded}
 use Rattle.ttx_packet.specs.Parity.{is_odd, code_of}
 use Rattle.ttx_packet.specs.BitOrder.{mirror}
 use Rattle.ttx_packet.specs.PacketAddress.{address, HasExactAddress}
-use Rattle.ttx_packet.specs.PageHeader.{header, HasExactWords, HasOddHeaderText, header_packet}
+use Rattle.ttx_packet.specs.PageHeader.{header, HasExactCodeWords, HasOddHeaderText, header_packet}
 use Rattle.ttx_packet.specs.PageHeader.{IsHeader}
 use Rattle.ttx_packet.specs.RowPacket.{text_byte, HasOddText, row_packet}
 
@@ -31,7 +31,7 @@ LawOfAddress =
 abbrev pub LawOfHeader : Type 0
 LawOfHeader =
     (sent got : List ℕ)
-    → HasExactWords sent
+    → HasExactCodeWords sent
     → AreNear sent got
     → header got ≡ header sent
 
@@ -55,7 +55,7 @@ pub record IsMadeHeader (magazine : ℕ) (h : Header) (packet : List ℕ) : Type
   pub whole : length packet ≡ 42
   pub address : address packet ≡ Some (record { magazine = magazine; packet_number = 0 })
   pub header : header packet ≡ Some h
-  pub exact : HasExactWords packet
+  pub exact : HasExactCodeWords packet
   pub odd : HasOddHeaderText packet
 
 -- A created header packet decodes to the header that it was created from.
@@ -72,7 +72,7 @@ pub record IsMadeRow (magazine row : ℕ) (codes packet : List ℕ) : Type 0 whe
   pub whole : length packet ≡ 42
   pub address : address packet ≡ Some (record { magazine = magazine; packet_number = row })
   pub header : header packet ≡ None
-  pub exact : HasExactWords packet
+  pub exact : HasExactCodeWords packet
   pub text : (column : ℕ)
       → column < 40
       → code_of (text_byte packet column) ≡ slice_index codes column

@@ -48,6 +48,6 @@ abbrev pub HasExactAddress : List ℕ → Type 0
 HasExactAddress packet = (place : ℕ) → place < 2 → IsCodeWord (slice_index packet place)
 
 -- The two code words of the address of packet Y in a magazine.
-abbrev pub address_words : ℕ → ℕ → List ℕ
-address_words magazine y =
+abbrev pub address_code_words : ℕ → ℕ → List ℕ
+address_code_words magazine y =
     code_word ((magazine + 8 * y) % 16) ∷ code_word ((magazine + 8 * y) / 16) ∷ []

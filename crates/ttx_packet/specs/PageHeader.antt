@@ -20,7 +20,7 @@ use Rattle.std.specs.Prelude.{bit_and, if◌then◌else◌, IsTrue}
 use Rattle.ttx_packet.specs.Hamming84.{IsCodeWord, code_word}
 use Rattle.ttx_packet.specs.Parity.{is_odd}
 use Rattle.ttx_packet.specs.PacketAddress.{◌>>=◌, PacketAddress, decoded_at, address}
-use Rattle.ttx_packet.specs.PacketAddress.{HasExactAddress, address_words}
+use Rattle.ttx_packet.specs.PacketAddress.{HasExactAddress, address_code_words}
 use Rattle.ttx_packet.specs.declared.control.Control.{Control}
 use Rattle.ttx_packet.specs.declared.header.Header.{Header}
 
@@ -118,8 +118,8 @@ HasExactPage packet = IsCodeWord (slice_index packet 2) × IsCodeWord (slice_ind
 
 -- Both address bytes of the packet are code words; in a packet X/0, the eight coded bytes of the
 -- page header are code words too.
-abbrev pub HasExactWords : List ℕ → Type 0
-HasExactWords packet =
+abbrev pub HasExactCodeWords : List ℕ → Type 0
+HasExactCodeWords packet =
     HasExactAddress packet
     × ((a : PacketAddress)
     → address packet ≡ Some a
@@ -158,7 +158,7 @@ header_numbers h =
 -- The header packet of a magazine, with 32 spaces as its text.
 unfoldable pub header_packet : ℕ → Header → List ℕ
 header_packet magazine h =
-    address_words magazine 0 ++ map code_word (header_numbers h) ++ replicate 32 0x20
+    address_code_words magazine 0 ++ map code_word (header_numbers h) ++ replicate 32 0x20
 
 -- Drops the bits of a header that have no place in a packet X/0: the bits of the sub-code outside
 -- 3F7F, and control bits other than C4 to C14.

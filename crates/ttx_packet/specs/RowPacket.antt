@@ -3,7 +3,7 @@
 use Rattle.std.specs.Prelude.{ℕ, ◌+◌, ◌<◌, List, ◌++◌, Option, map, slice_index, not, IsTrue}
 use Rattle.ttx_packet.specs.OneBit.{first_below}
 use Rattle.ttx_packet.specs.Parity.{is_odd, odd_byte}
-use Rattle.ttx_packet.specs.PacketAddress.{address_words}
+use Rattle.ttx_packet.specs.PacketAddress.{address_code_words}
 
 -- The byte of a packet for a column, counted from 0 to 39.
 abbrev pub text_byte : List ℕ → ℕ → ℕ
@@ -19,4 +19,4 @@ first_even_byte packet = first_below 40 (λ column. not (is_odd (text_byte packe
 
 -- The packet of a row in a magazine, with these 40 codes as its text in odd parity.
 unfoldable pub row_packet : ℕ → ℕ → List ℕ → List ℕ
-row_packet magazine row codes = address_words magazine row ++ map odd_byte codes
+row_packet magazine row codes = address_code_words magazine row ++ map odd_byte codes

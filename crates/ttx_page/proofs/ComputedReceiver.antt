@@ -1,6 +1,6 @@
 -- A receiver that can be computed, for examples that are decided by computation: the model receiver
--- that keeps the cells of bytes with even parity. It follows the receiver relation: `heard_so`. A
--- test decides whether packets are near: `packets_tested`.
+-- that keeps the cells of bytes with even parity. It follows the receiver relation:
+-- `hears_state_after`. A test decides whether packets are near: `packets_tested`.
 use Rattle.std.proofs.Common.{◌≡◌, ℕ, ◌-◌, Bool, true, false, ◌&&◌, List, [], ◌∷◌, map, get_or}
 use Rattle.std.proofs.Common.{refl, ap, ◌∙◌, arith, inl, inr}
 use Rattle.std.specs.Prelude.{◌==◌, if◌then◌else◌}
@@ -98,8 +98,9 @@ stepped (Row y) packet old = elim (cases_Bool old.is_open) [
 ]
 stepped Other packet old = refl
 
-pub heard_so : (w : PageIdValue) (old : State) (packets : List (List ℕ))
+pub hears_state_after : (w : PageIdValue) (old : State) (packets : List (List ℕ))
     → Hears w old packets (state_after w old packets)
-heard_so w old [] = refl
-heard_so w old (packet ∷ packets) =
-    grind (arith, nat_tests, stepped, heard_so w (state_at (kind w packet) packet old) packets)
+hears_state_after w old [] = refl
+hears_state_after w old (packet ∷ packets) =
+    grind (arith, nat_tests, stepped, hears_state_after w (state_at (kind w packet) packet old)
+        packets)

@@ -24,7 +24,7 @@ use Rattle.ttx_page.specs.Span.{holds_beginning, holds_header, is_open_after, te
 use Rattle.ttx_page.specs.declared.packet_kind.PacketKind.TheVariants.{Row}
 use Rattle.ttx_page.proofs.NoiseLaws.{AreNear-themselves, law_of_noise}
 use Rattle.ttx_page.proofs.NoiseSteps.{both_left, both_right, cell-blank, row_from_test}
-use Rattle.ttx_page.proofs.RepeatLaws.{kept_shown}
+use Rattle.ttx_page.proofs.RepeatLaws.{shown_without_repeats}
 use Rattle.ttx_page.proofs.SpanLists.{find_none}
 use Rattle.ttx_page.proofs.SpanPush.{holds-push, open-other, open-this}
 use Rattle.ttx_page.proofs.TextSpan.{beginning-none_keeps, beginning-push, beginning_is_header}
@@ -73,7 +73,7 @@ module _ (keeps : Bool) (w : PageIdValue) (row column code : ℕ) where
   record Holds (start : State) (packets : List (List ℕ)) (now : State) : Type 0 where
     is_open : (holds_header (kind w) packets || not start.is_open) ≡ true
         → now.is_open ≡ is_open_after (kind w) packets
-    cell_is : IsFreshCell start packets
+    cell_eq : IsFreshCell start packets
         → AreTargets packets
         → (cell now.page row column ≡ code)
         ⊎ ((cell now.page row column ≡ space)
@@ -143,25 +143,25 @@ module _ (keeps : Bool) (w : PageIdValue) (row column code : ℕ) where
         let last = Contains-push spanned packet in
         rw (in_text, is, up) last
 
-    cell_goes_on : begins_text keeps (kind w packet) ≡ false
+    cell_continues : begins_text keeps (kind w packet) ≡ false
         → IsFreshCell start (packets ++ packet ∷ [])
         → AreTargets (packets ++ packet ∷ [])
         → (cell new.page row column ≡ code)
         ⊎ ((cell new.page row column ≡ space)
         × (list_any test (text_span keeps (kind w) (packets ++ packet ∷ [])) ≡ false))
-    cell_goes_on no_begin fresh targets =
+    cell_continues no_begin fresh targets =
         let before = fresh_before no_begin fresh in
         let up = opened before in
         elim (cases_Bool (is_open_after (kind w) packets && is_row row (kind w packet))) [
           | inl stored ↦
-              let open_is : is_open_after (kind w) packets ≡ true = both_left _ _ stored in
+              let open_eq : is_open_after (kind w) packets ≡ true = both_left _ _ stored in
               let is : kind w packet ≡ Row row = row_from_test row _ (both_right _ _ stored) in
-              let target = targets packet (among is open_is) is in
-              inl (at.stores is (up ∙ open_is) target.0 ∙ target.1)
+              let target = targets packet (among is open_eq) is in
+              inl (at.stores is (up ∙ open_eq) target.0 ∙ target.1)
           | inr skipped ↦
               let same =
               at.stays no_begin (ap (λ b. b && is_row row (kind w packet)) up ∙ skipped) in
-              elim (was.cell_is before (targets_before no_begin targets)) [
+              elim (was.cell_eq before (targets_before no_begin targets)) [
                 | inl coded ↦ inl (same ∙ coded)
                 | inr (spaced, none) ↦ inr (same ∙ spaced, rows_stay no_begin skipped none)
               ]
@@ -174,12 +174,12 @@ module _ (keeps : Bool) (w : PageIdValue) (row column code : ℕ) where
         let other = open-other (kind w) packets packet in
         record {
           is_open = let o = at.is_open in let before = was.is_open in grind (arith, nat_tests);
-          cell_is = λ fresh targets. elim (cases_Bool (begins_text keeps (kind w packet))) [
+          cell_eq = λ fresh targets. elim (cases_Bool (begins_text keeps (kind w packet))) [
             | inl begun ↦
                 let header = begins_is_header keeps (kind w packet) begun in
                 let none = text_span-push (kind w) keeps packets packet in
                 inr (at.erased begun, rw (none, begun) refl)
-            | inr no_begin ↦ cell_goes_on no_begin fresh targets
+            | inr no_begin ↦ cell_continues no_begin fresh targets
           ];
         }
 
@@ -199,12 +199,12 @@ module _ (keeps : Bool) (w : PageIdValue) (row column code : ℕ) where
   starts : (start : State) → Holds start [] start
   starts start = record {
     is_open = grind (arith, nat_tests);
-    cell_is = λ fresh targets. grind (arith, nat_tests);
+    cell_eq = λ fresh targets. grind (arith, nat_tests);
   }
 
 pub law_of_kept : LawOfKept
 law_of_kept keeps w sent old new sends hears fresh row column named =
-    elim (end.cell_is fresh_cell targets) [
+    elim (end.cell_eq fresh_cell targets) [
       | inl coded ↦ coded
       | inr (spaced, none) ↦
           spaced
@@ -244,4 +244,4 @@ law_of_fault_free w sent old new sound unheard shut hears heard row column named
     let holds : holds_header (kind w) sent ≡ true = sym ends.heard ∙ heard in
     law_of_kept false w sent old new (sends_of_sound w [] sent sound) hears
     (inr (inl (beginning-none_keeps (kind w) sent ∙ holds))) row column named
-    ∙ kept_shown w sent row column
+    ∙ shown_without_repeats w sent row column

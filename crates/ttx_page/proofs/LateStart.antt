@@ -4,7 +4,7 @@ use Rattle.std.proofs.Common.{◌≡◌, ℕ, Bool, true, List, [], ◌∷◌, �
 use Rattle.std.proofs.Common.{unwrap_or, All, subst, arith}
 use Rattle.std.proofs.lemmas.Bool.Decides.{nat_tests}
 use Rattle.std.proofs.lemmas.List.Elements.{All-tail}
-use Rattle.ttx_packet.specs.PageHeader.{HasExactWords}
+use Rattle.ttx_packet.specs.PageHeader.{HasExactCodeWords}
 use Rattle.ttx_packet.specs.PageId.{PageIdValue}
 use Rattle.ttx_page.specs.Noise.{ErasesPage, HasSameCodes, IsOddRow, IsSameRow}
 use Rattle.ttx_page.specs.PacketKind.{kind}
@@ -36,7 +36,7 @@ module _ (w : PageIdValue) (before heard : List (List ℕ)) where
       → All P (text_span keeps (kind w) heard) =
       λ P all. All-later P later.0 (text_span keeps (kind w) heard) (subst (All P) later.1 all) in
       record {
-        exact = All-later HasExactWords before heard sends.exact;
+        exact = All-later HasExactCodeWords before heard sends.exact;
         erases = λ none. All-later (ErasesPage w) before heard (sends.erases none);
         odd = of_text (IsOddRow w) sends.odd;
         codes = of_text (HasCodes w text) sends.codes;

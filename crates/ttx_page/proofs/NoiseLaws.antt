@@ -25,7 +25,7 @@ use Rattle.ttx_page.specs.LostRows.{IsHitOrLost, LawOfLostRows, LawOfNothingLost
 use Rattle.ttx_page.specs.LostRows.{arrivals_of}
 use Rattle.ttx_page.specs.Recovery.{LawOfRecovery}
 use Rattle.ttx_page.specs.Repeats.{EndsForgetting, SendsText}
-use Rattle.ttx_page.proofs.SpanLists.{Any-map, map-Any, find_is, find_none, none_pass}
+use Rattle.ttx_page.proofs.SpanLists.{Any-map, map-Any, find_eq, find_none, find_none_fails}
 use Rattle.ttx_page.proofs.SpanLists.{span-map, zip-map}
 use Rattle.ttx_page.proofs.NoiseSteps.{kind_of_item, row_from_test}
 use Rattle.ttx_page.proofs.RepeatLaws.{law_of_forgetting, law_of_repeats}
@@ -50,9 +50,9 @@ first_code w spanned row column packet same within is below = go (find test span
         → code_of (text_byte packet column)
         ≡ unwrap_or (option_map (λ p. code_of (text_byte p column)) o) space
     go None e =
-        let none = none_pass test spanned e in
-        grind (arith, nat_tests, none_pass, test, list_any_at)
-    go (Some first) e = search (rules, find_is, test, All-contains, row_from_test)
+        let none = find_none_fails test spanned e in
+        grind (arith, nat_tests, find_none_fails, test, list_any_at)
+    go (Some first) e = search (rules, find_eq, test, All-contains, row_from_test)
 
 -- In sound packets, each packet of a row in the span has the codes that are shown.
 pub shown_is : (w : PageIdValue) (sent : List (List ℕ)) (row column : ℕ) (packet : List ℕ)
@@ -107,8 +107,8 @@ module _ (class : ReceiverClass) (w : PageIdValue) (sent : List (List ℕ)) (arr
 pub law_of_recovery : LawOfRecovery
 law_of_recovery class w sent arrived got old new sound may near holds hears =
     let ends = ends_as class w sent arrived got old new sound may near hears in
-    let heard_is = ends.heard in
-    let open_is = ends.is_open in
+    let heard_eq = ends.heard in
+    let open_eq = ends.is_open in
     record {
       heard = grind (arith, nat_tests);
       is_open = grind (arith, nat_tests);
@@ -118,8 +118,8 @@ law_of_recovery class w sent arrived got old new sound may near holds hears =
 pub law_of_lost_rows : LawOfLostRows
 law_of_lost_rows class w sent arrived got old new sound may near unheard shut hears =
     let ends = ends_as class w sent arrived got old new sound may near hears in
-    let heard_is = ends.heard in
-    let open_is = ends.is_open in
+    let heard_eq = ends.heard in
+    let open_eq = ends.is_open in
     let heard_only : new.heard ≡ holds_header (kind w) sent = grind (arith, nat_tests) in
     record {
       heard = heard_only;

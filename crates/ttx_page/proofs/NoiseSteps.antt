@@ -1,5 +1,6 @@
--- The state of a receiver after packets with wrong bits or losses: after one packet, `at_lost` and
--- `at_got`, and after a run over many packets, `over`.
+-- The state of a receiver after packets with wrong bits or losses: after one packet, `at_lost_item`
+-- and
+-- `at_received_item`, and after a run over many packets, `over`.
 use Rattle.std.proofs.Common.{◌≡◌, ℕ, ◌<◌, ◌⊎◌, inl, inr, true, false, not, ◌&&◌, ◌||◌, List}
 use Rattle.std.proofs.Common.{[], ◌∷◌, ◌++◌, zip, Option, Some, None, Bool, is_some, Contains, refl}
 use Rattle.std.proofs.Common.{IsFalse, ap, arith, cond, subst, sym, ◌∙◌}
@@ -11,10 +12,10 @@ use Rattle.std.proofs.lemmas.List.Elements.{Contains-append_left, Contains-push}
 use Rattle.std.proofs.lemmas.List.Folds.{list_any-append}
 use Rattle.ttx_packet.specs.OneBit.{AreNear}
 use Rattle.ttx_packet.specs.Parity.{code_of, is_odd}
-use Rattle.ttx_packet.specs.PageHeader.{HasExactWords}
+use Rattle.ttx_packet.specs.PageHeader.{HasExactCodeWords}
 use Rattle.ttx_packet.specs.PageId.{PageIdValue}
 use Rattle.ttx_packet.specs.RowPacket.{HasOddText, first_even_byte, text_byte}
-use Rattle.ttx_packet.proofs.OneBitLemmas.{first_below_is}
+use Rattle.ttx_packet.proofs.OneBitLemmas.{first_below_eq}
 use Rattle.ttx_packet.proofs.ParityLemmas.{even_from_changed}
 use Rattle.ttx_packet.proofs.NearPackets.{address-near, header-near, near_at}
 use Rattle.ttx_page.specs.Page.{space, blank, blank_row, cell, IsCell}
@@ -26,7 +27,7 @@ use Rattle.ttx_page.specs.Receiver.{ReceiverClass, State, is_dropped}
 use Rattle.ttx_page.specs.Receiver.ReceiverClass.{Dropping, Storing}
 use Rattle.ttx_page.specs.Noise.{ErasesPage}
 use Rattle.ttx_page.specs.LostRows.{LosesByte, MayBeLost, LosesNoHeader, arrivals_of}
-use Rattle.ttx_page.specs.Repeats.{BeginsAnew, ForgetsAt, HearsForgetting, StepForgetting}
+use Rattle.ttx_page.specs.Repeats.{RestartsAtHeader, ForgetsAt, HearsForgetting, StepForgetting}
 use Rattle.ttx_page.specs.Span.{holds_beginning, holds_header, is_open_after, span, text_span}
 use Rattle.ttx_page.proofs.SpanPush.{holds-push, span-push, open-this, open-other}
 use Rattle.ttx_page.proofs.TextSpan.{begins_is_header, beginning_is_header, beginning-push}
@@ -51,17 +52,17 @@ lost_is_no_header w packet may = grind (arith, nat_tests)
 -- One wrong bit in each byte does not change the kind of a packet whose address and header are code
 -- words.
 pub kind-near : (w : PageIdValue) (sent got : List ℕ)
-    → HasExactWords sent
+    → HasExactCodeWords sent
     → AreNear sent got
     → kind w got ≡ kind w sent
 unfolding kind
 kind-near w sent got exact near = grind (arith, nat_tests, address-near, header-near)
 
-excused_here : (class : ReceiverClass) (P : ℕ → ℕ → Type 0) (row column : ℕ)
+hit_excuses_space : (class : ReceiverClass) (P : ℕ → ℕ → Type 0) (row column : ℕ)
     → column < 40
     → P row column
     → ExcusedBy class P row column
-excused_here class P row column below here = grind (arith, nat_tests)
+hit_excuses_space class P row column below here = grind (arith, nat_tests)
 
 pub excused_as : (class : ReceiverClass) (P Q : ℕ → ℕ → Type 0) (row column : ℕ)
     → ((other : ℕ) → P row other → Q row other)
@@ -85,7 +86,7 @@ even_byte_of packet some = go (first_even_byte packet) refl some
         → (column : ℕ) × (column < 40) × (is_odd (text_byte packet column) ≡ false)
     go None e h = grind arith
     go (Some column) e h =
-        let found = first_below_is 40 (λ column. not (is_odd (text_byte packet column))) column e in
+        let found = first_below_eq 40 (λ column. not (is_odd (text_byte packet column))) column e in
         (column, found.0, grind (arith, nat_tests))
 
 -- If a row was sent with odd parity and is dropped, one of its bytes was hit.
@@ -140,37 +141,37 @@ cell-blank row column named =
 at_step : (keeps anew : Bool) (w : PageIdValue) (row column : ℕ) (sent got : List ℕ)
     (old new : State)
     → IsCell row column
-    → HasExactWords sent
+    → HasExactCodeWords sent
     → (IsFalse keeps → ErasesPage w sent)
     → AreNear sent got
     → ForgetsAt (kind w got) got old new
-    → BeginsAnew anew w got new
+    → RestartsAtHeader anew w got new
     → AtItem keeps anew Storing w row column sent (Some got) old new
-at_step keeps anew w row column sent got old new named exact erases near step begins_anew =
+at_step keeps anew w row column sent got old new named exact erases near step restarts_at_header =
     let blanks = cell-blank row column named in
     grind (arith, nat_tests, kind-near, near_at, even_from_changed)
 
-at_lost : (keeps anew : Bool) (class : ReceiverClass) (w : PageIdValue) (row column : ℕ)
+at_lost_item : (keeps anew : Bool) (class : ReceiverClass) (w : PageIdValue) (row column : ℕ)
     (sent : List ℕ) (old : State)
     → IsCell row column
     → MayBeLost sent
     → AtItem keeps anew class w row column sent None old old
-at_lost keeps anew class w row column sent old named may =
+at_lost_item keeps anew class w row column sent old named may =
     let lost = lost_is_no_header w sent may in
     let header = begins_is_header keeps (kind w sent) in
-    grind (arith, nat_tests, excused_here)
+    grind (arith, nat_tests, hit_excuses_space)
 
-at_got : (keeps anew : Bool) (class : ReceiverClass) (w : PageIdValue) (row column : ℕ)
+at_received_item : (keeps anew : Bool) (class : ReceiverClass) (w : PageIdValue) (row column : ℕ)
     (sent got : List ℕ) (old new : State)
     → IsCell row column
-    → HasExactWords sent
+    → HasExactCodeWords sent
     → (IsFalse keeps → ErasesPage w sent)
     → AreNear sent got
     → StepForgetting class anew w old got new
     → AtItem keeps anew class w row column sent (Some got) old new
-at_got keeps anew Storing w row column sent got old new named exact erases near goes =
+at_received_item keeps anew Storing w row column sent got old new named exact erases near goes =
     at_step keeps anew w row column sent got old new named exact erases near goes.0 goes.1
-at_got keeps anew Dropping w row column sent got old new named exact erases near goes =
+at_received_item keeps anew Dropping w row column sent got old new named exact erases near goes =
     elim (cases_Bool (is_dropped w got)) [
       | inl drop ↦
           let stays = rw drop at goes in
@@ -189,7 +190,7 @@ at_got keeps anew Dropping w row column sent got old new named exact erases near
             erased = at.erased;
             repeated = at.repeated;
             stays = at.stays;
-            stores = grind (arith, nat_tests, excused_here);
+            stores = grind (arith, nat_tests, hit_excuses_space);
           }
     ]
 
@@ -232,7 +233,7 @@ module _ (keeps anew : Bool) (class : ReceiverClass) (w : PageIdValue) (row colu
       ⊎ ((holds_beginning keeps (kind_of_item w) items ≡ true) ⊎ WasBlank start)
 
   -- The state of a receiver, and of one cell of its page, after packets that were received or lost.
-  pub record Becomes (start : State) (items : List Item) (now : State) : Type 0 where
+  pub record StateAfterItems (start : State) (items : List Item) (now : State) : Type 0 where
     pub heard : now.heard ≡ (holds_header (kind_of_item w) items || start.heard)
     pub is_open : (holds_header (kind_of_item w) items || not start.is_open) ≡ true
         → now.is_open ≡ is_open_after (kind_of_item w) items
@@ -246,7 +247,7 @@ module _ (keeps anew : Bool) (class : ReceiverClass) (w : PageIdValue) (row colu
         → (cell now.page row column ≡ code) ⊎ (cell now.page row column ≡ space)
     -- After a header of the page, the cell has the code that it should show, or a space is excused,
     -- or the span has no packet of the row.
-    pub cell_is : holds_header (kind_of_item w) items ≡ true
+    pub cell_eq : holds_header (kind_of_item w) items ≡ true
         → IsFreshCell start items
         → AreTargets items
         → GiveExcuses items
@@ -257,7 +258,7 @@ module _ (keeps anew : Bool) (class : ReceiverClass) (w : PageIdValue) (row colu
 
   module _ (start : State) (items : List Item) (sent : List ℕ) (arrival : Option (List ℕ))
       (old new : State) (at : AtItem keeps anew class w row column sent arrival old new)
-      (was : Becomes start items old) where
+      (was : StateAfterItems start items old) where
     abbrev item : Item
     item = (sent, arrival)
 
@@ -391,7 +392,7 @@ module _ (keeps anew : Bool) (class : ReceiverClass) (w : PageIdValue) (row colu
               ]
           | inr skipped ↦
               let same = at.stays packet (ap (λ b. b && is_row row (kind w sent)) up ∙ skipped) in
-              elim (was.cell_is holds (fresh_before no_begin fresh)
+              elim (was.cell_eq holds (fresh_before no_begin fresh)
               (targets_before no_begin targets) (excuses_before packet gives)) [
                 | inl coded ↦ inl (same ∙ coded)
                 | inr (inl excuse) ↦ inr (inl excuse)
@@ -399,8 +400,8 @@ module _ (keeps anew : Bool) (class : ReceiverClass) (w : PageIdValue) (row colu
               ]
         ]
 
-    Becomes-push : Becomes start (items ++ item ∷ []) new
-    Becomes-push =
+    StateAfterItems-push : StateAfterItems start (items ++ item ∷ []) new
+    StateAfterItems-push =
         let held_header = holds-push K items item in
         let this = open-this K items item in
         let other = open-other K items item in
@@ -419,7 +420,7 @@ module _ (keeps anew : Bool) (class : ReceiverClass) (w : PageIdValue) (row colu
             | inr packet ↦
                 coarse_at_packet packet (grind (arith, nat_tests)) fresh targets
           ];
-          cell_is = λ holds fresh targets gives. elim (cases_Bool (is_this_page (kind w sent))) [
+          cell_eq = λ holds fresh targets gives. elim (cases_Bool (is_this_page (kind w sent))) [
             | inl header ↦
                 let k : is_this_page (K item) ≡ true = header in
                 inr (inr (rw (spanned, k) refl))
@@ -428,13 +429,13 @@ module _ (keeps anew : Bool) (class : ReceiverClass) (w : PageIdValue) (row colu
           ];
         }
 
-  pub starts : (start : State) → Becomes start [] start
+  pub starts : (start : State) → StateAfterItems start [] start
   starts start = record {
     heard = refl;
     is_open = grind (arith, nat_tests);
     waits = λ none was. was;
     code_or_space = λ holds. grind arith;
-    cell_is = λ holds. grind arith;
+    cell_eq = λ holds. grind arith;
   }
 
   -- The state of a receiver after a run, by induction over the packets still to be received or
@@ -442,13 +443,13 @@ module _ (keeps anew : Bool) (class : ReceiverClass) (w : PageIdValue) (row colu
   pub over : (start : State) (items : List Item) (sent : List (List ℕ)) (arrived : List Bool)
       (got : List (List ℕ)) (old new : State)
       → IsCell row column
-      → AllByRecursion HasExactWords sent
+      → AllByRecursion HasExactCodeWords sent
       → AllByRecursion (λ packet. IsFalse keeps → ErasesPage w packet) sent
       → AllZip LosesNoHeader sent arrived
       → AllZip AreNear (items_where_true arrived sent) got
       → HearsForgetting class anew w old got new
-      → Becomes start items old
-      → Becomes start (items ++ zip sent (arrivals_of arrived got)) new
+      → StateAfterItems start items old
+      → StateAfterItems start (items ++ zip sent (arrivals_of arrived got)) new
   over start items [] [] [] old new named exact erases may near hears was =
       rw (append-nil, hears) was
   over start items [] [] (g ∷ gs) old new named exact erases may near hears was = elim near [ ]
@@ -457,13 +458,14 @@ module _ (keeps anew : Bool) (class : ReceiverClass) (w : PageIdValue) (row colu
   over start items (p ∷ ps) (false ∷ ms) got old new named exact erases may near hears was =
       rw (← append_assoc items ((p, None) ∷ []) (zip ps (arrivals_of ms got)))
       (over start _ ps ms got old new named exact.1 erases.1 may.1 near hears
-      (Becomes-push start items p None old old
-      (at_lost keeps anew class w row column p old named (may.0 refl)) was))
+      (StateAfterItems-push start items p None old old
+      (at_lost_item keeps anew class w row column p old named (may.0 refl)) was))
   over start items (p ∷ ps) (true ∷ ms) [] old new named exact erases may near hears was =
       elim near [ ]
   over start items (p ∷ ps) (true ∷ ms) (g ∷ gs) old new named exact erases may near hears was =
       rw (← append_assoc items ((p, Some g) ∷ []) (zip ps (arrivals_of ms gs)))
       (over start _ ps ms gs hears.0 new named exact.1 erases.1 may.1 near.1 hears.2
-      (Becomes-push start items p (Some g) old hears.0
-      (at_got keeps anew class w row column p g old hears.0 named exact.0 erases.0 near.0 hears.1)
+      (StateAfterItems-push start items p (Some g) old hears.0
+      (at_received_item keeps anew class w row column p g old hears.0 named exact.0 erases.0 near.0
+          hears.1)
       was))

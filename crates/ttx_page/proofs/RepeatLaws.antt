@@ -27,7 +27,7 @@ use Rattle.ttx_page.specs.LostRows.{IsHitOrLost, LosesNoHeader, arrivals_of}
 use Rattle.ttx_page.proofs.RunLemmas.{RunsBy-as}
 use Rattle.ttx_page.proofs.SpanLists.{list_any-map, after-map, span-map}
 use Rattle.ttx_page.proofs.TextSpan.{text_span-map, text_span-none_keeps}
-use Rattle.ttx_page.proofs.NoiseSteps.{AreTargets, Becomes, IsFreshCell, Item, excused_as}
+use Rattle.ttx_page.proofs.NoiseSteps.{AreTargets, StateAfterItems, IsFreshCell, Item, excused_as}
 use Rattle.ttx_page.proofs.NoiseSteps.{kind_of_item, over, starts}
 
 length-arrivals_of :
@@ -88,7 +88,8 @@ module _ (class : ReceiverClass) (w : PageIdValue) (sent : List (List ℕ)) (arr
 
     becomes : (row column : ℕ)
         → IsCell row column
-        → Becomes keeps anew class w row column (text row column) (Excused row column) old items new
+        → StateAfterItems keeps anew class w row column (text row column) (Excused row column) old
+            items new
     becomes row column named =
         over keeps anew class w row column _ _ old [] sent arrived got old new named
         (recursion_from_All _ sent sends.exact)
@@ -124,7 +125,7 @@ module _ (class : ReceiverClass) (w : PageIdValue) (sent : List (List ℕ)) (arr
           All-contains (HasCodes w text) _ item.0 sends.codes sent_within row column is named.2,
         ) in
         let coarse = end.code_or_space some fresh_cell targets in
-        let fine = end.cell_is some fresh_cell targets
+        let fine = end.cell_eq some fresh_cell targets
         (λ item within is.
         excused_as class _ _ row column
         (λ other lost_byte. (within.0, item, within.1, within.2, (is, lost_byte)))) in
@@ -134,8 +135,8 @@ module _ (class : ReceiverClass) (w : PageIdValue) (sent : List (List ℕ)) (arr
     pub ends : EndsForgetting keeps anew w sent text Excused old new
     ends =
         let end = becomes 1 0 (omega arith, omega arith, omega arith) in
-        let heard_is = end.heard in
-        let open_is = end.is_open in
+        let heard_eq = end.heard in
+        let open_eq = end.is_open in
         let holds_is = holds-items in
         let unended_is = is_unended-items in
         record {
@@ -148,9 +149,9 @@ pub law_of_repeats : LawOfRepeats
 law_of_repeats keeps anew class w sent arrived got text old new sends may near hears =
     ends class w sent arrived got may near keeps anew text old new sends hears
 
-pub kept_shown : (w : PageIdValue) (packets : List (List ℕ)) (row column : ℕ)
+pub shown_without_repeats : (w : PageIdValue) (packets : List (List ℕ)) (row column : ℕ)
     → kept false w packets row column ≡ shown w packets row column
-kept_shown w packets row column =
+shown_without_repeats w packets row column =
     ap (λ (ps : List (List ℕ)).
     unwrap_or
     (option_map (λ p. code_of (text_byte p column)) (find (λ p. is_row row (kind w p)) ps)) space)

@@ -11,16 +11,16 @@ use Rattle.ttx_page.specs.Screen.{Display, ShowsBy, LawOfScreen}
 use Rattle.ttx_page.proofs.RepeatLaws.{forgets}
 use Rattle.ttx_page.proofs.RunLemmas.{RunsBy-as}
 
-abbrev IsSettled : Display → Type 0
-IsSettled d = IsFalse d.held.is_open → d.screen ≡ Some d.held.page
+abbrev ShowsClosedPage : Display → Type 0
+ShowsClosedPage d = IsFalse d.held.is_open → d.screen ≡ Some d.held.page
 
 -- After a header of the page, the decoded page is on the screen whenever the page is not open.
 settles :
     (class : ReceiverClass) (anew : Bool) (w : PageIdValue) (packets : List (List ℕ))
     (old new : Display)
     → ShowsForgetting class anew w old packets new
-    → (holds_header (kind w) packets ≡ false → IsSettled old)
-    → IsSettled new
+    → (holds_header (kind w) packets ≡ false → ShowsClosedPage old)
+    → ShowsClosedPage new
 settles class anew w [] old new run was = rw run (was refl)
 settles class anew w (p ∷ ps) old new run was =
     settles class anew w ps run.0 new run.2 (λ none shut. grind (arith, nat_tests))

@@ -31,14 +31,14 @@ pub zip-map : {A B C : Type 0} (f : B → C) (xs : List A) (ys : List B)
 zip-map f [] ys = refl
 zip-map f (x ∷ xs) ys = grind (arith, nat_tests, zip-map f xs)
 
-pub find_is : {X : Type 0} (test : X → Bool) (xs : List X) (z : X)
+pub find_eq : {X : Type 0} (test : X → Bool) (xs : List X) (z : X)
     → find test xs ≡ Some z
     → (test z ≡ true) × Contains xs z
-find_is test [] z e = grind arith
-find_is test (x ∷ xs) z e = elim (cases_Bool (test x)) [
+find_eq test [] z e = grind arith
+find_eq test (x ∷ xs) z e = elim (cases_Bool (test x)) [
   | inl passes ↦ grind (arith, nat_tests)
   | inr fails ↦
-      let rest = find_is test xs z (grind (arith, nat_tests)) in
+      let rest = find_eq test xs z (grind (arith, nat_tests)) in
       (rest.0, (suc rest.1.0, omega (arith, rest.1.1), rest.1.2))
 ]
 
@@ -47,10 +47,10 @@ pub find_none :
 find_none test [] e = refl
 find_none test (x ∷ xs) e = let rest = find_none test xs in grind (arith, nat_tests)
 
-pub none_pass :
+pub find_none_fails :
     {X : Type 0} (test : X → Bool) (xs : List X) → find test xs ≡ None → list_any test xs ≡ false
-none_pass test [] e = refl
-none_pass test (x ∷ xs) e = let rest = none_pass test xs in grind (arith, nat_tests)
+find_none_fails test [] e = refl
+find_none_fails test (x ∷ xs) e = let rest = find_none_fails test xs in grind (arith, nat_tests)
 
 pub list_any-map : {A B : Type 0} (f : A → B) (test : B → Bool) (xs : List A)
     → list_any test (map f xs) ≡ list_any (λ x. test (f x)) xs

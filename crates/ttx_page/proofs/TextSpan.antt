@@ -18,8 +18,8 @@ pub begins_is_header : (keeps : Bool) (k : PacketKind)
     → is_this_page k ≡ true
 begins_is_header keeps k e = grind (arith, nat_tests)
 
-pub begins_at_each : (k : PacketKind) → begins_text false k ≡ is_this_page k
-begins_at_each k = grind (arith, nat_tests)
+pub begins_at_each_header : (k : PacketKind) → begins_text false k ≡ is_this_page k
+begins_at_each_header k = grind (arith, nat_tests)
 
 module _ {A : Type 0} (kind_of : A → PacketKind) where
   -- Whether the page is open after the items, given whether the page is open before them
@@ -142,7 +142,7 @@ module _ {A : Type 0} (kind_of : A → PacketKind) where
   each_begins : (xs : List A) → EachBegins false xs
   each_begins [] = tt
   each_begins (x ∷ xs) =
-      (λ this. begins_at_each (kind_of x) ∙ this, each_begins xs)
+      (λ this. begins_at_each_header (kind_of x) ∙ this, each_begins xs)
 
   pub text_span-none_keeps : (xs : List A) → text_span false kind_of xs ≡ span kind_of xs
   text_span-none_keeps xs = text_span-same false xs (each_begins xs)

@@ -11,7 +11,7 @@ use Rattle.std.proofs.lemmas.Bool.Decides.{nat_tests}
 use Rattle.std.proofs.lemmas.List.{append-nil, get_or_default}
 use Rattle.std.proofs.lemmas.List.Elements.{All-nil, All-push, Contains-append_right}
 use Rattle.std.proofs.lemmas.List.Folds.{find-append, list_any_at}
-use Rattle.ttx_packet.specs.PageHeader.{HasExactWords}
+use Rattle.ttx_packet.specs.PageHeader.{HasExactCodeWords}
 use Rattle.ttx_packet.specs.PageId.{PageIdValue}
 use Rattle.ttx_packet.specs.Parity.{code_of}
 use Rattle.ttx_packet.specs.RowPacket.{text_byte}
@@ -24,8 +24,8 @@ use Rattle.ttx_page.specs.Span.{holds_header, is_open_after, text_span}
 use Rattle.ttx_page.specs.declared.packet_kind.PacketKind.TheVariants.{Row}
 use Rattle.ttx_page.proofs.LateStart.{open-later, shown-later}
 use Rattle.ttx_page.proofs.NoiseLaws.{sends_shown}
-use Rattle.ttx_page.proofs.RepeatLaws.{kept_shown}
-use Rattle.ttx_page.proofs.SpanLists.{after-none, none_pass}
+use Rattle.ttx_page.proofs.RepeatLaws.{shown_without_repeats}
+use Rattle.ttx_page.proofs.SpanLists.{after-none, find_none_fails}
 use Rattle.ttx_page.proofs.TextSpan.{text_span-later, text_span-none_keeps, text_span-push}
 
 abbrev code_in : ℕ → Option (List ℕ) → ℕ
@@ -35,8 +35,8 @@ module _ (keeps : Bool) (w : PageIdValue) (before heard : List (List ℕ)) (pack
   abbrev all : List (List ℕ)
   all = before ++ heard
 
-  abbrev all_spanned : List (List ℕ)
-  all_spanned = text_span keeps (kind w) all
+  abbrev span_of_all : List (List ℕ)
+  span_of_all = text_span keeps (kind w) all
 
   abbrev spanned : List (List ℕ)
   spanned = text_span keeps (kind w) heard
@@ -44,7 +44,7 @@ module _ (keeps : Bool) (w : PageIdValue) (before heard : List (List ℕ)) (pack
   abbrev test : ℕ → List ℕ → Bool
   test row p = is_row row (kind w p)
 
-  within_all : (q : List ℕ) → Contains spanned q → Contains all_spanned q
+  within_all : (q : List ℕ) → Contains spanned q → Contains span_of_all q
   within_all q within =
       let later = text_span-later (kind w) keeps before heard in
       subst (λ (ps : List (List ℕ)). Contains ps q) (sym later.1)
@@ -54,35 +54,35 @@ module _ (keeps : Bool) (w : PageIdValue) (before heard : List (List ℕ)) (pack
   -- row is the first in the span.
   first_stays : (row : ℕ) (q : List ℕ)
       → begins_text keeps (kind w packet) ≡ false
-      → Contains all_spanned q
+      → Contains span_of_all q
       → kind w q ≡ Row row
       → find (test row) (text_span keeps (kind w) (all ++ packet ∷ []))
-      ≡ find (test row) all_spanned
+      ≡ find (test row) span_of_all
   first_stays row q no_begin within is =
       subst
-      (λ (ps : List (List ℕ)). find (test row) ps ≡ find (test row) all_spanned)
+      (λ (ps : List (List ℕ)). find (test row) ps ≡ find (test row) span_of_all)
       (sym (text_span-push (kind w) keeps all packet))
       (go (begins_text keeps (kind w packet))
       (is_open_after (kind w) all && not (is_this_page (kind w packet))
       && not (ends_page (kind w packet))) no_begin)
     where
       found : (o : Option (List ℕ))
-          → find (test row) all_spanned ≡ o
-          → find (test row) (all_spanned ++ packet ∷ []) ≡ find (test row) all_spanned
+          → find (test row) span_of_all ≡ o
+          → find (test row) (span_of_all ++ packet ∷ []) ≡ find (test row) span_of_all
       found None e =
-          let none = none_pass (test row) all_spanned e in
+          let none = find_none_fails (test row) span_of_all e in
           grind (arith, nat_tests, list_any_at)
       found (Some first) e =
-          find-append (test row) all_spanned (packet ∷ [])
+          find-append (test row) span_of_all (packet ∷ [])
           ∙ ap (λ (o : Option (List ℕ)). option_or o (find (test row) (packet ∷ []))) e
           ∙ sym e
 
       go : (b c : Bool)
           → b ≡ false
-          → find (test row) (cond b [] (cond c (all_spanned ++ packet ∷ []) all_spanned))
-          ≡ find (test row) all_spanned
+          → find (test row) (cond b [] (cond c (span_of_all ++ packet ∷ []) span_of_all))
+          ≡ find (test row) span_of_all
       go true c e = grind arith
-      go false true e = found (find (test row) all_spanned) refl
+      go false true e = found (find (test row) span_of_all) refl
       go false false e = refl
 
   module _ (sends : SendsText keeps w heard (kept keeps w all))
@@ -117,16 +117,16 @@ module _ (keeps : Bool) (w : PageIdValue) (before heard : List (List ℕ)) (pack
         sends.codes k d l row column is below
         ∙ ap (code_in column) (sym (first_stays row q no_begin within is))
 
-    codes_here : is_open_after (kind w) heard ≡ true
+    codes_while_open : is_open_after (kind w) heard ≡ true
         → begins_text keeps (kind w packet) ≡ false
         → HasCodes w (kept keeps w (all ++ packet ∷ [])) packet
-    codes_here up no_begin row column is below =
-        go (find (test row) all_spanned) refl
+    codes_while_open up no_begin row column is below =
+        go (find (test row) span_of_all) refl
       where
         opened : is_open_after (kind w) all ≡ true
         opened = (open-later w before heard up).0
 
-        spanned_more : text_span keeps (kind w) (all ++ packet ∷ []) ≡ all_spanned ++ packet ∷ []
+        spanned_more : text_span keeps (kind w) (all ++ packet ∷ []) ≡ span_of_all ++ packet ∷ []
         spanned_more =
             text_span-push (kind w) keeps all packet ∙ rw (is, opened) refl
 
@@ -134,19 +134,19 @@ module _ (keeps : Bool) (w : PageIdValue) (before heard : List (List ℕ)) (pack
         passes = grind (arith, nat_tests)
 
         first_is : (o : Option (List ℕ))
-            → find (test row) all_spanned ≡ o
+            → find (test row) span_of_all ≡ o
             → find (test row) (text_span keeps (kind w) (all ++ packet ∷ []))
             ≡ option_or o (find (test row) (packet ∷ []))
         first_is o e =
             ap (find (test row)) spanned_more
-            ∙ find-append (test row) all_spanned (packet ∷ [])
+            ∙ find-append (test row) span_of_all (packet ∷ [])
             ∙ ap (λ (x : Option (List ℕ)). option_or x (find (test row) (packet ∷ []))) e
 
         found : find (test row) (packet ∷ []) ≡ Some packet
         found = rw passes refl
 
         go : (o : Option (List ℕ))
-            → find (test row) all_spanned ≡ o
+            → find (test row) span_of_all ≡ o
             → code_of (text_byte packet column) ≡ kept keeps w (all ++ packet ∷ []) row column
         go None e =
             let here : find (test row) (text_span keeps (kind w) (all ++ packet ∷ []))
@@ -167,7 +167,7 @@ module _ (keeps : Bool) (w : PageIdValue) (before heard : List (List ℕ)) (pack
 
     sends-push : SendsText keeps w (heard ++ packet ∷ []) (kept keeps w (all ++ packet ∷ []))
     sends-push = record {
-      exact = All-push HasExactWords heard packet sends.exact follows.exact;
+      exact = All-push HasExactCodeWords heard packet sends.exact follows.exact;
       erases = λ none.
           All-push (ErasesPage w) heard packet (sends.erases none) (follows.erases none);
       odd =
@@ -177,7 +177,7 @@ module _ (keeps : Bool) (w : PageIdValue) (before heard : List (List ℕ)) (pack
       codes =
           of_pushed (All (HasCodes w (kept keeps w (all ++ packet ∷ [])))) (All-nil _) codes_stay
           (λ no_begin up. All-push (HasCodes w (kept keeps w (all ++ packet ∷ []))) spanned packet
-          (codes_stay no_begin) (codes_here up no_begin));
+          (codes_stay no_begin) (codes_while_open up no_begin));
     }
 
 -- If each packet of `more` may follow the packets before it, the packets received and `more`
@@ -232,7 +232,7 @@ sends_of_sound w before heard sound =
             | inl holds ↦
                 sends.codes k d l row column is below
                 ∙ sym (shown-later w before heard holds row column)
-                ∙ sym (kept_shown w (before ++ heard) row column)
+                ∙ sym (shown_without_repeats w (before ++ heard) row column)
             | inr none ↦
                 let no_span = text_span-none_keeps (kind w) heard in
                 let nothing = after-none (kind w) heard none in

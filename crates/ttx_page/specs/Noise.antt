@@ -4,7 +4,7 @@ use Rattle.std.specs.Prelude.{◌≡◌, ℕ, ◌<◌, ◌⊎◌, List, All, IsT
 use Rattle.std.specs.List.{AllZip}
 use Rattle.ttx_packet.specs.declared.header.Header.{Header}
 use Rattle.ttx_packet.specs.OneBit.{AreNear}
-use Rattle.ttx_packet.specs.PageHeader.{c4, HasExactWords}
+use Rattle.ttx_packet.specs.PageHeader.{c4, HasExactCodeWords}
 use Rattle.ttx_packet.specs.PageId.{PageIdValue}
 use Rattle.ttx_packet.specs.Parity.{code_of}
 use Rattle.ttx_packet.specs.RowPacket.{HasOddText, text_byte}
@@ -40,7 +40,7 @@ HasSameCodes w first second =
 -- The packets that are sent are sound, which the law of noise requires of them.
 pub record IsSound (w : PageIdValue) (sent : List (List ℕ)) : Type 0 where
   -- Addresses and page headers are code words, without a wrong bit.
-  pub exact : All HasExactWords sent
+  pub exact : All HasExactCodeWords sent
   -- Each header of the page erases the page.
   pub erases : All (ErasesPage w) sent
   -- In the span, each row has 40 bytes of odd parity.

@@ -21,7 +21,7 @@ pub record State : Type 0 where
   pub page : Rows
 
 -- The value of a receiver in contracts: the page that the receiver was tuned to, and its state.
-pub record Tuned : Type 0 where
+pub record TunedReceiver : Type 0 where
   pub watched : PageIdValue
   pub state : State
 
@@ -71,17 +71,17 @@ RunsBy {S} StepsBy old (packet ∷ packets) new =
 abbrev pub Hears : PageIdValue → State → List (List ℕ) → State → Type 0
 Hears w old packets new = RunsBy (Step w) old packets new
 
--- `Becomes` relates the old and the new code of each cell of a stored row whose byte has even
--- parity.
+-- `StateAfterItems` relates the old and the new code of each cell of a stored row whose byte has
+-- even parity.
 abbrev pub AtEvenBytes :
     (ℕ → ℕ → Type 0) → PageIdValue → State → List ℕ → State → Type 0
-AtEvenBytes Becomes w old packet new =
+AtEvenBytes StateAfterItems w old packet new =
     (row column : ℕ)
     → IsCell row column
     → IsTrue old.is_open
     → kind w packet ≡ Row row
     → IsFalse (is_odd (text_byte packet column))
-    → Becomes (cell old.page row column) (cell new.page row column)
+    → StateAfterItems (cell old.page row column) (cell new.page row column)
 
 -- A receiver with a fixed choice at bytes of even parity: it stores `leaves` of the cell's old
 -- code. A receiver that keeps cells stores the old code, and a receiver that blanks cells stores a

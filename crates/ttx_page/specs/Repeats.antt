@@ -4,7 +4,7 @@ use Rattle.std.specs.Prelude.{◌≡◌, ℕ, ◌<◌, ◌⊎◌, ◌||◌, Bool
 use Rattle.std.specs.Prelude.{MatchBool, Some, find, IsTrue, IsFalse}
 use Rattle.std.specs.List.{AllZip, items_where_true, list_any}
 use Rattle.ttx_packet.specs.OneBit.{AreNear}
-use Rattle.ttx_packet.specs.PageHeader.{c4, HasExactWords}
+use Rattle.ttx_packet.specs.PageHeader.{c4, HasExactCodeWords}
 use Rattle.ttx_packet.specs.PageId.{PageIdValue}
 use Rattle.ttx_packet.specs.Parity.{code_of}
 use Rattle.ttx_packet.specs.RowPacket.{text_byte}
@@ -43,8 +43,8 @@ abbrev pub IsBlank : Rows → Type 0
 IsBlank page = (row column : ℕ) → IsCell row column → cell page row column ≡ space
 
 -- If `anew` is set, the receiver has a blank page after each header of its page.
-abbrev pub BeginsAnew : Bool → PageIdValue → List ℕ → State → Type 0
-BeginsAnew anew w packet new =
+abbrev pub RestartsAtHeader : Bool → PageIdValue → List ℕ → State → Type 0
+RestartsAtHeader anew w packet new =
     IsTrue anew → IsTrue (is_this_page (kind w packet)) → IsBlank new.page
 
 -- A step of a receiver that may forget, for a class of receivers; if `anew` is set, the receiver
@@ -53,7 +53,7 @@ abbrev pub StepForgetting :
     ReceiverClass → Bool → PageIdValue → State → List ℕ → State → Type 0
 StepForgetting class anew w old packet new =
     MatchBool (drops class w packet) (new ≡ old)
-    (ForgetsAt (kind w packet) packet old new × BeginsAnew anew w packet new)
+    (ForgetsAt (kind w packet) packet old new × RestartsAtHeader anew w packet new)
 
 -- A run of a receiver that may forget.
 abbrev pub HearsForgetting :
@@ -102,7 +102,7 @@ pub record SendsText
     (keeps : Bool) (w : PageIdValue) (sent : List (List ℕ)) (text : ℕ → ℕ → ℕ)
     : Type 0 where
   -- Addresses and page headers are code words, without a wrong bit.
-  pub exact : All HasExactWords sent
+  pub exact : All HasExactCodeWords sent
   -- If repeats must not keep earlier text, each header of the page erases the page.
   pub erases : IsFalse keeps → All (ErasesPage w) sent
   -- In the long span, each row has 40 bytes of odd parity, and the codes of the text.
@@ -114,7 +114,7 @@ pub record SendsText
 pub record MayFollow
     (keeps : Bool) (w : PageIdValue) (before : List (List ℕ)) (packet : List ℕ)
     : Type 0 where
-  pub exact : HasExactWords packet
+  pub exact : HasExactCodeWords packet
   pub erases : IsFalse keeps → ErasesPage w packet
   pub odd : IsTrue (is_open_after (kind w) before) → IsOddRow w packet
   pub same : IsTrue (is_open_after (kind w) before)

@@ -14,9 +14,9 @@ pub struct Blank {
 }
 
 impl Model for Blank {
-    ghost use Rattle.ttx_page.specs.Receiver.{Tuned};
+    ghost use Rattle.ttx_page.specs.Receiver.{TunedReceiver};
 
-    ghost Value = { Tuned };
+    ghost Value = { TunedReceiver };
 
     ghost use Rattle.ttx_page.specs.Memory.{state_of};
 

@@ -20,9 +20,9 @@ pub struct DropRow {
 }
 
 impl Model for DropRow {
-    ghost use Rattle.ttx_page.specs.Receiver.{Tuned};
+    ghost use Rattle.ttx_page.specs.Receiver.{TunedReceiver};
 
-    ghost Value = { Tuned };
+    ghost Value = { TunedReceiver };
 
     ghost use Rattle.ttx_page.specs.Memory.{state_of};
 

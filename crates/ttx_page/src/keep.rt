@@ -12,9 +12,9 @@ pub struct Keep {
 }
 
 impl Model for Keep {
-    ghost use Rattle.ttx_page.specs.Receiver.{Tuned};
+    ghost use Rattle.ttx_page.specs.Receiver.{TunedReceiver};
 
-    ghost Value = { Tuned };
+    ghost Value = { TunedReceiver };
 
     ghost use Rattle.ttx_page.specs.Memory.{state_of};
 

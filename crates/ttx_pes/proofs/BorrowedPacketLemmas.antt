@@ -78,16 +78,16 @@ buffered_holds buffered borrowed begins holds =
     all_of_more _ _ _ long (rw first at all) in
     grind (arith, nat_tests)
 
-pub holds_none : (bytes : List ℕ) → length bytes < 6 → false ≡ holds_packet bytes
+pub holds_packet_short : (bytes : List ℕ) → length bytes < 6 → false ≡ holds_packet bytes
 unfolding holds_packet
-holds_none bytes few = grind (arith, nat_tests)
+holds_packet_short bytes few = grind (arith, nat_tests)
 
-pub holds_read : (bytes : List ℕ) (r : Result ℕ PesFault)
+pub holds_packet_read : (bytes : List ℕ) (r : Result ℕ PesFault)
     → 6 ≤ length bytes
     → size_at (take 6 bytes) ≡ r
     → are_all_of (length bytes) r ≡ holds_packet bytes
 unfolding holds_packet
-holds_read bytes r many is = grind (arith, nat_tests)
+holds_packet_read bytes r many is = grind (arith, nat_tests)
 
 -- If reading a PES packet failed, no report was pending, because reports are flushed before a
 -- device is called.

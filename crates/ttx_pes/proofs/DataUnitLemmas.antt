@@ -17,7 +17,7 @@ use Rattle.ttx_pes.specs.LineOrder.{last_place, AreInLineOrder}
 use Rattle.ttx_pes.specs.Reading.{unit_of, with_unit, teletext_at, unit_at, units_at}
 use Rattle.ttx_packet.proofs.BitOrderLemmas.{mirror-mirror}
 use Rattle.ttx_pes.proofs.LineOrderLemmas.{last_place-push}
-use Rattle.sub_io.proofs.ReadingLemmas.{step_gave, Ok-injective, given_as}
+use Rattle.sub_io.proofs.ReadingLemmas.{step_gave, Ok-injective, ok_result}
 
 pub AreBytes-take : (n : ℕ) (b : List ℕ) → AreBytes b → AreBytes (take n b)
 AreBytes-take n b h i = grind (arith, nat_tests, cases_lt, get_or-take, get_or_past, length-take)
@@ -81,8 +81,8 @@ unit_sound b u len fit e = elim (cases_Bool (is_teletext (get_or b 0 0))) [
       })
 ]
 
-teletext_id_is : (id : ℕ) → 2 ≤ id → id ≤ 3 → is_teletext id ≡ true
-teletext_id_is id lo hi = grind (arith, nat_tests)
+teletext_id_eq : (id : ℕ) → 2 ≤ id → id ≤ 3 → is_teletext id ≡ true
+teletext_id_eq id lo hi = grind (arith, nat_tests)
 
 field_back : (reserved field line : ℕ)
     → 1 ≤ field
@@ -97,7 +97,7 @@ pub unit_complete : (u : Option UnitValue) (b : List ℕ)
     → (teletext_at b ≡ Ok u) × (length b ≡ 46)
 unfolding teletext_at
 unit_complete u b h =
-    grind (arith, nat_tests, teletext_id_is, field_back, mirrored_twice, length-map)
+    grind (arith, nat_tests, teletext_id_eq, field_back, mirrored_twice, length-map)
 
 -- The effect of a data unit on the units read so far: its unit, if any, is appended and keeps the
 -- line order.
@@ -156,7 +156,7 @@ units_complete (suc n) prefix more b (u, others, first, rest, buffered, after, u
     let rises : AreInLineOrder (last_place 0 prefix) (option_to_list u ++ others) = search rules in
     let t = with_unit_takes prefix others u rises in
     let i = units_complete n (prefix ++ option_to_list u) others rest after t.1 in
-    grind (arith, nat_tests, given_as, append_assoc, length-append)
+    grind (arith, nat_tests, ok_result, append_assoc, length-append)
 
 pub units_next : (count i : ℕ) (prefix : List UnitValue) (b : List ℕ)
     → i < count

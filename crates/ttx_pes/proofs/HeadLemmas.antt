@@ -103,9 +103,9 @@ unfolding unit_at teletext_at
 unit_equal b c us vs more e0 e1 e2 e3 last e =
     grind (arith, nat_tests, append-nil, last_place-push)
 
-sent_one : (field : List ℕ) (at : ℕ)
+units_of_data_unit : (field : List ℕ) (at : ℕ)
     → units_in (take 46 (drop at field)) ≡ sent_units field (teletext_place at field)
-sent_one field at = grind (arith, nat_tests, block_byte field at 0)
+units_of_data_unit field at = grind (arith, nat_tests, block_byte field at 0)
 
 -- If the data units of a data field can be read, so can data units with the same heads, up to their
 -- Teletext packets.
@@ -148,7 +148,7 @@ units_equal (suc n) at a b us vs all same last e =
     ∙ ap (units_at n (vs ++ units_in (take 46 (drop at b)))) (following b)
     ∙ rest
     ∙ ap (λ us. Ok us) (ap (λ one. (vs ++ one) ++ sent_units b (teletext_places n (at + 46) b))
-    (sent_one b at) ∙ joined ∙ ap (λ us. vs ++ us) (sym mapped))
+    (units_of_data_unit b at) ∙ joined ∙ ap (λ us. vs ++ us) (sym mapped))
 
 same_places : (n at : ℕ) (a b : List ℕ)
     → ((k : ℕ) → k < n → IsSameHead a b (46 * k + at))

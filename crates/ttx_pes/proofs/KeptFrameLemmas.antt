@@ -1,5 +1,5 @@
 -- Facts about a PES packet follow from its header and its data field: from units that are read
--- again, known_anew, or from the data field of the packet before, known_again.
+-- again, facts_of_new_units, or from the data field of the packet before, facts_of_repeat.
 use Rattle.std.proofs.lemmas.Bool.Decides.{nat_tests}
 use Rattle.std.proofs.Common.{◌≡◌, ℕ, ◌/◌, ◌<◌, List, ◌+◌, ◌%◌, ◌≤◌, ◌++◌, [], length, drop}
 use Rattle.std.proofs.Common.{false, take, Ok, Err, refl, sym, ap, subst, arith, length-drop}
@@ -14,7 +14,7 @@ use Rattle.ttx_pes.specs.Taking.{AreAllPlaces, KeepsPesPacket, KeptValue, Buffer
 use Rattle.ttx_pes.specs.Taking.{IsInBuffer}
 use Rattle.ttx_pes.specs.Taking.{field_in, buffered_frame, no_packet}
 use Rattle.ttx_pes.proofs.HeadLemmas.{no_places}
-use Rattle.ttx_pes.proofs.PesHeaderLemmas.{body_sound, frame_made, six_of}
+use Rattle.ttx_pes.proofs.PesHeaderLemmas.{body_sound, frame_made, first_six_bytes}
 use Rattle.ttx_pes.proofs.PesGrammarLemmas.{value_of_packet}
 
 -- A fault of the units of the data field is the fault of the PES packet.
@@ -38,7 +38,7 @@ value_kept : (body : List ℕ) (v : PesValue)
     → IsPesValue v
 value_kept body v short whole some fit e =
     let n : ℕ = (length body + 6) / 184 in
-    value_of_packet v (six_of n ++ body)
+    value_of_packet v (first_six_bytes n ++ body)
     (body_sound n body v (omega arith) (omega arith) (omega arith) fit e)
 
 -- The list has the length of a PES packet without its first six bytes.
@@ -49,11 +49,11 @@ pub record IsBody (body : List ℕ) : Type 0 where
   pub fit : AreBytes body
 
 -- The facts are true of the PES packet whose bytes from byte 6 on are `body`.
-pub record IsKnown (body : List ℕ) (h : BufferedPacketValue) : Type 0 where
+pub record DescribesPacket (body : List ℕ) (h : BufferedPacketValue) : Type 0 where
   pub value : value_at body ≡ Ok (buffered_frame (drop 39 body) h)
   pub known : IsInBuffer (drop 39 body) h
 
-pub known_anew : (body field : List ℕ) (h : BufferedPacketValue)
+pub facts_of_new_units : (body field : List ℕ) (h : BufferedPacketValue)
     → IsBody body
     → pts_at body ≡ Ok h.pts
     → field ≡ drop 39 body
@@ -61,8 +61,8 @@ pub known_anew : (body field : List ℕ) (h : BufferedPacketValue)
     → AreWithin (length field) h.places
     → AreAllPlaces field h.places
     → units_at (length (drop 1 field) / 46) [] (drop 1 field) ≡ Ok (sent_units field h.places)
-    → IsKnown body h
-known_anew body field h is time same count within all read =
+    → DescribesPacket body h
+facts_of_new_units body field h is time same count within all read =
     let there = rw (same, drop-drop 1 39 body) at read in
     let value : value_at body ≡ Ok (buffered_frame (drop 39 body) h) =
     frame_made body h.pts (length (drop 40 body) / 46) (sent_units (drop 39 body) h.places) time
@@ -79,7 +79,7 @@ known_anew body field h is time same count within all read =
       };
     }
 
-pub known_again : (body field before : List ℕ) (old h : BufferedPacketValue)
+pub facts_of_repeat : (body field before : List ℕ) (old h : BufferedPacketValue)
     → IsBody body
     → pts_at body ≡ Ok h.pts
     → field ≡ drop 39 body
@@ -87,12 +87,12 @@ pub known_again : (body field before : List ℕ) (old h : BufferedPacketValue)
     → IsInBuffer before old
     → h.count ≡ old.count
     → h.places ≡ old.places
-    → IsKnown body h
-known_again body field before old h is time same kept known count places =
+    → DescribesPacket body h
+facts_of_repeat body field before old h is time same kept known count places =
     let there : IsInBuffer field old = subst (λ f. IsInBuffer f old) (sym kept) known in
     let some : 0 < length field =
     omega (arith, is.long, ap length same, length-drop 39 body) in
-    known_anew body field h is time same (there.count ∙ sym count) (rw places there.within)
+    facts_of_new_units body field h is time same (there.count ∙ sym count) (rw places there.within)
     (rw places there.all) (rw places (there.units some))
 
 pub field_of_body : (size count : ℕ) (room body : List ℕ)
@@ -108,12 +108,12 @@ field_of_body size count room body is all long fits =
     sym (ap (drop 39) is ∙ drop-drop 39 6 (take size room)
     ∙ ap (λ n. drop 45 (take n room)) (sym sum) ∙ drop-take 45 count room)
 
-pub none_known : IsInBuffer [] no_packet
+pub no_packet_facts : IsInBuffer [] no_packet
 unfolding units_at
-none_known = grind (arith, nat_tests, no_places)
+no_packet_facts = grind (arith, nat_tests, no_places)
 
-abbrev pub kept_in : BufferedPacketValue → List ℕ → KeptValue
-kept_in h room = record {
+abbrev pub stored_value_in : BufferedPacketValue → List ℕ → KeptValue
+stored_value_in h room = record {
   frame = buffered_frame (field_in h.count room) h;
   data_field = field_in h.count room;
 }
@@ -134,7 +134,7 @@ pub keeps_other : (old new : BufferedPacketValue) (before room pes_packet body :
     → value_at body ≡ Ok (buffered_frame (drop 39 body) new)
     → (drop 39 body ≡ field_in old.count before → ⊥)
     → field_in new.count room ≡ drop 39 body
-    → KeepsPesPacket (kept_in old before) pes_packet (Ok false) (kept_in new room)
+    → KeepsPesPacket (stored_value_in old before) pes_packet (Ok false) (stored_value_in new room)
 keeps_other old new before room pes_packet body is value other there = record {
   value = ap value_at (sym is) ∙ value ∙ ap (λ f. Ok (buffered_frame f new)) (sym there);
   field = there ∙ ap (drop 39) is ∙ drop-drop 39 6 pes_packet;

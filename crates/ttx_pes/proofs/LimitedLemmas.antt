@@ -13,17 +13,18 @@ use Rattle.std.specs.Io.KnownBytes.{Consumes, IsAtEnd, Keeps}
 use Rattle.sub_io.specs.Reading.{IfKnown}
 use Rattle.ttx_pes.specs.PesGrammar.{packet_length, packet_start}
 use Rattle.ttx_pes.specs.PesPacketRange.{rest_after_pes_packets, count_pes_packets}
-use Rattle.ttx_pes.specs.PesPacketRange.{first_pes_packets, if_complete, limited}
+use Rattle.ttx_pes.specs.PesPacketRange.{first_pes_packets, size_if_complete, limited}
 use Rattle.ttx_pes.specs.PesPacketRange.{pes_packet_size, stated_pes_packet}
 use Rattle.ttx_pes.specs.PesPackets.{IsPesPacket}
 use Rattle.ttx_pes.specs.Reading.{size_at}
 use Rattle.ttx_pes.specs.declared.fault.PesFault.{PesFault}
-use Rattle.ttx_pes.proofs.PesHeaderLemmas.{head_complete, six_of}
-use Rattle.ttx_pes.proofs.PesPacketRangeLemmas.{rest_after_none, rest_after_one, count_none}
-use Rattle.ttx_pes.proofs.PesPacketRangeLemmas.{count_one}
-use Rattle.ttx_pes.proofs.PesPacketRangeLemmas.{first_none, first_one, whole}
+use Rattle.ttx_pes.proofs.PesHeaderLemmas.{head_complete, first_six_bytes}
+use Rattle.ttx_pes.proofs.PesPacketRangeLemmas.{rest_after_none, rest_after_pes_packets_suc}
+use Rattle.ttx_pes.proofs.PesPacketRangeLemmas.{count_none}
+use Rattle.ttx_pes.proofs.PesPacketRangeLemmas.{count_pes_packets_suc}
+use Rattle.ttx_pes.proofs.PesPacketRangeLemmas.{first_none, first_pes_packets_suc, whole}
 use Rattle.ttx_pes.specs.Advancing.{Advances, HasSkipped, IsRest, Passes, fault_of_size, is_over}
-use Rattle.ttx_pes.specs.Advancing.{left_after, limited_remaining, limited_known, rest_fault}
+use Rattle.ttx_pes.specs.Advancing.{limit_after, limited_remaining, limited_known, rest_fault}
 use Rattle.ttx_pes.specs.declared.pes_packets.Received.{Received}
 use Rattle.ttx_pes.specs.declared.pes_packets.Received.TheVariants.{End, PesPacket, Rest}
 
@@ -31,19 +32,19 @@ Keeps-refl : (a : Option (List ℕ)) → Keeps a a
 Keeps-refl None = tt
 Keeps-refl (Some x) = refl
 
-pub pes_packet_is : (p rest : List ℕ) → IsPesPacket p → pes_packet_size (p ++ rest) ≡ Some
+pub pes_packet_eq : (p rest : List ℕ) → IsPesPacket p → pes_packet_size (p ++ rest) ≡ Some
     (length p)
 unfolding stated_pes_packet
-pes_packet_is p rest h =
-    let parts : p ≡ six_of h.n ++ h.body =
+pes_packet_eq p rest h =
+    let parts : p ≡ first_six_bytes h.n ++ h.body =
     h.bytes ∙ sym (append_assoc packet_start (bytes_high_first 2 (packet_length h.n)) h.body) in
-    let all : p ++ rest ≡ six_of h.n ++ (h.body ++ rest) =
-    ap (λ l. l ++ rest) parts ∙ append_assoc (six_of h.n) h.body rest in
+    let all : p ++ rest ≡ first_six_bytes h.n ++ (h.body ++ rest) =
+    ap (λ l. l ++ rest) parts ∙ append_assoc (first_six_bytes h.n) h.body rest in
     let long = h.long in
     let lo = h.size.0 in
     let size = length-append p rest in
-    let head : take 6 (p ++ rest) ≡ six_of h.n =
-    ap (take 6) all ∙ take_at (six_of h.n) (h.body ++ rest) 6 refl in
+    let head : take 6 (p ++ rest) ≡ first_six_bytes h.n =
+    ap (take 6) all ∙ take_at (first_six_bytes h.n) (h.body ++ rest) 6 refl in
     let reported : stated_pes_packet (p ++ rest) ≡ Some (184 * h.n) =
     rw (
       le-ltb (length (p ++ rest)) 6 (omega (arith, size, long, lo)),
@@ -55,11 +56,11 @@ pes_packet_is p rest h =
 prefix_limited : (n : ℕ) (p rest : List ℕ) → IsPesPacket p
     → limited (Some (suc n)) (p ++ rest) ≡ p ++ limited (Some n) rest
 prefix_limited n p rest is =
-    first_one n (p ++ rest) (length p) (pes_packet_is p rest is)
+    first_pes_packets_suc n (p ++ rest) (length p) (pes_packet_eq p rest is)
     ∙ rw (take_at p rest (length p) refl, drop_at p rest (length p) refl) refl
 
 no_size : (count : ℕ) (r : Result ℕ PesFault) (f : PesFault) → fault_of_size count r ≡ Some f
-    → if_complete count (result_ok r) ≡ None
+    → size_if_complete count (result_ok r) ≡ None
 no_size count (Ok size) f e = grind (arith, nat_tests)
 no_size count (Err g) f e = refl
 
@@ -149,8 +150,8 @@ module _ {T A : Type 0} (E : Type 0) (is_take : T → List ℕ → A → T → T
     pub received_limited : (left : Option ℕ) (received : Received A) → is_over left ≡ false
         → Advances old new following is_take before after (let r : Result (Received A) E = Ok
         received in r)
-        → Advances (limited_known left old) (limited_known (left_after left received) new)
-        (limited_remaining (left_after left received) new following) is_take before after
+        → Advances (limited_known left old) (limited_known (limit_after left received) new)
+        (limited_remaining (limit_after left received) new following) is_take before after
         (let r : Result (Received A) E = Ok received in r)
     received_limited None End some on = on
     received_limited None (PesPacket answer) some on = on
@@ -182,11 +183,12 @@ prefix_of None new b p reported took = absurd cc
 prefix_of (Some x) None b p reported took = absurd took
 prefix_of (Some x) (Some y) b p reported took = (y, refl, cc)
 
-kept_reported : (mid new : Option (List ℕ)) (b : List ℕ) → mid ≡ Some b → Keeps mid new → new ≡ Some
+reported_bytes_kept : (mid new : Option (List ℕ)) (b : List ℕ) → mid ≡ Some b → Keeps mid new → new
+    ≡ Some
     b
-kept_reported None new b reported kept = absurd cc
-kept_reported (Some x) None b reported kept = absurd kept
-kept_reported (Some x) (Some y) b reported kept = cc
+reported_bytes_kept None new b reported kept = absurd cc
+reported_bytes_kept (Some x) None b reported kept = absurd kept
+reported_bytes_kept (Some x) (Some y) b reported kept = cc
 
 at_end : (mid : Option (List ℕ)) (b : List ℕ) → IsAtEnd mid → mid ≡ Some b → b ≡ []
 at_end None b end reported = absurd cc
@@ -200,7 +202,7 @@ pub skipped_one : (n k : ℕ) (old mid new : Option (List ℕ)) (p : List ℕ) �
 skipped_one n k old mid new p more so_far is took b reported =
     let at = so_far b reported in
     let next = prefix_of mid new at.0 p at.1 took in
-    let size : pes_packet_size at.0 ≡ Some (length p) = ap pes_packet_size next.2 ∙ pes_packet_is p
+    let size : pes_packet_size at.0 ≡ Some (length p) = ap pes_packet_size next.2 ∙ pes_packet_eq p
     next.0 is in
     let dropped : drop (length p) at.0 ≡ next.0 =
     ap (drop (length p)) next.2 ∙ drop_at p next.0 (length p) refl in
@@ -208,11 +210,11 @@ skipped_one n k old mid new p more so_far is took b reported =
     let following : rest_after_pes_packets (n - k) at.0 ≡ rest_after_pes_packets (n - (k + 1))
     next.0 =
     ap (λ m. rest_after_pes_packets m at.0) here
-    ∙ rest_after_one (n - (k + 1)) at.0 (length p) size
+    ∙ rest_after_pes_packets_suc (n - (k + 1)) at.0 (length p) size
     ∙ ap (rest_after_pes_packets (n - (k + 1))) dropped in
     let count : count_pes_packets (n - k) at.0 ≡ suc (count_pes_packets (n - (k + 1)) next.0) =
     ap (λ m. count_pes_packets m at.0) here
-    ∙ count_one (n - (k + 1)) at.0 (length p) size
+    ∙ count_pes_packets_suc (n - (k + 1)) at.0 (length p) size
     ∙ ap (λ l. suc (count_pes_packets (n - (k + 1)) l)) dropped in
     let sum = at.3 in (
       next.0,
@@ -225,7 +227,7 @@ pub skipped_kept : (n k : ℕ) (old mid new : Option (List ℕ)) → HasSkipped 
     → Keeps mid new
     → HasSkipped n k old new
 skipped_kept n k old mid new so_far kept b reported =
-    let at = so_far b reported in (at.0, kept_reported mid new at.0 at.1 kept, at.2, at.3)
+    let at = so_far b reported in (at.0, reported_bytes_kept mid new at.0 at.1 kept, at.2, at.3)
 
 skipped_end : (n k : ℕ) (old mid new : Option (List ℕ))
     → HasSkipped n k old mid
@@ -237,7 +239,8 @@ skipped_end n k old mid new so_far kept none b reported =
     let no = none at.0 at.1 in
     let count = at.3 in
     let zero_more = count_none (n - k) at.0 no in (
-      kept_reported mid new at.0 at.1 kept ∙ ap Some (sym (at.2 ∙ rest_after_none (n - k) at.0 no)),
+      reported_bytes_kept mid new at.0 at.1 kept ∙ ap Some
+          (sym (at.2 ∙ rest_after_none (n - k) at.0 no)),
       omega (arith, count, zero_more),
     )
 
@@ -265,7 +268,7 @@ module _ {T A : Type 0} (E : Type 0) (is_take : T → List ℕ → A → T → T
     skipped_stop End other so_far on = (
       skipped_end n k old mid new so_far on.0
           (λ b reported. ap pes_packet_size
-          (at_end new b on.2 (kept_reported mid new b reported on.0)) ∙ nil_size),
+          (at_end new b on.2 (reported_bytes_kept mid new b reported on.0)) ∙ nil_size),
       skipped_kept n k old mid new so_far on.0,
     )
     skipped_stop (PesPacket a) other so_far on = absurd (other a refl)

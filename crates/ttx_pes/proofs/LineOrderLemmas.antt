@@ -66,22 +66,22 @@ record IsNumbered (i : ℕ) (p : List ℕ) : Type 0 where
   pub line : eqb (numbered_unit i p).line 0 ≡ false
   pub place : line_order_place (numbered_unit i p) ≡ numbered_place i
 
-numbered_one : (i : ℕ) (p : List ℕ) → i < 32 → IsPacket p → IsNumbered i p
-numbered_one i p lt h = grind (arith, nat_tests)
+numbered_packet : (i : ℕ) (p : List ℕ) → i < 32 → IsPacket p → IsNumbered i p
+numbered_packet i p lt h = grind (arith, nat_tests)
 
 numbered_each : (i : ℕ) (ps : List (List ℕ)) → i + length ps ≤ 32 → AllByRecursion IsPacket ps
     → AllByRecursion IsUnit (numbered_units i ps)
 numbered_each i [] lt h = tt
 numbered_each i (p ∷ ps) lt h =
     let few : i + 1 + length ps ≤ 32 = omega arith in
-    ((numbered_one i p (omega arith) h.0).unit, numbered_each (i + 1) ps few h.1)
+    ((numbered_packet i p (omega arith) h.0).unit, numbered_each (i + 1) ps few h.1)
 
 numbered_order : (i last : ℕ) (ps : List (List ℕ)) → i + length ps ≤ 32 → AllByRecursion IsPacket ps
     → last < numbered_place i
     → AreInLineOrder last (numbered_units i ps)
 numbered_order i last [] few h lt = tt
 numbered_order i last (p ∷ ps) few h lt =
-    let one = numbered_one i p (omega arith) h.0 in
+    let one = numbered_packet i p (omega arith) h.0 in
     let stands : ltb last (line_order_place (numbered_unit i p)) ≡ true = search (rules, lt-ltb) in
     let next : i + 1 + length ps ≤ 32 = omega arith in
     let rises : line_order_place (numbered_unit i p) < numbered_place (i + 1) =

@@ -10,21 +10,21 @@ use Rattle.ttx_pes.specs.DataUnit.{UnitValue}
 use Rattle.ttx_pes.specs.Laws.{LawOfLineOrder}
 use Rattle.ttx_pes.specs.LineOrder.{line_order_place, AreInLineOrder, RisesTo}
 
-abbrev IsPast : ℕ → UnitValue → Type 0
-IsPast before u = u.line ≢ 0 → before < line_order_place u
+abbrev ComesAfterPlace : ℕ → UnitValue → Type 0
+ComesAfterPlace before u = u.line ≢ 0 → before < line_order_place u
 
 -- If units are in line order, each unit with a defined line comes after the start and after all
 -- units before it.
 pairs_from_order : (before : ℕ) (us : List UnitValue)
     → AreInLineOrder before us
-    → All (IsPast before) us × AllPairs RisesTo us
+    → All (ComesAfterPlace before) us × AllPairs RisesTo us
 pairs_from_order before [] h = (λ k d l. absurd (omega arith), λ i j d l m. absurd (omega arith))
 pairs_from_order before (u ∷ us) h = elim (cases_eq u.line 0) [
   | inl none ↦
       let t : eqb u.line 0 ≡ true = eq-eqb u.line 0 none in
       let order : AreInLineOrder before us = rw t at h.1 in
       let rest = pairs_from_order before us order in (
-        All-cons (IsPast before) u us (λ some. absurd (some none)) rest.0,
+        All-cons (ComesAfterPlace before) u us (λ some. absurd (some none)) rest.0,
         AllPairs-cons RisesTo u us (λ k d l some more. absurd (some none)) rest.1,
       )
   | inr some ↦
@@ -33,14 +33,14 @@ pairs_from_order before (u ∷ us) h = elim (cases_eq u.line 0) [
       let past : ltb before (line_order_place u) ≡ true = rw t at h.0 in
       let here : before < line_order_place u = ltb-true before (line_order_place u) past in
       let rest = pairs_from_order (line_order_place u) us order in (
-        All-cons (IsPast before) u us (λ _. here)
+        All-cons (ComesAfterPlace before) u us (λ _. here)
             (λ k d l more. let there = rest.0 k d l more in omega arith),
         AllPairs-cons RisesTo u us (λ k d l _ more. rest.0 k d l more) rest.1,
       )
 ]
 
 order_from_pairs : (before : ℕ) (us : List UnitValue)
-    → All (IsPast before) us
+    → All (ComesAfterPlace before) us
     → AllPairs RisesTo us
     → AreInLineOrder before us
 order_from_pairs before [] all pairs = tt

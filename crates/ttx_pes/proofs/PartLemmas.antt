@@ -7,7 +7,7 @@ use Rattle.ttx_pes.specs.Advancing.{limited_known}
 use Rattle.ttx_pes.specs.PartOfPesPackets.{part_known, part_number}
 use Rattle.ttx_pes.specs.PesPacketRange.{AheadValue, PesPacketRangeValue, rest_after_pes_packets}
 use Rattle.ttx_pes.specs.PesPacketRange.{count_pes_packets}
-use Rattle.ttx_pes.specs.PesPacketRange.{first_index, in_range, limited, most_of}
+use Rattle.ttx_pes.specs.PesPacketRange.{first_index, in_range, limited, range_length}
 
 part_of : (n : ℕ) (left : Option ℕ) (known_bytes : Option (List ℕ))
     → part_known n left known_bytes ≡ limited_known left (option_map (rest_after_pes_packets n)
@@ -17,19 +17,20 @@ part_of zero left None = refl
 part_of zero left (Some x) = refl
 part_of (suc n) left known_bytes = refl
 
-limited_remaining_is : (m : Option ℕ) (n : ℕ) (known_bytes : Option (List ℕ))
+limited_remaining_eq : (m : Option ℕ) (n : ℕ) (known_bytes : Option (List ℕ))
     → limited_known m (option_map (rest_after_pes_packets n) known_bytes)
     ≡ option_map (λ b. limited m (rest_after_pes_packets n b)) known_bytes
-limited_remaining_is None n None = refl
-limited_remaining_is None n (Some x) = refl
-limited_remaining_is (Some k) n None = refl
-limited_remaining_is (Some k) n (Some x) = refl
+limited_remaining_eq None n None = refl
+limited_remaining_eq None n (Some x) = refl
+limited_remaining_eq (Some k) n None = refl
+limited_remaining_eq (Some k) n (Some x) = refl
 
 pub part_is : (r : PesPacketRangeValue) (known_bytes : Option (List ℕ))
-    → part_known r.first (most_of r) known_bytes ≡ option_map (in_range r) known_bytes
+    → part_known r.first (range_length r) known_bytes ≡ option_map (in_range r) known_bytes
 unfolding in_range
 part_is r known_bytes =
-    part_of r.first (most_of r) known_bytes ∙ limited_remaining_is (most_of r) r.first known_bytes
+    part_of r.first (range_length r) known_bytes ∙ limited_remaining_eq (range_length r) r.first
+        known_bytes
 
 pub number_is : (r : PesPacketRangeValue) (known_bytes : Option (List ℕ))
     → part_number (record { skipped = 0; to_skip = r.first }) known_bytes

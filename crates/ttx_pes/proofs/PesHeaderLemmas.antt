@@ -14,7 +14,7 @@ use Rattle.ttx_pes.specs.PesGrammar.{pts_bytes}
 use Rattle.ttx_pes.specs.Reading.{is_start, pts_at, pts_bits, size_at, stated_size, units_at}
 use Rattle.ttx_pes.specs.Reading.{value_at}
 use Rattle.ttx_pes.proofs.DataUnitLemmas.{AreBytes-drop, list_of_bytes, units_sound, units_complete}
-use Rattle.sub_io.proofs.ReadingLemmas.{step_gave, Ok-injective, given_as}
+use Rattle.sub_io.proofs.ReadingLemmas.{step_gave, Ok-injective, ok_result}
 
 -- If a size can be read from six bytes, they match the first six bytes of a packet of the grammar.
 pub head_sound : (b : List ℕ) (size : ℕ) → length b ≡ 6 → AreBytes b → size_at b ≡ Ok size
@@ -47,8 +47,8 @@ pub start_word : (b : List ℕ)
     ≡ is_start b
 start_word b h1 = grind (arith, nat_tests)
 
-abbrev pub six_of : ℕ → List ℕ
-six_of n = packet_start ++ bytes_high_first 2 (packet_length n)
+abbrev pub first_six_bytes : ℕ → List ℕ
+first_six_bytes n = packet_start ++ bytes_high_first 2 (packet_length n)
 
 record Header (b : List ℕ) (t : ℕ) : Type 0 where
   pub flagged : get_or b 0 0 / 16 ≡ 8
@@ -85,7 +85,7 @@ pub body_sound : (n : ℕ) (b : List ℕ) (v : PesValue)
     → length b ≡ 184 * n - 6
     → AreBytes b
     → value_at b ≡ Ok v
-    → IsValidPesPacket v (six_of n ++ b)
+    → IsValidPesPacket v (first_six_bytes n ++ b)
 unfolding value_at
 body_sound n b v lo hi len fit e =
     let p = step_gave (pts_at b) _ v e in
@@ -100,7 +100,7 @@ body_sound n b v lo hi len fit e =
     let others = parted b (omega arith) in
     let body : b ≡ (get_or b 0 0 ∷ get_or b 1 0 ∷ 36 ∷ [])
     ++ (pts_bytes p.0 ++ (take 31 (drop 8 b) ++ (get_or b 39 0 ∷ drop 40 b))) = cc in
-    subst (λ (x : PesValue). IsValidPesPacket x (six_of n ++ b))
+    subst (λ (x : PesValue). IsValidPesPacket x (first_six_bytes n ++ b))
     (Ok-injective (value_with p.0 q.0) v q.2)
     (record {
       n = n;
@@ -109,7 +109,7 @@ body_sound n b v lo hi len fit e =
       header_stuffing = take 31 (drop 8 b);
       data_identifier = get_or b 39 0;
       data_units = drop 40 b;
-      bytes = ap (λ (x : List ℕ). six_of n ++ x) body;
+      bytes = ap (λ (x : List ℕ). first_six_bytes n ++ x) body;
       size = (lo, hi);
       not_scrambled = h.flagged;
       pts_alone = h.pts_alone;
@@ -135,14 +135,14 @@ body_of v p h =
     ++ (pts_bytes v.pts ++ (h.header_stuffing ++ (h.data_identifier ∷ h.data_units)))
 
 pub packet_of_body : (v : PesValue) (p : List ℕ) (h : IsValidPesPacket v p)
-    → p ≡ six_of h.n ++ body_of v p h
+    → p ≡ first_six_bytes h.n ++ body_of v p h
 unfolding body_of
 packet_of_body v p h = h.bytes
 
 header_complete : (v : PesValue) (p : List ℕ) (h : IsValidPesPacket v p)
     → pts_at (body_of v p h) ≡ Ok v.pts
 unfolding pts_at body_of
-header_complete v p h = grind (arith, nat_tests, get_or_at, given_as)
+header_complete v p h = grind (arith, nat_tests, get_or_at, ok_result)
 
 -- The value of a packet of the grammar can be read from its bytes from byte 6 on.
 pub body_complete : (v : PesValue) (p : List ℕ) (h : IsValidPesPacket v p)

@@ -13,19 +13,20 @@ use Rattle.std.specs.Int.{bytes_high_first}
 use Rattle.std.specs.Io.KnownBytes.{Consumes, IsAtEnd, prepend_known}
 use Rattle.sub_io.specs.Reading.{AreBytes}
 use Rattle.ttx_pes.specs.Advancing.{AreRead, ReadsForPesPacket, ShowRest, fault_of_size}
-use Rattle.ttx_pes.specs.Advancing.{TakesPesPacketBy, buffered_then, lends_pes_packet, rest_fault}
+use Rattle.ttx_pes.specs.Advancing.{TakesPesPacketBy, buffered_then, has_borrowed_pes_packet}
+use Rattle.ttx_pes.specs.Advancing.{rest_fault}
 use Rattle.ttx_pes.specs.declared.pes_packets.Received.{Received}
 use Rattle.ttx_pes.specs.declared.pes_packets.Received.TheVariants.{End, PesPacket, Rest}
 use Rattle.ttx_pes.specs.BorrowedPacket.{holds_packet}
 use Rattle.ttx_pes.specs.PesGrammar.{packet_length, packet_start}
 use Rattle.ttx_pes.specs.PesPackets.{IsPesPacket}
-use Rattle.ttx_pes.specs.Reader.{IsBegun}
+use Rattle.ttx_pes.specs.Reader.{IsIncompletePesPacket}
 use Rattle.ttx_pes.specs.Reading.{packet_at, size_at}
 use Rattle.ttx_pes.specs.declared.fault.PesFault.{PesFault}
 use Rattle.ttx_pes.specs.declared.fault.PesFault.TheVariants as fault
 use Rattle.ttx_pes.proofs.DataUnitLemmas.{AreBytes-take}
 use Rattle.ttx_pes.proofs.PesPacketLemmas.{sized_pes_packet}
-use Rattle.ttx_pes.proofs.PesHeaderLemmas.{head_complete, six_of}
+use Rattle.ttx_pes.proofs.PesHeaderLemmas.{head_complete, first_six_bytes}
 use Rattle.ttx_pes.proofs.ReadingLemmas.{packet_cut, packet_short, packet_size}
 
 pub rest_short : (b : List ℕ) → length b < 6 → rest_fault b ≡ Some fault.Truncated
@@ -82,12 +83,12 @@ show_cut new b size le e lt end = record {
       ap rest_fault (ap (λ l. b ++ l) (none end) ∙ append-nil b) ∙ rest_cut b size le e lt;
 }
 
-pub buffered_is : (buffered : List ℕ) (known_bytes : Option (List ℕ)) → buffered_then buffered
+pub buffered_eq : (buffered : List ℕ) (known_bytes : Option (List ℕ)) → buffered_then buffered
     known_bytes
     ≡ prepend_known buffered known_bytes
-buffered_is [] None = refl
-buffered_is [] (Some x) = refl
-buffered_is (x ∷ buffered) known_bytes = refl
+buffered_eq [] None = refl
+buffered_eq [] (Some x) = refl
+buffered_eq (x ∷ buffered) known_bytes = refl
 
 pub read_on : (old mid new : Option (List ℕ)) (b more : List ℕ) → Consumes old mid b
     → Consumes (prepend_known b mid) new more
@@ -102,12 +103,13 @@ pub pes_packet_sized : (p : List ℕ) → IsPesPacket p
     → (size_at (take 6 p) ≡ Ok (length p))
     × (184 ≤ length p) × (length p ≤ 1656) × (length p % 184 ≡ 0)
 pes_packet_sized p h =
-    let parts : p ≡ six_of h.n ++ h.body =
+    let parts : p ≡ first_six_bytes h.n ++ h.body =
     h.bytes ∙ sym (append_assoc packet_start (bytes_high_first 2 (packet_length h.n)) h.body) in
     let long = h.long in
     let lo = h.size.0 in
     let hi = h.size.1 in
-    let head : take 6 p ≡ six_of h.n = ap (take 6) parts ∙ take_at (six_of h.n) h.body 6 refl in (
+    let head : take 6 p ≡ first_six_bytes h.n = ap (take 6) parts ∙ take_at (first_six_bytes h.n)
+        h.body 6 refl in (
       ap size_at head ∙ head_complete h.n lo hi ∙ ap (λ (k : ℕ). Ok k) (sym long),
       omega (arith, long, lo),
       omega (arith, long, hi),
@@ -149,9 +151,9 @@ buffered_rest new b f shows =
     some_of (rest_fault b) f
     (ap rest_fault (sym (append-nil b)) ∙ shows.all [] (λ end. refl))
 
-pub buffered_begun : (b : List ℕ) → IsBegun b → IsSome (rest_fault b)
-buffered_begun b (inl lt) = some_of (rest_fault b) fault.Truncated (rest_short b lt)
-buffered_begun b (inr (size, sized, lt)) = elim (cases_lt (length b) 6) [
+pub buffered_incomplete : (b : List ℕ) → IsIncompletePesPacket b → IsSome (rest_fault b)
+buffered_incomplete b (inl lt) = some_of (rest_fault b) fault.Truncated (rest_short b lt)
+buffered_incomplete b (inr (size, sized, lt)) = elim (cases_lt (length b) 6) [
   | inl short ↦ some_of (rest_fault b) fault.Truncated (rest_short b short)
   | inr le ↦ some_of (rest_fault b) fault.Truncated (rest_cut b size le sized lt)
 ]
@@ -176,7 +178,7 @@ module _ {E : Type 0} (old new : Option (List ℕ)) (b : List ℕ) (r : Result (
         → (let x : Result (Received (Unit {0})) E = Err e in r ≡ x)
         → IsSome (rest_fault b)
     buffered_at_failure e is =
-        buffered_begun b
+        buffered_incomplete b
         (subst (λ (x : Result (Received (Unit {0})) E). AreRead new b x) is reads.are_read)
 
     pub read_complete : (x : Unit {0})
@@ -185,13 +187,13 @@ module _ {E : Type 0} (old new : Option (List ℕ)) (b : List ℕ) (r : Result (
     read_complete x is =
         subst (λ (y : Result (Received (Unit {0})) E). AreRead new b y) is reads.are_read
 
-pub got_few : (buffered got size : ℕ)
+pub buffered_at_most : (buffered got size : ℕ)
     → (buffered ≤ 184 → got ≤ 184)
     → (6 ≤ buffered → got ≡ buffered)
     → (6 ≤ buffered → buffered < size)
     → 184 ≤ size
     → got ≤ size
-got_few buffered got size bound none few le = elim (cases_lt buffered 6) [
+buffered_at_most buffered got size bound none few le = elim (cases_lt buffered 6) [
   | inl lt ↦ omega (arith, bound (omega arith), le)
   | inr six ↦ omega (arith, none six, few six)
 ]
@@ -201,7 +203,7 @@ module _ {T A : Type 0} (is_take : T → List ℕ → A → T → Type 0) (taker
   where
     all_taken : Consumes (prepend_known buffered old) new b → Consumes (buffered_then buffered old)
         new b
-    all_taken c = subst (λ (o : Option (List ℕ)). Consumes o new b) (sym (buffered_is buffered old))
+    all_taken c = subst (λ (o : Option (List ℕ)). Consumes o new b) (sym (buffered_eq buffered old))
         c
 
     pub taken_complete : (answer : A) (after : T)
@@ -233,7 +235,8 @@ pub borrowed_long : (buffered borrowed : List ℕ) → take (length buffered) bo
 borrowed_long buffered borrowed begins =
     omega (arith, ap length begins, length-take (length buffered) borrowed)
 
-pub lends_is : (buffered borrowed : List ℕ) → buffered ≡ [] → holds_packet borrowed ≡ true
-    → lends_pes_packet buffered borrowed ≡ true
-lends_is [] borrowed none holds = holds
-lends_is (x ∷ buffered) borrowed none holds = absurd cc
+pub borrowed_pes_packet_holds : (buffered borrowed : List ℕ) → buffered ≡ [] → holds_packet borrowed
+    ≡ true
+    → has_borrowed_pes_packet buffered borrowed ≡ true
+borrowed_pes_packet_holds [] borrowed none holds = holds
+borrowed_pes_packet_holds (x ∷ buffered) borrowed none holds = absurd cc

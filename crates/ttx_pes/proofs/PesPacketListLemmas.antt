@@ -73,12 +73,12 @@ record Reports (p more : List ℕ) : Type 0 where
 states_size : (p more : List ℕ) → IsPesPacket p → Reports p more
 states_size p more h1 = grind (arith, nat_tests, head_complete)
 
-size_is : (b : List ℕ) (size : ℕ)
+size_eq : (b : List ℕ) (size : ℕ)
     → 6 ≤ length b
     → size_at (take 6 b) ≡ Ok size
     → stated_size b ≡ size
 unfolding size_at
-size_is b size long e = grind (arith, nat_tests, get_or-take)
+size_eq b size long e = grind (arith, nat_tests, get_or-take)
 
 -- A PES packet of this size is at the front of the bytes, and can be read or has a fault of a
 -- complete packet.
@@ -106,7 +106,7 @@ has_packet_in_front : (b : List ℕ) (size : ℕ)
     → size ≤ length b
     → HasPacketInFront b size
 has_packet_in_front b size fit six e le =
-    let reported = size_is b size six e in
+    let reported = size_eq b size six e in
     let long : length (take size b) ≡ size = length-take size b ∙ omega arith in
     let body = take (size - 6) (drop 6 b) in
     let lo : 6 ≤ size = omega arith in
@@ -187,7 +187,7 @@ record Splits (given : ℕ) (bytes : List ℕ) (value : PesPacketsValue) : Type 
       → given + length others ≤ most_packets
       → bytes ≡ concat others ++ more
       → length others ≤ length packets
-  pub left_is : (n : ℕ) → n ≡ given + length packets → answer_at n rest ≡ answer_left value.left
+  pub left_eq : (n : ℕ) → n ≡ given + length packets → answer_at n rest ≡ answer_left value.left
 
 splits_none : (given : ℕ) (bytes : List ℕ) (left : Option PesFault)
     → given ≤ most_packets
@@ -202,7 +202,7 @@ splits_none given bytes left few is none = record {
   few = omega arith;
   joined = refl;
   longest = most;
-  left_is = λ n e. ap (λ (k : ℕ). answer_at k bytes) (e ∙ omega arith) ∙ is;
+  left_eq = λ n e. ap (λ (k : ℕ). answer_at k bytes) (e ∙ omega arith) ∙ is;
 }
   where
     most : (others : List (List ℕ)) (more : List ℕ)
@@ -232,7 +232,7 @@ splits_more given size bytes pes_packet more_pes_packets below s is h = record {
       ∙ ap (λ (x : List ℕ). take size bytes ++ x) h.joined
       ∙ sym (append_assoc (take size bytes) (concat h.packets) h.rest);
   longest = most;
-  left_is = λ n e. h.left_is n (e ∙ omega arith);
+  left_eq = λ n e. h.left_eq n (e ∙ omega arith);
 }
   where
     most : (others : List (List ℕ)) (more : List ℕ)
@@ -357,7 +357,7 @@ after_read b p e = elim (cases_lt (length b) 6) [
           let rest : drop size b ≡ p.1 =
           ap (λ (x : PesValue × List ℕ). x.1) (Ok-injective (s.0, drop size b) p s.2) in
           rest_after-packet p.0 b p.1 e ∙ sym rest
-          ∙ ap (λ (k : ℕ). drop k b) (sym (size_is b size long sized))
+          ∙ ap (λ (k : ℕ). drop k b) (sym (size_eq b size long sized))
     ]
   ]
 ]
@@ -377,4 +377,4 @@ pub rest_after_taken : (old new : Option (List ℕ)) (bytes : List ℕ) (f : Pes
     → old ≡ Some bytes
     → new ≡ Some (rest_after_pes_packet bytes)
 rest_after_taken old new bytes f h1 h2 =
-    grind (arith, nat_tests, left, states_size, size_is, length-append, drop_at)
+    grind (arith, nat_tests, left, states_size, size_eq, length-append, drop_at)

@@ -8,7 +8,7 @@ use Rattle.std.proofs.lemmas.Bool.{cases_lt, le-leb, le-ltb, lt-ltb}
 use Rattle.std.proofs.lemmas.Bool.Decides.{nat_tests}
 use Rattle.std.specs.Result.{result_ok}
 use Rattle.ttx_pes.specs.PesPacketRange.{rest_after_pes_packets, count_pes_packets}
-use Rattle.ttx_pes.specs.PesPacketRange.{first_pes_packets, if_complete}
+use Rattle.ttx_pes.specs.PesPacketRange.{first_pes_packets, size_if_complete}
 use Rattle.ttx_pes.specs.PesPacketRange.{pes_packet_size, stated_pes_packet}
 use Rattle.ttx_pes.specs.Reading.{size_at}
 use Rattle.ttx_pes.specs.declared.fault.PesFault.{PesFault}
@@ -23,7 +23,7 @@ unfolding size_at
 size_counts h size e = grind (arith, nat_tests)
 
 complete_stated : (count size : ℕ) (r : Result ℕ PesFault)
-    → if_complete count (result_ok r) ≡ Some size
+    → size_if_complete count (result_ok r) ≡ Some size
     → (r ≡ Ok size) × (size ≤ count)
 complete_stated count size (Err f) e = absurd cc
 complete_stated count size (Ok reported) e = grind (arith, nat_tests)
@@ -37,7 +37,8 @@ pes_packet_stated b size e = elim (cases_lt (length b) 6) [
   | inr le ↦
       let long = le-ltb (length b) 6 le in
       let reported = complete_stated (length b) size (size_at (take 6 b))
-      (ap (λ c. if_complete (length b) (cond c None (result_ok (size_at (take 6 b))))) (sym long) ∙
+      (ap (λ c. size_if_complete (length b) (cond c None (result_ok (size_at (take 6 b)))))
+          (sym long) ∙
       e)
       in
       (size_counts (take 6 b) size reported.0, reported.0, reported.1)
@@ -59,17 +60,17 @@ unfolding first_pes_packets
 first_none zero b lt e = absurd (omega arith)
 first_none (suc n) b lt e = rw e refl
 
-pub rest_after_one : (n : ℕ) (b : List ℕ) (size : ℕ) → pes_packet_size b ≡ Some size
+pub rest_after_pes_packets_suc : (n : ℕ) (b : List ℕ) (size : ℕ) → pes_packet_size b ≡ Some size
     → rest_after_pes_packets (suc n) b ≡ rest_after_pes_packets n (drop size b)
 unfolding rest_after_pes_packets
-rest_after_one n b size e = rw e refl
+rest_after_pes_packets_suc n b size e = rw e refl
 
-pub count_one : (n : ℕ) (b : List ℕ) (size : ℕ) → pes_packet_size b ≡ Some size
+pub count_pes_packets_suc : (n : ℕ) (b : List ℕ) (size : ℕ) → pes_packet_size b ≡ Some size
     → count_pes_packets (suc n) b ≡ suc (count_pes_packets n (drop size b))
 unfolding count_pes_packets
-count_one n b size e = rw e refl
+count_pes_packets_suc n b size e = rw e refl
 
-pub first_one : (n : ℕ) (b : List ℕ) (size : ℕ) → pes_packet_size b ≡ Some size
+pub first_pes_packets_suc : (n : ℕ) (b : List ℕ) (size : ℕ) → pes_packet_size b ≡ Some size
     → first_pes_packets (suc n) b ≡ take size b ++ first_pes_packets n (drop size b)
 unfolding first_pes_packets
-first_one n b size e = rw e refl
+first_pes_packets_suc n b size e = rw e refl

@@ -25,13 +25,13 @@ use Rattle.ttx_pes.specs.declared.progress.Progress.TheVariants.{Reading}
 use Rattle.ttx_pes.proofs.PesPacketLemmas.{taken_pes_packet}
 use Rattle.ttx_pes.proofs.PesPacketBufferLemmas.{pes_packet_sized, rest_packet, rest_short}
 use Rattle.ttx_pes.proofs.TakingLemmas.{settled_field, settles_as, reports_end}
-use Rattle.ttx_pes.proofs.TakingLemmas.{reports_settled, reports_too_many, complete_settles}
+use Rattle.ttx_pes.proofs.TakingLemmas.{reports_settled, reports_too_many, complete_packet_settles}
 
 -- The fault is one of the format, but neither of a complete PES packet nor of a device.
-abbrev pub IsOfRest : PesFault → Type 0
-IsOfRest f = (is_format_fault f ≡ true) × (is_of_pes_packet f ≡ false) × (is_read f ≡ false)
+abbrev pub IsRestFault : PesFault → Type 0
+IsRestFault f = (is_format_fault f ≡ true) × (is_of_pes_packet f ≡ false) × (is_read f ≡ false)
 
-size_kind : (b : List ℕ) (f : PesFault) → size_at b ≡ Err f → IsOfRest f
+size_kind : (b : List ℕ) (f : PesFault) → size_at b ≡ Err f → IsRestFault f
 unfolding size_at
 size_kind b f e = grind (arith, nat_tests)
 
@@ -43,22 +43,22 @@ cut_fault count size f e = grind (arith, nat_tests)
 fault_kind : (count : ℕ) (b : List ℕ) (r : Result ℕ PesFault) (f : PesFault)
     → size_at b ≡ r
     → fault_of_size count r ≡ Some f
-    → IsOfRest f
+    → IsRestFault f
 fault_kind count b (Ok size) f is e =
-    subst IsOfRest (cut_fault count size f e) (refl, refl, refl)
-fault_kind count b (Err g) f is e = subst IsOfRest (same_Some _ _ e) (size_kind b g is)
+    subst IsRestFault (cut_fault count size f e) (refl, refl, refl)
+fault_kind count b (Err g) f is e = subst IsRestFault (same_Some _ _ e) (size_kind b g is)
 
-pub rest_kind : (b : List ℕ) (f : PesFault) → rest_fault b ≡ Some f → IsOfRest f
+pub rest_kind : (b : List ℕ) (f : PesFault) → rest_fault b ≡ Some f → IsRestFault f
 unfolding rest_fault
 rest_kind b f e = elim (cases_lt (length b) 6) [
   | inl lt ↦
-      subst IsOfRest (same_Some _ _ (sym (rest_short b lt) ∙ e)) (refl, refl, refl)
+      subst IsRestFault (same_Some _ _ (sym (rest_short b lt) ∙ e)) (refl, refl, refl)
   | inr le ↦
       fault_kind (length b) (take 6 b) (size_at (take 6 b)) f refl
       (rw (le-ltb (length b) 6 le) at e)
 ]
 
-pub shown_kind : (old left : Option (List ℕ)) (f : PesFault) → IsRest old left f → IsOfRest f
+pub shown_kind : (old left : Option (List ℕ)) (f : PesFault) → IsRest old left f → IsRestFault f
 shown_kind old left f r =
     rest_kind (r.bytes ++ []) f (r.shows.all [] (λ end. refl))
 
@@ -107,7 +107,7 @@ settles_pes_packet : (old new : Option (List ℕ)) (p : List ℕ) → IsPesPacke
     → Settles old new p (value_at (drop 6 p))
 settles_pes_packet old new p is consumed =
     let s = pes_packet_sized p is in
-    complete_settles old new p consumed (omega (arith, s.1)) s.0
+    complete_packet_settles old new p consumed (omega (arith, s.1)) s.0
 
 module _ {T A : Type 0} (is_take : T → List ℕ → A → T → Type 0) (given : ℕ)
     (old new left : Option (List ℕ)) (before : T) (answer : A) (after : T)

@@ -19,24 +19,26 @@ use Rattle.ttx_pes.specs.PesPacketRange.{stated_pes_packet}
 use Rattle.ttx_pes.specs.PesPackets.{IsPesPacket}
 use Rattle.ttx_pes.specs.Reading.{size_at}
 use Rattle.ttx_pes.proofs.DataUnitLemmas.{AreBytes-take}
-use Rattle.ttx_pes.proofs.PesHeaderLemmas.{head_complete, six_of}
+use Rattle.ttx_pes.proofs.PesHeaderLemmas.{head_complete, first_six_bytes}
 use Rattle.ttx_pes.proofs.PesPacketLemmas.{sized_pes_packet}
-use Rattle.ttx_pes.proofs.PesPacketRangeLemmas.{rest_after_none, rest_after_one, count_none}
-use Rattle.ttx_pes.proofs.PesPacketRangeLemmas.{count_one}
-use Rattle.ttx_pes.proofs.PesPacketRangeLemmas.{first_none, first_one, pes_packet_stated, whole}
+use Rattle.ttx_pes.proofs.PesPacketRangeLemmas.{rest_after_none, rest_after_pes_packets_suc}
+use Rattle.ttx_pes.proofs.PesPacketRangeLemmas.{count_none}
+use Rattle.ttx_pes.proofs.PesPacketRangeLemmas.{count_pes_packets_suc}
+use Rattle.ttx_pes.proofs.PesPacketRangeLemmas.{first_none, first_pes_packets_suc}
+use Rattle.ttx_pes.proofs.PesPacketRangeLemmas.{pes_packet_stated, whole}
 
-pes_packet_is : (p rest : List ℕ) → IsPesPacket p → pes_packet_size (p ++ rest) ≡ Some (length p)
+pes_packet_eq : (p rest : List ℕ) → IsPesPacket p → pes_packet_size (p ++ rest) ≡ Some (length p)
 unfolding stated_pes_packet
-pes_packet_is p rest h =
-    let parts : p ≡ six_of h.n ++ h.body =
+pes_packet_eq p rest h =
+    let parts : p ≡ first_six_bytes h.n ++ h.body =
     h.bytes ∙ sym (append_assoc packet_start (bytes_high_first 2 (packet_length h.n)) h.body) in
-    let all : p ++ rest ≡ six_of h.n ++ (h.body ++ rest) =
-    ap (λ l. l ++ rest) parts ∙ append_assoc (six_of h.n) h.body rest in
+    let all : p ++ rest ≡ first_six_bytes h.n ++ (h.body ++ rest) =
+    ap (λ l. l ++ rest) parts ∙ append_assoc (first_six_bytes h.n) h.body rest in
     let long = h.long in
     let lo = h.size.0 in
     let size = length-append p rest in
-    let head : take 6 (p ++ rest) ≡ six_of h.n =
-    ap (take 6) all ∙ take_at (six_of h.n) (h.body ++ rest) 6 refl in
+    let head : take 6 (p ++ rest) ≡ first_six_bytes h.n =
+    ap (take 6) all ∙ take_at (first_six_bytes h.n) (h.body ++ rest) 6 refl in
     let reported : stated_pes_packet (p ++ rest) ≡ Some (184 * h.n) =
     rw (
       le-ltb (length (p ++ rest)) 6 (omega (arith, size, long, lo)),
@@ -56,8 +58,8 @@ pes_packet_of_size b size fit e =
     sized_pes_packet (take size b) (AreBytes-take size b fit) (omega (arith, len, reported.0))
     (ap size_at head ∙ reported.1 ∙ ap Ok (sym len))
 
-rest_is : (rest : List ℕ) → AreBytes rest → BeginsNoPesPacket rest → pes_packet_size rest ≡ None
-rest_is rest fit none = by_size (pes_packet_size rest) refl
+rest_eq : (rest : List ℕ) → AreBytes rest → BeginsNoPesPacket rest → pes_packet_size rest ≡ None
+rest_eq rest fit none = by_size (pes_packet_size rest) refl
   where
     by_size : (r : Option ℕ) → pes_packet_size rest ≡ r → pes_packet_size rest ≡ None
     by_size None e = e
@@ -78,7 +80,8 @@ module _ (rest : List ℕ) (end : pes_packet_size rest ≡ None) where
   rest_after_all (suc n) (p ∷ ps) each =
       let joined = append_assoc p (concat ps) rest in
       ap (rest_after_pes_packets (suc n)) joined
-      ∙ rest_after_one n (p ++ (concat ps ++ rest)) (length p) (pes_packet_is p (concat ps ++ rest)
+      ∙ rest_after_pes_packets_suc n (p ++ (concat ps ++ rest)) (length p)
+          (pes_packet_eq p (concat ps ++ rest)
       each.0)
       ∙ ap (rest_after_pes_packets n) (drop_at p (concat ps ++ rest) (length p) refl)
       ∙ rest_after_all n ps each.1
@@ -93,7 +96,8 @@ module _ (rest : List ℕ) (end : pes_packet_size rest ≡ None) where
       let joined = append_assoc p (concat ps) rest in
       let more = count_all n ps each.1 in
       ap (count_pes_packets (suc n)) joined
-      ∙ count_one n (p ++ (concat ps ++ rest)) (length p) (pes_packet_is p (concat ps ++ rest)
+      ∙ count_pes_packets_suc n (p ++ (concat ps ++ rest)) (length p)
+          (pes_packet_eq p (concat ps ++ rest)
       each.0)
       ∙ ap (λ b. suc (count_pes_packets n b)) (drop_at p (concat ps ++ rest) (length p) refl)
       ∙ omega (arith, more)
@@ -110,8 +114,8 @@ module _ (rest : List ℕ) (end : pes_packet_size rest ≡ None) where
         arith,
         nat_tests,
         append_assoc,
-        first_one,
-        pes_packet_is,
+        first_pes_packets_suc,
+        pes_packet_eq,
         take_at,
         drop_at,
         leb_suc,
@@ -125,23 +129,23 @@ each_after zero ps each = each
 each_after (suc n) [] each = each
 each_after (suc n) (p ∷ ps) each = each_after n ps each.1
 
-last_there : (first last count : ℕ)
+last_packet_exists : (first last count : ℕ)
     → first ≤ last
     → leb (last + 1 - first) (count - first) ≡ ltb last count
-last_there first last count h1 = grind (arith, nat_tests, le-leb, lt-ltb, lt-leb, le-ltb)
+last_packet_exists first last count h1 = grind (arith, nat_tests, le-leb, lt-ltb, lt-leb, le-ltb)
 
 pub ranges : LawOfRanges
 unfolding in_range first_index
 ranges first None ps rest le each fit none =
-    let end = rest_is rest fit none in
+    let end = rest_eq rest fit none in
     (rest_after_all rest end first ps each, count_all rest end first ps each)
 ranges first (Some last) ps rest le each fit none =
-    let end = rest_is rest fit none in (
+    let end = rest_eq rest fit none in (
       ap (first_pes_packets (last + 1 - first)) (rest_after_all rest end first ps each)
           ∙ first_all rest end (last + 1 - first) (drop first ps) (each_after first ps each)
           ∙ ap (λ (k : ℕ). concat (take (last + 1 - first) (drop first ps))
           ++ cond (leb (last + 1 - first) k) [] rest) (length-drop first ps)
           ∙ ap (λ c. concat (take (last + 1 - first) (drop first ps)) ++ cond c [] rest)
-          (last_there first last (length ps) le),
+          (last_packet_exists first last (length ps) le),
       count_all rest end first ps each,
     )

@@ -1,5 +1,5 @@
 -- The bytes that a source has left after a PES packet or a fault. Main lemmas: packet_left,
--- answers_say.
+-- answers_hold.
 use Rattle.std.proofs.Common.{◌≡◌, ℕ, true, List, [], ◌∷◌, ◌++◌, Option, Some, None, Result, Ok}
 use Rattle.std.proofs.Common.{Err, refl, ap, ◌∙◌, arith}
 use Rattle.std.proofs.lemmas.Bool.Decides.{nat_tests}
@@ -30,7 +30,7 @@ pub packet_left : (old new : Option (List ℕ)) (v : PesValue) (bytes : List ℕ
     → old ≡ Some bytes
     → new ≡ Some (rest_after bytes)
 packet_left old new v bytes h e =
-    let (rest, parts, new_is) = left old new bytes h.bytes h.consumed e in
+    let (rest, parts, new_eq) = left old new bytes h.bytes h.consumed e in
     let read = packet_is_read v h.bytes rest h.is_packet in
     grind (arith, nat_tests, rest_after-packet)
 
@@ -41,10 +41,10 @@ answer_err : (given : ℕ) (b : List ℕ) (f : PesFault)
 unfolding answer_at
 answer_err given b f k e = grind (arith, nat_tests, answer_cases)
 
-pub answers_say : LawOfAnswers
+pub answers_hold : LawOfAnswers
 unfolding answer_at
-answers_say given [] = (λ e. refl, λ f k e. absurd cc, λ e. absurd cc)
-answers_say given (x ∷ b) = (
+answers_hold given [] = (λ e. refl, λ f k e. absurd cc, λ e. absurd cc)
+answers_hold given (x ∷ b) = (
   λ e. grind (arith, nat_tests, answer_cases),
   λ f k e v packet rest h parts.
       let bad = answer_err given (x ∷ b) f k e in

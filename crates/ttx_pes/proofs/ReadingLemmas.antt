@@ -15,7 +15,7 @@ use Rattle.ttx_pes.specs.PesGrammar.{PesValue, IsValidPesPacket, canonical_packe
 use Rattle.ttx_pes.specs.Reading.{most_packets, size_at, value_at, packet_at, answer_at, rest_after}
 use Rattle.ttx_pes.proofs.DataUnitLemmas.{AreBytes-take, AreBytes-drop}
 use Rattle.ttx_pes.proofs.PesHeaderLemmas.{body_complete, body_of, body_sound, head_complete}
-use Rattle.ttx_pes.proofs.PesHeaderLemmas.{head_sound, packet_of_body, six_of}
+use Rattle.ttx_pes.proofs.PesHeaderLemmas.{head_sound, packet_of_body, first_six_bytes}
 use Rattle.ttx_pes.proofs.PesGrammarLemmas.{canonical_is_packet}
 use Rattle.sub_io.proofs.ReadingLemmas.{step_gave, Ok-injective}
 
@@ -95,10 +95,11 @@ packet_is_read v b rest h =
     let body = body_of v b h in
     let c = body_complete v b h in
     let sized = head_complete h.n h.size.0 h.size.1 in
-    let parts : b ++ rest ≡ six_of h.n ++ (body ++ rest) =
-    ap (λ (x : List ℕ). x ++ rest) (packet_of_body v b h) ∙ append_assoc (six_of h.n) body rest in
+    let parts : b ++ rest ≡ first_six_bytes h.n ++ (body ++ rest) =
+    ap (λ (x : List ℕ). x ++ rest) (packet_of_body v b h) ∙ append_assoc (first_six_bytes h.n) body
+        rest in
     ap packet_at parts
-    ∙ packet_parts (six_of h.n) body rest (184 * h.n) refl sized
+    ∙ packet_parts (first_six_bytes h.n) body rest (184 * h.n) refl sized
     (let lo = h.size.0 in omega arith) c.1
     ∙ rw c.0 refl
 

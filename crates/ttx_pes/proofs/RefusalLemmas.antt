@@ -18,8 +18,9 @@ use Rattle.ttx_pes.specs.Laws.{LawOfRefusal}
 use Rattle.ttx_pes.specs.PesGrammar.{IsValidPesPacket, PesValue, packet_length, packet_start}
 use Rattle.ttx_pes.specs.PesGrammar.{pts_bytes}
 use Rattle.ttx_pes.specs.Reading.{packet_at, stated_size}
-use Rattle.ttx_pes.specs.Refusal.{AgreeBefore, FailFirst, asker, header_askers, reported_fault}
-use Rattle.ttx_pes.specs.Refusal.{unit_askers}
+use Rattle.ttx_pes.specs.Refusal.{AgreeBefore, FailFirst, check_of_byte, header_byte_checks}
+use Rattle.ttx_pes.specs.Refusal.{reported_fault}
+use Rattle.ttx_pes.specs.Refusal.{unit_byte_checks}
 use Rattle.ttx_pes.proofs.QuestionLemmas.{HoldBelow, first_wrong, packet_requested, refusal}
 use Rattle.ttx_pes.proofs.QuestionLemmas.{size_is_right, stated_units, tests, tests_cases}
 use Rattle.ttx_pes.proofs.QuestionLemmas.{unit_byte, unit_place, units_tests}
@@ -57,12 +58,13 @@ read_if_held b all =
       | inl none ↦ let nothing = none.1 in grind (arith, nat_tests, answer_cases (packet_at b))
     ]
 
-unit_asker : (k i : ℕ) → i < 4 → asker (unit_place k i) ≡ get_or unit_askers i 114 + 3 * k
-unit_asker k i lt =
+check_of_unit_byte : (k i : ℕ) → i < 4 → check_of_byte (unit_place k i) ≡ get_or unit_byte_checks i
+    114 + 3 * k
+check_of_unit_byte k i lt =
     let place = unit_place k i in
     let rest : (place - 46) % 46 ≡ i = omega arith in
     let unit : (place - 46) / 46 ≡ k = omega arith in
-    get_or_past header_askers place _ (omega arith) ∙ rw (rest, unit) refl
+    get_or_past header_byte_checks place _ (omega arith) ∙ rw (rest, unit) refl
 
 -- Bytes that agree with a packet in all checks before number i agree with it in all checks before
 -- an earlier number j.
@@ -72,10 +74,10 @@ agree_below i j b c le h = grind (arith, nat_tests)
 same_byte : (i k j : ℕ) (b c : List ℕ)
     → AgreeBefore i b c
     → j < 4
-    → get_or unit_askers j 114 + 3 * k < i
+    → get_or unit_byte_checks j 114 + 3 * k < i
     → unit_place k j < length c
     → unit_byte b k j ≡ unit_byte c k j
-same_byte i k j b c h four lt = grind (arith, nat_tests, unit_asker, unit_place)
+same_byte i k j b c h four lt = grind (arith, nat_tests, check_of_unit_byte, unit_place)
 
 same_units : (n k before j : ℕ) (b c : List ℕ)
     → AgreeBefore (10 + 3 * k + j) b c
@@ -123,7 +125,7 @@ blank_unit n k i lt = grind (arith, nat_tests, unit_place, get_or_past)
 -- The bytes that concern earlier checks than q are those of b, and all others are those of a blank
 -- packet.
 abbrev mixed : ℕ → ℕ → List ℕ → ℕ → ℕ
-mixed n q b i = cond (ltb (asker i) q) (get_or b i 0) (blank n i) % 256
+mixed n q b i = cond (ltb (check_of_byte i) q) (get_or b i 0) (blank n i) % 256
 
 -- This module constructs a packet of the grammar that agrees with the bytes b in all checks before
 -- number q. Its assumptions: all tests before q hold, and n is the number of payloads if the length
@@ -143,11 +145,11 @@ module _ (b : List ℕ) (fit : AreBytes b) (q n : ℕ) (lo : 1 ≤ n) (hi : n �
   made_fits : AreBytes made
   made_fits i = grind (arith, nat_tests, cases_lt, made_byte, get_or_past, length-made)
 
-  kept_byte : (i : ℕ) → asker i < q → i < 184 * n → get_or made i 0 ≡ get_or b i 0
+  kept_byte : (i : ℕ) → check_of_byte i < q → i < 184 * n → get_or made i 0 ≡ get_or b i 0
   kept_byte i less lt = grind (arith, nat_tests, made_byte, lt-ltb)
 
-  blank_byte : (i : ℕ) → q ≤ asker i → i < 184 * n → get_or made i 0 ≡ blank n i % 256
-  blank_byte i le lt = made_byte i lt ∙ rw (le-ltb (asker i) q le) refl
+  blank_byte : (i : ℕ) → q ≤ check_of_byte i → i < 184 * n → get_or made i 0 ≡ blank n i % 256
+  blank_byte i le lt = made_byte i lt ∙ rw (le-ltb (check_of_byte i) q le) refl
 
   made_agrees : (c rest : List ℕ) → made ≡ c ++ rest → AgreeBefore q b c
   made_agrees c rest parts =
@@ -170,11 +172,11 @@ module _ (b : List ℕ) (fit : AreBytes b) (q n : ℕ) (lo : 1 ≤ n) (hi : n �
       → get_or (units_tests made m k before) j true ≡ true
   blank_units zero k before j le few = refl
   blank_units (suc m) k before zero le few =
-      grind (arith, nat_tests, unit_asker, blank_byte, unit_place, blank_unit)
+      grind (arith, nat_tests, check_of_unit_byte, blank_byte, unit_place, blank_unit)
   blank_units (suc m) k before (suc zero) le few =
-      search (rules, unit_asker, blank_byte, unit_place, blank_unit)
+      search (rules, check_of_unit_byte, blank_byte, unit_place, blank_unit)
   blank_units (suc m) k before (suc (suc zero)) le few =
-      let requested = unit_asker k 2 (omega arith) in
+      let requested = check_of_unit_byte k 2 (omega arith) in
       rw (blank_byte (unit_place k 2) (omega arith) (omega arith))
       (rw (blank_unit n k 2 (omega arith), or-true) refl)
   blank_units (suc m) k before (suc (suc (suc j))) le few =
@@ -274,11 +276,11 @@ refused_first b f fit e =
 
 -- If bytes fail a check, no PES packet can be read from them, since that packet would agree with
 -- them in all checks.
-refused_there : (b : List ℕ) (q : ℕ)
+failed_check_refuses : (b : List ℕ) (q : ℕ)
     → AreBytes b
     → FailFirst q b
     → (f : PesFault) × (packet_at b ≡ Err f)
-refused_there b q fit h = elim (answer_cases (packet_at b)) [
+failed_check_refuses b q fit h = elim (answer_cases (packet_at b)) [
   | inr refused ↦ refused
   | inl ((v, rest), read) ↦
       let (c, packet, parts) = read_is_packet v b rest fit read in
@@ -292,4 +294,4 @@ refused_there b q fit h = elim (answer_cases (packet_at b)) [
 ]
 
 pub refusal_by_questions : LawOfRefusal
-refusal_by_questions b fit = (λ f e. refused_first b f fit e, λ q h. refused_there b q fit h)
+refusal_by_questions b fit = (λ f e. refused_first b f fit e, λ q h. failed_check_refuses b q fit h)

@@ -7,7 +7,7 @@ use Rattle.ttx_pes.specs.Reading.{pts_at, value_at}
 use Rattle.ttx_pes.specs.Taking.{BufferedPacketValue, IsFieldSize, IsInBuffer, IsSentAgain}
 use Rattle.ttx_pes.specs.Taking.{buffered_frame}
 use Rattle.ttx_pes.proofs.DataUnitLemmas.{AreBytes-drop}
-use Rattle.ttx_pes.proofs.KeptFrameLemmas.{IsBody, known_again}
+use Rattle.ttx_pes.proofs.KeptFrameLemmas.{IsBody, facts_of_repeat}
 
 pub sent_again : (pes_packet before body field : List ℕ) (h : BufferedPacketValue) (t : ℕ)
     → AreBytes pes_packet
@@ -32,10 +32,10 @@ sent_again pes_packet before body field h t fit known e field_size is same kept 
       fit = rw is (AreBytes-drop 6 pes_packet fit);
     } in
     let new : BufferedPacketValue = record h { pts = t } in
-    let again = known_again body field before h new there time same kept known refl refl in
+    let again = facts_of_repeat body field before h new there time same kept known refl refl in
     let prefix : drop 39 body ≡ before = sym same ∙ kept in
     record {
       value = ap value_at (sym is) ∙ again.value ∙ ap (λ f. Ok (buffered_frame f new)) prefix;
-      field_is = sym (drop-drop 39 6 pes_packet) ∙ ap (drop 39) (sym is) ∙ prefix;
+      field_eq = sym (drop-drop 39 6 pes_packet) ∙ ap (drop 39) (sym is) ∙ prefix;
       known = subst (λ f. IsInBuffer f new) prefix again.known;
     }

@@ -40,12 +40,12 @@ too_many given old new bytes taken h reported some full =
     grind (arith, nat_tests, left, answer_full, length-append)
 
 -- If the bytes consumed are a complete PES packet, they determine its value or its first fault.
-pub complete_settles : (old new : Option (List ℕ)) (taken : List ℕ)
+pub complete_packet_settles : (old new : Option (List ℕ)) (taken : List ℕ)
     → Consumes old new taken
     → 6 ≤ length taken
     → size_at (take 6 taken) ≡ Ok (length taken)
     → Settles old new taken (value_at (drop 6 taken))
-complete_settles old new taken h le sized =
+complete_packet_settles old new taken h le sized =
     let six = length-take 6 taken in let others = length-drop 6 taken in
     grind (arith, nat_tests, take-append-drop 6 taken, append_assoc, packet_parts)
 
@@ -98,7 +98,7 @@ pub settled_field : (old new : Option (List ℕ)) (taken body field : List ℕ) 
     → TakesDataField old new v field
 settled_field old new taken body field v h fit same is = record {
   packet = settled_packet old new taken v h fit;
-  field_is = is ∙ ap (drop 39) same ∙ drop-drop 39 6 taken;
+  field_eq = is ∙ ap (drop 39) same ∙ drop-drop 39 6 taken;
 }
 
 pub size_kept : (got n : ℕ) (old new six : List ℕ) (r : Result ℕ PesFault)

@@ -11,7 +11,7 @@ use Rattle.ttx_pes.specs.declared.fault.PesFault.TheVariants.{Truncated}
 use Rattle.ttx_pes.specs.PesPacketRange.{rest_after_pes_packets, count_pes_packets, limited}
 use Rattle.ttx_pes.specs.PesPackets.{IsPesPacket}
 use Rattle.ttx_pes.specs.BorrowedPacket.{holds_packet}
-use Rattle.ttx_pes.specs.Reader.{FailsWithin, IsBegun}
+use Rattle.ttx_pes.specs.Reader.{FailsWithin, IsIncompletePesPacket}
 use Rattle.ttx_pes.specs.Reading.{size_at}
 use Rattle.ttx_pes.specs.declared.pes_packets.Received.{Received}
 use Rattle.ttx_pes.specs.declared.pes_packets.Received.TheVariants.{End, PesPacket, Rest}
@@ -80,8 +80,8 @@ abbrev pub never_ready : {P : Type 0} → P → Bool
 never_ready pes_packets = false
 
 -- A reader that borrows no device.
-abbrev pub lends_none : {P : Type 0} → P → List GName
-lends_none pes_packets = []
+abbrev pub no_borrowed_devices : {P : Type 0} → P → List GName
+no_borrowed_devices pes_packets = []
 
 -- ---- reading PES packets from a source
 
@@ -92,9 +92,9 @@ buffered_then (x ∷ buffered) known_bytes = prepend_known (x ∷ buffered) know
 
 -- The next PES packet can be read without a call of the source's device: nothing is buffered, and
 -- the source lends the packet completely, or lends bytes with an invalid start code or length.
-abbrev pub lends_pes_packet : List ℕ → List ℕ → Bool
-lends_pes_packet [] borrowed = holds_packet borrowed
-lends_pes_packet (x ∷ buffered) borrowed = false
+abbrev pub has_borrowed_pes_packet : List ℕ → List ℕ → Bool
+has_borrowed_pes_packet [] borrowed = holds_packet borrowed
+has_borrowed_pes_packet (x ∷ buffered) borrowed = false
 
 -- What the bytes that were read for one PES packet mean for the result.
 abbrev pub AreRead : {E : Type 0} → Option (List ℕ) → List ℕ → Result (Received (Unit {0})) E → Type
@@ -103,7 +103,7 @@ AreRead new bytes (Ok End) = (bytes ≡ []) × IsAtEnd new
 AreRead new bytes (Ok (PesPacket answer)) =
     (6 ≤ length bytes) × (size_at (take 6 bytes) ≡ Ok (length bytes))
 AreRead new bytes (Ok (Rest f)) = ShowRest new bytes f
-AreRead new bytes (Err e) = IsBegun bytes
+AreRead new bytes (Err e) = IsIncompletePesPacket bytes
 
 -- The bytes that were read from the source for one PES packet, and their meaning for the result.
 pub record ReadsForPesPacket
@@ -140,16 +140,16 @@ is_over (Some zero) = true
 is_over (Some (suc n)) = false
 
 -- The limit after one PES packet was read.
-abbrev pub one_less : Option ℕ → Option ℕ
-one_less None = None
-one_less (Some zero) = Some zero
-one_less (Some (suc n)) = Some n
+abbrev pub decremented_limit : Option ℕ → Option ℕ
+decremented_limit None = None
+decremented_limit (Some zero) = Some zero
+decremented_limit (Some (suc n)) = Some n
 
 -- The number of PES packets that may be read after this result. `None` means no limit.
-abbrev pub left_after : {A : Type 0} → Option ℕ → Received A → Option ℕ
-left_after left End = left
-left_after left (PesPacket answer) = one_less left
-left_after left (Rest f) = None
+abbrev pub limit_after : {A : Type 0} → Option ℕ → Received A → Option ℕ
+limit_after left End = left
+limit_after left (PesPacket answer) = decremented_limit left
+limit_after left (Rest f) = None
 
 -- The bytes that may be read under the limit: those of that many PES packets, or all bytes if fewer
 -- packets are left.

@@ -28,25 +28,25 @@ taken_count_after _ _ = None
 
 -- The state of a comparing reader that continues after a faulty packet. `None` leaves the state
 -- unchanged.
-abbrev pub going_on : ComparingValue → Option ℕ → ComparingValue
-going_on c None = c
-going_on c (Some given) = record c { progress = Reading given; following = None }
+abbrev pub after_skipped_fault : ComparingValue → Option ℕ → ComparingValue
+after_skipped_fault c None = c
+after_skipped_fault c (Some given) = record c { progress = Reading given; following = None }
 
 -- The state of a comparing reader after `skip_packet`: it continues if its last answer was the
 -- fault of a complete packet; otherwise its state does not change.
 abbrev pub skipped_over : ComparingValue → ComparingValue
-skipped_over c = going_on c c.following
+skipped_over c = after_skipped_fault c c.following
 
 -- The answer of a comparing reader in the form of `next_into`: `true` for a packet, whether it
 -- repeats the packet before or not.
-abbrev pub as_yielded : Result Compared PesFault → Result Bool PesFault
-as_yielded (Ok End) = Ok false
-as_yielded (Ok Same) = Ok true
-as_yielded (Ok Other) = Ok true
-as_yielded (Err f) = Err f
+abbrev pub next_into_result : Result Compared PesFault → Result Bool PesFault
+next_into_result (Ok End) = Ok false
+next_into_result (Ok Same) = Ok true
+next_into_result (Ok Other) = Ok true
+next_into_result (Err f) = Err f
 
 -- Exactly one valid PES packet with this value and this data field was consumed.
 pub record TakesDataField
     (old new : Option (List ℕ)) (v : PesValue) (field : List ℕ) : Type 0 where
   pub packet : TakesValidPesPacket old new v
-  pub field_is : field ≡ drop 45 packet.bytes
+  pub field_eq : field ≡ drop 45 packet.bytes

@@ -9,9 +9,9 @@ use Rattle.ttx_pes.specs.DataUnit.{UnitValue}
 use Rattle.ttx_pes.specs.LineOrder.{numbered_units, AreInLineOrder, RisesTo}
 use Rattle.ttx_pes.specs.PesGrammar.{PesValue, IsValidPesPacket, IsPesValue, canonical_packet}
 use Rattle.ttx_pes.specs.PesGrammar.{numbered_frame}
-use Rattle.ttx_pes.specs.PesPacketRange.{BeginsNoPesPacket, chosen_of, first_index, in_range}
+use Rattle.ttx_pes.specs.PesPacketRange.{BeginsNoPesPacket, packets_in_range, first_index, in_range}
 use Rattle.ttx_pes.specs.PesPackets.{SplitInto, IsPesPacket, pes_packets_after}
-use Rattle.ttx_pes.specs.Reader.{BeginsNone}
+use Rattle.ttx_pes.specs.Reader.{BeginNoPesPacket}
 use Rattle.ttx_pes.specs.Reading.{packet_at, answer_at, rest_after, is_format_fault, most_packets}
 use Rattle.ttx_pes.specs.Refusal.{reported_fault, FailFirst}
 use Rattle.ttx_pes.specs.declared.fault.PesFault.{PesFault}
@@ -74,7 +74,7 @@ LawOfAnswers =
     × ((f : PesFault)
     → is_format_fault f ≡ true
     → answer_at given bytes ≡ Err f
-    → BeginsNone bytes)
+    → BeginNoPesPacket bytes)
     × (answer_at given bytes ≡ Err TooMany → 0 < length bytes)
 
 -- The bytes written for a frame are read as that frame, and the bytes that follow are left. So a
@@ -122,6 +122,6 @@ LawOfRanges =
     → AreBytes rest
     → BeginsNoPesPacket rest
     → (in_range (record { first = first; last = last }) (concat pes_packets ++ rest)
-    ≡ chosen_of first last pes_packets rest)
+    ≡ packets_in_range first last pes_packets rest)
     × (first_index (record { first = first; last = last }) (concat pes_packets ++ rest)
     ≡ min first (length pes_packets))

@@ -16,14 +16,14 @@ unfoldable pub stated_pes_packet : List ℕ → Option ℕ
 stated_pes_packet b = if nat_lt (length b) 6 then None else result_ok (size_at (take 6 b))
 
 -- The size, if at least that many bytes are available.
-abbrev pub if_complete : ℕ → Option ℕ → Option ℕ
-if_complete count None = None
-if_complete count (Some size) = if nat_le size count then Some size else None
+abbrev pub size_if_complete : ℕ → Option ℕ → Option ℕ
+size_if_complete count None = None
+size_if_complete count (Some size) = if nat_le size count then Some size else None
 
 -- The size in bytes of the complete PES packet at the front of b, or `None` if b begins with no
 -- complete PES packet.
 unfoldable pub pes_packet_size : List ℕ → Option ℕ
-pes_packet_size b = if_complete (length b) (stated_pes_packet b)
+pes_packet_size b = size_if_complete (length b) (stated_pes_packet b)
 
 -- Applies `more` to the size of the PES packet at the front, or returns `none` if no packet is at
 -- the front.
@@ -69,13 +69,13 @@ range_of first (Some last) =
     else Some (record { first = first; last = Some last })
 
 -- The number of PES packets of a range, or `None` if the range extends to the end of the file.
-abbrev pub most_of : PesPacketRangeValue → Option ℕ
-most_of r = option_map (λ last. last + 1 - r.first) r.last
+abbrev pub range_length : PesPacketRangeValue → Option ℕ
+range_length r = option_map (λ last. last + 1 - r.first) r.last
 
 -- The bytes of a range: its PES packets and, if the file has no packet with the last number, the
 -- bytes after its last packet.
 unfoldable pub in_range : PesPacketRangeValue → List ℕ → List ℕ
-in_range r b = limited (most_of r) (rest_after_pes_packets r.first b)
+in_range r b = limited (range_length r) (rest_after_pes_packets r.first b)
 
 -- The number in the file of the first PES packet of a range. If the file has fewer packets, the
 -- number of packets in the file.
@@ -99,8 +99,8 @@ BeginsNoPesPacket bytes = (p more : List ℕ) → IsPesPacket p → bytes ≡ p 
 -- The part of a file from PES packet `first` to packet `last`. The file consists of these packets
 -- and then a rest that begins no packet; the rest belongs to the part if the file ends before
 -- packet `last`.
-abbrev pub chosen_of : ℕ → Option ℕ → List (List ℕ) → List ℕ → List ℕ
-chosen_of first None pes_packets rest = concat (drop first pes_packets) ++ rest
-chosen_of first (Some last) pes_packets rest =
+abbrev pub packets_in_range : ℕ → Option ℕ → List (List ℕ) → List ℕ → List ℕ
+packets_in_range first None pes_packets rest = concat (drop first pes_packets) ++ rest
+packets_in_range first (Some last) pes_packets rest =
     concat (take (last + 1 - first) (drop first pes_packets))
     ++ (if nat_lt last (length pes_packets) then [] else rest)

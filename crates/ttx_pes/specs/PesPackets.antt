@@ -103,4 +103,4 @@ pub record SplitInto (bytes : List ℕ) (value : PesPacketsValue) : Type 0 where
       → length others ≤ most_packets
       → bytes ≡ concat others ++ more
       → length others ≤ length packets
-  pub left_is : answer_at (length packets) rest ≡ answer_left value.left
+  pub left_eq : answer_at (length packets) rest ≡ answer_left value.left

@@ -41,8 +41,8 @@ pub record TakesValidPesPacket (old new : Option (List ℕ)) (v : PesValue) : Ty
 
 -- The bytes are an incomplete PES packet: fewer than the six bytes that contain its size, or fewer
 -- than that size.
-abbrev pub IsBegun : List ℕ → Type 0
-IsBegun bytes =
+abbrev pub IsIncompletePesPacket : List ℕ → Type 0
+IsIncompletePesPacket bytes =
     (length bytes < 6)
     ⊎ ((size : ℕ) × (size_at (take 6 bytes) ≡ Ok size) × (length bytes < size))
 
@@ -50,7 +50,7 @@ IsBegun bytes =
 pub record FailsWithin (old new : Option (List ℕ)) : Type 0 where
   pub bytes : List ℕ
   pub consumed : Consumes old new bytes
-  pub begun : IsBegun bytes
+  pub begun : IsIncompletePesPacket bytes
 
 -- The bytes consumed of a PES packet are rejected for the fault f of the format, whatever the
 -- source returns next.
@@ -103,5 +103,6 @@ pub record FailsAtPacket (n : ℕ) (old new : Option (List ℕ)) : Type 0 where
   pub within : FailsWithin following new
 
 -- The bytes do not begin with a valid PES packet.
-abbrev pub BeginsNone : List ℕ → Type 0
-BeginsNone bytes = (v : PesValue) (b rest : List ℕ) → IsValidPesPacket v b → bytes ≡ b ++ rest → ⊥
+abbrev pub BeginNoPesPacket : List ℕ → Type 0
+BeginNoPesPacket bytes = (v : PesValue) (b rest : List ℕ) → IsValidPesPacket v b → bytes ≡ b ++ rest
+    → ⊥

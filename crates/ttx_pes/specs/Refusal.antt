@@ -52,21 +52,21 @@ abbrev pub no_question : ℕ
 no_question = 9 + 3 * most_units
 
 -- The number of the check for each of the 46 bytes before the data units.
-abbrev pub header_askers : List ℕ
-header_askers =
+abbrev pub header_byte_checks : List ℕ
+header_byte_checks =
     (1 ∷ 1 ∷ 1 ∷ 1 ∷ 2 ∷ 2 ∷ 4 ∷ 5 ∷ 6 ∷ 7 ∷ 7 ∷ 7 ∷ 7 ∷ 7 ∷ [])
     ++ (replicate 31 no_question ++ (8 ∷ []))
 
 -- The number of the check for each of the first four bytes of data unit 0.
-abbrev pub unit_askers : List ℕ
-unit_askers = 10 ∷ 9 ∷ 11 ∷ 10 ∷ []
+abbrev pub unit_byte_checks : List ℕ
+unit_byte_checks = 10 ∷ 9 ∷ 11 ∷ 10 ∷ []
 
 -- The number of the check that concerns the byte at `place` of a PES packet.
-abbrev pub asker : ℕ → ℕ
-asker place =
+abbrev pub check_of_byte : ℕ → ℕ
+check_of_byte place =
     let within = place - header_size in
-    slice_index_or header_askers place
-    (slice_index_or unit_askers (within % data_unit_size) no_question
+    slice_index_or header_byte_checks place
+    (slice_index_or unit_byte_checks (within % data_unit_size) no_question
     + 3 * (within / data_unit_size))
 
 -- The bytes agree with a valid packet in all checks before check number `question`: enough bytes
@@ -76,7 +76,7 @@ pub record AgreeBefore (question : ℕ) (bytes packet : List ℕ) : Type 0 where
   pub all : 3 < question → length packet ≤ length bytes
   pub same :
       (place : ℕ)
-      → asker place < question
+      → check_of_byte place < question
       → place < length packet
       → slice_index bytes place ≡ slice_index packet place
 

@@ -96,7 +96,7 @@ pub record IsInBuffer (field : List ℕ) (h : BufferedPacketValue) : Type 0 wher
 pub record IsSentAgain (field : List ℕ) (h : BufferedPacketValue) (pes_packet : List ℕ) (pts : ℕ) :
     Type 0 where
   pub value : value_at (drop 6 pes_packet) ≡ Ok (buffered_frame field (record h { pts = pts }))
-  pub field_is : drop 45 pes_packet ≡ field
+  pub field_eq : drop 45 pes_packet ≡ field
   pub known : IsInBuffer field (record h { pts = pts })
 
 -- The stored frame, and the data field that it was read from, which is empty if no packet is

@@ -11,7 +11,7 @@ use sub_io::{Live, Stopped};
 /// Returns whether lent bytes contain all that is read of the next PES packet: as many bytes as its
 /// length field says (EN 300 472, PES_packet_length). If the start code or the length is wrong,
 /// only the first six bytes of the packet are read.
-#[tactic(auto, using(crate::proofs::BorrowedPacketLemmas::holds_none))]
+#[tactic(auto, using(crate::proofs::BorrowedPacketLemmas::holds_packet_short))]
 pub fn holds_packet(borrowed: &[u8]) -> bool
     ensures { result ≡ holds_packet borrowed.now }
 {

@@ -4,7 +4,7 @@
 //! proved as well, but needed more lemmas than it saved.
 ghost use Rattle.std.specs.Prelude.{◌≡◌, ℕ, ◌+◌, ◌≤◌, ◌≢◌, true, false, [], None, Ok, IfErr};
 ghost use Rattle.sub_io.specs.Device.{CanFail, CountsIf, failed};
-ghost use Rattle.ttx_pes.specs.Comparing.{as_yielded, taken_count_after, skipped_over};
+ghost use Rattle.ttx_pes.specs.Comparing.{next_into_result, taken_count_after, skipped_over};
 ghost use Rattle.ttx_pes.specs.Comparing.{TakesDataField};
 ghost use Rattle.ttx_pes.specs.Fault.{is_of_pes_packet, is_read};
 ghost use Rattle.ttx_pes.specs.PesPackets.{TakesPesPacket};
@@ -79,18 +79,18 @@ fn read_compared<P: PesPackets>(
     requires count { CanFail (P.failure_count pes_packets.old) }
     ensures reports { ReportsPacket (Reading given) (P.remaining pes_packets.old)
         (P.left pes_packets.new)
-        (yielded_frame (as_yielded result) kept.new.frame) }
-    ensures taken { as_yielded result ≡ Ok true → TakesDataField (P.remaining pes_packets.old)
+        (yielded_frame (next_into_result result) kept.new.frame) }
+    ensures taken { next_into_result result ≡ Ok true → TakesDataField (P.remaining pes_packets.old)
         (P.left pes_packets.new) kept.new.frame kept.new.data_field }
     ensures same { result ≡ Ok Same → kept.new.data_field ≡ kept.old.data_field }
     ensures units { result ≡ Ok Same → kept.new.frame.units ≡ kept.old.frame.units }
     ensures other { result ≡ Ok Other → kept.new.data_field ≢ kept.old.data_field }
-    ensures below { as_yielded result ≡ Ok true → given ≢ most_packets }
+    ensures below { next_into_result result ≡ Ok true → given ≢ most_packets }
     ensures pes_packet { IfErr result (λ fault. is_of_pes_packet fault ≡ true
         → TakesPesPacket (P.remaining pes_packets.old) (P.left pes_packets.new) fault) }
     ensures before_pes_packet { IfErr result (λ fault. is_of_pes_packet fault ≡ true
         → given ≢ most_packets) }
-    ensures settled { as_yielded result ≡ Ok true → P.left pes_packets.new ≡ P.remaining
+    ensures settled { next_into_result result ≡ Ok true → P.left pes_packets.new ≡ P.remaining
         pes_packets.new }
     ensures pes_packet_settled { IfErr result (λ fault. is_of_pes_packet fault ≡ true
         → P.left pes_packets.new ≡ P.remaining pes_packets.new) }
@@ -164,10 +164,11 @@ impl ComparingReader {
     pub fn next<P: PesPackets>(&mut self, pes_packets: &mut P) -> Result<Compared, PesFault>
         requires { CanFail (P.failure_count pes_packets.old) }
         ensures reports { ReportsPacket self.old.progress (P.remaining pes_packets.old)
-            (P.left pes_packets.new) (yielded_frame (as_yielded result) self.new.frame) }
-        ensures taken { as_yielded result ≡ Ok true → TakesDataField (P.remaining pes_packets.old)
+            (P.left pes_packets.new) (yielded_frame (next_into_result result) self.new.frame) }
+        ensures taken { next_into_result result ≡ Ok true → TakesDataField
+            (P.remaining pes_packets.old)
             (P.left pes_packets.new) self.new.frame self.new.data_field }
-        ensures empty { as_yielded result ≢ Ok true → self.new.frame ≡ empty_value }
+        ensures empty { next_into_result result ≢ Ok true → self.new.frame ≡ empty_value }
         // `Same` means that the data field is unchanged, and `Other` that it has changed.
         ensures same { result ≡ Ok Same → self.new.data_field ≡ self.old.data_field }
         ensures units { result ≡ Ok Same → self.new.frame.units ≡ self.old.frame.units }
@@ -178,14 +179,15 @@ impl ComparingReader {
             → TakesPesPacket (P.remaining pes_packets.old) (P.left pes_packets.new) fault) }
         ensures following { self.new.following ≡ taken_count_after self.old.progress result }
         ensures progress { self.new.progress
-            ≡ progress_after self.old.progress (yielded_frame (as_yielded result) self.new.frame) }
+            ≡ progress_after self.old.progress (yielded_frame (next_into_result result)
+                self.new.frame) }
         ensures few { (given : ℕ) → self.new.progress ≡ Reading given → given ≤ most_packets }
         // After the end of the source or a fault, the reader consumes nothing.
         ensures at_end { self.old.progress ≡ AtEnd → pes_packets.new ≡ pes_packets.old }
         ensures broken { self.old.progress ≡ Broken → pes_packets.new ≡ pes_packets.old }
         // After a valid packet, or the fault of a complete packet, no further bytes have been read
         // ahead.
-        ensures settled { as_yielded result ≡ Ok true → P.left pes_packets.new ≡ P.remaining
+        ensures settled { next_into_result result ≡ Ok true → P.left pes_packets.new ≡ P.remaining
             pes_packets.new }
         ensures pes_packet_settled { IfErr result (λ fault. is_of_pes_packet fault ≡ true
             → P.left pes_packets.new ≡ P.remaining pes_packets.new) }

@@ -2,7 +2,7 @@
 ghost use Rattle.std.specs.Prelude.{◌≡◌, ◌≤◌, [], ◌∷◌, IfNone, IfSome, Ok, Some, length, take};
 ghost use Rattle.std.specs.Prelude.{true};
 ghost use Rattle.sub_io.specs.Device.{CanFail};
-ghost use Rattle.ttx_pes.specs.Advancing.{TakesPesPacketBy, buffered_then, lends_pes_packet};
+ghost use Rattle.ttx_pes.specs.Advancing.{TakesPesPacketBy, buffered_then, has_borrowed_pes_packet};
 ghost use Rattle.ttx_pes.specs.PesGrammar.{payload_size};
 ghost use Rattle.ttx_pes.specs.Reading.{size_at};
 
@@ -86,7 +86,7 @@ impl<S: Source> PesPackets for FilePesPackets<'_, S> {
 
     ghost is_rest = { λ f. true };
 
-    ghost ready = { λ f. lends_pes_packet f.begun (S.borrowed f.source.now) };
+    ghost ready = { λ f. has_borrowed_pes_packet f.begun (S.borrowed f.source.now) };
 
     ghost device = { λ f. f.source.ghost_name ∷ [] };
 

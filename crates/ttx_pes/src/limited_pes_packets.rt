@@ -82,7 +82,7 @@ impl<P: PesPackets> PesPackets for LimitedPesPackets<'_, P> {
             return Ok(Received::End);
         }
         let received = self.inner.next(taker)?;
-        self.left = left_after(self.left, &received);
+        self.left = limit_after(self.left, &received);
         Ok(received)
     }
 
@@ -109,9 +109,9 @@ fn is_over(left: Option<u64>) -> bool
 // Returns how many PES packets may be read after this result. Bytes that begin no packet end the
 // limit, since all of them belong to the range.
 #[inline(always)]
-fn left_after<A>(left: Option<u64>, received: &Received<A>) -> Option<u64>
+fn limit_after<A>(left: Option<u64>, received: &Received<A>) -> Option<u64>
     requires { is_over left ≡ false }
-    ensures { result ≡ specs.left_after left received.now }
+    ensures { result ≡ specs.limit_after left received.now }
 {
     match received {
         Received::End => left,

@@ -27,7 +27,7 @@ pub struct PartOfPesPackets<'a, P> {
 
 impl<P: PesPackets> PartOfPesPackets<'_, P> {
     // Skips the PES packets before the range.
-    fn skip_others(&mut self) -> Result<u64, FailedAt>
+    fn skip_before_range(&mut self) -> Result<u64, FailedAt>
         requires failures { CanFail (P.failure_count self.old.inner.inner.now) }
         ensures kept { Keeps
             (part_known self.old.ahead.to_skip self.old.inner.left
@@ -92,7 +92,7 @@ impl<P: PesPackets> PesPackets for PartOfPesPackets<'_, P> {
 
     #[inline(always)]
     fn next<T: TakePesPacket>(&mut self, taker: &mut T) -> Result<Received<T::Answer>, Failed> {
-        if self.skip_others().is_err() {
+        if self.skip_before_range().is_err() {
             return Err(Failed);
         }
         self.inner.next(taker)
@@ -113,6 +113,6 @@ impl<P: PesPackets> NumberedPesPackets for PartOfPesPackets<'_, P> {
     ghost skipped = { λ p. p.ahead.skipped };
 
     fn find_first(&mut self) -> Result<u64, FailedAt> {
-        self.skip_others()
+        self.skip_before_range()
     }
 }

@@ -2,7 +2,7 @@
 ghost use Rattle.std.specs.Prelude.{◌≡◌, ◌+◌, ◌<◌, ◌≤◌, ◌++◌, [], IsSome, false, is_ok, length};
 ghost use Rattle.std.specs.Prelude.{take, true};
 ghost use Rattle.std.specs.Io.KnownBytes.{Consumes, IsAtEnd, prepend_known};
-ghost use Rattle.sub_io.specs.Device.{CanFail, CountsFailure, RisesIf};
+ghost use Rattle.sub_io.specs.Device.{CanFail, CountsFailure, CountRisesIf};
 ghost use Rattle.sub_io.specs.Reading.{AreBytes};
 ghost use Rattle.ttx_pes.specs.Advancing.{Advances, ReadsForPesPacket, buffered_then, rest_fault};
 ghost use Rattle.ttx_pes.specs.BorrowedPacket.{holds_packet};
@@ -67,7 +67,8 @@ fn fill_on<S: Source>(
     ensures borrowed { least ≤ buffered + length (S.borrowed source.old) → (result.1 ≡ false)
         × (take buffered room.old ++ S.borrowed source.old
         ≡ take result.0 room.new ++ S.borrowed source.new) }
-    ensures count { RisesIf (S.failure_count source.old) result.1 (S.failure_count source.new) }
+    ensures count { CountRisesIf (S.failure_count source.old) result.1
+        (S.failure_count source.new) }
 {
     let mut at = buffered;
     while at < least {

@@ -1,6 +1,6 @@
 //! Ranges of the PES packets of a file.
 ghost use Rattle.std.specs.Prelude.{◌≡◌, ◌+◌, ◌-◌};
-ghost use Rattle.ttx_pes.specs.PesPacketRange.{most_of, range_of};
+ghost use Rattle.ttx_pes.specs.PesPacketRange.{range_length, range_of};
 
 use std::marker::Model;
 
@@ -50,7 +50,7 @@ impl PesPacketRange {
 
     /// Returns how many PES packets the range has, or `None` if it extends to the end of the file.
     pub fn most(self) -> Option<u64>
-        ensures { result ≡ most_of self }
+        ensures { result ≡ range_length self }
     {
         match self.last {
             Some(last) => Some(last - self.first + 1),

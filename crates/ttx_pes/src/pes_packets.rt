@@ -8,7 +8,7 @@ ghost use Rattle.std.specs.Borrow.{GName};
 ghost use Rattle.std.specs.Prelude.{◌≡◌, ℕ, Bool, List, Option, is_ok, true};
 ghost use Rattle.std.specs.Io.{ReadsAtMost};
 ghost use Rattle.sub_io.specs.Device.{CanFail, CountsFailure, Pulls};
-ghost use Rattle.ttx_pes.specs.Advancing.{Advances, lends_none, never_ready, reports_rest};
+ghost use Rattle.ttx_pes.specs.Advancing.{Advances, no_borrowed_devices, never_ready, reports_rest};
 ghost use Rattle.ttx_pes.specs.PesPackets.{IsPesPacket};
 
 use crate::fault::PesFault;
@@ -66,7 +66,7 @@ pub trait PesPackets {
     ghost ready: { Self → Bool } = { never_ready };
 
     // The references by which the reader borrows its device, outermost first.
-    ghost device: { Self → List GName } = { lends_none };
+    ghost device: { Self → List GName } = { no_borrowed_devices };
 
     /// Lets `taker` process the next PES packet, if the reader has one. Without a packet, the taker
     /// is not called, and later calls consume nothing.

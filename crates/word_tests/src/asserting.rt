@@ -7,16 +7,16 @@ use std::fmt::Debug;
 use std::process::Abort;
 
 /// Asserts that two values are the same.
-pub fn assert_same<T: PartialEq + Debug>(rt: &impl Abort, got: &T, wanted: &T) {
-    assert_eq!(rt; got, wanted);
+pub fn assert_same<T: PartialEq + Debug>(rt: &impl Abort, got: &T, expected: &T) {
+    assert_eq!(rt; got, expected);
 }
 
 /// Asserts that two values are the same in test case `case`.
 pub fn assert_same_in<T: PartialEq + Debug>(
     rt: &impl Abort,
     got: &T,
-    wanted: &T,
+    expected: &T,
     case: &impl Debug,
 ) {
-    assert_eq!(rt; got, wanted, "of {case:?}");
+    assert_eq!(rt; got, expected, "of {case:?}");
 }

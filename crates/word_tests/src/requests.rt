@@ -10,7 +10,7 @@ use sub_plan::Options;
 use sub_request::{
     FileNames, Flip, Listening, PesSelection, ReceiverKind, Request, TransportStream,
 };
-use sub_words::ParseWords;
+use sub_words::ParseArguments;
 use ttx_pes::PesPacketRange;
 
 const NORMAL: [&str; 4] = ["subttx", "normal", "a", "b"];

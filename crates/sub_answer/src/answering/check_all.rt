@@ -6,7 +6,7 @@ ghost use Rattle.sub_rules.specs.Fault.{is_pes_read};
 ghost use Rattle.sub_listing.specs.DeviceCall.{CanFail, CountsFault, read_call, sink_call};
 ghost use Rattle.sub_listing.specs.DeviceCall.{source_call};
 ghost use Rattle.sub_answer.specs.EveryFault.{AnswersAll, ReportsBoth, ReportsPes};
-ghost use Rattle.sub_listing.specs.EventLines.{most_counted};
+ghost use Rattle.sub_listing.specs.EventLines.{max_count};
 ghost use Rattle.sub_answer.specs.FaultListing.{faults_listing, last_listing};
 ghost use Rattle.sub_listing.specs.Faults.{check_line};
 ghost use Rattle.sub_listing.specs.LastLine.{BuffersLastLineOnly, PutsLine};
@@ -97,7 +97,7 @@ fn report_every_fault<S: Source, P: NumberedPesPackets, K: Flush>(
     requires stl { CanFail (S.failure_count stl.old) }
     requires pes { CanFail (P.failure_count pes.old) }
     requires out { CanFail (K.failure_count printer.old.out.now) }
-    requires goes_on { printer.old.failed ≡ false }
+    requires continues { printer.old.failed ≡ false }
     requires still { printer.old.pending ≡ false }
     requires none { printer.old.refused ≡ 0 }
     ensures same { printer.new.out.ghost_name ≡ printer.old.out.ghost_name }
@@ -154,9 +154,9 @@ fn report_transmission<P: NumberedPesPackets, K: Flush>(
 ) -> Result<Option<Accepted>, CheckFault>
     requires pes { CanFail (P.failure_count pes.old) }
     requires out { CanFail (K.failure_count printer.old.out.now) }
-    requires goes_on { printer.old.failed ≡ false }
+    requires continues { printer.old.failed ≡ false }
     requires still { printer.old.pending ≡ false }
-    requires few { printer.old.refused ≤ most_counted }
+    requires few { printer.old.refused ≤ max_count }
     ensures same { printer.new.out.ghost_name ≡ printer.old.out.ghost_name }
     ensures reported { ReportsPes judging.now options.now
         (read_call P.remaining P.left P.failure_count pes.old pes.new)

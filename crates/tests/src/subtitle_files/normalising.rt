@@ -8,7 +8,7 @@ use stl_file::{StlReader, normal, write_subtitle};
 use sub_io::{MemSink, MemSource};
 
 /// Returns the normal form of `a_file`: the comment and the user data are left out.
-fn wanted() -> [u8; 1408] {
+fn expected() -> [u8; 1408] {
     let mut file = [0; 1408];
     put(&mut file, 0, &gsi());
     put(&mut file, 238, b"0000300002".as_slice());
@@ -20,7 +20,7 @@ fn wanted() -> [u8; 1408] {
 
 #[test]
 fn writes_the_normal_form_and_that_again(rt: HostRuntime) {
-    let want = wanted();
+    let want = expected();
     let mut buffer = [0; 2000];
     let mut sink = MemSink::new(&mut buffer);
     assert_same(&rt, &normal(&a_file(), &mut sink), &Ok(2));
@@ -43,7 +43,7 @@ fn writes_a_subtitle_in_the_fewest_blocks(rt: HostRuntime) {
     let mut buffer = [0; 300];
     let mut sink = MemSink::new(&mut buffer);
     assert!(rt; write_subtitle(&subtitle, &mut sink) == Ok(2));
-    let all = wanted();
+    let all = expected();
     let (_, blocks) = all.split_at(1024);
     let (want, _) = blocks.split_at(256);
     assert!(rt; sink.written() == want);

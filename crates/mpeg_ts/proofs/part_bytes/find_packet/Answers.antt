@@ -1,6 +1,6 @@
 -- The bytes of a part that is found complete begin with a PES packet, valid or not: packet_found.
 use Rattle.std.proofs.Common.{◌∙◌}
-use Rattle.mpeg_ts.proofs.ReadyLemmas.{packet_found, refused_found}
+use Rattle.mpeg_ts.proofs.ReadyLemmas.{packet_found, found_in_refused}
 use Rattle.mpeg_ts.proofs.part_bytes.find_packet.Goals as goal
 
 pub returns-clause-packet : goal.returns-clause-packet
@@ -10,4 +10,4 @@ returns-clause-packet c = λ size is.
 
 pub returns-clause-other : goal.returns-clause-other
 returns-clause-other c = λ fault is.
-    refused_found c.args.bytes.now fault (c.found_at_start.ensures.found ∙ is)
+    found_in_refused c.args.bytes.now fault (c.found_at_start.ensures.found ∙ is)

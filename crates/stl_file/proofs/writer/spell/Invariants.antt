@@ -2,15 +2,15 @@
 -- are all blocks of the subtitle.
 use Rattle.std.proofs.Common.{◌≡◌, ◌≤◌, ◌+◌, ◌*◌, ◌++◌, length}
 use Rattle.std.specs.List.{concat}
-use Rattle.stl_file.specs.NormalForm.{blocks_from, blocks_of, full_pieces}
+use Rattle.stl_file.specs.NormalForm.{blocks_from, blocks_of, full_chunks}
 use Rattle.stl_file.proofs.writer.spell.Given as goal
 
 abbrev pub invariant-loop-rest : goal.invariant-loop-rest
 invariant-loop-rest l = record {
   few : 112 * l.ebn + length l.rest ≤ 1008;
-  counted : l.ebn + full_pieces l.rest ≡ full_pieces l.subtitle.text;
+  counted : l.ebn + full_chunks l.rest ≡ full_chunks l.subtitle.text;
   size : length l.out.items ≡ 128 * l.ebn;
-  same : l.out.items ++ concat (blocks_from l.subtitle (full_pieces l.rest) l.ebn l.rest)
+  same : l.out.items ++ concat (blocks_from l.subtitle (full_chunks l.rest) l.ebn l.rest)
       ≡ concat (blocks_of l.subtitle);
 }
 

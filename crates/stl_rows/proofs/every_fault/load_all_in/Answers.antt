@@ -1,6 +1,6 @@
 -- The faults reported so far and the faults of the rest, in each iteration and at each return:
--- goes_on-next, reports-end, reports-stop, fails-next; and the subtitles used for checking:
--- judges-enough, judges-not, judges-broken.
+-- continues-next, reports-end, reports-stop, fails-next; and the subtitles used for checking:
+-- can_judge-enough, can_judge-not, can_judge-broken.
 use Rattle.std.proofs.Common.{◌∙◌, ◌++◌, ◌<◌, refl, rules, sym, [], ◌∷◌, map, arith}
 use Rattle.std.proofs.Common.{drop, inl, inr}
 use Rattle.std.proofs.lemmas.Bool.Decides.{nat_tests}
@@ -18,11 +18,11 @@ use Rattle.stl_file.proofs.ReaderLemmas.{left-then}
 use Rattle.stl_rows.proofs.FailedReadLemmas.{fails-next, has_taken-next, reads-nothing}
 use Rattle.stl_rows.proofs.KeepingLemmas.{kept-next, kept-none, kept-refused, none-requested}
 use Rattle.stl_rows.proofs.KeepingLemmas.{programme-kept}
-use Rattle.stl_rows.proofs.LoadingLemmas.{found-from, goes_on-next, goes_on-start}
-use Rattle.stl_rows.proofs.LoadingLemmas.{judges-broken, judges-enough, judges-not}
+use Rattle.stl_rows.proofs.LoadingLemmas.{found-from, continues-next, continues-start}
+use Rattle.stl_rows.proofs.LoadingLemmas.{can_judge-broken, can_judge-enough, can_judge-not}
 use Rattle.stl_rows.proofs.LoadingLemmas.{of_file-end, of_file-stopped}
 use Rattle.stl_rows.proofs.LoadingLemmas.{IsReportedBy, some-few, reports-end, reported-all}
-use Rattle.stl_rows.proofs.LoadingLemmas.{first_kind, goes_on-refused, wants-memory}
+use Rattle.stl_rows.proofs.LoadingLemmas.{first_kind, continues-refused, wants-memory}
 use Rattle.stl_rows.proofs.LoadingLemmas.{reports-none, reports-refused, reports-stop}
 use Rattle.stl_rows.proofs.LoadingLemmas.{reported-next}
 use Rattle.stl_rows.proofs.LoadingLemmas.{reported-of_file, reported-refused}
@@ -43,12 +43,12 @@ subtitles-init g c = rw c.new-kept.ensures (record {
     consumed = c.in-Ok.ensures.taken.2;
     long = c.in-Ok.ensures.taken.1.size;
   });
-  goes_on = λ bytes e. (
+  continues = λ bytes e. (
     drop 1024 bytes,
     c.in-Ok.ensures.left bytes e,
     rw c.in-Ok.ensures.start
         (rw (findings_for-begun c.args.drawing.scope bytes _ (c.in-Ok.ensures.exact bytes e refl))
-        at (goes_on-start c.args.drawing bytes)),
+        at (continues-start c.args.drawing bytes)),
   );
 })
 
@@ -72,19 +72,19 @@ subtitles-preserved-in-Ok-Refused g c =
       scope = c.in-Ok-Refused.ensures.scope ∙ i.scope;
       count = search rules;
       taken = has_taken-next l refl i.taken;
-      goes_on = λ bytes e.
-          let was = i.goes_on bytes e in
+      continues = λ bytes e.
+          let was = i.continues bytes e in
           let now = left-then _ _ was.0 l was.1 in
-          (now.0, now.1, goes_on-refused fault here (rw now.2 at was.2));
+          (now.0, now.1, continues-refused fault here (rw now.2 at was.2));
     })
 
 pub returns-in-Ok-report_end-clause-exact : goal.returns-in-Ok-report_end-clause-exact
 returns-in-Ok-report_end-clause-exact g c = λ bytes e.
     let refused = c.in-Err.ensures.exact bytes e c.in-Ok-report_end.ensures.file in
     let end = findings_for-refused c.args.drawing.scope bytes _ refused in
-    let start = goes_on-start c.args.drawing bytes in (
+    let start = continues-start c.args.drawing bytes in (
       reports-end start (Reports-none _) end c.in-Ok-report_end.ensures.reported,
-      inr (judges-broken start end),
+      inr (can_judge-broken start end),
     )
 
 pub returns-in-Err-report_end-clause-read : goal.returns-in-Err-report_end-clause-read
@@ -93,12 +93,12 @@ returns-in-Err-report_end-clause-read g c = grind (arith, nat_tests, lt-ltb, rea
 pub returns-in-Ok-report_end-2-clause-exact : goal.returns-in-Ok-report_end-2-clause-exact
 returns-in-Ok-report_end-2-clause-exact g c = λ bytes e.
     let i = c.subtitles.invariant in
-    let here = i.goes_on bytes e in
+    let here = i.continues bytes e in
     let l = rw i.scope at (c.in-Err-next_into.ensures.leads c.in-Ok-report_end-2.ensures.file) in
     let end = left-then _ _ here.0 l here.1 in (
       reports-end here.2 i.reported end.2
           (rw c.block.ensures.value at c.in-Ok-report_end-2.ensures.reported),
-      inr (judges-broken here.2 end.2),
+      inr (can_judge-broken here.2 end.2),
     )
 
 pub returns-in-Ok-report_end-2-clause-reported : goal.returns-in-Ok-report_end-2-clause-reported
@@ -114,13 +114,13 @@ returns-in-Err-report_end-2-clause-read g c = λ is.
     let i = c.subtitles.invariant in
     let failed = c.in-Err-report_end-2.ensures.read in
     rw (failed.1, failed.2, c.block.ensures.value)
-    (fails-next c.subtitles.reader i.taken i.early_reported i.reported i.goes_on
+    (fails-next c.subtitles.reader i.taken i.early_reported i.reported i.continues
     (rw i.scope at (c.in-Err-next_into.ensures.failed (rw failed.0 refl))))
 
 pub returns-in_default-clause-exact : goal.returns-in_default-clause-exact
 returns-in_default-clause-exact g c = λ bytes e.
     let i = c.subtitles.invariant in
-    let here = i.goes_on bytes e in
+    let here = i.continues bytes e in
     let l = rw (c.in-Ok-Refused.field-0-is, i.scope) at (c.in-Ok-Refused.ensures.leads refl) in
     let now = left-then _ _ here.0 l here.1 in (
       reports-refused here.2 i.reported _ now.2 c.in_default.ensures.stopped
@@ -140,7 +140,7 @@ pub returns-in_default-report_faults-clause-exact :
     goal.returns-in_default-report_faults-clause-exact
 returns-in_default-report_faults-clause-exact g c = λ bytes e.
     let i = c.subtitles.invariant in
-    let here = i.goes_on bytes e in
+    let here = i.continues bytes e in
     let l = rw (c.in-Ok-Subtitle.field-0-is, i.scope) at (c.in-Ok-Subtitle.ensures.leads refl) in
     let now = left-then _ _ here.0 l here.1 in (
       reports-stop here.2 i.reported _ now.2 c.in_default-report_faults.ensures.stopped
@@ -162,19 +162,19 @@ returns-in_default-report_faults-clause-reported g c =
 pub returns-in-Ok-End-clause-exact : goal.returns-in-Ok-End-clause-exact
 returns-in-Ok-End-clause-exact g c = λ bytes e.
     let i = c.subtitles.invariant in
-    let here = i.goes_on bytes e in
+    let here = i.continues bytes e in
     let l = rw (c.in-Ok-End.field-0-is, i.scope) at (c.in-Ok-End.ensures.leads refl) in
     let end = left-then _ _ here.0 l here.1 in
     elim (cases_Bool (is_enough c.subtitles.kept)) [
       | inl enough ↦
           rw (c.if_enough.ensures, enough) (
-            judges-enough here.2 end.2 i.are_kept enough,
+            can_judge-enough here.2 end.2 i.are_kept enough,
             rw (reported-all here.2 end.2) i.reported,
           )
       | inr few ↦
           rw (c.if_enough.ensures, few) (
             reports-none here.2 i.reported end.2 (some-few i.are_kept few),
-            inr (judges-not here.2 end.2 few),
+            inr (can_judge-not here.2 end.2 few),
           )
     ]
 
@@ -227,12 +227,12 @@ subtitles-preserved g c =
       scope = c.in-Ok-Subtitle.ensures.scope ∙ i.scope;
       count = search rules;
       taken = has_taken-next l refl i.taken;
-      goes_on = λ bytes e.
-          let was = i.goes_on bytes e in
+      continues = λ bytes e.
+          let was = i.continues bytes e in
           let now = left-then _ _ was.0 l was.1 in (
             now.0,
             now.1,
-            goes_on-next t here c.is_none-in_order.result c.in-Ok-report_faults.clean i.are_kept
+            continues-next t here c.is_none-in_order.result c.in-Ok-report_faults.clean i.are_kept
                 is_order is_clean (rw now.2 at was.2),
           );
     })
@@ -242,7 +242,7 @@ returns-in-Err-put-clause-exact g c = λ bytes e is.
     let i = c.subtitles.invariant in
     let t = c.next_into.new.subtitle in
     let here = c.next_into.new.self.block in
-    let was = i.goes_on bytes e in
+    let was = i.continues bytes e in
     let l = rw (c.in-Ok-Subtitle.field-0-is, i.scope) at (c.in-Ok-Subtitle.ensures.leads refl) in
     let now = left-then _ _ was.0 l was.1 in
     let reading = rw c.in-Ok-Subtitle.field-0-is at c.in-Ok-Subtitle.ensures.progress in

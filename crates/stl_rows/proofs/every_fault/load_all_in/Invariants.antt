@@ -9,7 +9,7 @@ use Rattle.stl_file.specs.Reading.{findings_from}
 use Rattle.stl_rows.specs.declared.fault.LoadFault.{LoadFault}
 use Rattle.stl_rows.proofs.FailedReadLemmas.{HasTaken}
 use Rattle.stl_rows.proofs.KeepingLemmas.{AreKept}
-use Rattle.stl_rows.proofs.LoadingLemmas.{GoesOn, IsReportedBy}
+use Rattle.stl_rows.proofs.LoadingLemmas.{LoadingInvariant, IsReportedBy}
 use Rattle.stl_rows.proofs.every_fault.load_all_in.Given as goal
 
 abbrev pub invariant-subtitles : goal.invariant-subtitles
@@ -24,9 +24,10 @@ invariant-subtitles g l = record {
   count : g.S.Source.failure_count l.source ≡ g.S.Source.failure_count l.fn.source;
   taken : HasTaken (g.S.Source.remaining l.fn.source) (g.S.Source.remaining l.source)
       l.reader.block;
-  goes_on : (bytes : List ℕ) → g.S.Source.remaining l.fn.source ≡ Some bytes
+  continues : (bytes : List ℕ) → g.S.Source.remaining l.fn.source ≡ Some bytes
       → (rest : List ℕ) × (g.S.Source.remaining l.source ≡ Some rest)
-      × GoesOn l.drawing bytes (findings_from l.drawing.scope l.reader.block l.reader.refused rest)
+      × LoadingInvariant l.drawing bytes (findings_from l.drawing.scope l.reader.block
+      l.reader.refused rest)
       l.before l.kept early;
 }
 

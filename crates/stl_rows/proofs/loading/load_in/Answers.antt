@@ -11,20 +11,20 @@ use Rattle.stl_rows.proofs.loading.load_in.Goals as goal
 pub returns-in-Ok-Some-clause-exact : goal.returns-in-Ok-Some-clause-exact
 returns-in-Ok-Some-clause-exact g c = λ bytes e.
     let ok = c.in-Ok-Some.ensures in
-    let goes_on =
+    let continues =
     keeps-none c.load_all_in.new.audience
     (λ stopped. let is = ok.stopped stopped in let own = c.in-Ok-Some.field-0-is in cc) in
     let exact = rw c.in-Ok-Some.field-0-is at (ok.exact bytes e) in
     rw c.into_subtitles.ensures
-    (loads-all c.args.drawing bytes _ exact.0 (rw (c.new-first.ensures, goes_on) at exact.1))
+    (loads-all c.args.drawing bytes _ exact.0 (rw (c.new-first.ensures, continues) at exact.1))
 
 pub returns-in-Err-clause-fault : goal.returns-in-Err-clause-fault
 returns-in-Err-clause-fault g c = λ bytes e.
     let failed = c.in-Err.ensures in
-    let goes_on =
+    let continues =
     keeps-none c.load_all_in.new.audience (λ stopped. let is = failed.stopped stopped in cc) in
     reports-failed c.args.drawing bytes c.in-Err.fault.block c.in-Err.fault.kind failed.kinds
-    (λ is. rw (c.new-first.ensures, goes_on) at (failed.exact bytes e is))
+    (λ is. rw (c.new-first.ensures, continues) at (failed.exact bytes e is))
 
 pub unreachable-requires : goal.unreachable-requires
 unreachable-requires g c = grind (arith, nat_tests, first-of_file)

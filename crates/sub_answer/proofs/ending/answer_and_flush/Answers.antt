@@ -12,9 +12,9 @@ returns-clause-ends g c = record {
   file = _;
   file_is = record {
     left = c.answer_over-status.new.file;
-    call_is = refl;
+    call_eq = refl;
     closed = c.close.ensures.call.device;
-    buffered_is = c.close.ensures.call.buffered;
+    buffered_eq = c.close.ensures.call.buffered;
     written =
         written_before c.args.request.now _ c.args.file.now.buffered
         c.answer_over-status.new.file.buffered
@@ -27,7 +27,7 @@ returns-clause-ends g c = record {
   followed =
       followed_before g.O.Sink.contents g.O.FlushPending.buffer_state g.O.Flush.buffered
       g.O.Sink.failure_count
-      g.O.Sink.is_push c.args.out.now c.answer_over-status.new.out g.met.O.FlushPending.buffered_is
+      g.O.Sink.is_push c.args.out.now c.answer_over-status.new.out g.met.O.FlushPending.buffered_eq
       c.args.request.now _ _ c.answer_over-status.ensures.answers.followed;
   flushed = c.flush_pending.ensures.lines;
 }

@@ -7,7 +7,7 @@ pub returns-in-Nothing : goal.returns-in-Nothing
 returns-in-Nothing g c =
     rw c.in-Nothing.is (record {
       left = record { first = None; second = None; file = None };
-      are_let_go = refl;
+      are_released = refl;
       ends =
           ends_weaker _ _ _ _ _ _ _ _ _ _ _ _ c.read_nothing.ensures
           (λ call is. is) (λ call is. is) (λ is. refl) (λ first call is. is);

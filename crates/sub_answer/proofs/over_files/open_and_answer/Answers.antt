@@ -1,6 +1,6 @@
 -- The files that the request names were opened, as fits says, and then released: calls_go_on.
 use Rattle.sub_request.specs.Files.{files_of}
-use Rattle.sub_answer.specs.Ending.{let_go}
+use Rattle.sub_answer.specs.Ending.{release}
 use Rattle.sub_answer.proofs.EndingLemmas.{calls_go_on}
 use Rattle.sub_answer.proofs.FittingLemmas.{fits}
 use Rattle.sub_answer.proofs.over_files.open_and_answer.Goals as goal
@@ -21,8 +21,8 @@ returns-in-Some-open-clause-ends g c =
         calls = opened.calls;
         are_made =
             calls_go_on g.D.FileSystem.is_call c.args.files.now c.open.new.files
-            c.answer_opened.new.files opened.calls (let_go answered.left) opened.are_made
-            answered.are_let_go;
+            c.answer_opened.new.files opened.calls (release answered.left) opened.are_made
+            answered.are_released;
         opens = opened.opens;
       };
       ends = answered.ends;

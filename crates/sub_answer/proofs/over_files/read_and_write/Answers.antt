@@ -11,17 +11,17 @@ returns g c = record {
     second = None;
     file = Some c.into_inner-2.result;
   };
-  are_let_go = (
-    c.let_go_input.new.self,
-    c.let_go_input.ensures,
-    (c.let_go_output.new.self, c.let_go_output.ensures, refl),
+  are_released = (
+    c.release_input.new.self,
+    c.release_input.ensures,
+    (c.release_output.new.self, c.release_output.ensures, refl),
   );
   ends =
       ends_weaker _ _ _ _ _ _ _ _ _ _ _ _ c.answer_source-status.ensures.ends
       (λ input is. record {
         room = _;
         new = _;
-        left_is = c.into_inner.ensures;
+        left_eq = c.into_inner.ensures;
         is_part =
             rw (c.new-first.ensures, c.into_file.ensures) at
             (entire_source
@@ -33,7 +33,7 @@ returns g c = record {
       (λ first call is. record {
         room = _;
         new = _;
-        left_is = c.into_inner-2.ensures;
+        left_eq = c.into_inner-2.ensures;
         closed = rw (c.new-file.ensures, c.into_file-2.ensures) at is;
         whole = λ done.
             rw (c.new-file.ensures, c.into_file-2.ensures)

@@ -11,17 +11,17 @@ returns g c = record {
     second = Some c.into_inner-2.result;
     file = None;
   };
-  are_let_go = (
-    c.let_go_input.new.self,
-    c.let_go_input.ensures,
-    (c.let_go_input-2.new.self, c.let_go_input-2.ensures, refl),
+  are_released = (
+    c.release_input.new.self,
+    c.release_input.ensures,
+    (c.release_input-2.new.self, c.release_input-2.ensures, refl),
   );
   ends =
       ends_weaker _ _ _ _ _ _ _ _ _ _ _ _ c.answer_second_part-status.ensures
       (λ input is. record {
         room = _;
         new = _;
-        left_is = c.into_inner.ensures;
+        left_eq = c.into_inner.ensures;
         is_part =
             rw (c.new-first.ensures, c.into_file.ensures) at
             (entire_source
@@ -32,7 +32,7 @@ returns g c = record {
       (λ input is. record {
         room = _;
         new = _;
-        left_is = c.into_inner-2.ensures;
+        left_eq = c.into_inner-2.ensures;
         is_part = rw (c.part_requested.ensures, c.new-second.ensures, c.into_file-2.ensures) at is;
       })
       (λ is.

@@ -62,7 +62,7 @@ returns-in-Err-clause-checked g c = λ none at_once bytes reported.
     read_failed c.args.programme.now c.args.options.now bytes c.in-Err.ensures.options
     c.in-Err.ensures.programme
     c.new-first.result c.report_known.new.audience c.in-Err.fault c.new-first.ensures
-    c.in-Err.ensures.goes_on
+    c.in-Err.ensures.continues
     (c.in-Err.ensures.exact bytes reported) c.in-Err.ensures.only in
     answer.at_once none at_once
 
@@ -72,7 +72,7 @@ returns-in-Err-clause-checked_by g c = λ bytes reported.
     read_failed c.args.programme.now c.args.options.now bytes c.in-Err.ensures.options
     c.in-Err.ensures.programme
     c.new-first.result c.report_known.new.audience c.in-Err.fault c.new-first.ensures
-    c.in-Err.ensures.goes_on
+    c.in-Err.ensures.continues
     (c.in-Err.ensures.exact bytes reported) c.in-Err.ensures.only in
     answer.by
 
@@ -82,4 +82,4 @@ returns-in-Err-clause-read g c = λ pes is.
     let failed = ap (λ f. let r : Result (Option Accepted) CheckFault = Err f in r) same in
     fails_at_packet c.args.programme.now c.args.options.now
     c.new-first.result c.report_known.new.audience c.in-Err.fault pes _ _ c.new-first.ensures
-    c.in-Err.ensures.goes_on same (c.in-Err.ensures.read pes failed) c.in-Err.ensures.exact
+    c.in-Err.ensures.continues same (c.in-Err.ensures.read pes failed) c.in-Err.ensures.exact

@@ -4,20 +4,21 @@ use Rattle.std.proofs.Common.{◌++◌, [], ◌∷◌, length, ap, map, refl, sy
 use Rattle.sub_rules.specs.PesPacketEvents.{closing_of_pes_packets}
 use Rattle.sub_rules.specs.Trusted.{CheckStep}
 use Rattle.sub_rules.specs.Trusted.CheckStep.{AtPes, Emits}
-use Rattle.sub_checker.proofs.LastEventsLemmas.{closes_are, closing_are, relays_equal}
+use Rattle.sub_checker.proofs.LastEventsLemmas.{closing_steps_agree, closing_events_agree}
+use Rattle.sub_checker.proofs.LastEventsLemmas.{relays_equal}
 use Rattle.sub_checker.proofs.ReporterLemmas.{relays_step, relays_reported, relays_two}
 use Rattle.sub_checker.proofs.file_end.close.Goals as goal
 
 pub returns-clause-reported : goal.returns-clause-reported
 returns-clause-reported g c = λ criteria list last follows is.
     let step =
-    closes_are criteria list c.args.pes last _ c.args.fault c.is_some.result
+    closing_steps_agree criteria list c.args.pes last _ c.args.fault c.is_some.result
     c.reports_trusted-more.result follows is c.is_some.ensures c.reports_trusted-more.ensures in
     relays_two
     (ap (λ (m : CheckStep). (AtPes c.args.pes ∷ m ∷ [])
     ++ map Emits (closing_of_pes_packets criteria list c.args.pes (length list))) (sym step))
     (relays_two refl (relays_step refl c.go_to.ensures refl) c.close.ensures)
-    (relays_equal _ _ (closing_are criteria list c.args.pes last _ c.args.fault follows is)
+    (relays_equal _ _ (closing_events_agree criteria list c.args.pes last _ c.args.fault follows is)
     (relays_reported refl c.close-2.ensures))
 
 pub returns-clause-some : goal.returns-clause-some

@@ -1,7 +1,7 @@
 -- The steps of a valid PES packet are reported with the Teletext packets that the reader lends.
 use Rattle.std.proofs.Common.{◌∙◌, ap, subst, sym}
 use Rattle.sub_rules.specs.PacketRules.{packets_of_units}
-use Rattle.sub_checker.specs.NextPesPackets.{IsAgain}
+use Rattle.sub_checker.specs.NextPesPackets.{IsRepeatSending}
 use Rattle.sub_checker.proofs.pes_file.report_pes_packet.Goals as goal
 
 pub returns-in-Sent-clause-reported : goal.returns-in-Sent-clause-reported
@@ -10,5 +10,6 @@ returns-in-Sent-clause-reported g c = λ criteria sent last keeps again.
     let go =
     c.go_on.ensures.reported criteria sent last keeps
     (λ e. let both = c.after_pes_packet.ensures.again e in
-    again both.1 (subst IsAgain (sym c.in-Sent.is) both.0) ∙ ap packets_of_units (sym units)) in
+    again both.1 (subst IsRepeatSending (sym c.in-Sent.is) both.0) ∙ ap packets_of_units
+    (sym units)) in
     rw c.in-Sent.is (rw (c.after_pes_packet.ensures.frame, units) at go)

@@ -21,7 +21,7 @@ use Rattle.sub_io.proofs.ReportingLemmas.{ReportsSome-trans}
 use Rattle.sub_rules.proofs.PesPacketFileLemmas.{takes_more_pes_packets}
 use Rattle.sub_rules.specs.PacketRules.{packets_of_units}
 use Rattle.sub_rules.specs.declared.pes_packet.NextPesPacket.{NextPesPacket}
-use Rattle.sub_checker.proofs.NextPesPacketLemmas.{again_is, given_sent, last_is}
+use Rattle.sub_checker.proofs.NextPesPacketLemmas.{again_is, result_is_sending, last_is}
 use Rattle.sub_checker.proofs.ReadsOnLemmas.{named_pes, packets_taken, reads_on_none}
 use Rattle.sub_checker.proofs.EventPartsLemmas.{all_same}
 use Rattle.sub_checker.proofs.pes_file.report_pes_packets.Goals as goal
@@ -33,7 +33,7 @@ pes_packets-init g c = record {
   taken = takes_no_pes_packets _;
   failures = refl;
   device = refl;
-  goes_on = refl;
+  continues = refl;
   same = refl;
   keeps = (
     [],
@@ -95,7 +95,7 @@ returns-then-is_source_failure-clause-read g c = λ pes is.
                 same
                 ∙ sym i.1.count))
                 (ap (λ (l : List PesPacket). length (frames_of l)) (sym done) ∙ sent) reported
-                i.1.rest_is;
+                i.1.rest_eq;
             within = c.in-Err.ensures.within failed;
           },
     )
@@ -106,7 +106,7 @@ returns-in-Err-clause-exact g c = λ bytes reported pes_packets unread reads.
     let criteria = criteria_of_judged c.args.judging.now c.args.options.now unread in
     let so_far =
     c.flush_reports.ensures.reported.kept c.args.audience.now _ c.requires.still i.5 in
-    let end = c.in-Err.ensures.exact i.1.ahead unread i.1.rest i.1.rest_is
+    let end = c.in-Err.ensures.exact i.1.ahead unread i.1.rest i.1.rest_eq
     (sym c.is_source_failure.ensures ∙ c.if-is_source_failure.false) i.1.left in
     let device =
     c.finish.ensures.same criteria (frames_sent criteria i.0) i.2 i.3.keeps
@@ -128,7 +128,7 @@ returns-in_default-clause-exact g c = λ bytes reported pes_packets unread reads
     let so_far =
     c.flush_reports.ensures.reported.kept c.args.audience.now _ c.requires.still i.5 in
     let end = rw c.in_default.is at
-    (c.in-Ok.ensures.exact i.1.ahead unread i.1.rest i.1.rest_is refl i.1.left) in
+    (c.in-Ok.ensures.exact i.1.ahead unread i.1.rest i.1.rest_eq refl i.1.left) in
     let device =
     c.finish-in_default.ensures.same criteria (frames_sent criteria i.0) i.2 i.3.keeps
     ∙ c.flush_reports.ensures.same
@@ -159,7 +159,7 @@ returns-then-reporter-clause-exact g c = λ bytes reported pes_packets unread re
     let reported =
     reported_stop c.args.judging.now i.1 i.3 c.next_pes_packet.new.reader.frame c.in-Some.pes_packet
     _ _ _
-    (rw c.in-Some.is at (c.in-Ok.ensures.exact i.1.ahead unread i.1.rest i.1.rest_is refl i.1.left))
+    (rw c.in-Some.is at (c.in-Ok.ensures.exact i.1.ahead unread i.1.rest i.1.rest_eq refl i.1.left))
     so_far received.cut in
     search rules
 
@@ -211,7 +211,7 @@ pes_packets-preserved g c =
           ((rw c.in-Some.is at c.in-Ok.ensures.taken) refl);
       failures = omega (arith, counted, inv.failures);
       device = c.next_pes_packet.ensures.device ∙ inv.device;
-      goes_on = c.if-reporter.false;
+      continues = c.if-reporter.false;
       same = more.0 ∙ c.flush_reports.ensures.same ∙ inv.same;
       some =
           ReportsSome-trans _ _ _
@@ -240,12 +240,12 @@ pes_packets-preserved g c =
           let s =
           step c.args.judging.now i.1 i.3 g.A.Audience.is_reported
           _ c.next_pes_packet.new.reader.frame
-          pes_packet _ _ _ _ _ ((rw c.in-Some.is at (c.in-Ok.ensures.left i.1.rest i.1.rest_is))
+          pes_packet _ _ _ _ _ ((rw c.in-Some.is at (c.in-Ok.ensures.left i.1.rest i.1.rest_eq))
           refl)
           (rw c.in-Some.is at
-          (c.in-Ok.ensures.exact i.1.ahead unread i.1.rest i.1.rest_is refl i.1.left))
+          (c.in-Ok.ensures.exact i.1.ahead unread i.1.rest i.1.rest_eq refl i.1.left))
           (λ sending is. (
-            c.in-Ok.ensures.sent sending (given_sent c.in-Some.is is),
+            c.in-Ok.ensures.sent sending (result_is_sending c.in-Some.is is),
             c.report_pes_packet-skipped.ensures.frame sending is,
           ))
           all.1 all.0.kept so_far

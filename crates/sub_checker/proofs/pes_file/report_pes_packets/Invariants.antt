@@ -10,7 +10,7 @@ use Rattle.sub_rules.specs.PacketRules.{packets_of_units}
 use Rattle.sub_rules.specs.PesPacketEvents.{events_of_pes_packets}
 use Rattle.sub_rules.specs.PesPackets.{PesPacket, ReadsPesPackets, TakesPesPackets}
 use Rattle.sub_rules.specs.Transmission.{Transmission}
-use Rattle.sub_checker.specs.Checker.{AreFew}
+use Rattle.sub_checker.specs.Checker.{FewMissing}
 use Rattle.sub_checker.specs.CheckedFrames.{BetweenPesPackets}
 use Rattle.sub_checker.proofs.PesPacketWaysLemmas.{Tracks}
 use Rattle.sub_checker.proofs.ReadsOnLemmas.{ReadsOn}
@@ -24,7 +24,7 @@ invariant-pes_packets g l = record {
       l.source);
   failures : g.P.PesPackets.failure_count l.source ≡ g.P.PesPackets.failure_count l.fn.source;
   device : g.P.PesPackets.device l.source ≡ g.P.PesPackets.device l.fn.source;
-  goes_on : l.reporter.fused.stopped ≡ false;
+  continues : l.reporter.fused.stopped ≡ false;
   same : l.reporter.fused.device.ghost_name ≡ l.initial.reporter.fused.device.ghost_name;
   some : ReportsSome g.A.Audience.is_reported l.fn.audience l.reporter.fused.device.now;
   keeps :
@@ -36,7 +36,7 @@ invariant-pes_packets g l = record {
       g.A.Live.buffered l.fn.audience ≡ 0
       → BuffersOnlyWhilePending g.A.Live.has_pending_reports g.A.Live.buffered
       l.reporter.fused.device.now;
-  room : AreFew l.pes l.checker.counts;
+  room : FewMissing l.pes l.checker.counts;
   reported :
       (pes_packets : List PesPacket) (unread : Option Unread) (bytes : List ℕ)
       → g.P.PesPackets.remaining l.fn.source ≡ Some bytes

@@ -5,14 +5,14 @@ use Rattle.stl_rows.specs.Programme.{ProgrammeValue}
 use Rattle.sub_checker.proofs.UndecidedLemmas.{undecided_same}
 use Rattle.sub_checker.proofs.undecided.frame_before.Goals as goal
 
-of_other : (p q : ProgrammeValue) (e : ℕ) → p ≡ q → IsEdge q.records e → IsEdge p.records e
-of_other p q e same edge = subst (λ (r : ProgrammeValue). IsEdge r.records e) (sym same) edge
+same_cues : (p q : ProgrammeValue) (e : ℕ) → p ≡ q → IsEdge q.records e → IsEdge p.records e
+same_cues p q e same edge = subst (λ (r : ProgrammeValue). IsEdge r.records e) (sym same) edge
 
 pub returns-in_default : goal.returns-in_default
 returns-in_default c f low until =
     undecided_same c.args.judging.now f c.args.at until
     (λ e edge after before.
-    omega (arith, before, c.in_default.ensures.value e (of_other _ _ e c.programme.ensures edge)))
+    omega (arith, before, c.in_default.ensures.value e (same_cues _ _ e c.programme.ensures edge)))
 
 pub returns-then-edge-least : goal.returns-then-edge-least
 returns-then-edge-least c =
@@ -27,7 +27,7 @@ returns-then-edge-least c =
             arith,
             low,
             after,
-            last.greatest e (of_other _ _ e c.programme.ensures edge)
+            last.greatest e (same_cues _ _ e c.programme.ensures edge)
                 before,
           )),
     )
@@ -43,6 +43,6 @@ returns-else-edge-least c f low until =
       earlier,
       low,
       after,
-      last.greatest e (of_other _ _ e c.programme.ensures edge)
+      last.greatest e (same_cues _ _ e c.programme.ensures edge)
           before,
     ))

@@ -6,5 +6,5 @@ pub returns : goal.returns
 returns c = record {
   ended = example.example_of_ended_page;
   not_ended = example.example_of_page_not_ended;
-  begun_again = example.example_of_page_begun_again;
+  restarted_page = example.example_of_restarted_page;
 }

@@ -13,20 +13,23 @@ returns-in_default-clause-calls g c = record {
   opens = (refl, refl);
 }
 
-pub returns-in-Some-create_apart-clause-calls : goal.returns-in-Some-create_apart-clause-calls
-returns-in-Some-create_apart-clause-calls g c =
+pub returns-in-Some-create_other_file-clause-calls :
+    goal.returns-in-Some-create_other_file-clause-calls
+returns-in-Some-create_other_file-clause-calls g c =
     let created = creates g.D.FileSystem.is_call Extract c.args.files.now c.open_pes.new.files
-    c.look_up_all-found.new.files c.create_apart.new.files c.args.recording.now c.args.output.now
+    c.look_up_all-found.new.files c.create_other_file.new.files c.args.recording.now
+    c.args.output.now
     c.in-Some.input c.look_up_all-found.result
-    (Some c.in-Some-create_apart.created) (rw c.in-Some.is at c.open_pes.ensures.call)
+    (Some c.in-Some-create_other_file.created) (rw c.in-Some.is at c.open_pes.ensures.call)
     (rw c.name.ensures at c.look_up_all-found.ensures)
-    c.in-Some-create_apart.ensures.apart c.in-Some-create_apart.ensures.over in
+    c.in-Some-create_other_file.ensures.apart c.in-Some-create_other_file.ensures.over in
     record { calls = created.0; are_made = created.1; opens = created.2 }
 
 pub returns-in-None-clause-calls : goal.returns-in-None-clause-calls
 returns-in-None-clause-calls g c =
     let created = creates g.D.FileSystem.is_call Extract c.args.files.now c.open_pes.new.files
-    c.look_up_all-found.new.files c.create_apart.new.files c.args.recording.now c.args.output.now
+    c.look_up_all-found.new.files c.create_other_file.new.files c.args.recording.now
+    c.args.output.now
     c.in-Some.input c.look_up_all-found.result None
     (rw c.in-Some.is at c.open_pes.ensures.call)
     (rw c.name.ensures at c.look_up_all-found.ensures)

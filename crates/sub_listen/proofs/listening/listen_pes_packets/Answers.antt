@@ -12,7 +12,8 @@ use Rattle.sub_rules.specs.declared.fault.CheckFault.{CheckFault}
 use Rattle.sub_rules.specs.declared.pes_packet.NextPesPacket.{NextPesPacket}
 use Rattle.sub_rules.specs.declared.pes_packet.NextPesPacket.TheVariants.{Skipped}
 use Rattle.sub_listen.specs.Run.{least_after}
-use Rattle.sub_listen.specs.Reception.{RunsThrough, as_heard, first_lost_header, reception_of}
+use Rattle.sub_listen.specs.Reception.{RunsThrough, packets_used_by, first_lost_header}
+use Rattle.sub_listen.specs.Reception.{reception_of}
 use Rattle.sub_listen.proofs.WaysOutLemmas.{Reaches, ends_at_end, ends_late, ends_lost, ends_order}
 use Rattle.sub_listen.proofs.WaysOutLemmas.{ends_unread, fails_listening, reaches_next}
 use Rattle.sub_listen.proofs.listening.listen_pes_packets.Goals as goal
@@ -26,7 +27,7 @@ returns-in_err-next-clause-exact g c = λ frames unread bytes reported reads fin
     (ends_unread _ c.args.listening.now frames unread _ _ _ c.packets.index _ _ _ _ _ i _
     c.next_pes_packet.new.reader.frame (Err _) _
     (λ pes_packets left reads.
-    c.in_err-next.ensures.exact pes_packets left i.rest i.rest_is known reads) refl)
+    c.in_err-next.ensures.exact pes_packets left i.rest i.rest_eq known reads) refl)
 
 pub returns-in-Skipped-clause-exact : goal.returns-in-Skipped-clause-exact
 returns-in-Skipped-clause-exact g c = λ frames unread bytes reported reads fine.
@@ -34,7 +35,7 @@ returns-in-Skipped-clause-exact g c = λ frames unread bytes reported reads fine
     ends_unread _ c.args.listening.now frames unread _ _ _ c.packets.index _ _ _ _ _ i _
     c.next_pes_packet.new.reader.frame (Ok (Some (Skipped c.in-Skipped.fault))) c.in-Skipped.fault
     (λ pes_packets left reads. rw (c.in-Some.is, c.in-Skipped.is) at
-    (c.in_ok-next.ensures.exact pes_packets left i.rest i.rest_is refl reads)) refl
+    (c.in_ok-next.ensures.exact pes_packets left i.rest i.rest_eq refl reads)) refl
 
 pub returns-in_err-next-clause-failed : goal.returns-in_err-next-clause-failed
 returns-in_err-next-clause-failed g c =
@@ -51,7 +52,7 @@ returns-in_default-clause-exact g c = λ frames unread bytes reported reads fine
     ends_at_end _ c.args.listening.now frames unread _ _ _ c.packets.index _ _ _ _ _ i _
     c.next_pes_packet.new.reader.frame
     (λ pes_packets left reads. rw c.in_default.is at
-    (c.in_ok-next.ensures.exact pes_packets left i.rest i.rest_is refl reads))
+    (c.in_ok-next.ensures.exact pes_packets left i.rest i.rest_eq refl reads))
 
 pub returns-then-frame-least-clause-exact : goal.returns-then-frame-least-clause-exact
 returns-then-frame-least-clause-exact g c = λ frames unread bytes reported reads fine.
@@ -59,7 +60,7 @@ returns-then-frame-least-clause-exact g c = λ frames unread bytes reported read
     ends_order _ c.args.listening.now frames unread _ _ _ c.packets.index _ _ _ _ _ i _
     c.next_pes_packet.new.reader.frame c.in-Sent.sending
     (λ pes_packets left reads. rw (c.in-Some.is, c.in-Sent.is) at
-    (c.in_ok-next.ensures.exact pes_packets left i.rest i.rest_is refl reads))
+    (c.in_ok-next.ensures.exact pes_packets left i.rest i.rest_eq refl reads))
     (rw ((rw c.in-Some.is at c.in_ok-next.ensures.settled) refl)
     (takes-more c.packets.index _ _ _ _ c.packets.invariant.taken
     (c.in_ok-next.ensures.sent c.in-Sent.sending (cc))))
@@ -73,7 +74,7 @@ returns-then-frame-listening-clause-exact g c = λ frames unread bytes reported 
     ends_late _ c.args.listening.now frames unread _ _ _ c.packets.index _ _ _ _ _ i _
     c.next_pes_packet.new.reader.frame c.in-Sent.sending
     (λ pes_packets left reads. rw (c.in-Some.is, c.in-Sent.is) at
-    (c.in_ok-next.ensures.exact pes_packets left i.rest i.rest_is refl reads))
+    (c.in_ok-next.ensures.exact pes_packets left i.rest i.rest_eq refl reads))
     (rw ((rw c.in-Some.is at c.in_ok-next.ensures.settled) refl)
     (takes-more c.packets.index _ _ _ _ c.packets.invariant.taken
     (c.in_ok-next.ensures.sent c.in-Sent.sending (cc))))
@@ -90,7 +91,7 @@ returns-in-Some-first_lost_header-clause-exact g c = λ frames unread bytes repo
     ends_lost _ l frames unread _ _ _ c.packets.index _ _ _ _ _ i _
     c.next_pes_packet.new.reader.frame c.in-Sent.sending
     (λ pes_packets left reads. rw (c.in-Some.is, c.in-Sent.is) at
-    (c.in_ok-next.ensures.exact pes_packets left i.rest i.rest_is refl reads))
+    (c.in_ok-next.ensures.exact pes_packets left i.rest i.rest_eq refl reads))
     (rw ((rw c.in-Some.is at c.in_ok-next.ensures.settled) refl)
     (takes-more c.packets.index _ _ _ _ c.packets.invariant.taken
     (c.in_ok-next.ensures.sent c.in-Sent.sending (cc)))) c.first_in_frame-before.result place
@@ -131,7 +132,7 @@ packets-preserved g c =
     subst (λ (us : List UnitValue). RunsThrough l g.R.Receiver.leaves
     (g.R.Receiver.tuned_to c.packets.receiver)
     (display (g.R.Receiver.state c.packets.receiver) c.packets.screen)
-    (as_heard l c.packets.number (packets_of_units us))
+    (packets_used_by l c.packets.number (packets_of_units us))
     (display (g.R.Receiver.state c.hear_units.new.receiver)
     c.hear_units.new.screen)) value
     c.hear_units.ensures.run in
@@ -162,14 +163,15 @@ packets-preserved g c =
           c.packets.index _ _ _ _ _ i _
           c.next_pes_packet.new.reader.frame c.in-Sent.sending
           (λ pes_packets left reads. rw (c.in-Some.is, c.in-Sent.is) at
-          (c.in_ok-next.ensures.exact pes_packets left i.rest i.rest_is refl reads)) taken
+          (c.in_ok-next.ensures.exact pes_packets left i.rest i.rest_eq refl reads)) taken
           c.first_in_frame-before.result _
           (rw (← c.within-within.ensures.value) c.first_in_frame-before.ensures.value)
           (omega (arith, rises)) (omega (arith, in_time)) whole
-          ((rw c.in-Some.is at (c.in_ok-next.ensures.left i.rest i.rest_is)) refl)
+          ((rw c.in-Some.is at (c.in_ok-next.ensures.left i.rest i.rest_eq)) refl)
           (subst (λ (w : PageIdValue). RunsThrough l g.R.Receiver.leaves w
           (display (g.R.Receiver.state c.packets.receiver) c.packets.screen)
-          (as_heard l c.packets.number (packets_of_units c.next_pes_packet.new.reader.frame.units))
+          (packets_used_by l c.packets.number
+          (packets_of_units c.next_pes_packet.new.reader.frame.units))
           (display (g.R.Receiver.state c.hear_units.new.receiver)
           c.hear_units.new.screen))
           c.packets.invariant.tuned run)));

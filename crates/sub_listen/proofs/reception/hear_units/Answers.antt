@@ -5,7 +5,7 @@ use Rattle.ttx_packet.specs.PageId.{PageIdValue}
 use Rattle.ttx_page.specs.Screen.{display}
 use Rattle.ttx_pes.specs.DataUnit.{UnitValue}
 use Rattle.sub_rules.specs.PacketRules.{packets_of_units}
-use Rattle.sub_listen.specs.Reception.{RunsThrough, as_heard}
+use Rattle.sub_listen.specs.Reception.{RunsThrough, packets_used_by}
 use Rattle.sub_listen.proofs.ReceptionLemmas.{next_packet}
 use Rattle.sub_listen.proofs.reception.hear_units.Goals as goal
 
@@ -29,10 +29,10 @@ loop-k-preserved g c =
           subst (λ (w : PageIdValue).
           RunsThrough l g.R.Receiver.leaves w
           (display (g.R.Receiver.state c.hear_packet.new.receiver) c.hear_packet.new.screen)
-          (as_heard l (c.args.number + k + 1) (drop (k + 1) ps)) end
+          (packets_used_by l (c.args.number + k + 1) (drop (k + 1) ps)) end
           → RunsThrough l g.R.Receiver.leaves w
           (display (g.R.Receiver.state c.loop-k.receiver) c.loop-k.screen)
-          (as_heard l (c.args.number + k) (p ∷ drop (k + 1) ps)) end)
+          (packets_used_by l (c.args.number + k) (p ∷ drop (k + 1) ps)) end)
           i.tuned (c.hear_packet.ensures.run (drop (k + 1) ps) end) in
           i.run end (rw next (one (rw on at rest)));
     }

@@ -21,21 +21,21 @@ pes_packets-init g c = record {
 pub returns-then-pes-eq0-clause-extracts : goal.returns-then-pes-eq0-clause-extracts
 returns-then-pes-eq0-clause-extracts g c = λ bytes reported.
     let so_far = c.pes_packets.invariant.copied bytes reported in
-    let next = c.in-Ok-End.ensures.reported _ so_far.left_is in
+    let next = c.in-Ok-End.ensures.reported _ so_far.left_eq in
     let here = rw c.in-Ok-End.field-0-is at next in
     none_given bytes _ _ _ _ _ _ so_far here.0 here.1 c.if-pes-eq0.true
 
 pub returns-in-Ok-End-clause-extracts : goal.returns-in-Ok-End-clause-extracts
 returns-in-Ok-End-clause-extracts g c = λ bytes reported.
     let so_far = c.pes_packets.invariant.copied bytes reported in
-    let next = c.in-Ok-End.ensures.reported _ so_far.left_is in
+    let next = c.in-Ok-End.ensures.reported _ so_far.left_eq in
     let here = rw c.in-Ok-End.field-0-is at next in
     pes_packets_given bytes _ _ _ _ _ _ so_far here.0 here.1 (omega arith)
 
 pub returns-in-Ok-clause-extracts : goal.returns-in-Ok-clause-extracts
 returns-in-Ok-clause-extracts g c = λ bytes reported.
     let so_far = c.pes_packets.invariant.copied bytes reported in
-    let here = rw c.in-Ok-Rest.field-0-is at (c.in-Ok-Rest.ensures.reported _ so_far.left_is) in
+    let here = rw c.in-Ok-Rest.field-0-is at (c.in-Ok-Rest.ensures.reported _ so_far.left_eq) in
     rest_refused bytes _ _ _ _ _ _ _ so_far here.0
     (rw here.2 at (c.in-Ok.ensures.reported _ here.1))
 
@@ -43,7 +43,7 @@ pub returns-in-Err-Read-copy_rest-clause-extracts :
     goal.returns-in-Err-Read-copy_rest-clause-extracts
 returns-in-Err-Read-copy_rest-clause-extracts g c = λ bytes reported.
     let so_far = c.pes_packets.invariant.copied bytes reported in
-    let here = rw c.in-Ok-Rest.field-0-is at (c.in-Ok-Rest.ensures.reported _ so_far.left_is) in
+    let here = rw c.in-Ok-Rest.field-0-is at (c.in-Ok-Rest.ensures.reported _ so_far.left_eq) in
     cut_in_rest bytes _ _ _ _ _ _ _ so_far here.0
     (rw here.2 at (c.in-Err-Read-copy_rest.ensures.reported _ here.1))
 
@@ -51,20 +51,20 @@ pub returns-in-Err-Write-copy_rest-clause-extracts :
     goal.returns-in-Err-Write-copy_rest-clause-extracts
 returns-in-Err-Write-copy_rest-clause-extracts g c = λ bytes reported.
     let so_far = c.pes_packets.invariant.copied bytes reported in
-    let here = rw c.in-Ok-Rest.field-0-is at (c.in-Ok-Rest.ensures.reported _ so_far.left_is) in
+    let here = rw c.in-Ok-Rest.field-0-is at (c.in-Ok-Rest.ensures.reported _ so_far.left_eq) in
     part_copied bytes _ _ _ _ _ _ so_far
     (rw here.2 at (c.in-Err-Write-copy_rest.ensures.reported _ here.1))
 
 pub returns-in-Err-Read-clause-extracts : goal.returns-in-Err-Read-clause-extracts
 returns-in-Err-Read-clause-extracts g c = λ bytes reported.
     let so_far = c.pes_packets.invariant.copied bytes reported in
-    let here = rw c.in-Err-Read.field-0-is at (c.in-Err-Read.ensures.reported _ so_far.left_is) in
+    let here = rw c.in-Err-Read.field-0-is at (c.in-Err-Read.ensures.reported _ so_far.left_eq) in
     cut_behind bytes _ _ _ _ _ _ so_far here
 
 pub returns-in-Err-Write-clause-extracts : goal.returns-in-Err-Write-clause-extracts
 returns-in-Err-Write-clause-extracts g c = λ bytes reported.
     let so_far = c.pes_packets.invariant.copied bytes reported in
-    let here = rw c.in-Err-Write.field-0-is at (c.in-Err-Write.ensures.reported _ so_far.left_is) in
+    let here = rw c.in-Err-Write.field-0-is at (c.in-Err-Write.ensures.reported _ so_far.left_eq) in
     part_copied bytes _ _ _ _ _ _ so_far here
 
 pub pes_packets-preserved : goal.pes_packets-preserved
@@ -78,7 +78,7 @@ pes_packets-preserved g c = record {
   copied = λ bytes reported.
       let so_far = c.pes_packets.invariant.copied bytes reported in
       let here = rw c.in-Ok-PesPacket.field-0-is at (c.in-Ok-PesPacket.ensures.reported
-      _ so_far.left_is) in
+      _ so_far.left_eq) in
       next_copied bytes _ _ _ _ _ _ _ _ here.0 so_far here.1 here.3 (search rules);
 }
 

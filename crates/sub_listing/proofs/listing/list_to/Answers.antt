@@ -17,7 +17,7 @@ pes_packets-init g c = record {
   source = refl;
   buffered = refl;
   same = refl;
-  goes_on = c.requires.goes_on;
+  continues = c.requires.continues;
   holds = λ sound. sound;
   out = refl;
   prefix = prefix-none _ _ _;
@@ -28,7 +28,7 @@ returns-then-printer-clause-out_count g c =
     let before = c.pes_packets.invariant in
     let risen =
     (c.next-end.ensures.stays.risen
-    (λ same. true≢false (sym c.if-printer.true ∙ same ∙ before.goes_on))).1 in
+    (λ same. true≢false (sym c.if-printer.true ∙ same ∙ before.continues))).1 in
     let out = before.out in
     record {
       kept = λ other. absurd (other refl);
@@ -51,7 +51,7 @@ returns-then-printer-clause-listing g c =
     let before = c.pes_packets.invariant in
     let stays = c.next-end.ensures.stays in
     let risen =
-    (stays.risen (λ same. true≢false (sym c.if-printer.true ∙ same ∙ before.goes_on))).1 in
+    (stays.risen (λ same. true≢false (sym c.if-printer.true ∙ same ∙ before.continues))).1 in
     prefix-stopped (g.L.Lister.lists c.args.lister.now) (g.L.Lister.lists c.pes_packets.lister)
     (read_call g.L.Lister.known g.L.Lister.left g.L.Lister.failure_count c.args.input.now
     c.next-end.new.input)
@@ -66,7 +66,7 @@ returns-then-printer-clause-fault g c = λ _.
     let before = c.pes_packets.invariant in
     let risen =
     (c.next-end.ensures.stays.risen
-    (λ same. true≢false (sym c.if-printer.true ∙ same ∙ before.goes_on))).1 in
+    (λ same. true≢false (sym c.if-printer.true ∙ same ∙ before.continues))).1 in
     let same = c.next-end.ensures.cut_count c.if-printer.true in
     let out = before.out in
     let source = before.source in
@@ -76,7 +76,7 @@ pub returns-in-Err-clause-listing : goal.returns-in-Err-clause-listing
 returns-in-Err-clause-listing g c =
     let before = c.pes_packets.invariant in
     let stays = c.next-end.ensures.stays in
-    let out = stays.same (c.if-printer.false ∙ sym before.goes_on) ∙ before.out in
+    let out = stays.same (c.if-printer.false ∙ sym before.continues) ∙ before.out in
     let put = c.in-Err.ensures.count in
     prefix-cut (g.L.Lister.lists c.args.lister.now) (g.L.Lister.lists c.pes_packets.lister)
     (g.L.Lister.lists c.next-end.new.self)
@@ -98,7 +98,7 @@ pub returns-in-Err-clause-out_count : goal.returns-in-Err-clause-out_count
 returns-in-Err-clause-out_count g c =
     let before = c.pes_packets.invariant in
     let out =
-    c.next-end.ensures.stays.same (c.if-printer.false ∙ sym before.goes_on) ∙ before.out in
+    c.next-end.ensures.stays.same (c.if-printer.false ∙ sym before.continues) ∙ before.out in
     let put = c.in-Err.ensures.count in
     record {
       kept = λ other. absurd (other refl);
@@ -117,7 +117,7 @@ pub returns-in-Err-clause-fault : goal.returns-in-Err-clause-fault
 returns-in-Err-clause-fault g c = λ _.
     let before = c.pes_packets.invariant in
     let out =
-    c.next-end.ensures.stays.same (c.if-printer.false ∙ sym before.goes_on) ∙ before.out in
+    c.next-end.ensures.stays.same (c.if-printer.false ∙ sym before.continues) ∙ before.out in
     let put = c.in-Err.ensures.count in
     let source = (returns-in-Err-clause-input_count g c).risen in
     omega (arith, out, put, source)
@@ -126,7 +126,7 @@ pub returns-in-Some-clause-listing : goal.returns-in-Some-clause-listing
 returns-in-Some-clause-listing g c =
     let before = c.pes_packets.invariant in
     let stays = c.next-end.ensures.stays in
-    let out = stays.same (c.if-printer.false ∙ sym before.goes_on) ∙ before.out in
+    let out = stays.same (c.if-printer.false ∙ sym before.continues) ∙ before.out in
     let put = c.in-Ok.ensures.count in
     let status = c.in-Some.status in
     prefix-end (g.L.Lister.lists c.args.lister.now) (g.L.Lister.lists c.pes_packets.lister)
@@ -149,7 +149,7 @@ pub returns-in-Some-clause-out_count : goal.returns-in-Some-clause-out_count
 returns-in-Some-clause-out_count g c =
     let before = c.pes_packets.invariant in
     let out =
-    c.next-end.ensures.stays.same (c.if-printer.false ∙ sym before.goes_on) ∙ before.out in
+    c.next-end.ensures.stays.same (c.if-printer.false ∙ sym before.continues) ∙ before.out in
     let put = c.in-Ok.ensures.count in
     record {
       kept = λ _. omega (arith, out, put);
@@ -169,7 +169,7 @@ pub returns-in-Some-clause-fault : goal.returns-in-Some-clause-fault
 returns-in-Some-clause-fault g c = λ is.
     let before = c.pes_packets.invariant in
     let out =
-    c.next-end.ensures.stays.same (c.if-printer.false ∙ sym before.goes_on) ∙ before.out in
+    c.next-end.ensures.stays.same (c.if-printer.false ∙ sym before.continues) ∙ before.out in
     let put = c.in-Ok.ensures.count in
     let counted = rw is at (c.in-Some.ensures.count c.if-printer.false) in
     let source = before.source in
@@ -179,7 +179,7 @@ pub pes_packets-preserved : goal.pes_packets-preserved
 pes_packets-preserved g c =
     let before = c.pes_packets.invariant in
     let stays = c.next-end.ensures.stays in
-    let out = stays.same (c.if-printer.false ∙ sym before.goes_on) ∙ before.out in
+    let out = stays.same (c.if-printer.false ∙ sym before.continues) ∙ before.out in
     let put = c.in-Ok.ensures.count in
     let source = before.source in
     let counted = c.in_default.ensures.count c.if-printer.false in
@@ -188,7 +188,7 @@ pes_packets-preserved g c =
       source = omega (arith, source, counted);
       buffered = c.next-end.ensures.buffered ∙ before.buffered;
       same = c.put.ensures.same ∙ c.next-end.ensures.same ∙ before.same;
-      goes_on = c.in-Ok.ensures.failed ∙ c.if-printer.false;
+      continues = c.in-Ok.ensures.failed ∙ c.if-printer.false;
       holds = λ sound still. absurd (true≢false (sym c.put.ensures.has_pending ∙ still));
       out = omega (arith, out, put);
       prefix =

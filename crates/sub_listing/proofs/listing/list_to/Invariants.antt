@@ -10,7 +10,7 @@ invariant-pes_packets g l = record {
   source : g.L.Lister.failure_count l.input ≡ g.L.Lister.failure_count l.fn.input;
   buffered : g.L.Lister.device l.input ≡ g.L.Lister.device l.fn.input;
   same : l.printer.out.ghost_name ≡ l.fn.printer.out.ghost_name;
-  goes_on : l.printer.failed ≡ false;
+  continues : l.printer.failed ≡ false;
   holds :
       (l.fn.printer.pending ≡ false → g.K.Flush.buffered l.fn.printer.out.now ≡ 0)
       → l.printer.pending ≡ false

@@ -1,6 +1,6 @@
 -- `read_input`: each read appends its bytes to those of earlier reads.
 use Rattle.std.proofs.Common.{rules}
-use Rattle.sub_listing.proofs.NormalLemmas.{Consumes-next, block-at, memory-wanted, taken-at_end}
+use Rattle.sub_listing.proofs.NormalLemmas.{Consumes-next, block-at, memory-expected, taken-at_end}
 use Rattle.sub_listing.proofs.NormalLemmas.{taken-to_most}
 use Rattle.sub_listing.proofs.normal.read_input.Goals as goal
 
@@ -28,5 +28,5 @@ returns-clause-bytes g c =
 
 pub returns-in_default-clause-read : goal.returns-in_default-clause-read
 returns-in_default-clause-read g c =
-    memory-wanted _ _ _ _ _ _ (search rules) (search rules) c.pes_packets.invariant.taken
+    memory-expected _ _ _ _ _ _ (search rules) (search rules) c.pes_packets.invariant.taken
     c.in-Ok.ensures.bytes.0

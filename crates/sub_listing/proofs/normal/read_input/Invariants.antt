@@ -2,16 +2,16 @@
 use Rattle.std.proofs.Common.{◌≡◌, ◌≤◌, ◌-◌}
 use Rattle.std.specs.Prelude.{vec_len}
 use Rattle.std.specs.Io.KnownBytes.{Consumes}
-use Rattle.sub_listing.specs.Writing.{most_read}
+use Rattle.sub_listing.specs.Writing.{read_limit}
 use Rattle.sub_listing.proofs.normal.read_input.Given as goal
 
 abbrev pub invariant-pes_packets : goal.invariant-pes_packets
 invariant-pes_packets g l = record {
-  most : vec_len l.bytes ≤ most_read;
+  most : vec_len l.bytes ≤ read_limit;
   taken : Consumes
       (g.S.Source.remaining l.initial.input) (g.S.Source.remaining l.input) l.bytes.items;
   count : g.S.Source.failure_count l.input ≡ g.S.Source.failure_count l.initial.input;
 }
 
 abbrev pub decreases-pes_packets : goal.decreases-pes_packets
-decreases-pes_packets g l = most_read - vec_len l.bytes
+decreases-pes_packets g l = read_limit - vec_len l.bytes

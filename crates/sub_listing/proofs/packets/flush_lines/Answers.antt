@@ -39,5 +39,5 @@ returns-clause-failed g c =
     (value_of g.K.Sink.contents g.K.Sink.failure_count) (λ p. p.pending)
     (IsFlushed g.K.Sink.contents g.K.Sink.failure_count g.K.Flush.buffered) _ _ _
     c.flush_first.ensures.call
-    (λ on. (on.0, on.1)) c.requires.goes_on c.requires.out
+    (λ on. (on.0, on.1)) c.requires.continues c.requires.out
     ∙ not_ok _ _ refl

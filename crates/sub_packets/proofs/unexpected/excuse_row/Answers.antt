@@ -1,7 +1,7 @@
--- A row of spaces does not change when due codes are replaced by spaces: blank_stays.
+-- A row of spaces does not change when due codes are replaced by spaces: blank_row_stays.
 use Rattle.std.proofs.Common.{arith}
 use Rattle.std.proofs.lemmas.Bool.Decides.{nat_tests}
-use Rattle.sub_packets.proofs.UnexpectedLemmas.{blank_stays}
+use Rattle.sub_packets.proofs.UnexpectedLemmas.{blank_row_stays}
 use Rattle.sub_packets.proofs.unexpected.excuse_row.Goals as goal
 
 pub returns-else-differing_columns-ne0 : goal.returns-else-differing_columns-ne0
@@ -10,5 +10,5 @@ returns-else-differing_columns-ne0 c r column is =
     let spaces_are = c.spaces.ensures in
     let count = c.differing_columns.ensures.value in
     let none = c.if-differing_columns-ne0.false in
-    let stays = blank_stays c.args.left.now c.args.row column in
+    let stays = blank_row_stays c.args.left.now c.args.row column in
     grind (arith, nat_tests)

@@ -2,17 +2,17 @@
 -- after the day.
 use Rattle.std.proofs.Common.{arith}
 use Rattle.std.proofs.lemmas.Bool.Decides.{nat_tests}
-use Rattle.sub_plan.specs.FrameTime.{near_frame}
+use Rattle.sub_plan.specs.FrameTime.{frame_with_tolerance}
 use Rattle.sub_plan.proofs.options.nearest_frame.Goals as goal
 
 pub returns-then-pts-ge-PTS_END : goal.returns-then-pts-ge-PTS_END
-unfolding near_frame
+unfolding frame_with_tolerance
 returns-then-pts-ge-PTS_END c = grind (arith, nat_tests)
 
 pub returns-then-frame-ge-FRAMES_OF_DAY : goal.returns-then-frame-ge-FRAMES_OF_DAY
-unfolding near_frame
+unfolding frame_with_tolerance
 returns-then-frame-ge-FRAMES_OF_DAY c = grind (arith, nat_tests)
 
 pub returns : goal.returns
-unfolding near_frame
+unfolding frame_with_tolerance
 returns c = grind (arith, nat_tests)

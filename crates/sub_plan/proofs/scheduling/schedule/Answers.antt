@@ -2,21 +2,21 @@
 -- last TCO.
 use Rattle.std.proofs.Common.{arith, refl}
 use Rattle.std.proofs.lemmas.Bool.Decides.{nat_tests}
-use Rattle.sub_plan.proofs.ProgrammeLemmas.{none_in, some_out, span-rises}
+use Rattle.sub_plan.proofs.ProgrammeLemmas.{none_in, last_tco_of_first_tci, span-rises}
 use Rattle.sub_plan.proofs.scheduling.schedule.Goals as goal
 
 pub returns-in_default-clause-empty : goal.returns-in_default-clause-empty
 returns-in_default-clause-empty g c = (λ e. none_in _ c.in_default.ensures.value, λ e. refl)
 
-pub returns-in_default-last_out-clause-empty : goal.returns-in_default-last_out-clause-empty
-returns-in_default-last_out-clause-empty g c = grind (arith, nat_tests, some_out)
+pub returns-in_default-last_tco-clause-empty : goal.returns-in_default-last_tco-clause-empty
+returns-in_default-last_tco-clause-empty g c = grind (arith, nat_tests, last_tco_of_first_tci)
 
 pub send_all-requires-clause-order : goal.send_all-requires-clause-order
 send_all-requires-clause-order g c =
     (span-rises _ _ _ _ c.in-Some.ensures.programme c.in-Some.ensures.value
-    c.in-Some-last_out.ensures.value).rises
+    c.in-Some-last_tco.ensures.value).rises
 
 pub send_all-requires-clause-day : goal.send_all-requires-clause-day
 send_all-requires-clause-day g c =
     (span-rises _ _ _ _ c.in-Some.ensures.programme c.in-Some.ensures.value
-    c.in-Some-last_out.ensures.value).in_day
+    c.in-Some-last_tco.ensures.value).in_day

@@ -50,13 +50,13 @@ returns-then-received-clause-listed g c =
     (take c.skip_bytes.new.self.len c.skip_bytes.new.self.bytes.items) c.in-Ok.received.is_end
     given.is_at_place
     received.buffered c.buffered.ensures.bytes c.skip_bytes.ensures.buffered taken.ensures.within
-    taken.ensures.passed taken.ensures.begun (λ known. (taken.ensures.goes_on known).2)
+    taken.ensures.passed taken.ensures.begun (λ known. (taken.ensures.continues known).2)
     taken.ensures.taken))
     given.grows.1
     ends
     (reported-on c.reads.recording taken.new.self given.read.0 (given.read.0 ++ received.received)
     c.buffered.result.now given.grows.0 ends.before.bytes.items c.reads.first taken.new.first
-    given.reported taken.ensures.finds taken.ensures.goes_on (search rules) given.first
+    given.reported taken.ensures.finds taken.ensures.continues (search rules) given.first
     (search rules)
     (begins-as c.reads.recording.has_head given.read.0 received.received given.long)
     (λ not. received-all given.read.0 (take c.reads.buffer.len c.reads.buffer.bytes.items)
@@ -82,7 +82,7 @@ reads-preserved g c =
     let reported =
     reported-on c.reads.recording taken.new.self given.read.0 (given.read.0 ++ received.received)
     c.buffered.result.now given.grows.0 c.pause.new.text.bytes.items c.reads.first taken.new.first
-    given.reported taken.ensures.finds taken.ensures.goes_on (search rules) given.first
+    given.reported taken.ensures.finds taken.ensures.continues (search rules) given.first
     (search rules)
     (begins-as c.reads.recording.has_head given.read.0 received.received given.long)
     all
@@ -134,7 +134,7 @@ reads-preserved g c =
           given.is_at_place
           received.buffered c.buffered.ensures.bytes c.skip_bytes.ensures.buffered
           taken.ensures.within
-          taken.ensures.passed taken.ensures.begun (λ known. (taken.ensures.goes_on known).2)
+          taken.ensures.passed taken.ensures.begun (λ known. (taken.ensures.continues known).2)
           taken.ensures.taken));
       long = λ has.
           long-on c.reads.recording.has_head taken.new.self.has_head given.read.0 received.received

@@ -4,7 +4,7 @@ use Rattle.std.specs.Io.KnownBytes.{Consumes}
 use Rattle.ts_survey.specs.Counted.{IsAtPlace}
 use Rattle.ts_survey.specs.FirstLines.{head_size}
 use Rattle.ts_survey.specs.Listed.{IsAsRequested, IsReported}
-use Rattle.ts_survey.specs.ReadBuffer.{most_kept, read_buffer_size}
+use Rattle.ts_survey.specs.ReadBuffer.{most_retained_bytes, read_buffer_size}
 use Rattle.ts_survey.specs.Survey.{Grows}
 use Rattle.ts_survey.proofs.reporting.survey.Given as goal
 
@@ -27,7 +27,7 @@ invariant-reads g l = record {
   as_requested : IsAsRequested l.recording.requested l.recording.kind;
   first : length l.first.bytes.items ≡ 0;
   none : length l.text.bytes.items ≡ 0;
-  kept : l.buffer.len ≤ most_kept;
+  kept : l.buffer.len ≤ most_retained_bytes;
   buffer : vec_len l.buffer.bytes ≡ read_buffer_size;
   holds : g.K.Flush.buffered l.fn.out ≡ 0 → g.K.Flush.buffered l.out ≡ 0;
 }

@@ -3,7 +3,7 @@ use Rattle.std.proofs.Common.{◌≡◌, ◌+◌, ◌*◌, ◌/◌, ◌<◌, map
 use Rattle.std.proofs.Common.{ap}
 use Rattle.std.proofs.lemmas.List.{drop-drop, drop-map, take-map}
 use Rattle.ttx_packet.specs.BitOrder.{mirror}
-use Rattle.ttx_packet.proofs.BlockLemmas.{block_of, IsMadeTo, block_more, made_complete}
+use Rattle.ttx_packet.proofs.BlockLemmas.{block_of, IsMappedPrefix, block_more, mapped_completely}
 use Rattle.ttx_packet.proofs.bit_order.mirrored.Goals as goal
 
 pub loop-i-preserved : goal.loop-i-preserved
@@ -23,13 +23,13 @@ returns c =
     let xs = c.args.bytes.now in
     let back : c.unwrap.result.now ≡ drop 26 xs = search rules in
     let blocks : 16 * c.loop-i.i ≡ 32 = omega arith in
-    let made : IsMadeTo mirror xs 42 32 c.loop-i.other = rw blocks at c.loop-i.invariant in
+    let made : IsMappedPrefix mirror xs 42 32 c.loop-i.other = rw blocks at c.loop-i.invariant in
     let block =
     c.copy_from_slice-2.ensures.after
     ∙ ap (λ l. take 10 (drop 6 l)) (c.mirrored_block-last.ensures ∙ ap (map mirror) back)
     ∙ ap (take 10) (drop-map mirror 6 (drop 26 xs))
     ∙ take-map mirror 10 (drop 6 (drop 26 xs))
     ∙ ap (λ l. map mirror (take 10 l)) (drop-drop 6 26 xs) in
-    made_complete mirror xs _ 42 (omega arith)
+    mapped_completely mirror xs _ 42 (omega arith)
     (block_more mirror xs c.loop-i.other _ 42 32 10 10 42 (omega arith) (omega arith) (omega arith)
     (omega arith) block made)

@@ -2,7 +2,7 @@ use Rattle.std.proofs.Common.{ℕ, ◌+◌, ◌*◌, ◌/◌, ◌%◌, ap, ap₂
 use Rattle.ttx_packet.specs.Hamming84.{code_word}
 use Rattle.ttx_packet.specs.Laws.{IsMadeHeader}
 use Rattle.ttx_packet.specs.PageHeader.{placed}
-use Rattle.ttx_packet.proofs.MadePackets.{header_packet-from_words, made_placed}
+use Rattle.ttx_packet.proofs.MadePackets.{header_packet-from_words, header_reads_back}
 use Rattle.ttx_packet.proofs.packet.header_bytes.Goals as goal
 
 pub returns : goal.returns
@@ -26,5 +26,5 @@ returns c =
     record {
       value = value;
       made = subst (IsMadeHeader c.args.magazine (placed h)) (sym value)
-          (made_placed c.args.magazine h c.requires (omega arith));
+          (header_reads_back c.args.magazine h c.requires (omega arith));
     }

@@ -1,18 +1,20 @@
--- `holds_packet` agrees with its definition, which depends on the first six bytes: holds_read.
+-- `holds_packet` agrees with its definition, which depends on the first six bytes:
+-- holds_packet_read.
 use Rattle.std.proofs.Common.{◌≡◌, ◌≤◌, ◌∙◌, Err, Ok, ap, length, rules, take}
 use Rattle.ttx_pes.specs.Reading.{size_at}
-use Rattle.ttx_pes.proofs.BorrowedPacketLemmas.{holds_read}
+use Rattle.ttx_pes.proofs.BorrowedPacketLemmas.{holds_packet_read}
 use Rattle.ttx_pes.proofs.borrowed_packet.holds_packet.Goals as goal
 
 pub returns-in-Ok : goal.returns-in-Ok
 returns-in-Ok c =
     let long : 6 ≤ length c.args.borrowed.now = search rules in
     let head : take 6 c.args.borrowed.now ≡ c.in-Some.head.now = search rules in
-    holds_read c.args.borrowed.now (Ok c.in-Ok.size) long (ap size_at head ∙ c.in-Ok.ensures.exact)
+    holds_packet_read c.args.borrowed.now (Ok c.in-Ok.size) long
+        (ap size_at head ∙ c.in-Ok.ensures.exact)
 
 pub returns-in-Err : goal.returns-in-Err
 returns-in-Err c =
     let long : 6 ≤ length c.args.borrowed.now = search rules in
     let head : take 6 c.args.borrowed.now ≡ c.in-Some.head.now = search rules in
-    holds_read c.args.borrowed.now (Err c.in-Err.field-0) long
+    holds_packet_read c.args.borrowed.now (Err c.in-Err.field-0) long
     (ap size_at head ∙ c.in-Err.ensures.exact)

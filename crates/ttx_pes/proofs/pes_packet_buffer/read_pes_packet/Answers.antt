@@ -4,7 +4,8 @@ use Rattle.std.proofs.lemmas.Bool.{true≢false}
 use Rattle.std.proofs.lemmas.List.{length-take-le}
 use Rattle.ttx_pes.proofs.BorrowedPacketLemmas.{borrowed_head, borrowed_rest}
 use Rattle.ttx_pes.proofs.TakingLemmas.{size_kept}
-use Rattle.ttx_pes.proofs.PesPacketBufferLemmas.{got_few, read_on, rest_few, show_cut, show_short}
+use Rattle.ttx_pes.proofs.PesPacketBufferLemmas.{buffered_at_most, read_on, rest_few, show_cut}
+use Rattle.ttx_pes.proofs.PesPacketBufferLemmas.{show_short}
 use Rattle.ttx_pes.proofs.PesPacketBufferLemmas.{show_sized}
 use Rattle.ttx_pes.proofs.pes_packet_buffer.read_pes_packet.Goals as goal
 
@@ -101,7 +102,8 @@ returns-clause-reads g c =
     let sized = size_kept got all c.fill_on-got.new.room room c.unwrap.result.now _ (omega arith)
     from c.fill_on-all.ensures.kept (search rules) c.in-Ok.ensures.exact in
     let fits = length-take-le buffered c.args.room.now (omega arith) in
-    let few = got_few buffered got size c.fill_on-got.ensures.bound c.fill_on-got.ensures.none
+    let few = buffered_at_most buffered got size c.fill_on-got.ensures.bound
+        c.fill_on-got.ensures.none
     (λ six. omega (
       arith,
       fits,

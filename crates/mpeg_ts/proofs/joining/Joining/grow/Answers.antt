@@ -3,14 +3,14 @@ use Rattle.std.proofs.Common.{◌≤◌, List, ℕ, arith, length, subst, take}
 use Rattle.ttx_pes.specs.PesPackets.{IsPesPacket}
 use Rattle.mpeg_ts.proofs.joining.Joining.grow.Goals as goal
 
-pub invariant_of-self-in-Whole : goal.invariant_of-self-in-Whole
-invariant_of-self-in-Whole c =
-    let size = c.in-Whole.size in
+pub invariant_of-self-in-CompletePesPacket : goal.invariant_of-self-in-CompletePesPacket
+invariant_of-self-in-CompletePesPacket c =
+    let size = c.in-CompletePesPacket.size in
     record {
       last = omega (arith, c.add.ensures.len);
       room = λ e. absurd cc;
       waits =
           subst (λ (l : List ℕ). IsPesPacket (take size l) × (size ≤ length l))
           c.as_slice.ensures.bytes
-          (c.find_packet.ensures.packet size c.in-Whole.is);
+          (c.find_packet.ensures.packet size c.in-CompletePesPacket.is);
     }

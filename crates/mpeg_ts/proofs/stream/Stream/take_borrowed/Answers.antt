@@ -19,8 +19,8 @@ returns-then-not-begins_unit-clause-kept g c =
     let w : StreamValue = record v { window = c.skip_bytes-then-not-begins_unit.new.self; lead = 0 }
     in
     let borrowed = c.buffered-borrowed.result.now in
-    let place = c.place_after_others-place.result in
-    let fits = c.place_after_others-place.ensures.within in
+    let place = c.place_after_other_pids-place.result in
+    let fits = c.place_after_other_pids-place.ensures.within in
     let step : i.in_step ≡ true = search rules in
     let skipped : c.skip_bytes.result ≡ true = search rules in
     let within : length borrowed ≤ i.window.left = omega arith in
@@ -36,7 +36,7 @@ returns-then-not-begins_unit-clause-kept g c =
     (c.skip_bytes.ensures.bytes skipped)
     (λ bytes. others_given v w _ bytes place (length-take-le place borrowed fits) none
     (omega (arith, fits, within)) step (c.self.invariant.no_run step)
-    (λ rest. c.place_after_others-place.ensures.gives rest i.joining going idle)
+    (λ rest. c.place_after_other_pids-place.ensures.gives rest i.joining going idle)
     (ap (λ (u : WindowValue). record v { window = u; lead = 0 })
     c.skip_bytes-then-not-begins_unit.ensures)))
 
@@ -46,7 +46,7 @@ returns-clause-kept g c =
     let v : StreamValue = the_view i in
     let packet = c.packet_in.result.now in
     let borrowed = c.buffered-borrowed.result.now in
-    let place = c.place_after_others-place.result in
+    let place = c.place_after_other_pids-place.result in
     let count = place + i.distance in
     let step : i.in_step ≡ true = search rules in
     let unit : c.begins_unit.result ≡ true = search rules in
@@ -86,4 +86,4 @@ returns-clause-kept g c =
     (λ bytes. packet_given v w borrowed packet bytes place count refl fits none
     (omega (arith, fits, within)) step (c.self.invariant.no_run step) c.self.invariant.near
     c.packet_in.ensures (rw c.packet_in.ensures mine.0) going idle
-    (λ rest. c.place_after_others-place.ensures.gives rest i.joining going idle) joined))
+    (λ rest. c.place_after_other_pids-place.ensures.gives rest i.joining going idle) joined))

@@ -5,5 +5,5 @@ use Rattle.stl_rows.proofs.programme.Programme.draw_due.Goals as goal
 
 pub returns-clause-edge : goal.returns-clause-edge
 returns-clause-edge c =
-    subst (λ ts. ReportsNextEdge ts c.args.frame c.draw_near.result.0)
-    (ap (λ s. s.records) c.self.view_is) c.draw_near.ensures.edge
+    subst (λ ts. ReportsNextEdge ts c.args.frame c.draw_expected.result.0)
+    (ap (λ s. s.records) c.self.view_is) c.draw_expected.ensures.edge

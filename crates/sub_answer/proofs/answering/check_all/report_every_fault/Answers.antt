@@ -17,7 +17,7 @@ use Rattle.sub_answer.proofs.EveryFaultLemmas.{stops_failed}
 use Rattle.sub_answer.proofs.EveryFaultLemmas.{when_err}
 use Rattle.sub_answer.proofs.PesEventLemmas.{decided}
 use Rattle.sub_listing.proofs.PrinterLemmas.{cannot_fail, counted-few, prints_all, same_all}
-use Rattle.sub_listing.proofs.PrinterLemmas.{still_goes}
+use Rattle.sub_listing.proofs.PrinterLemmas.{continues_without_failure}
 use Rattle.sub_answer.proofs.answering.check_all.report_every_fault.Goals as goal
 
 abbrev value_of : {K : Type 0} → (K → Option (List ℕ)) → (K → ℕ) → Printer K → PrinterValue
@@ -41,7 +41,7 @@ returns-in-Err-clause-reported g c =
     let e = c.in-Err.ensures in
     after_error (IsReportedFault g.K.Sink.contents g.K.Sink.failure_count g.K.Flush.buffered)
     (value_of g.K.Sink.contents g.K.Sink.failure_count) (λ s t x h. h.1)
-    _ _ _ _ _ _ c.args.printer.now c.load_all.new.audience c.requires.goes_on
+    _ _ _ _ _ _ c.args.printer.now c.load_all.new.audience c.requires.continues
     (omega (arith, c.requires.none)) refl (omega arith)
     c.in-Err.fault.block c.in-Err.fault.kind (cannot_fail _ _ (λ h. let r = e.stopped h in cc))
     e.kinds e.some_before e.count e.memory e.read
@@ -58,9 +58,9 @@ returns-in-Ok-None-clause-reported g c =
     let e = c.in-Ok-None.ensures in
     after_faults (IsReportedFault g.K.Sink.contents g.K.Sink.failure_count g.K.Flush.buffered)
     (value_of g.K.Sink.contents g.K.Sink.failure_count) (λ s t x h. h.1)
-    _ _ _ _ _ _ c.args.printer.now c.load_all.new.audience c.requires.goes_on
+    _ _ _ _ _ _ c.args.printer.now c.load_all.new.audience c.requires.continues
     (omega (arith, c.requires.none)) refl (omega arith) _
-    (λ holds same. still_goes _ _ _ c.requires.out holds same)
+    (λ holds same. continues_without_failure _ _ _ c.requires.out holds same)
     (e.some (let is = c.in-Ok-None.field-0-is in cc))
     (λ file reported. e.reported file reported (let is = c.in-Ok-None.field-0-is in cc))
     (λ file reported. e.not_judged file reported (let is = c.in-Ok-None.field-0-is in cc)) e.count
@@ -92,11 +92,12 @@ returns-then-is_err-clause-reported g c =
     omega (arith, c.requires.none) in
     let failing =
     stops_failed _ _ _
-    (prints_all IsReported value subtitle_event (λ s t x h. h.1) _ _ fs.0 c.requires.goes_on few
+    (prints_all IsReported value subtitle_event (λ s t x h. h.1) _ _ fs.0 c.requires.continues few
     reported)
     c.requires.out (c.flush_reports.ensures.stopped ∙ is_err) in
     after_unhanded IsReported value (λ s t x h. h.1)
-    _ c.args.options.now _ _ _ _ c.args.printer.now c.flush_reports.new.audience c.requires.goes_on
+    _ c.args.options.now _ _ _ _ c.args.printer.now c.flush_reports.new.audience
+    c.requires.continues
     few refl (omega arith) fs.0 failing reported
     (some_reported IsReported (λ (p : Printer g.row.K.Denot). p.pending) _ _ fs.0 fs.1
     c.requires.still
@@ -115,7 +116,7 @@ report_transmission-requires-clause-few g c =
     (sym h ∙ c.flush_reports.ensures.stopped ∙ sym c.is_err.ensures.value ∙ c.if-is_err.false)) in
     let printed =
     prints_all IsReported value subtitle_event (λ s t x h. h.1) c.args.printer.now
-    c.flush_reports.new.audience any.faults c.requires.goes_on few
+    c.flush_reports.new.audience any.faults c.requires.continues few
     (c.flush_reports.ensures.reported.kept _ any.faults c.requires.still any.reported) in
     rw (printed.put_refused goes) (counted-few _ _)
 
@@ -150,7 +151,7 @@ returns-else-is_err-clause-reported g c =
     (sym h ∙ c.flush_reports.ensures.stopped ∙ sym c.is_err.ensures.value ∙ c.if-is_err.false)) in
     after_judged c.args.drawing c.args.options.now _ _ _ _ (value c.args.printer.now)
     (value c.flush_reports.new.audience) _ c.judging.result fs.0 goes
-    (prints_all IsReported value subtitle_event (λ s t x h. h.1) _ _ fs.0 c.requires.goes_on few
+    (prints_all IsReported value subtitle_event (λ s t x h. h.1) _ _ fs.0 c.requires.continues few
     reported)
     e.count
     (λ file heard.

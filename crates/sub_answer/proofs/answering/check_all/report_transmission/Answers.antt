@@ -4,7 +4,7 @@ use Rattle.std.proofs.lemmas.Bool.{true≢false}
 use Rattle.ttx_pes.specs.declared.fault.PesFault.TheVariants.{Read}
 use Rattle.sub_rules.specs.declared.fault.CheckFault.TheVariants as fault
 use Rattle.sub_listing.proofs.FirstPacketLemmas.{fails_first_pes_packet, fails_pes_packet_kept}
-use Rattle.sub_listing.proofs.FirstPacketLemmas.{known_kept}
+use Rattle.sub_listing.proofs.FirstPacketLemmas.{known_bytes_kept}
 use Rattle.sub_rules.specs.declared.event.Event.{Event}
 use Rattle.sub_listing.specs.DeviceCall.{read_call}
 use Rattle.sub_listing.specs.FirstPacket.{first_number}
@@ -13,7 +13,7 @@ use Rattle.std.proofs.Common.{Option}
 use Rattle.sub_listing.specs.declared.printer.Printer.{Printer}
 use Rattle.sub_answer.proofs.PesEventLemmas.{after_pes, all_answers, with_first}
 use Rattle.sub_answer.proofs.FailedReadLemmas.{error_fails, reports_none}
-use Rattle.sub_listing.proofs.PrinterLemmas.{has_stopped, same_all, still_goes}
+use Rattle.sub_listing.proofs.PrinterLemmas.{has_stopped, same_all, continues_without_failure}
 use Rattle.sub_answer.proofs.answering.check_all.report_transmission.Goals as goal
 
 abbrev value_of : {K : Type 0} → (K → Option (List ℕ)) → (K → ℕ) → Printer K → PrinterValue
@@ -50,17 +50,17 @@ returns-in-Ok-clause-reported g c =
     c.check_all_pes_packets.new.source)
     (first_number g.P.NumberedPesPackets.first g.P.NumberedPesPackets.skipped c.args.pes.now
     c.check_all_pes_packets.new.source)
-    start c.check_all_pes_packets.new.audience c.requires.goes_on c.requires.few
+    start c.check_all_pes_packets.new.audience c.requires.continues c.requires.few
     (λ k is. inl (found.first k is))
     c.check_all_pes_packets.result _ (has_stopped _ _)
-    (λ holds fault_free. still_goes _ _ _ c.requires.out holds fault_free)
-    e.some (λ bytes reported. e.reported bytes (known_kept _ _ bytes found.kept reported))
+    (λ holds fault_free. continues_without_failure _ _ _ c.requires.out holds fault_free)
+    e.some (λ bytes reported. e.reported bytes (known_bytes_kept _ _ bytes found.kept reported))
     (all_answers c.args.judging.now _ _ c.check_all_pes_packets.result
     (λ programme is bytes reported.
-    e.first_by programme is bytes (known_kept _ _ bytes found.kept reported))
+    e.first_by programme is bytes (known_bytes_kept _ _ bytes found.kept reported))
     (λ programme is none zero bytes reported.
-    e.first programme is none zero bytes (known_kept _ _ bytes found.kept reported)))
-    e.stopped e.goes_on e.only (rw same at e.count)
+    e.first programme is none zero bytes (known_bytes_kept _ _ bytes found.kept reported)))
+    e.stopped e.continues e.only (rw same at e.count)
     (λ index is. fails_pes_packet_kept index _ _ _ found.kept (e.read index is)))
 
 pub returns-in-Ok-clause-requested : goal.returns-in-Ok-clause-requested
@@ -83,10 +83,10 @@ returns-in-Err-clause-reported g c =
     c.args.pes.now c.find_first.new.self)
     (first_number g.P.NumberedPesPackets.first g.P.NumberedPesPackets.skipped
     c.args.pes.now c.find_first.new.self)
-    start start c.requires.goes_on c.requires.few
+    start start c.requires.continues c.requires.few
     (λ k is. inr (found.before k is, found.failed, found.left k is, (risen, found.unread)))
     (Err (fault.Pes 0 Read)) false
-    (λ fails. absurd (true≢false (sym fails ∙ c.requires.goes_on)))
+    (λ fails. absurd (true≢false (sym fails ∙ c.requires.continues)))
     (λ holds fault_free. refl)
     (record { items = []; reported = record { one_by_one = refl } })
     (λ bytes reported. reports_none _ c.args.judging.now c.args.options.now bytes start)

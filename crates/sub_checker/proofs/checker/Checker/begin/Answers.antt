@@ -10,7 +10,7 @@ pub returns-clause-reported : goal.returns-clause-reported
 returns-clause-reported g c = λ criteria frames last follows is.
     let here = subst (AfterEnd criteria frames 0 last) (sym c.self.view_is) follows in (
       relays_reported (first_reaching criteria frames c.args.frame last _ _ _ here is
-          c.first_in.ensures.value c.is_early-is_reported.ensures) c.report_if.ensures,
+          c.first_tci.ensures.value c.is_early-is_reported.ensures) c.report_if.ensures,
       subst (BeforePackets criteria frames 0 last) (sym c.start.ensures)
           (arrives_first criteria frames c.args.frame last _ follows is),
     )

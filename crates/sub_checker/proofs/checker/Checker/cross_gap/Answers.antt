@@ -14,7 +14,7 @@ loop-f-init g c = record {
   counts = grind arith;
   latest_is = grind arith;
   later = grind arith;
-  upto = grind arith;
+  at_most_to = grind arith;
   reported = λ criteria frames n last follows some is.
       let here = subst (AfterEnd criteria frames n last) (sym c.self.view_is) follows in (
         relays_nothing (gap_start criteria frames n _ (here.latest_is some)),
@@ -30,7 +30,7 @@ loop-f-preserved g c =
       counts = grind arith;
       latest_is = grind arith;
       later = let l = i.later in omega arith;
-      upto = λ l. let t = c.loop-f-test.true in omega arith;
+      at_most_to = λ l. let t = c.loop-f-test.true in omega arith;
       reported = λ criteria frames n last follows some is.
           let before = i.reported criteria frames n last follows some is in
           let later = i.later in
@@ -58,7 +58,7 @@ returns-clause-reported g c = λ criteria frames n last follows some is.
     let size = gap_length-is frames n some ∙ ap (λ f. f - (latest frames n + 1)) is in
     let ended =
     gap_ended criteria frames n c.loop-f.f c.args.to c.args.self.now.latest last _ before.1 some
-    (follows.latest_is some) i.later c.loop-f-test.false i.upto in (
+    (follows.latest_is some) i.later c.loop-f-test.false i.at_most_to in (
       relays_same (ap (steps_of_gap criteria frames n) (size ∙ ended.0)) before.0,
       ended.1,
     )

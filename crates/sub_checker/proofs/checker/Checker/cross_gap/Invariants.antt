@@ -13,7 +13,7 @@ invariant-loop-f g l = record {
   counts : l.self.counts ≡ l.fn.self.counts;
   latest_is : l.self.latest ≡ l.fn.self.latest;
   later : l.fn.self.latest < l.f;
-  upto : l.fn.self.latest + 1 < l.f → l.f ≤ l.to;
+  at_most_to : l.fn.self.latest + 1 < l.f → l.f ≤ l.to;
   reported :
       (criteria : Criteria) (frames : Transmission) (n : ℕ) (last : List (List ℕ))
       → AfterEnd criteria frames n last l.fn.self

@@ -2,7 +2,8 @@
 use Rattle.std.proofs.Common.{◌-◌, ◌<◌, ◌∙◌, length, arith, ap, false}
 use Rattle.sub_checker.specs.Checker.{CheckerValue}
 use Rattle.sub_checker.proofs.AfterPacketsLemmas.{header_more}
-use Rattle.sub_checker.proofs.BetweenPesPacketsLemmas.{follows_all, heard_shut, pending_some}
+use Rattle.sub_checker.proofs.BetweenPesPacketsLemmas.{follows_all, closed_frame_state}
+use Rattle.sub_checker.proofs.BetweenPesPacketsLemmas.{pending_some}
 use Rattle.sub_checker.proofs.ReporterLemmas.{relays_same}
 use Rattle.sub_checker.proofs.checker.Checker.end_open.Goals as goal
 
@@ -12,7 +13,7 @@ returns-clause-reported g c = λ criteria sent last keeps.
     let opens = keeps.opens opened in
     let some = keeps.some opened in
     let shut =
-    heard_shut criteria sent (length sent - 1) last c.args.self.now _
+    closed_frame_state criteria sent (length sent - 1) last c.args.self.now _
     (ap (λ (v : CheckerValue). record v { counts = record v.counts { is_open = false } })
     c.self.view_is) opens.heard in
     let there : length sent - 1 < length sent = omega (arith, some) in

@@ -15,7 +15,7 @@ pub returns-clause-reported : goal.returns-clause-reported
 returns-clause-reported g c = λ criteria frames n last heard there has.
     let here = subst (AfterPackets criteria frames n last) (sym c.self.view_is) heard in
     let first = first_reported criteria frames n last _ here _ _ has
-    c.lacks_first-is_reported.ensures in
+    c.lacks_first_header-is_reported.ensures in
     let due = c.end_of_frame.ensures.due in
     let steps = ending_steps criteria frames n last _ heard due in
     let reported = c.end_of_frame.ensures.reported in

@@ -9,4 +9,4 @@ pub returns-then-is_none : goal.returns-then-is_none
 returns-then-is_none c = λ is.
     none_unexpected c.args.self.now c.args.differing c.is_none.result
     (subst (λ (v : CheckerValue). v.listener.comparison.due ≡ due_in v.programme v.frame)
-    c.self.view_is c.self.invariant.0.due_is) c.is_none.ensures c.if-is_none.true is
+    c.self.view_is c.self.invariant.0.due_eq) c.is_none.ensures c.if-is_none.true is

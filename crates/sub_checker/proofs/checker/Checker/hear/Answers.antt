@@ -22,7 +22,7 @@ returns-clause-reported g c = λ heard last knows again.
       record {
         listener = c.hear_sending-headers.new.self;
         headers = c.hear_sending-headers.result;
-        new_is =
+        new_eq =
             c.count.ensures
             ∙ ap (λ (v : CheckerValue). after_headers c.hear_sending-headers.result (record v {
               listener = c.hear_sending-headers.new.self;

@@ -35,4 +35,4 @@ returns-then-is_before c =
       late_at = i.late_at;
       counts = i.counts;
     } in
-    at_frame-stays c.args.f before at.due_is ∙ ap (at_frame c.args.f) c.self.view_is
+    at_frame-stays c.args.f before at.due_eq ∙ ap (at_frame c.args.f) c.self.view_is

@@ -6,7 +6,7 @@ use Rattle.sub_rules.specs.FrameRules.{packets_before}
 use Rattle.sub_rules.specs.PacketRules.{packets_of_units}
 use Rattle.sub_rules.specs.Trusted.CheckStep.{Emits}
 use Rattle.sub_checker.specs.Checker.{CheckerValue, HasHeard}
-use Rattle.sub_checker.proofs.MorePacketsLemmas.{more_are}
+use Rattle.sub_checker.proofs.MorePacketsLemmas.{packet_steps_agree}
 use Rattle.sub_checker.proofs.ReporterLemmas.{relays_same}
 use Rattle.sub_checker.proofs.BetweenPesPacketsLemmas.{more_keeps}
 use Rattle.sub_checker.proofs.checker.Checker.take_more.Goals as goal
@@ -21,7 +21,8 @@ returns-clause-reported g c = λ criteria sent last keeps again.
     let heard =
     c.hear.ensures.reported (packets_before sent (suc (length sent - 1))) last
     opens.heard.known.knows again in
-    let steps = more_are criteria sent (length sent - 1) last ps c.args.self.now opens all in
+    let steps = packet_steps_agree criteria sent (length sent - 1) last ps c.args.self.now opens all
+    in
     let from = ap (λ (v : CheckerValue). v.counts.packets) c.self.view_is in (
       relays_same
           (steps ∙ ap (λ (k : ℕ). map Emits (packets_reported c.args.self.now.listener.watched

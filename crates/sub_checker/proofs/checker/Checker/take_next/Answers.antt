@@ -12,16 +12,16 @@ use Rattle.sub_checker.specs.CheckedFrames.{AfterEnd}
 use Rattle.sub_checker.specs.declared.counts.Counts.{Counts}
 use Rattle.sub_checker.proofs.AfterPacketsLemmas.{packets_are}
 use Rattle.sub_checker.proofs.ReporterLemmas.{relays_same, relays_two}
-use Rattle.sub_checker.proofs.BetweenPesPacketsLemmas.{BetweenPesPackets-closed, arrived, each_is}
+use Rattle.sub_checker.proofs.BetweenPesPacketsLemmas.{BetweenPesPackets-closed, arrived, each_eq}
 use Rattle.sub_checker.proofs.BetweenPesPacketsLemmas.{next_each, next_heard, next_keeps}
 use Rattle.sub_checker.proofs.BetweenPesPacketsLemmas.{next_within}
-use Rattle.sub_checker.proofs.BetweenPesPacketsLemmas.{some_is}
+use Rattle.sub_checker.proofs.BetweenPesPacketsLemmas.{within_is_positive}
 use Rattle.sub_checker.proofs.checker.Checker.take_next.Goals as goal
 
 pub returns-then-self-eq0-clause-reported : goal.returns-then-self-eq0-clause-reported
 returns-then-self-eq0-clause-reported g c = λ criteria frames n last follows long sent again.
     let ps = packets_of_units c.args.units.now in
-    let reached = c.reach.ensures.reported criteria frames n last follows sent.frame_is in
+    let reached = c.reach.ensures.reported criteria frames n last follows sent.frame_eq in
     let arrives = reached.1 in
     let heard =
     c.hear-headers.ensures.reported (packets_before frames n) last arrives.has_pending.known.knows
@@ -29,7 +29,7 @@ returns-then-self-eq0-clause-reported g c = λ criteria frames n last follows lo
     let steps = packets_are criteria frames n last ps _ arrives sent.packets_are in
     let view = c.self.view_is in
     let each =
-    each_is criteria frames n last ps c.reach.new.self c.hear-headers.new.self arrives sent.there
+    each_eq criteria frames n last ps c.reach.new.self c.hear-headers.new.self arrives sent.there
     sent.packets_are heard.1 (sym (ap (λ (v : CheckerValue). v.within) view)
     ∙ c.if-self-eq0.true) in
     let there =
@@ -48,7 +48,7 @@ returns-then-self-eq0-clause-reported g c = λ criteria frames n last follows lo
     let shut =
     ap (λ (m : Counts). m.is_open) c.end_sent.ensures.counts
     ∙ ap (λ (v : CheckerValue). v.counts.is_open) view
-    ∙ ap (λ (v : CheckerValue). v.counts.is_open) heard.1.new_is
+    ∙ ap (λ (v : CheckerValue). v.counts.is_open) heard.1.new_eq
     ∙ ap (λ (m : Counts). m.is_open) c.reach.ensures.counts
     ∙ c.requires.closed in (
       relays_two (next_each criteria frames n each)
@@ -63,7 +63,7 @@ returns-then-self-eq0-clause-reported g c = λ criteria frames n last follows lo
 pub returns-clause-reported : goal.returns-clause-reported
 returns-clause-reported g c = λ criteria frames n last follows long sent again.
     let ps = packets_of_units c.args.units.now in
-    let reached = c.reach.ensures.reported criteria frames n last follows sent.frame_is in
+    let reached = c.reach.ensures.reported criteria frames n last follows sent.frame_eq in
     let arrives = reached.1 in
     let heard =
     c.hear-headers.ensures.reported (packets_before frames n) last arrives.has_pending.known.knows
@@ -72,7 +72,8 @@ returns-clause-reported g c = λ criteria frames n last follows long sent again.
     let view = c.self.view_is in
     let not_each = c.if-self-eq0.false in
     let within =
-    some_is criteria frames n last ps c.reach.new.self c.hear-headers.new.self arrives sent.there
+    within_is_positive criteria frames n last ps c.reach.new.self c.hear-headers.new.self arrives
+    sent.there
     sent.packets_are heard.1
     (λ e. not_each (ap (λ (v : CheckerValue). v.within) view ∙ e)) in
     let before = c.self.inside.counts.headers - c.hear-headers.result in

@@ -32,7 +32,7 @@ use Rattle.sub_io.specs.contracts.taken.Taken.and as f
 use Rattle.sub_io.proofs.taken.Taken.and.Statement as stated
 use Rattle.sub_io.proofs.taken.Taken.and.Code as code
 use Rattle.sub_io.specs.contracts.taken.Taken as trail
-use Rattle.sub_io.specs.contracts.taken.Piece as name
+use Rattle.sub_io.specs.contracts.taken.BorrowedChunk as name
 use Rattle.sub_io.specs.declared.taken.Taken.{Taken}
 
 abbrev stayed : Stays (f.ended).signature.params (f.ended).kept

@@ -49,10 +49,12 @@ returns-in-Err-clause-gives g c =
     let index = c.args.self.now.index in
     let f = c.in-Err.fault in
     let reports = rw c.requires.ready.0 at c.in-Err.ensures.reports in
-    let end : c.end_with.result ≡ Some (pes_listing first index (fails f)).status = search rules in
+    let end : c.end_with_fault_line.result ≡ Some
+    (pes_listing first index (fails f)).status = search rules in
     rw end (λ _.
     gives-last _ (pes_listing first index) (outcome_after index) ReadsPackets _ _
-    (fails f) c.end_with.new.text.items (is_read f) (search rules) (kind_by-failed (is_read f))
+    (fails f) c.end_with_fault_line.new.text.items (is_read f) (search rules)
+    (kind_by-failed (is_read f))
     (λ bytes reported ok.
     sym (outcome_after-next index bytes (Err f) c.requires.ready.1
     (reports.exact index refl bytes reported ok)))
@@ -67,7 +69,7 @@ returns-then-is_err-clause-cut g c = λ _.
 pub returns-in-Err-clause-followed : goal.returns-in-Err-clause-followed
 returns-in-Err-clause-followed g c = λ is sound ended goes.
     let f = c.in-Err.fault in
-    let end : c.end_with.result
+    let end : c.end_with_fault_line.result
     ≡ Some (pes_listing c.args.self.now.first c.args.self.now.index (fails f)).status =
     search rules in
     let failed = sym (kind_by-failed (is_read f)) ∙ (rw end at ended) in
@@ -78,5 +80,5 @@ returns-in-Err-clause-followed g c = λ is sound ended goes.
           (not_pending _ _ _ (when_ok _ flushed c.flush_lines.ensures.settled)
           c.in-Err.ensures.ready failed);
       reported = _;
-      line = c.end_with.ensures.line;
+      line = c.end_with_fault_line.ensures.line;
     }

@@ -25,10 +25,11 @@ returns-in-Ok-clause-gives g c =
 pub returns-in-Err-clause-gives : goal.returns-in-Err-clause-gives
 returns-in-Err-clause-gives g c =
     let none : c.args.self.now.reader ≡ None = search rules in
-    let end : c.end_with.result ≡ Some (status_of (kind_by (is_file_read c.in-Err.fault))) =
+    let end : c.end_with_fault_line.result ≡ Some
+    (status_of (kind_by (is_file_read c.in-Err.fault))) =
     search rules in
     rw (none, end) (λ _.
-    gives-refused c.args.self.now.count c.in-Err.fault _ _ c.end_with.new.text.items
+    gives-refused c.args.self.now.count c.in-Err.fault _ _ c.end_with_fault_line.new.text.items
     (search rules) c.in-Err.ensures.exact c.in-Err.ensures.failed c.in-Err.ensures.refused)
 
 pub returns-in-Ok-Some-clause-gives : goal.returns-in-Ok-Some-clause-gives
@@ -50,7 +51,7 @@ returns-in-Ok-Some-clause-gives g c =
     (_, rw c.in-Ok-Some.field-0-is at (c.in-Ok-Some.ensures.subtitle ready.0), reads))
     (λ bytes reported.
     let answers = rw c.in-Ok-Some.field-0-is at (c.in-Ok-Some.ensures.exact bytes reported refl) in
-    (answers.rest, answers.rest_is, answers.outcome))
+    (answers.rest, answers.rest_eq, answers.outcome))
     ends)
 
 pub returns-in-Ok-Some-clause-ready : goal.returns-in-Ok-Some-clause-ready
@@ -92,12 +93,14 @@ pub returns-in-Err-next-clause-gives : goal.returns-in-Err-next-clause-gives
 returns-in-Err-next-clause-gives g c =
     let f = c.in-Err-next.fault in
     let ready = rw c.in-Some.is at c.requires.ready in
-    let end : c.end_with-in-Err-next.result ≡ Some (status_of (kind_by (is_file_read f))) =
+    let end : c.end_with_fault_line-in-Err-next.result ≡ Some
+    (status_of (kind_by (is_file_read f))) =
     search rules in
     rw (c.in-Some.is, end) (λ _.
     gives-last _ (subtitles_listing c.args.self.now.count) (outcome_left c.in-Some.reader)
     (λ failed. ReadsSubtitles failed c.in-Some.reader.block) _ _
-    (fails f c.next.new.self.block) c.end_with-in-Err-next.new.text.items (is_file_read f)
+    (fails f c.next.new.self.block) c.end_with_fault_line-in-Err-next.new.text.items
+    (is_file_read f)
     (search rules) (kind_by-failed (is_file_read f))
     (λ bytes reported ok. sym (c.in-Err-next.ensures.exact bytes reported ok).outcome)
     (refl, c.in-Err-next.ensures.failed ready.0, c.in-Err-next.ensures.refused ready.0))

@@ -19,12 +19,12 @@ returns-in-EndsPage-clause-rules c heard known =
 pub returns-in-Row-clause-rules : goal.returns-in-Row-clause-rules
 returns-in-Row-clause-rules c heard known =
     let range = c.requires.row c.in-Row.row c.in-Row.is in
-    let sent = known.sent_is c.in-Row.row range.0 range.1 in
+    let sent = known.sent_eq c.in-Row.row range.0 range.1 in
     let page = known.page_is c.in-Row.row range.0 range.1 in
     rw (later_row c.args.self.now.watched heard c.args.packet.now c.in-Row.row _
-    (sym c.requires.kind ∙ c.in-Row.is) refl) (grind (arith, known.open_is))
+    (sym c.requires.kind ∙ c.in-Row.is) refl) (grind (arith, known.open_eq))
 
 pub returns-in-Other-clause-rules : goal.returns-in-Other-clause-rules
 returns-in-Other-clause-rules c heard known =
     rw (later_other c.args.self.now.watched heard c.args.packet.now
-    (sym c.requires.kind ∙ c.in-Other.is)) (grind (arith, known.open_is))
+    (sym c.requires.kind ∙ c.in-Other.is)) (grind (arith, known.open_eq))

@@ -7,6 +7,6 @@ use Rattle.sub_packets.proofs.listener.Listener.broken_rules.Goals as goal
 pub returns : goal.returns
 returns c heard known =
     let is = rules_are c.args.self.now.watched heard c.args.packet.now c.args.self.now.serial
-    known.serial_is in
+    known.serial_eq in
     let later = c.broken_later.ensures.rules heard known in
     rw is (grind arith)

@@ -4,12 +4,12 @@ use Rattle.ttx_page.specs.Differing.{differing}
 use Rattle.ttx_page.specs.Page.{DiffersFirst, Rows, blank}
 use Rattle.sub_packets.specs.Unexpected.{IsLeft}
 use Rattle.sub_plan.specs.Schedule.{due_in}
-use Rattle.sub_packets.proofs.UnexpectedLemmas.{unexpected_is, unexpected_none}
+use Rattle.sub_packets.proofs.UnexpectedLemmas.{unexpected_eq, unexpected_none}
 use Rattle.sub_packets.proofs.listener.Listener.first_unexpected.Goals as goal
 
 pub returns : goal.returns
 returns c =
-    unexpected_is c.args.self.now (due_in c.args.programme.now) c.args.first c.args.frame
+    unexpected_eq c.args.self.now (due_in c.args.programme.now) c.args.first c.args.frame
     c.args.within c.left_of-left.result c.first_difference.result
     (subst (λ page. IsLeft (due_in c.args.programme.now) c.args.first c.args.frame c.args.within
     page c.left_of-left.result) c.shown-shown.ensures c.left_of-left.ensures)

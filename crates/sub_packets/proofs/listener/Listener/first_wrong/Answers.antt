@@ -2,12 +2,12 @@
 use Rattle.std.proofs.lemmas.Bool.Decides.{nat_tests}
 use Rattle.std.proofs.Common.{arith, ◌≡◌, ◌∙◌, MatchOption, subst}
 use Rattle.ttx_page.specs.Page.{DiffersFirst, Rows}
-use Rattle.sub_packets.proofs.WrongCellLemmas.{wrong_is, wrong_keeping}
+use Rattle.sub_packets.proofs.WrongCellLemmas.{wrong_eq, wrong_keeping}
 use Rattle.sub_packets.proofs.listener.Listener.first_wrong.Goals as goal
 
 pub returns-then-not-self : goal.returns-then-not-self
 returns-then-not-self c =
-    wrong_is c.args.self.now _ c.if-not-self.true c.first_wrong-differing.ensures
+    wrong_eq c.args.self.now _ c.if-not-self.true c.first_wrong-differing.ensures
 
 pub returns : goal.returns
 returns c =

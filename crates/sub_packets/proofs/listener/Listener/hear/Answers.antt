@@ -49,7 +49,7 @@ returns-then-self-clause-knows c heard known =
     let range = c.requires.row c.in-Row.row c.in-Row.is in
     let new = c.is_new.ensures in
     let opened : c.args.self.now.is_open ≡ true = grind (arith, nat_tests) in
-    rw c.set_again.ensures
+    rw c.note_repeated_row.ensures
     (knows_again heard c.args.packet.now c.args.self.now _ _ known c.requires.page_header
     c.first_serial-self.ensures (ap is_this_page k) c.in-Row.row range.0 range.1 k opened
     (omega arith) (grind (arith, nat_tests)))

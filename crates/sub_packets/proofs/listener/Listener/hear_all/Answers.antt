@@ -12,13 +12,13 @@ use Rattle.ttx_page.specs.Span.{holds_beginning}
 use Rattle.sub_io.specs.Reporting.{Reports}
 use Rattle.sub_io.proofs.ReportingLemmas.{Reports-none}
 use Rattle.sub_rules.specs.Events.{packets_reported}
-use Rattle.sub_packets.specs.Listener.{BreakNone, Knows, KnowsLast, begins_frame, rule_set}
+use Rattle.sub_packets.specs.Listener.{BreakNoRule, Knows, KnowsLast, begins_frame, rule_set}
 use Rattle.sub_packets.proofs.KeptLemmas.{or_assoc}
 use Rattle.sub_rules.specs.PacketRules.{header_count, packets_of_units}
 use Rattle.sub_rules.specs.Events.{packet_fault}
 use Rattle.sub_rules.specs.PacketTests.{breaks, packet_rules}
 use Rattle.sub_rules.specs.declared.event.Event.TheVariants.{Reported}
-use Rattle.sub_packets.proofs.PacketEventLemmas.{clean_one, reported_one}
+use Rattle.sub_packets.proofs.PacketEventLemmas.{breaks_none_one_more, reported_one}
 use Rattle.sub_packets.proofs.KeptLemmas.{beginning-more}
 use Rattle.sub_packets.proofs.SkippedRunLemmas.{no_beginning_skipped, no_headers_skipped}
 use Rattle.sub_packets.proofs.SkippedRunLemmas.{skipped_run}
@@ -102,9 +102,9 @@ loop-k-preserved g c =
     let heard_one = c.judge-heard.ensures in
     let begins_here : c.judge-heard.result.begins ≡ begins_text w.keeps (kind w.page p) =
     heard_one.begins ∙ ap (λ v. begins_text v.keeps (kind v.page p)) i.same in
-    let begun_more : c.has_begun-begun.result
+    let begun_more : c.has_started-begun.result
     ≡ begins_frame w c.args.from c.args.self.now.begun (take (k + 1) ps) =
-    c.has_begun-begun.ensures
+    c.has_started-begun.ensures
     ∙ ap₂ (λ a b. a || b) i.begun begins_here
     ∙ or_assoc (nat_lt 0 c.args.from && c.args.self.now.begun)
     (holds_beginning w.keeps (kind w.page) (take k ps)) (begins_text w.keeps (kind w.page p))
@@ -141,7 +141,7 @@ loop-k-preserved g c =
                 subst
                 (λ v. rule_set (λ r. breaks r v (heard ++ take k ps) p) packet_rules ≡ 0) i.same
                 (heard_one.clean (heard ++ take k ps) before.0 (grind (arith, nat_tests))) in
-                clean_one w c.args.frame c.args.from heard ps k p at
+                breaks_none_one_more w c.args.frame c.args.from heard ps k p at
                 (before.2 (grind (arith, nat_tests))) clean,
           );
     }
@@ -170,7 +170,7 @@ returns-clause-knows g c heard known =
           (kept_last w heard ps c.loop-k.headers c.args.from c.args.self.now.begun c.loop-k.begun
           c.loop-k.first c.loop-k.is_clean c.loop-k.self i.same knows count
           (λ e. let b = i.first e in (omega (arith, b.0, k), b.1))
-          (λ e. subst (BreakNone w heard ps) k (r.2 e)) begun),
+          (λ e. subst (BreakNoRule w heard ps) k (r.2 e)) begun),
       count,
       begun,
       subst

@@ -4,7 +4,7 @@ use Rattle.std.proofs.Common.{◌-◌, true}
 use Rattle.ttx_page.specs.PacketKind.{begins_text, kind}
 use Rattle.sub_io.specs.Reporting.{Reports}
 use Rattle.sub_rules.specs.Events.{packets_reported}
-use Rattle.sub_packets.specs.Listener.{BreakNone, Knows, begins_frame}
+use Rattle.sub_packets.specs.Listener.{BreakNoRule, Knows, begins_frame}
 use Rattle.sub_rules.specs.PacketRules.{header_count, packets_of_units}
 use Rattle.sub_packets.proofs.listener.Listener.hear_all.Given as goal
 
@@ -36,5 +36,5 @@ invariant-loop-k g l = record {
       × Reports g.A.Taker.is_reported l.initial.taker l.taker
       (packets_reported l.initial.self.watched l.frame l.from heard (packets_of_units l.units) l.k)
       × (l.is_clean ≡ true
-      → BreakNone l.initial.self.watched heard (packets_of_units l.units) l.k);
+      → BreakNoRule l.initial.self.watched heard (packets_of_units l.units) l.k);
 }

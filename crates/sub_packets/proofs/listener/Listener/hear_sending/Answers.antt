@@ -3,7 +3,7 @@ use Rattle.std.proofs.Common.{length}
 use Rattle.sub_io.proofs.ReportingLemmas.{Reports-none}
 use Rattle.sub_rules.specs.PacketRules.{packets_of_units}
 use Rattle.sub_packets.proofs.PacketEventLemmas.{packets_reported-none}
-use Rattle.sub_packets.proofs.SentAgainLemmas.{heard_again}
+use Rattle.sub_packets.proofs.SentAgainLemmas.{received_again}
 use Rattle.sub_packets.proofs.listener.Listener.hear_sending.Goals as goal
 
 pub returns-in-Some-clause-knows : goal.returns-in-Some-clause-knows
@@ -11,7 +11,7 @@ returns-in-Some-clause-knows g c heard last known same =
     let ps = packets_of_units c.args.units.now in
     let w = c.args.self.now.watched in
     let again =
-    heard_again heard last ps c.in-Some.headers c.args.self.now known c.in-Some.is
+    received_again heard last ps c.in-Some.headers c.args.self.now known c.in-Some.is
     (same c.if-again.true) in (
       again.1,
       again.2,

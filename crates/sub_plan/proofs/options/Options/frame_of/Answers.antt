@@ -1,6 +1,6 @@
 -- `frame_of` uses the exact clock if `within` is 0, and the clock with a tolerance otherwise.
 use Rattle.std.proofs.Common.{arith, ◌∙◌}
-use Rattle.sub_plan.proofs.ClockLemmas.{clock_exact, clock_near, exact_by}
+use Rattle.sub_plan.proofs.ClockLemmas.{clock_exact, clock_with_tolerance, exact_by}
 use Rattle.sub_plan.proofs.options.Options.frame_of.Goals as goal
 
 pub returns-then-self-eq0-clause-value : goal.returns-then-self-eq0-clause-value
@@ -13,4 +13,4 @@ returns-then-self-eq0-clause-exact c = λ none frame.
 
 pub returns-else-self-eq0-clause-value : goal.returns-else-self-eq0-clause-value
 returns-else-self-eq0-clause-value c =
-    c.nearest_frame.ensures ∙ rw (← c.self.view_is) (clock_near _ _ _ (omega arith))
+    c.nearest_frame.ensures ∙ rw (← c.self.view_is) (clock_with_tolerance _ _ _ (omega arith))

@@ -2,7 +2,7 @@
 use Rattle.std.proofs.Common.{◌≡◌, ◌≤◌, ◌∙◌, ap, arith, drop, length-drop, rules}
 use Rattle.mpeg_ts.specs.PacketSize.{bytes_of}
 use Rattle.ts_survey.proofs.InStepLemmas.{found_none, found_packet, found_skips, prefix_end}
-use Rattle.ts_survey.proofs.InStepLemmas.{size_near}
+use Rattle.ts_survey.proofs.InStepLemmas.{size_at_least_188}
 use Rattle.ts_survey.proofs.packets_in_step.PacketsInStep.find.Goals.{in-Yes, in-No}
 use Rattle.ts_survey.specs.declared.packets_in_step.PacketsInStep.{PacketsInStep}
 use Rattle.ts_survey.proofs.packets_in_step.PacketsInStep.find.Goals as goal
@@ -26,7 +26,7 @@ loop-preserved g c =
           let same = w.take_packet.ensures.same in
           let bytes : w.distance-at.result ≡ bytes_of c.loop.self.size =
           w.distance-at.ensures.is ∙ ap bytes_of (ap (λ (s : PacketsInStep). s.size) same) in
-          let near : 188 ≤ bytes_of c.loop.self.size = size_near c.loop.self.size in
+          let near : 188 ≤ bytes_of c.loop.self.size = size_at_least_188 c.loop.self.size in
           record {
             found =
                 rw (w.self-is, w.to-is, w.at-is, bytes)
@@ -42,7 +42,7 @@ loop-preserved g c =
                 rw (w.self-is, w.to-is, w.at-is)
                 (found_skips _ c.args.self.now c.loop.self w.skip-at.new.self _ _ _ c.args.bytes.now
                 c.args.is_end c.loop.at w.skip-at.result c.loop.invariant.found there
-                (size_near c.loop.self.size)
+                (size_at_least_188 c.loop.self.size)
                 (search rules) (search rules) (c.begins.ensures.no w.in-No.is)
                 w.skip-at.ensures.from w.skip-at.ensures.skips w.skip-at.ensures.same
                 w.skip-at.ensures.reported);

@@ -1,11 +1,11 @@
 -- The items found so far; each turn processes at least one more byte.
 use Rattle.std.proofs.Common.{◌≤◌}
-use Rattle.ts_survey.specs.InStep.{AreFound}
+use Rattle.ts_survey.specs.InStep.{ItemsFound}
 use Rattle.ts_survey.proofs.packets_in_step.PacketsInStep.find.Given as goal
 
 abbrev pub invariant-loop : goal.invariant-loop
 invariant-loop g l = record {
   found :
-      AreFound g.M.TakesPackets.is_taken l.fn.self l.fn.to l.bytes l.is_end l.at 0 l.self l.to;
+      ItemsFound g.M.TakesPackets.is_taken l.fn.self l.fn.to l.bytes l.is_end l.at 0 l.self l.to;
   far : l.counter ≤ l.at;
 }

@@ -1,7 +1,7 @@
 -- The head was printed now, found-following-head, or before, found-with-head.
 use Rattle.std.proofs.Common.{◌≡◌, ◌∙◌, ap, false, rules, subst}
-use Rattle.ts_survey.specs.FirstLines.{kind_words}
-use Rattle.ts_survey.specs.Lines.{AddsWords}
+use Rattle.ts_survey.specs.FirstLines.{kind_texts}
+use Rattle.ts_survey.specs.Lines.{AddsTexts}
 use Rattle.ts_survey.specs.Stream.{is_unknown}
 use Rattle.ts_survey.proofs.FirstLinesLemmas.{found-following-head, found-with-head}
 use Rattle.ts_survey.proofs.recording.Recording.find_kind.Goals as goal
@@ -22,7 +22,7 @@ returns-in-Unknown-clause-finds c = λ unknown.
           found-with-head old c.inspect.new.self _ _ _ w.if-not-self.false
           (c.inspect.ensures.has_head ∙ ap (λ r. r.has_head) w.self-is)
           (subst (λ text. c.inspect.new.self.out_of_memory ≡ false
-          → AddsWords text (kind_words c.inspect.new.self.kind) c.inspect.new.first)
+          → AddsTexts text (kind_texts c.inspect.new.self.kind) c.inspect.new.first)
           w.first-is seen)
           not
     ]

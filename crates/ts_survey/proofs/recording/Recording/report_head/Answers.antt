@@ -1,15 +1,15 @@
 -- The head, followed by its bytes: adds-words.
 use Rattle.std.proofs.Common.{subst}
 use Rattle.std.specs.Prelude.{◌++◌, ◌∷◌, [], codes}
-use Rattle.ts_survey.specs.FirstLines.{head_words}
-use Rattle.ts_survey.specs.Lines.{AddsWords}
+use Rattle.ts_survey.specs.FirstLines.{head_texts}
+use Rattle.ts_survey.specs.Lines.{AddsTexts}
 use Rattle.ts_survey.proofs.TextLemmas.{adds-last, adds-words}
 use Rattle.ts_survey.proofs.recording.Recording.report_head.Goals as goal
 
 pub returns-in-Some-clause-reported : goal.returns-in-Some-clause-reported
 returns-in-Some-clause-reported c = λ unknown enough.
     let size = codes "size 0\n" ∷ [] in
-    subst (λ head. AddsWords c.args.first.now (head_words head ++ size) c.put.new.self)
+    subst (λ head. AddsTexts c.args.first.now (head_texts head ++ size) c.put.new.self)
     c.head_in-head.ensures.bytes
-    (adds-words (head_words c.head_in-head.result.now) size c.put_head.ensures
+    (adds-words (head_texts c.head_in-head.result.now) size c.put_head.ensures
     (adds-last c.put.ensures))

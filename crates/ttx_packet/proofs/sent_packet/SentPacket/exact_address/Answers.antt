@@ -1,6 +1,6 @@
 -- `exact_address` returns an address exactly if both address bytes are code words: SentWordLemmas.
 use Rattle.std.proofs.Common.{arith}
-use Rattle.ttx_packet.proofs.SentWordLemmas.{address_of, exact_words, sent_at, word_at}
+use Rattle.ttx_packet.proofs.SentWordLemmas.{address_of, has_exact_code_words, sent_at, word_at}
 use Rattle.ttx_packet.proofs.sent_packet.SentPacket.exact_address.Goals as goal
 
 pub returns-then-number-ge-NOTHING : goal.returns-then-number-ge-NOTHING
@@ -20,6 +20,6 @@ returns-else-number-ge-NOTHING c =
     let at = word_at _ _ c.self.view_is c.self.invariant in
     let low = at 0 _ (omega arith) first in
     let high = at 1 _ (omega arith) second in (
-      exact_words c.args.self.now low.0 high.0,
+      has_exact_code_words c.args.self.now low.0 high.0,
       address_of c.args.self.now _ _ low.1 high.1,
     )

@@ -1,6 +1,7 @@
 -- `exact_header` returns a header exactly if all eight coded bytes are code words: SentWordLemmas.
 use Rattle.std.proofs.Common.{arith}
-use Rattle.ttx_packet.proofs.SentWordLemmas.{coded_header_of, exact_coded_words, no_word_at}
+use Rattle.ttx_packet.proofs.SentWordLemmas.{coded_header_of, coded_has_exact_code_words}
+use Rattle.ttx_packet.proofs.SentWordLemmas.{no_word_at}
 use Rattle.ttx_packet.proofs.SentWordLemmas.{word_at}
 use Rattle.ttx_packet.proofs.sent_packet.SentPacket.exact_header.Goals as goal
 
@@ -63,7 +64,8 @@ returns c =
     let s4_c6 = at 7 c.in_ok-s4_c6.s4_c6 (omega arith) c.in_ok-s4_c6.ensures in
     let c7_c10 = at 8 c.in_ok-c7_c10.c7_c10 (omega arith) c.in_ok-c7_c10.ensures in
     let c11_c14 = at 9 c.in_ok-c11_c14.c11_c14 (omega arith) c.in_ok-c11_c14.ensures in (
-      exact_coded_words c.args.self.now units.0 tens.0 s1.0 s2_c4.0 s3.0 s4_c6.0 c7_c10.0 c11_c14.0,
+      coded_has_exact_code_words c.args.self.now units.0 tens.0 s1.0 s2_c4.0 s3.0 s4_c6.0 c7_c10.0
+          c11_c14.0,
       coded_header_of c.args.self.now _ _ _ _ _ _ _ _ c.header_of.result units.1 tens.1 s1.1
           s2_c4.1 s3.1 s4_c6.1 c7_c10.1 c11_c14.1 c.header_of.ensures.page
           c.header_of.ensures.subcode c.header_of.ensures.control,

@@ -1,8 +1,10 @@
--- The facts about a PES packet follow from its header and its data field: known_anew, known_again.
+-- The facts about a PES packet follow from its header and its data field: facts_of_new_units,
+-- facts_of_repeat.
 use Rattle.std.proofs.Common.{ap, ◌≡◌, arith, refl, rules}
 use Rattle.std.proofs.lemmas.Result.{err_from_is_err_and}
 use Rattle.ttx_pes.specs.Taking.{BufferedPacketValue}
-use Rattle.ttx_pes.proofs.KeptFrameLemmas.{IsBody, known_again, known_anew, value_refused}
+use Rattle.ttx_pes.proofs.KeptFrameLemmas.{IsBody, facts_of_repeat, facts_of_new_units}
+use Rattle.ttx_pes.proofs.KeptFrameLemmas.{value_refused}
 use Rattle.ttx_pes.proofs.buffered_packet.BufferedPacket.take.Goals as goal
 use Rattle.ttx_pes.proofs.buffered_packet.BufferedPacket.take.Goals.{In_ok-pts}
 
@@ -25,7 +27,7 @@ returns-then-is_kept-clause-value c =
       count = c.self.inside.count;
       places = c.self.inside.places;
     } in
-    (known_again c.args.body.now c.split_at.result.1.now _ _ h
+    (facts_of_repeat c.args.body.now c.split_at.result.1.now _ _ h
     (is_body (goal.at.returns-then-is_kept-clause-value c).In_ok-pts) c.in_ok-pts.ensures.exact
     (search rules) (search rules) c.requires.known count places).value
 
@@ -38,14 +40,14 @@ returns-in_err-find_places-clause-err c =
 
 pub returns-clause-value : goal.returns-clause-value
 returns-clause-value c =
-    (known_anew c.args.body.now c.split_at.result.1.now _
+    (facts_of_new_units c.args.body.now c.split_at.result.1.now _
     (is_body (goal.at.returns-clause-value c).In_ok-pts) c.in_ok-pts.ensures.exact (search rules)
     refl c.in_ok-find_places.ensures.within c.in_ok-find_places.ensures.all
     c.in_ok-find_places.ensures.ok).value
 
 pub returns-clause-known : goal.returns-clause-known
 returns-clause-known c =
-    (known_anew c.args.body.now c.split_at.result.1.now _
+    (facts_of_new_units c.args.body.now c.split_at.result.1.now _
     (is_body (goal.at.returns-clause-known c).In_ok-pts) c.in_ok-pts.ensures.exact (search rules)
     refl c.in_ok-find_places.ensures.within c.in_ok-find_places.ensures.all
     c.in_ok-find_places.ensures.ok).known

@@ -23,6 +23,6 @@ returns-clause-received g c =
     Advances (limited_known left old) (limited_known l new) (limited_remaining l new following)
     g.T.TakePesPacket.is_take c.args.taker.now c.next.new.taker
     (let r : Result (Received _) Failed = Ok c.in_ok-received.received in r))
-    (sym c.left_after-self.ensures)
+    (sym c.limit_after-self.ensures)
     (received_limited Failed _ _ _ _ _ _ left c.in_ok-received.received
     (sym c.is_over.ensures ∙ c.if-is_over.false) c.in_ok-received.ensures.received)

@@ -1,5 +1,5 @@
 -- Frames that are reported as trusted although subtitles were refused are reported by all criteria
--- that agree whenever the due page is known (`reported_too`). Used for `law_of_trusted_alike`.
+-- that agree whenever the due page is known (`reported_in_other`). Used for `law_of_equal_trust`.
 use Rattle.std.proofs.lemmas.Bool.Decides.{nat_tests}
 use Rattle.std.proofs.Common.{◌≡◌, ◌≢◌, ℕ, ◌-◌, ◌<◌, ◌≤◌, inl, inr, true}
 use Rattle.std.proofs.Common.{List, [], Contains, Option, Some, length, refl, ap, ◌∙◌}
@@ -15,19 +15,19 @@ use Rattle.sub_rules.specs.Transmission.{Transmission}
 use Rattle.sub_rules.specs.Trusted.{has_no_active_faults}
 use Rattle.sub_rules.specs.declared.event.Event.TheVariants.{Trusted}
 use Rattle.sub_rules.specs.declared.active_faults.ActiveFaults.{ActiveFaults}
-use Rattle.sub_rules.proofs.EndRuleLemmas.{no_active_faults_is}
+use Rattle.sub_rules.proofs.EndRuleLemmas.{no_active_faults_eq}
 use Rattle.sub_laws.specs.CleanStretch.{IsEnd, IsUnreported}
 use Rattle.sub_laws.proofs.FrameByFrame.{IsFaultFree}
 use Rattle.sub_laws.proofs.GoodLemmas.{rises_each}
 use Rattle.sub_laws.proofs.PrefixLemmas.{RiseTo, frame_at-take, packets-take, rises_to}
-use Rattle.sub_laws.proofs.ActiveFaultsLemmas.{known_at}
-use Rattle.sub_trusted.specs.TrustedAlike.{AreTrusted, IsCorrectAt}
+use Rattle.sub_laws.proofs.ActiveFaultsLemmas.{due_known_at}
+use Rattle.sub_trusted.specs.EqualTrust.{AreTrusted, IsCorrectAt}
 use Rattle.sub_trusted.specs.TrustedFrames.{BeginsText, CanStay, rising_part}
-use Rattle.sub_trusted.proofs.AlikeLateLemmas.{HasSameCriteria, equal_fault_free, criteria_known}
-use Rattle.sub_trusted.proofs.AlikeLateLemmas.{same_unfinished}
+use Rattle.sub_trusted.proofs.EqualLateLemmas.{HasSameCriteria, equal_fault_free, criteria_known}
+use Rattle.sub_trusted.proofs.EqualLateLemmas.{same_unfinished}
 use Rattle.sub_trusted.proofs.AllTrustedLemmas.{law_of_all_trusted}
 use Rattle.sub_trusted.proofs.TrustedFrameLemmas.{count_most, part_last, part_length, part_rises}
-use Rattle.sub_trusted.proofs.TrustedFrameLemmas.{j_low, rises_more, risen, risen_low}
+use Rattle.sub_trusted.proofs.TrustedFrameLemmas.{j_less_than_m, rises_more, risen, risen_low}
 use Rattle.sub_trusted.proofs.TrustedFrameLemmas.{remains_fault_free}
 use Rattle.sub_trusted.proofs.TrustedFrameLemmas.{unreported}
 use Rattle.sub_trusted.proofs.TrustedKeptLemmas.{MayStayBetween}
@@ -39,11 +39,11 @@ none_active : has_no_active_faults no_active_faults ≡ true
 unfolding end_rules
 none_active = refl
 
-module _ (g : Criteria) (due : ℕ → Rows) (ending : ℕ → Option ℕ) (first_in last_out : Option ℕ)
-    (alike : HasSameCriteria g due ending) (pes_packets : List PesPacket) (from to : ℕ)
+module _ (g : Criteria) (due : ℕ → Rows) (ending : ℕ → Option ℕ) (first_tci last_tco : Option ℕ)
+    (same_criteria : HasSameCriteria g due ending) (pes_packets : List PesPacket) (from to : ℕ)
     (reported : Contains (all_of_pes_packets g pes_packets) (Trusted from to)) where
   abbrev h : Criteria
-  h = criteria_known g due ending first_in last_out
+  h = criteria_known g due ending first_tci last_tco
 
   abbrev frames : Transmission
   frames = sent_by_pes_packets g pes_packets
@@ -55,7 +55,7 @@ module _ (g : Criteria) (due : ℕ → Rows) (ending : ℕ → Option ℕ) (firs
   may = grind (arith, nat_tests, last_late, all_pass_within)
 
   stays : StaysTo g frames from to
-  stays = may.stands.stays
+  stays = may.may_stay_correct.stays
 
   fault_free : IsUnreported g part from to
   fault_free = unreported g frames from to stays
@@ -64,14 +64,14 @@ module _ (g : Criteria) (due : ℕ → Rows) (ending : ℕ → Option ℕ) (firs
   up = rises_each part fault_free.rising
 
   some : 0 < risen frames
-  some = let low = j_low g frames from to stays in omega arith
+  some = let low = j_less_than_m g frames from to stays in omega arith
 
   still : (n f : ℕ) → IsEnd part n f → from ≤ f → f ≤ to → IsFaultFree h part n f
   unfolding active_faults_at
   still n f end low high =
-      equal_fault_free g due ending first_in last_out alike part up n f
+      equal_fault_free g due ending first_tci last_tco same_criteria part up n f
       (fault_free.undecided n f end low high) end
-      (no_active_faults_is _ (remains_fault_free g frames from to stays n f end low high))
+      (no_active_faults_eq _ (remains_fault_free g frames from to stays n f end low high))
 
   before_fall : risen frames < length frames → to < frame_at frames (risen frames - 1)
   before_fall more =
@@ -99,7 +99,7 @@ module _ (g : Criteria) (due : ℕ → Rows) (ending : ℕ → Option ℕ) (firs
       (whole : 0 < g.within → IsCorrectAt g pes_packets b) where
     finished : 0 < g.within → IsCorrectAt h pes_packets b
     unfolding active_faults_at
-    finished h1 = grind (arith, nat_tests, known_at, fault_free, same_unfinished)
+    finished h1 = grind (arith, nat_tests, due_known_at, fault_free, same_unfinished)
 
     can : CanStay h pes_packets from b
     unfolding active_faults_at
@@ -136,10 +136,10 @@ module _ (g : Criteria) (due : ℕ → Rows) (ending : ℕ → Option ℕ) (firs
           before_unread = λ u is. let past = before_unread u is in omega arith;
         }
 
-    pub reported_too : all_of_pes_packets h pes_packets ≢ [] → AreTrusted h pes_packets from b
-    reported_too something =
+    pub reported_in_other : all_of_pes_packets h pes_packets ≢ [] → AreTrusted h pes_packets from b
+    reported_in_other something =
         let j : ℕ = stays.run.j in
-        let inside : j < risen frames = j_low g frames from to stays in
+        let inside : j < risen frames = j_less_than_m g frames from to stays in
         let size = part_length frames in
         let at = frame_at-take frames (risen frames) j inside in
         let own = stays.run.at in

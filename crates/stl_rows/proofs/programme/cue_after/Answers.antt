@@ -2,7 +2,7 @@
 -- next_edge-tco.
 use Rattle.std.proofs.Common.{arith, rules}
 use Rattle.stl_rows.proofs.DuePageLemmas.{next_edge-tci, next_edge-tco}
-use Rattle.stl_rows.proofs.programme.edge_after.Goals as goal
+use Rattle.stl_rows.proofs.programme.cue_after.Goals as goal
 
 pub returns-then-frame-tci : goal.returns-then-frame-tci
 returns-then-frame-tci c =

@@ -1,17 +1,19 @@
 -- The frame from which on the due page is known: no subtitle was refused, the due page is unknown
 -- now, was unknown before, or was always known.
 use Rattle.std.proofs.Common.{◌∙◌, sym, arith}
-use Rattle.sub_checker.proofs.UndecidedLemmas.{known_last, known_never, known_none, known_not}
-use Rattle.sub_checker.proofs.undecided.known_from.Goals as goal
+use Rattle.sub_checker.proofs.UndecidedLemmas.{due_known_up_to_last, known_never}
+use Rattle.sub_checker.proofs.UndecidedLemmas.{due_known_without_refusals, due_unknown_after_day}
+use Rattle.sub_checker.proofs.undecided.first_known_from.Goals as goal
 
 pub returns-then-not-any_refused : goal.returns-then-not-any_refused
 returns-then-not-any_refused c edge reports =
-    known_none c.args.judging.now c.args.first c.args.within c.args.frame edge reports
+    due_known_without_refusals c.args.judging.now c.args.first c.args.within c.args.frame edge
+    reports
     (sym c.requires ∙ c.if-not-any_refused.true)
 
 pub returns-then-is_undecided : goal.returns-then-is_undecided
 returns-then-is_undecided c edge reports =
-    known_not c.args.judging.now c.args.first c.args.within c.args.frame edge reports
+    due_unknown_after_day c.args.judging.now c.args.first c.args.within c.args.frame edge reports
     (sym c.requires ∙ c.if-not-any_refused.false) 18446744073709551615 (omega arith)
     (sym c.is_undecided.ensures ∙ c.if-is_undecided.true)
 
@@ -19,7 +21,7 @@ pub returns-in-Some : goal.returns-in-Some
 returns-in-Some c edge reports =
     let last = c.in-Some.ensures in
     rw (c.from.ensures, c.from-in-Some.ensures)
-    (known_last c.args.judging.now c.args.first c.args.within c.args.frame edge reports
+    (due_known_up_to_last c.args.judging.now c.args.first c.args.within c.args.frame edge reports
     (sym c.requires ∙ c.if-not-any_refused.false) c.in-Some.last
     (omega (arith, c.earliest-least.ensures.first, last.0)) last.1 last.2 last.3)
 

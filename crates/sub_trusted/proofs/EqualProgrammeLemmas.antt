@@ -1,19 +1,19 @@
 -- A programme with additional subtitles has the same due page at the frames at which these
 -- subtitles are not due (`equal_with`); so frames that are trusted without the additional subtitles
--- are trusted with them (`law_of_trusted_alike`).
+-- are trusted with them (`law_of_equal_trust`).
 use Rattle.std.proofs.lemmas.Bool.Decides.{nat_tests}
 use Rattle.std.proofs.Common.{◌≡◌, ℕ, ◌+◌, inl, inr, Bool, false}
 use Rattle.std.proofs.Common.{List, [], ◌∷◌, find, Option, option_map}
 use Rattle.std.proofs.Common.{ap, arith}
 use Rattle.stl_file.specs.Subtitle.{SubtitleValue}
 use Rattle.stl_rows.specs.DuePage.{drawn_or_blank, due, ends_at, is_due, tci_of_ending}
-use Rattle.stl_rows.specs.Programme.{ProgrammeValue, first_in, last_out}
+use Rattle.stl_rows.specs.Programme.{ProgrammeValue, first_tci, last_tco}
 use Rattle.sub_plan.specs.Options.{OptionsValue}
 use Rattle.sub_rules.specs.FrameRules.{Unread}
 use Rattle.sub_laws.specs.CleanStretch.{criteria_unsure}
-use Rattle.sub_trusted.specs.TrustedAlike.{HasOthers, IsDueAmong, LawOfTrustedAlike}
-use Rattle.sub_trusted.proofs.AlikeLateLemmas.{HasSameCriteria}
-use Rattle.sub_trusted.proofs.TrustedAlikeLemmas.{reported_too}
+use Rattle.sub_trusted.specs.EqualTrust.{HasOtherSubtitles, IsDueAmong, LawOfEqualTrust}
+use Rattle.sub_trusted.proofs.EqualLateLemmas.{HasSameCriteria}
+use Rattle.sub_trusted.proofs.EqualTrustLemmas.{reported_in_other}
 
 module _ (undecided : ℕ → Bool) (f : ℕ) (known : undecided f ≡ false) where
   -- A subtitle that is due only at frames with an unknown due page is not due at frame f and does
@@ -26,7 +26,7 @@ module _ (undecided : ℕ → Bool) (f : ℕ) (known : undecided f ≡ false) wh
 
   same_found : (test : SubtitleValue → Bool)
       → ((t : SubtitleValue) → IsDueAmong undecided t → test t ≡ false)
-      → (judged all : List SubtitleValue) → HasOthers undecided judged all
+      → (judged all : List SubtitleValue) → HasOtherSubtitles undecided judged all
       → find test all ≡ find test judged
   same_found test none judged [] is = grind (arith, nat_tests)
   same_found test none judged (t ∷ all) (inl (rest, same, more)) =
@@ -36,29 +36,29 @@ module _ (undecided : ℕ → Bool) (f : ℕ) (known : undecided f ≡ false) wh
 
 module _ (programme : ProgrammeValue) (options : OptionsValue) (unread : Option Unread)
     (any_refused : Bool) (undecided : ℕ → Bool) (records : List SubtitleValue)
-    (others : HasOthers undecided programme.records records) where
+    (others : HasOtherSubtitles undecided programme.records records) where
   equal_with :
       HasSameCriteria (criteria_unsure programme options unread any_refused undecided)
       (due programme.drawing records) (tci_of_ending records)
   unfolding due tci_of_ending
   equal_with = record {
-    due_is = λ f known.
+    due_eq = λ f known.
         ap (drawn_or_blank programme.drawing)
         (same_found undecided f known (is_due f) (not_due undecided f known) programme.records
         records others);
-    ending_is = λ f known.
+    ending_eq = λ f known.
         ap (option_map (λ (t : SubtitleValue). t.tci))
         (same_found undecided f known (ends_at (f + 1)) (not_ended undecided f known)
         programme.records records others);
   }
 
-pub law_of_trusted_alike : LawOfTrustedAlike
-law_of_trusted_alike programme options unread any_refused undecided records pes_packets from to b
+pub law_of_equal_trust : LawOfEqualTrust
+law_of_equal_trust programme options unread any_refused undecided records pes_packets from to b
     others
     reported
     low high whole =
-    reported_too (criteria_unsure programme options unread any_refused undecided)
-    (due programme.drawing records) (tci_of_ending records) (first_in records) (last_out records)
+    reported_in_other (criteria_unsure programme options unread any_refused undecided)
+    (due programme.drawing records) (tci_of_ending records) (first_tci records) (last_tco records)
     (equal_with programme options unread any_refused undecided records others) pes_packets from to
     reported b
     low

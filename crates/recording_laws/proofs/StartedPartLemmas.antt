@@ -159,5 +159,5 @@ closes-prefix part given gap s h =
       | inr short ↦
           inr
           (closes-broken part given gap
-          (record { outcome_is = λ cut_off. outcome-short cut_off part s h short }))
+          (record { outcome_eq = λ cut_off. outcome-short cut_off part s h short }))
     ]

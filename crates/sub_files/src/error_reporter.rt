@@ -9,17 +9,17 @@ use std::io::{ErrorKind, Read, Write};
 
 /// A device that prints on standard error why a call failed.
 #[derive(Drop)]
-pub struct Explained<'a, T, E> {
+pub struct ErrorReporter<'a, T, E> {
     inner: T,
     name: &'a str,
     errors: &'a E,
     is_standard_output: bool,
 }
 
-impl<'a, T, E: Eprint> Explained<'a, T, E> {
+impl<'a, T, E: Eprint> ErrorReporter<'a, T, E> {
     /// Creates the device, with the name to print for it.
     pub fn new(inner: T, name: &'a str, errors: &'a E) -> Self {
-        Explained {
+        ErrorReporter {
             inner,
             name,
             errors,
@@ -30,7 +30,7 @@ impl<'a, T, E: Eprint> Explained<'a, T, E> {
     /// Creates standard output. If the reader of a pipe has ended, as `head` does, no message is
     /// printed.
     pub fn standard_output(inner: T, errors: &'a E) -> Self {
-        Explained {
+        ErrorReporter {
             inner,
             name: "standard output",
             errors,
@@ -51,7 +51,7 @@ pub fn explain<E: Eprint>(errors: &E, what: &str, name: &str, error: &io::Error)
     let _ = eprintln!(errors; "subttx: cannot {what} {name:?}: {error}");
 }
 
-impl<T: Read, E: Eprint> Read for Explained<'_, T, E> {
+impl<T: Read, E: Eprint> Read for ErrorReporter<'_, T, E> {
     ghost remaining = { λ _. None };
 
     fn read(&mut self, to: &mut [u8]) -> io::Result<usize> {
@@ -63,7 +63,7 @@ impl<T: Read, E: Eprint> Read for Explained<'_, T, E> {
     }
 }
 
-impl<T: Write, E: Eprint> Write for Explained<'_, T, E> {
+impl<T: Write, E: Eprint> Write for ErrorReporter<'_, T, E> {
     ghost contents = { λ _. None };
 
     fn write(&mut self, from: &[u8]) -> io::Result<usize> {
@@ -81,7 +81,7 @@ impl<T: Write, E: Eprint> Write for Explained<'_, T, E> {
     }
 }
 
-impl<T: OpenFile, E: Eprint> OpenFile for Explained<'_, T, E> {
+impl<T: OpenFile, E: Eprint> OpenFile for ErrorReporter<'_, T, E> {
     fn metadata(&self) -> io::Result<Metadata> {
         self.inner.metadata()
     }

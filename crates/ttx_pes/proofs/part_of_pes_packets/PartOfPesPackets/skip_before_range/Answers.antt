@@ -1,7 +1,7 @@
 -- Once no PES packet has to be skipped, the range begins with the next packet: number_none.
 use Rattle.std.proofs.Common.{◌∙◌, sym}
 use Rattle.ttx_pes.proofs.PartLemmas.{number_none}
-use Rattle.ttx_pes.proofs.part_of_pes_packets.PartOfPesPackets.skip_others.Goals as goal
+use Rattle.ttx_pes.proofs.part_of_pes_packets.PartOfPesPackets.skip_before_range.Goals as goal
 
 pub returns-then-to_skip-eq0-clause-first : goal.returns-then-to_skip-eq0-clause-first
 returns-then-to_skip-eq0-clause-first g c = λ n is.

@@ -1,7 +1,7 @@
 -- If two sets of criteria agree whenever the first set knows the due page, and it knew the due page
 -- at the last frames, an end is late for both sets or for neither (`late_same`), and if no fault is
 -- active for the first set, no fault is active for the second (`equal_fault_free`). Used for
--- `law_of_trusted_alike`.
+-- `law_of_equal_trust`.
 use Rattle.std.proofs.lemmas.Bool.Decides.{nat_tests}
 use Rattle.std.proofs.Common.{◌≡◌, ℕ, ◌+◌, ◌-◌, ◌≤◌, inl, inr, Bool, true, false}
 use Rattle.std.proofs.Common.{◌&&◌, ◌||◌, ◌==◌, nat_le, Option, Some, None, length, refl, sym, ap}
@@ -19,8 +19,9 @@ use Rattle.sub_laws.specs.CleanStretch.{IsEnd}
 use Rattle.sub_laws.proofs.DueCodeLemmas.{MayShow, none_unexpected, unexpected_none}
 use Rattle.sub_laws.proofs.FrameByFrame.{IsFaultFree}
 use Rattle.sub_laws.proofs.PrefixLemmas.{RiseTo, end_high}
-use Rattle.sub_laws.proofs.ActiveFaultsLemmas.{always_known, known_at, known_back, fault_free_parts}
-use Rattle.sub_laws.proofs.ActiveFaultsLemmas.{unexpected_is}
+use Rattle.sub_laws.proofs.ActiveFaultsLemmas.{known_without_refusals, due_known_at}
+use Rattle.sub_laws.proofs.ActiveFaultsLemmas.{due_known_before, fault_free_parts}
+use Rattle.sub_laws.proofs.ActiveFaultsLemmas.{unexpected_eq}
 use Rattle.sub_laws.proofs.UnfinishedLemmas.{none_first_unfinished, first_unfinished_at}
 use Rattle.sub_laws.proofs.UnfinishedLemmas.{first_unfinished_end, first_unfinished_none}
 use Rattle.sub_laws.proofs.UnfinishedLemmas.{first_unfinished_some}
@@ -29,20 +30,20 @@ use Rattle.sub_laws.proofs.UnfinishedLemmas.{unfinished_at}
 -- The criteria that know the due page at each frame: the due pages, the TCI of the subtitle whose
 -- TCO is a frame, the first TCI and the last TCO.
 abbrev pub criteria_known : Criteria → (ℕ → Rows) → (ℕ → Option ℕ) → Option ℕ → Option ℕ → Criteria
-criteria_known g due ending first_in last_out =
+criteria_known g due ending first_tci last_tco =
     record g {
       due = due;
       ending = ending;
-      first_in = first_in;
-      last_out = last_out;
+      first_tci = first_tci;
+      last_tco = last_tco;
       any_refused = false;
       undecided = λ frame. false;
     }
 
 -- The two sets of criteria agree at each frame whose due page the first set knows.
 pub record HasSameCriteria (g : Criteria) (due : ℕ → Rows) (ending : ℕ → Option ℕ) : Type 0 where
-  pub due_is : (f : ℕ) → g.undecided f ≡ false → due f ≡ g.due f
-  pub ending_is : (f : ℕ) → g.undecided f ≡ false → ending (f + 1) ≡ g.ending (f + 1)
+  pub due_eq : (f : ℕ) → g.undecided f ≡ false → due f ≡ g.due f
+  pub ending_eq : (f : ℕ) → g.undecided f ≡ false → ending (f + 1) ≡ g.ending (f + 1)
 
 or_true : (b : Bool) → (b || true) ≡ true
 or_true b = grind (arith, nat_tests)
@@ -51,15 +52,15 @@ late_true : (first_unfinished within f : ℕ) → first_unfinished + within ≤ 
     (first_unfinished + within) f ≡ true
 late_true first_unfinished within f l = grind (arith, nat_tests)
 
-module _ (g : Criteria) (due : ℕ → Rows) (ending : ℕ → Option ℕ) (first_in last_out : Option ℕ)
-    (alike : HasSameCriteria g due ending) where
+module _ (g : Criteria) (due : ℕ → Rows) (ending : ℕ → Option ℕ) (first_tci last_tco : Option ℕ)
+    (same_criteria : HasSameCriteria g due ending) where
   abbrev h : Criteria
-  h = criteria_known g due ending first_in last_out
+  h = criteria_known g due ending first_tci last_tco
 
   pub same_unfinished : (t : Transmission) (n f : ℕ) → g.undecided f ≡ false
       → is_unfinished h t n f ≡ is_unfinished g t n f
   unfolding is_incomplete
-  same_unfinished t n f known = rw (known, alike.due_is f known) refl
+  same_unfinished t n f known = rw (known, same_criteria.due_eq f known) refl
 
   module _ (t : Transmission) (up : RiseTo t (length t)) where
     abbrev first : ℕ
@@ -71,17 +72,17 @@ module _ (g : Criteria) (due : ℕ → Rows) (ending : ℕ → Option ℕ) (firs
     abbrev un_known : ℕ → Bool
     un_known = unfinished_at h t up
 
-    same_un : (f : ℕ) → g.undecided f ≡ false → un_known f ≡ un f
-    same_un f known = rw (known, alike.due_is f known) refl
+    unfinished_end_same : (f : ℕ) → g.undecided f ≡ false → un_known f ≡ un f
+    unfinished_end_same f known = rw (known, same_criteria.due_eq f known) refl
 
-    more_un : (f : ℕ) → un f ≡ true → un_known f ≡ true
-    more_un f e = grind (arith, nat_tests, same_un, or_true)
+    unfinished_end_of_more : (f : ℕ) → un f ≡ true → un_known f ≡ true
+    unfinished_end_of_more f e = grind (arith, nat_tests, unfinished_end_same, or_true)
 
     -- The due page is known at the last `within` frames up to f, and at f.
-    abbrev pub IsKnownTo : ℕ → Type 0
-    IsKnownTo f = (e : ℕ) → first ≤ e → e ≤ f → f ≤ e + g.within → g.undecided e ≡ false
+    abbrev pub IsDueKnownUpTo : ℕ → Type 0
+    IsDueKnownUpTo f = (e : ℕ) → first ≤ e → e ≤ f → f ≤ e + g.within → g.undecided e ≡ false
 
-    overdue_same : (k f : ℕ) → f ≡ first + k → IsKnownTo f
+    overdue_same : (k f : ℕ) → f ≡ first + k → IsDueKnownUpTo f
         → (o p : Option ℕ) → first_unfinished_at un first k ≡ o → first_unfinished_at un_known first
         k ≡ p
         → is_overdue h first p f ≡ is_overdue g first o f
@@ -90,14 +91,14 @@ module _ (g : Criteria) (due : ℕ → Rows) (ending : ℕ → Option ℕ) (firs
         let own : g.undecided f ≡ false = known f (omega arith) (le_refl f) (omega arith) in
         let whole : un f ≡ false = ap un at ∙ first_unfinished_none un first k is in
         let none : un_known (first + k) ≡ false =
-        ap un_known (sym at) ∙ same_un f own ∙ whole in
+        ap un_known (sym at) ∙ unfinished_end_same f own ∙ whole in
         absurd (none-some r (sym (none_first_unfinished un_known first k none) ∙ so))
     overdue_same k f at known (Some r) None is so =
         let top = (first_unfinished_some un first k r is).high in
         let open_here = (first_unfinished_some un first k r is).all f (omega arith) (omega arith) in
         let none : un_known f ≡ false = ap un_known at ∙ first_unfinished_none un_known first k so
         in
-        absurd (true≢false (sym (more_un f open_here) ∙ none))
+        absurd (true≢false (sym (unfinished_end_of_more f open_here) ∙ none))
     overdue_same k f at known (Some s) (Some r) is so =
         let own : g.undecided f ≡ false = known f (omega arith) (le_refl f) (omega arith) in
         let one = first_unfinished_some un first k s is in
@@ -108,14 +109,15 @@ module _ (g : Criteria) (due : ℕ → Rows) (ending : ℕ → Option ℕ) (firs
         let top = other.high in
         elim (cases_eq r s) [
           | inl same ↦
-              rw (same, alike.ending_is f own) refl
+              rw (same, same_criteria.ending_eq f own) refl
           | inr differ ↦ elim (cases_lt s r) [
             | inl later ↦ elim other.begins [
               | inl start ↦ absurd (omega arith)
               | inr (after, whole) ↦
                   absurd
                   (true≢false
-                  (sym (more_un (r - 1) (one.all (r - 1) (omega arith) (omega arith))) ∙ whole))
+                  (sym (unfinished_end_of_more (r - 1) (one.all (r - 1) (omega arith)
+                  (omega arith))) ∙ whole))
             ]
             | inr not_later ↦
                 let long : s + g.within ≤ f =
@@ -129,7 +131,7 @@ module _ (g : Criteria) (due : ℕ → Rows) (ending : ℕ → Option ℕ) (firs
                         absurd
                         (true≢false
                         (sym (other.all (s - 1) (omega arith) (omega arith))
-                        ∙ same_un (s - 1) sure
+                        ∙ unfinished_end_same (s - 1) sure
                         ∙ whole))
                   ]
                 ] in
@@ -137,7 +139,7 @@ module _ (g : Criteria) (due : ℕ → Rows) (ending : ℕ → Option ℕ) (firs
           ]
         ]
 
-    late_same : (n f : ℕ) → IsEnd t n f → IsKnownTo f → is_late h t n f ≡ is_late g t n f
+    late_same : (n f : ℕ) → IsEnd t n f → IsDueKnownUpTo f → is_late h t n f ≡ is_late g t n f
     unfolding is_late
     late_same n f end known =
         let low = end_high t up n f end in
@@ -151,60 +153,61 @@ module _ (g : Criteria) (due : ℕ → Rows) (ending : ℕ → Option ℕ) (firs
         at)))
 
     module _ (n f : ℕ) (sure : undecided_within g t f ≡ false) where
-      known_to : IsKnownTo f
-      known_to e low high near = known_back g t n f first g.within sure e high near (inl low)
+      due_known_up_to : IsDueKnownUpTo f
+      due_known_up_to e low high near = due_known_before g t n f first g.within sure e high near
+          (inl low)
 
       here : g.undecided f ≡ false
-      here = known_at g t n f sure
+      here = due_known_at g t n f sure
 
-      wrong_too : wrong_cell g t n f ≡ None → wrong_cell h t n f ≡ None
-      wrong_too e =
+      wrong_in_other : wrong_cell g t n f ≡ None → wrong_cell h t n f ≡ None
+      wrong_in_other e =
           let none :
           wrong_after g.watched.keeps g.watched.page (packets_before t n) (g.due f) ≡ None =
           rw here at e in
-          rw (alike.due_is f here) none
+          rw (same_criteria.due_eq f here) none
 
-      shows_too : (row column : ℕ)
+      shows_in_other : (row column : ℕ)
           → MayShow g.watched.keeps g.watched.page (packets_before t n) g.due first f g.within row
           column
           → MayShow g.watched.keeps g.watched.page (packets_before t n) due first f g.within row
           column
-      shows_too row column (inl blank) = inl blank
-      shows_too row column (inr (e, from, high, low, same)) =
-          let known = known_back g t n f first g.within sure e high low from in
+      shows_in_other row column (inl blank) = inl blank
+      shows_in_other row column (inr (e, from, high, low, same)) =
+          let known = due_known_before g t n f first g.within sure e high low from in
           inr (
             e,
             from,
             high,
             low,
-            same ∙ sym (ap (λ (rows : Rows). cell rows row column) (alike.due_is e known)),
+            same ∙ sym (ap (λ (rows : Rows). cell rows row column) (same_criteria.due_eq e known)),
           )
 
-      unexpected_too : unexpected_cell g t n f ≡ None → unexpected_cell h t n f ≡ None
-      unexpected_too e =
-          unexpected_is h t n f (always_known first f g.within)
+      unexpected_in_other : unexpected_cell g t n f ≡ None → unexpected_cell h t n f ≡ None
+      unexpected_in_other e =
+          unexpected_eq h t n f (known_without_refusals first f g.within)
           ∙ none_unexpected g.watched.keeps g.watched.page (packets_before t n) due first f g.within
           (λ row column named.
-          shows_too row column
+          shows_in_other row column
           (unexpected_none g.watched.keeps g.watched.page (packets_before t n) g.due first f
           g.within
-          (sym (unexpected_is g t n f sure) ∙ e) row column named))
+          (sym (unexpected_eq g t n f sure) ∙ e) row column named))
 
-      content_too : (b : Bool) → is_late h t n f ≡ b → is_late g t n f ≡ b
+      content_in_other : (b : Bool) → is_late h t n f ≡ b → is_late g t n f ≡ b
           → broken_cell g t n f ≡ None
           → broken_cell h t n f ≡ None
-      content_too true so is e = rw so (wrong_too (rw is at e))
-      content_too false so is e = rw so (unexpected_too (rw is at e))
+      content_in_other true so is e = rw so (wrong_in_other (rw is at e))
+      content_in_other false so is e = rw so (unexpected_in_other (rw is at e))
 
       pub equal_fault_free : IsEnd t n f → IsFaultFree g t n f → IsFaultFree h t n f
       unfolding is_gap is_incomplete is_silent
       equal_fault_free end fault_free =
           let parts = (fault_free_parts g t n f).0 fault_free in
-          let late = late_same n f end known_to in
+          let late = late_same n f end due_known_up_to in
           (fault_free_parts h t n f).1 (
-            content_too (is_late g t n f) late refl parts.0,
+            content_in_other (is_late g t n f) late refl parts.0,
             parts.1,
             ap (λ (b : Bool). b && is_incomplete g t n) late ∙ parts.2,
             parts.3,
-            always_known first f g.within,
+            known_without_refusals first f g.within,
           )

@@ -19,11 +19,11 @@ pub record IsDueAmong (undecided : ℕ → Bool) (t : SubtitleValue) : Type 0 wh
 
 -- The list has the subtitles `judged`, in order, and among them others that are each due only at
 -- frames whose due page is unknown.
-abbrev pub HasOthers : (ℕ → Bool) → List SubtitleValue → List SubtitleValue → Type 0
-HasOthers undecided judged [] = judged ≡ []
-HasOthers undecided judged (t ∷ all) =
-    ((rest : List SubtitleValue) × (judged ≡ t ∷ rest) × HasOthers undecided rest all)
-    ⊎ (IsDueAmong undecided t × HasOthers undecided judged all)
+abbrev pub HasOtherSubtitles : (ℕ → Bool) → List SubtitleValue → List SubtitleValue → Type 0
+HasOtherSubtitles undecided judged [] = judged ≡ []
+HasOtherSubtitles undecided judged (t ∷ all) =
+    ((rest : List SubtitleValue) × (judged ≡ t ∷ rest) × HasOtherSubtitles undecided rest all)
+    ⊎ (IsDueAmong undecided t × HasOtherSubtitles undecided judged all)
 
 -- The page is right at the end of frame b.
 abbrev pub IsCorrectAt : Criteria → List PesPacket → ℕ → Type 0
@@ -44,12 +44,12 @@ AreTrusted g pes_packets from to =
 -- event, for a file with any other subtitles in place of the refused ones, if these are due only at
 -- frames whose due page was unknown; or nothing at all is reported. If the page may be late, this
 -- holds up to each frame at whose end the page is right.
-abbrev pub LawOfTrustedAlike : Type 0
-LawOfTrustedAlike =
+abbrev pub LawOfEqualTrust : Type 0
+LawOfEqualTrust =
     (programme : ProgrammeValue) (options : OptionsValue) (unread : Option Unread)
     → (any_refused : Bool) (undecided : ℕ → Bool) (records : List SubtitleValue)
     → (pes_packets : List PesPacket) (from to b : ℕ)
-    → HasOthers undecided programme.records records
+    → HasOtherSubtitles undecided programme.records records
     → Contains (all_of_pes_packets (criteria_unsure programme options unread any_refused undecided)
     pes_packets)
     (Trusted from to)

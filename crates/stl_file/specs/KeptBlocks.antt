@@ -25,12 +25,12 @@ within_after scope within b =
 
 -- The blocks of a file without those of subtitles outside the scope. Comments and user data are
 -- kept.
-abbrev pub taken_out : Scope → Option Bool → List (List ℕ) → List (List ℕ)
-taken_out scope within [] = []
-taken_out scope within (b ∷ bs) =
-    if is_skipped_block b then b ∷ taken_out scope within bs
-    else if stays scope within b then b ∷ taken_out scope (within_after scope within b) bs
-    else taken_out scope (within_after scope within b) bs
+abbrev pub kept_blocks : Scope → Option Bool → List (List ℕ) → List (List ℕ)
+kept_blocks scope within [] = []
+kept_blocks scope within (b ∷ bs) =
+    if is_skipped_block b then b ∷ kept_blocks scope within bs
+    else if stays scope within b then b ∷ kept_blocks scope (within_after scope within b) bs
+    else kept_blocks scope (within_after scope within b) bs
 
 -- The scope of all subtitles of the day, for the same displays.
 abbrev pub all_day : Scope → Scope
@@ -61,7 +61,7 @@ LawOfScope =
     → AllByRecursion IsBlock blocks
     → is_read_to_the_end (findings_for scope (gsi ++ concat blocks)) ≡ true
     → unnumbered (findings_for scope (gsi ++ concat blocks))
-    ≡ unnumbered (findings_for (all_day scope) (gsi ++ concat (taken_out scope None blocks)))
+    ≡ unnumbered (findings_for (all_day scope) (gsi ++ concat (kept_blocks scope None blocks)))
 
 -- No subtitle is outside the scope of the whole day.
 abbrev pub LawOfWholeDay : Type 0

@@ -2,7 +2,7 @@
 -- subtitle before it: last_edge-tci, last_edge-gap.
 use Rattle.std.proofs.Common.{arith, rules}
 use Rattle.stl_rows.proofs.DuePageLemmas.{last_edge-gap, last_edge-tci, starts_after}
-use Rattle.stl_rows.proofs.programme.edge_until.Goals as goal
+use Rattle.stl_rows.proofs.programme.cue_until.Goals as goal
 
 pub returns-then-at-len : goal.returns-then-at-len
 returns-then-at-len c =

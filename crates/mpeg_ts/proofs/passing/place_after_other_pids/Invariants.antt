@@ -1,8 +1,8 @@
--- In each iteration of `place_after_others`, all packets so far have other PIDs.
+-- In each iteration of `place_after_other_pids`, all packets so far have other PIDs.
 use Rattle.std.proofs.Common.{◌≡◌, ◌≤◌, ◌-◌, List, [], ◌++◌, ℕ, drop, length, take, true, false}
 use Rattle.mpeg_ts.specs.Joining.{JoiningValue, has_ended}
 use Rattle.mpeg_ts.specs.Stream.{stream_output}
-use Rattle.mpeg_ts.proofs.passing.place_after_others.Given as goal
+use Rattle.mpeg_ts.proofs.passing.place_after_other_pids.Given as goal
 
 abbrev pub invariant-loop-at : goal.invariant-loop-at
 invariant-loop-at l = record {

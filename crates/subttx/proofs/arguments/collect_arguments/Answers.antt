@@ -1,7 +1,7 @@
 -- Collecting the arguments from the system yields all of them; by collected.
 use Rattle.std.proofs.Common.{Ok, ap, map, string_bytes}
-use Rattle.subttx.proofs.WordsLemmas.{collected}
-use Rattle.subttx.proofs.arguments.words_of.Goals as goal
+use Rattle.subttx.proofs.ArgumentTextLemmas.{collected}
+use Rattle.subttx.proofs.arguments.collect_arguments.Goals as goal
 
 pub returns-in-Ok-collect-clause-arguments : goal.returns-in-Ok-collect-clause-arguments
 returns-in-Ok-collect-clause-arguments c =

@@ -5,7 +5,7 @@ use Rattle.mpeg_ts.specs.PacketsInStep.{bytes_needed}
 use Rattle.mpeg_ts.specs.Stream.{StreamValue}
 use Rattle.mpeg_ts.specs.contracts.stream.Stream.{the_view}
 use Rattle.mpeg_ts.proofs.StreamLemmas.{cut_gives, given_takes, need_requests, needs_packet}
-use Rattle.mpeg_ts.proofs.stream.Stream.need.Goals as goal
+use Rattle.mpeg_ts.proofs.stream.Stream.read_needed.Goals as goal
 
 pub returns-clause-packet : goal.returns-clause-packet
 returns-clause-packet g c = λ ok.
