@@ -113,7 +113,7 @@ placed_faults items off (line ∷ lines) =
 
 -- ---- the page of a subtitle
 
--- The line is not empty, and the row after subtracting the shift `off` is `row`.
+-- The line is not empty, and its row on the page, after subtracting the shift `off`, is `row`.
 abbrev pub is_on_row : ℕ → ℕ → PlacedLine → Bool
 is_on_row off row line = has_cells line.cells && (line.depth == off + row)
 

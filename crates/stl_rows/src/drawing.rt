@@ -21,7 +21,6 @@ use arrayvec::ArrayVec;
 use stl_file::{Scope, Subtitle};
 use ttx_page::Page;
 
-// Appends a cell to a line that has room for it.
 #[inline(always)]
 fn push_cell(cells: &mut ArrayVec<u8, 40>, cell: u8)
     requires { length cells.old.items < 40 }

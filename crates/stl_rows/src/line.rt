@@ -15,7 +15,6 @@ fn append(line: &mut ArrayVec<u8, 40>, cells: &[u8])
     prove!(added.is_ok());
 }
 
-// Returns whether a line of cells contains a start box.
 #[tactic(auto, unfolding(crate::specs::Line::is_boxed))]
 fn has_start_box(line: &[u8]) -> bool
     ensures { result ≡ is_boxed line.now }

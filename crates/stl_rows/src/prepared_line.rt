@@ -16,7 +16,6 @@ use arrayvec::ArrayVec;
 /// The cells of a prepared line: at most 1008 cells of a text, and the codes that a layout adds.
 pub(crate) type LineCells = ArrayVec<u8, 1025>;
 
-// Returns whether a code is in the range from `first` to `last`.
 fn is_within(first: u8, last: u8, code: u8) -> bool
     ensures { result ≡ is_within first last code }
 {
@@ -53,7 +52,6 @@ fn trailing(first: u8, last: u8, cells: &[u8]) -> usize
     cells.len()
 }
 
-// Returns the line without spaces at both ends.
 #[tactic(auto, unfolding(crate::specs::PreparedLine::trimmed))]
 fn trimmed(cells: &[u8]) -> &[u8]
     ensures value { result.now ≡ trimmed cells.now }
@@ -78,7 +76,6 @@ fn has_colour(cells: &[u8]) -> bool
     cells.iter().any(|c| is_within(0x01, 0x07, *c))
 }
 
-// Appends cells to a prepared line.
 fn push_cells(line: &mut LineCells, cells: &[u8])
     requires { length line.old.items + length cells.now ≤ 1025 }
     ensures value { line.new.items ≡ line.old.items ++ cells.now }

@@ -45,7 +45,6 @@ impl OpenLine {
         }
     }
 
-    // Adds a cell to the line.
     fn push(&mut self, cell: u8)
         requires { self.old.len < 1008 }
         ensures { self.new ≡ with_cell self.old cell }

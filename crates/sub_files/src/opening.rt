@@ -76,7 +76,6 @@ pub fn open<D: FileSystem>(
     }
 }
 
-// Opens a subtitle file and a file of PES packets.
 fn open_both<D: FileSystem>(
     files: &mut D,
     stl: &StlInput<'_>,
@@ -95,7 +94,6 @@ fn open_both<D: FileSystem>(
     }
 }
 
-// Opens a subtitle file, and creates the output.
 fn open_and_create<D: FileSystem>(
     files: &mut D,
     stl: &StlInput<'_>,
@@ -115,7 +113,6 @@ fn open_and_create<D: FileSystem>(
     }
 }
 
-// Opens a recording, and creates the output.
 fn open_and_extract<D: FileSystem>(
     files: &mut D,
     recording: &PesInput<'_>,

@@ -198,7 +198,6 @@ fn push_skipped<const N: usize>(line: &mut ArrayVec<u8, N>, fault: CheckFault, f
     push_text(line, b"\n");
 }
 
-// Appends the line of trusted frames.
 fn push_trusted<const N: usize>(line: &mut ArrayVec<u8, N>, from: u32, to: u32)
     requires { array_vec_len line.old + LINE_CAPACITY ≤ N }
     ensures { line.new.items ≡ line.old.items ++ trusted_line from to }
@@ -210,7 +209,6 @@ fn push_trusted<const N: usize>(line: &mut ArrayVec<u8, N>, from: u32, to: u32)
     push_text(line, b"\n");
 }
 
-// Appends the number and the name of a fault to a line.
 fn push_code<const N: usize>(line: &mut ArrayVec<u8, N>, code: &FaultCode)
     requires { array_vec_len line.old + CODE_CAPACITY ≤ N }
     ensures items { line.new.items ≡ line.old.items ++ code_text code.now }

@@ -77,7 +77,6 @@ pub fn show_packet<K: Sink>(bytes: &[u8; 42], out: &mut K) -> Status
     }
 }
 
-// Appends the output for a Teletext packet.
 fn push_packet(text: &mut Text, packet: &Packet) -> Result<(), PacketFault>
     requires { text.old.items ≡ [] }
     ensures ok { OnOk result (packet_listing packet.now ≡ done text.new.items) }

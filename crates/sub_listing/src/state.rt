@@ -116,7 +116,6 @@ fn push_row(rows: &mut Rows, row: u8, cells: &[u8; 40])
     push_text(rows, b"|\n");
 }
 
-// Returns whether all cells of a row are spaces.
 fn is_blank(cells: &[u8; 40]) -> bool
     ensures { result ≡ list_all (λ c. c == space) cells.now }
 {

@@ -84,7 +84,6 @@ impl PageSending {
     }
 }
 
-// Returns whether a row has only spaces.
 fn is_blank(codes: &[u8; 40]) -> bool
     ensures { IsTrue result ↔ (codes.now ≡ replicate 40 space) }
 {
@@ -110,7 +109,6 @@ fn watched_control(serial: bool, bits: NationalBits) -> Control
     control
 }
 
-// Returns the header of the subtitle page.
 fn watched_header(watched: PageId, national: National, serial: bool) -> Header
     ensures value { result ≡ watched_header watched national serial }
     ensures subcode { result.subcode ≡ 0 }

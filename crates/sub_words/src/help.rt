@@ -33,14 +33,12 @@ fn is_help_of(first: &str, second: &str) -> bool
     }
 }
 
-// Returns whether a word is `help`, `--help` or `-h`.
 fn is_help_word(word: &str) -> bool
     ensures { result ≡ specs.is_help_word word.now }
 {
     word == "help" || is_help_flag(word)
 }
 
-// Returns whether a word is `--help` or `-h`.
 fn is_help_flag(word: &str) -> bool
     ensures { result ≡ specs.is_help_flag word.now }
 {

@@ -21,7 +21,6 @@ pub fn parse_number(text: &str) -> Option<u64>
     text.parse().ok()
 }
 
-// Returns whether all bytes of a text are decimal digits.
 fn are_digits(bytes: &[u8]) -> bool
     ensures { result ≡ list_all is_ascii_digit bytes.now }
 {

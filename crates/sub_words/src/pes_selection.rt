@@ -44,7 +44,6 @@ fn parse_hex_digits(text: &str) -> Option<u64>
     u64::from_str_radix(text, 16).ok()
 }
 
-// Returns whether all bytes of a text are hexadecimal digits.
 fn are_hex_digits(bytes: &[u8]) -> bool
     ensures { result ≡ list_all is_ascii_hexdigit bytes.now }
 {

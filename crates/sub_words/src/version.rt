@@ -15,7 +15,6 @@ pub fn requests_version(arguments: &[&str]) -> bool
     }
 }
 
-// Returns whether a word is `--version` or `-V`.
 fn is_version_word(word: &str) -> bool
     ensures { result ≡ specs.is_version_word word.now }
 {
