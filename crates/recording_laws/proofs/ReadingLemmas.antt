@@ -378,8 +378,8 @@ module _ (frame_of : List ℕ → ℕ) (pace : ℕ) where
             unmarked paced here.4 apart.0 apart.1)
       ]
 
-  -- The PES packets sent contain `run` and then a PES packet that begins like `last`, one after
-  -- another.
+  -- The PES packets sent contain the PES packets `run`, directly followed by a PES packet that
+  -- begins like `last`.
   pub record WasSent (sent : List (SentPes Fated)) (run : List (List ℕ)) (last : List ℕ)
       : Type 0 where
     pub earlier : List (List ℕ)

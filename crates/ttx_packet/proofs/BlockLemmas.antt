@@ -46,7 +46,7 @@ pub below_in_chunk : (b a n : ℕ) (xs : List ℕ)
 below_in_chunk b a n xs room below k =
     let here = below (a + k) in grind (arith, nat_tests, get_or-chunk, get_or_past, length-chunk)
 
--- The first `to` of the n elements of `out` are f of the elements of `xs` at the same places.
+-- The list `out` has n elements, and its first `to` elements are f applied to those of `xs`.
 pub record IsMappedPrefix (f : ℕ → ℕ) (xs : List ℕ) (n to : ℕ) (out : List ℕ) : Type 0 where
   pub size : length out ≡ n
   pub done : take to out ≡ map f (take to xs)
@@ -90,7 +90,7 @@ pub none_so_far : {X : Type 0} (p : X → Bool) (xs : List X) (a m : ℕ) (d : X
 none_so_far p xs a m d room e zeroes before k l =
     grind (arith, nat_tests, none_from_empty_mask p xs a 16 d room (sym e ∙ zeroes) k)
 
--- The item at `place` passes the test, and no item before it does.
+-- The item at `place` is the first item of the list that passes the test.
 pub record IsFirst {X : Type 0} (p : X → Bool) (xs : List X) (place : ℕ) (d : X) : Type 0 where
   pub passes : p (get_or xs place d) ≡ true
   pub before : (k : ℕ) → k < place → p (get_or xs k d) ≡ false

@@ -32,8 +32,9 @@ module _ {A : Type 0} (kind_of : A → PacketKind) where
   before-push [] x = refl
   before-push (y ∷ ys) x = let rest = before-push ys x in grind (arith, nat_tests)
 
-  -- The span is empty after a header of the page. Any other item is added to the span if the page
-  -- is open and the item does not end it.
+  -- How a packet that is appended to a list changes the span: after a header of the page the span
+  -- is empty; any other packet is added to the span if the page is open and the packet does not end
+  -- it.
   pub span-push : (xs : List A) (x : A)
       → span kind_of (xs ++ x ∷ [])
       ≡ cond (is_this_page (kind_of x)) []

@@ -86,9 +86,9 @@ module _ {A : Type 0} (kind_of : A → PacketKind) where
         let opened = from-open xs in
         grind (arith, nat_tests)
 
-    -- The long span is empty after a header that starts a new text. Any other item is added to the
-    -- long span if the page is open and the item is no header of the page and does not end the
-    -- page.
+    -- How a packet that is appended to a list changes the long span: after a header that starts a
+    -- new text the long span is empty; any other packet is added if the page is open and the packet
+    -- is no header of the page and does not end it.
     pub text_span-push : (xs : List A) (x : A)
         → text_span keeps kind_of (xs ++ x ∷ [])
         ≡ cond (begins_text keeps (kind_of x)) []
@@ -202,7 +202,7 @@ module _ {A : Type 0} (kind_of : A → PacketKind) where
         let both = list_any-append (λ y. begins_text keeps (kind_of y)) xs ys in
         grind (arith, nat_tests)
 
-    -- Packets before a list leave its long span as it is, except for packets added at its front.
+    -- If packets are put before a list, its long span changes only by packets added at its front.
     pub text_span-later : (xs ys : List A)
         → (more : List A)
         × (text_span keeps kind_of (xs ++ ys) ≡ more ++ text_span keeps kind_of ys)

@@ -21,7 +21,7 @@ until_then : (answer : Result (Option PesValue) PesFault) (more : PesPacketsValu
     ≡ answer_then answer (until_refused more.pes_packets more.left)
 until_then answer more = grind (arith, nat_tests)
 
--- After a valid packet, the two definitions of the bytes after the packet at the front agree.
+-- After a valid PES packet, its length field and the parser determine the same remaining bytes.
 same_rest : (given : ℕ) (bytes : List ℕ) (answer : Result (Option PesValue) PesFault)
     → answer_at given bytes ≡ answer
     → answer_then answer (outcome_after (given + 1) (rest_after_pes_packet bytes))

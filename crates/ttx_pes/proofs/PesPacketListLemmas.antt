@@ -80,8 +80,7 @@ size_eq : (b : List ℕ) (size : ℕ)
 unfolding size_at
 size_eq b size long e = grind (arith, nat_tests, get_or-take)
 
--- A PES packet of this size is at the front of the bytes, and can be read or has a fault of a
--- complete packet.
+-- The bytes begin with a PES packet of this size, which is valid or has a fault in its contents.
 record HasPacketInFront (b : List ℕ) (size : ℕ) : Type 0 where
   pub reported : stated_size b ≡ size
   pub six : 6 ≤ length b
@@ -362,7 +361,7 @@ after_read b p e = elim (cases_lt (length b) 6) [
   ]
 ]
 
--- After a valid packet, the two definitions of the bytes after the packet at the front agree.
+-- After a valid PES packet, its length field and the parser determine the same remaining bytes.
 pub rest_after_packet : (given : ℕ) (bytes : List ℕ) (v : PesValue)
     → answer_at given bytes ≡ Ok (Some v)
     → rest_after bytes ≡ rest_after_pes_packet bytes

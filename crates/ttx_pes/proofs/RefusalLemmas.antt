@@ -122,8 +122,8 @@ blank n i = get_or (blank_header n) i (get_or (0x10 ∷ 0x2C ∷ []) ((i - 46) %
 blank_unit : (n k i : ℕ) → i < 4 → blank n (unit_place k i) ≡ get_or (0x10 ∷ 0x2C ∷ []) i 0
 blank_unit n k i lt = grind (arith, nat_tests, unit_place, get_or_past)
 
--- The bytes that concern earlier checks than q are those of b, and all others are those of a blank
--- packet.
+-- A list of bytes that has the bytes of b for all checks before number q, and otherwise those of a
+-- blank packet.
 abbrev mixed : ℕ → ℕ → List ℕ → ℕ → ℕ
 mixed n q b i = cond (ltb (check_of_byte i) q) (get_or b i 0) (blank n i) % 256
 
