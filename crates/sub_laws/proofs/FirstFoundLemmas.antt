@@ -93,10 +93,10 @@ module _ {X : Type 0} (lookup : Event → Option X) (At : X → Type 0) (frame k
 
     pub packet_found : (w : Watched) (before : List (List ℕ)) (p : List ℕ)
         → Finds lookup At
-        ((r : PacketRule) → breaks r w before p ≡ true → lookup (Reported (packet_fault r frame k)) ≡
-        None)
-        ((r : PacketRule) → breaks r w before p ≡ true → lookup (Reported (packet_fault r frame k)) ≡
-        None)
+        ((r : PacketRule) → breaks r w before p ≡ true
+            → lookup (Reported (packet_fault r frame k)) ≡ None)
+        ((r : PacketRule) → breaks r w before p ≡ true
+            → lookup (Reported (packet_fault r frame k)) ≡ None)
         (rules_reported w frame k before p)
     unfolding rules_reported broken_rules
     packet_found w before p =
