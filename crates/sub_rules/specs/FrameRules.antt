@@ -30,7 +30,7 @@ pub data Unread : Type 0 where
 --   pace         maximum distance of PES packets in frames, if it is limited
 --   due          the due page at each frame
 --   ending       the TCI of the subtitle with a given TCO
---   first_tci     the first TCI
+--   first_tci    the first TCI
 --   last_tco     the last TCO
 --   any_refused  subtitles of the file were rejected
 --   undecided    the frames at which the due page is unknown because of rejected subtitles
