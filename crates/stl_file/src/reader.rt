@@ -76,7 +76,7 @@ impl StlReader {
         // No subtitle file begins with the rejected bytes.
         ensures refused { IfErr result (λ fault. is_format fault ≡ true →
             RefusesOpening (S.remaining source.old) (S.remaining source.new) fault) }
-        // If the source failed, then within the GSI block.
+        // If the source failed, it failed within the GSI block.
         ensures failed { failed is_file_read result ≡ true →
             (bytes : List ℕ) × (length bytes < 1024)
             × Consumes (S.remaining source.old) (S.remaining source.new) bytes }
@@ -154,7 +154,7 @@ impl StlReader {
         ensures refused { self.old.progress ≡ Reading → IfErr result (λ fault.
             is_format fault ≡ true → Refuses self.old.block self.new.block
             (S.remaining source.old) (S.remaining source.new) fault) }
-        // If the source failed, then at the block with the number `self.new.block`.
+        // If the source failed, it failed at the block with the number `self.new.block`.
         ensures failed { self.old.progress ≡ Reading → failed is_file_read result ≡ true →
             FailsReading whole self.old.block self.new.block None
             (S.remaining source.old) (S.remaining source.new) }
@@ -205,7 +205,7 @@ impl StlReader {
 
         // If the result is `true`, the bytes consumed are the blocks of the subtitle; if `false`,
         // only skipped blocks. No file has the rejected bytes at this position. If the source
-        // failed, then at the block `self.new.block`.
+        // failed, it failed at the block `self.new.block`.
         ensures taken { self.old.progress ≡ Reading → TakesByAnswer self.old.block self.new.block
             (S.remaining source.old) (S.remaining source.new)
             (yielded_subtitle result subtitle.new) }

@@ -89,7 +89,7 @@ impl ResumingReader {
         // No subtitle file begins with the rejected bytes.
         ensures refused { IfErr result (λ fault. is_format fault ≡ true →
             RefusesOpeningFor scope (S.remaining source.old) (S.remaining source.new) fault) }
-        // If the source failed, then within the GSI block.
+        // If the source failed, it failed within the GSI block.
         ensures failed { failed is_file_read result ≡ true →
             (bytes : List ℕ) × (length bytes < 1024)
             × Consumes (S.remaining source.old) (S.remaining source.new) bytes }
@@ -142,7 +142,7 @@ impl ResumingReader {
         ensures leads { failed is_file_read result ≡ false →
             LeadsOn self.old.scope self.old.block self.new.block self.old.refused self.new.refused
             (S.remaining source.old) (S.remaining source.new) subtitle.new result }
-        // If the source failed, then at the block with the number `self.new.block`.
+        // If the source failed, it failed at the block with the number `self.new.block`.
         ensures failed { failed is_file_read result ≡ true →
             FailsReading self.old.scope self.old.block self.new.block self.old.refused
             (S.remaining source.old) (S.remaining source.new) }

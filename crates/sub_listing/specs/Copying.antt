@@ -41,8 +41,8 @@ pub record HasCopied
   pub left_eq : left ≡ Some (drop read bytes)
   pub written : Appends old new (take read bytes)
 
--- What one step copied of the bytes, by its result. At the end: nothing was left. For a PES packet:
--- the whole packet was copied.
+-- The bytes that one step of copying wrote, by its result. At the end: nothing was left. For a PES
+-- packet: the whole packet was written. For a failed file: a prefix was written.
 abbrev pub CopiesNext :
     List ℕ → Option (List ℕ) → Option (List ℕ) → Option (List ℕ) → Result (Received Bool) CopyFault
     → Type 0
@@ -56,7 +56,7 @@ CopiesNext bytes left old new (Ok (Rest f)) =
 CopiesNext bytes left old new (Err fault.Read) = Keeps old new
 CopiesNext bytes left old new (Err fault.Write) = AppendsPrefix old new bytes
 
--- What was copied of the bytes that begin no PES packet, by the result: all bytes, unless there are
+-- The bytes copied of a rest that begins no PES packet, by the result: all bytes, unless there are
 -- too many; or a prefix, if a device failed.
 abbrev pub CopiesRest :
     List ℕ → Option (List ℕ) → Option (List ℕ) → Result (Unit {0}) CopyFault → Type 0

@@ -27,14 +27,14 @@ abbrev pub trusted_line : ℕ → ℕ → List ℕ
 trusted_line from to =
     codes "trusted frames " ++ clock_text from ++ codes " " ++ clock_text to ++ codes "\n"
 
--- The line of an event.
+-- The line that `check --all` prints for an event.
 abbrev pub event_line : ℕ → Event → List ℕ
 event_line first (Reported f) = line_of (counted_from first (check_line f))
 event_line first (Ended rule frame) = ended_line rule frame
 event_line first (SkippedUntil f) = skipped_line first f
 event_line first (Trusted from to) = trusted_line from to
 
--- The lines of all events in the list.
+-- The lines that `check --all` prints for a list of events.
 abbrev pub event_lines : ℕ → List Event → List ℕ
 event_lines first [] = []
 event_lines first (e ∷ events) = event_line first e ++ event_lines first events

@@ -10,13 +10,13 @@ use crate::end_rule::EndRule;
 pub struct ActiveFaults {
     /// The row, 1 to 24, and the column, 0 to 39, of the first wrong cell, if there is one.
     pub content: Option<(u8, u8)>,
-    /// Whether the last header of the page is too long ago.
+    /// Whether the page has had no header for as many frames as the repeat bound.
     pub gap: bool,
     /// Whether complete pages are required, and the page is open.
     pub incomplete: bool,
     /// Whether the due page is unknown, since a subtitle was rejected.
     pub undecided: bool,
-    /// Whether the last PES packet is too long ago.
+    /// Whether no PES packet has come for as many frames as the pace.
     pub silent: bool,
 }
 

@@ -9,14 +9,14 @@ use sub_io::FaultCode;
 pub enum EndRule {
     /// At the end of the frame, the page that is shown is the due page.
     Content,
-    /// At the end of the frame, the last header of the page is not too long ago.
+    /// At the end of the frame, the page has had a header within the repeat bound.
     Gap,
     /// At the end of the frame, the page is not open, if complete pages are required.
     Incomplete,
     /// At the end of the frame, the due page is known: no rejected subtitle may be due.
     Undecided,
-    /// At the end of the frame, the last PES packet is not too long ago, if a maximum distance of
-    /// PES packets is required.
+    /// At the end of the frame, a PES packet has come within the maximum distance, if one is
+    /// required.
     Silent,
 }
 
