@@ -39,13 +39,14 @@ LawOfNeighbours =
     → AllByRecursion (λ p. p ≡ gap_marker → ⊥) run
     → (earlier later : List (List ℕ)) × (sent_pes_packets m ≡ earlier ++ (run ++ later))
 
--- The law of pace, for any number of lost packets. Assumption: two PES packets are more than `pace`
--- frames apart if their first transport packets are 16 or more packets of the PID apart. If carried
--- PES packets are never further apart than `pace` frames, and no gap marker is among them, they
--- were sent one after another, each as it is carried, and none between them is missing. For the
--- last of them this is true only up to its PTS, since nothing after it shows whether bytes of
--- another PES packet follow its first transport packet. `frame_of` may be any function of the bytes
--- up to a PTS. So a loss after which the counters happen to continue cannot go unnoticed.
+-- The law of pace, for any number of lost packets. Assumptions: the first transport packet of each
+-- PES packet contains its PTS, and two PES packets are more than `pace` frames apart if their first
+-- transport packets are 16 or more packets with payload of the PID apart. If carried PES packets
+-- are never further apart than `pace` frames, and no gap marker is among them, they were sent one
+-- after another, each as it is carried, and none between them is missing. For the last of them this
+-- is true only up to its PTS, since nothing after it shows whether bytes of another PES packet
+-- follow its first transport packet. `frame_of` may be any function of the bytes up to a PTS. So a
+-- loss after which the counters happen to continue cannot go unnoticed.
 abbrev pub LawOfPace : Type 0
 LawOfPace =
     (number distance pace : ℕ) (frame_of : List ℕ → ℕ) (m : Multiplex Fated) (recording : List ℕ)

@@ -31,12 +31,13 @@ pub record WereSent (sent packets : List (List ℕ)) : Type 0 where
   pub sent_bytes_eq : sent ≡ earlier ++ (run ++ (next ∷ later))
   pub last_is : up_to_pts next ≡ up_to_pts last
 
--- The law of `check` with `--pace`. Assumption: two PES packets are more than `pace` frames apart
--- by the clock of the options if their first transport packets are 16 or more packets of the PID
--- apart. If what a recording carries, or a run of its PES packets, is a transmission that is good
--- by options with that maximum distance, these PES packets were sent one after another, however
--- many transport packets were lost. `check` with `--pace` accepts only such transmissions. So if it
--- accepts a recording, no loss of any length went unnoticed.
+-- The law of `check` with `--pace`. Assumptions: the first transport packet of each PES packet
+-- contains its PTS, and two PES packets are more than `pace` frames apart by the clock of the
+-- options if their first transport packets are 16 or more packets with payload of the PID apart. If
+-- what a recording carries, or a run of its PES packets, is a transmission that is good by options
+-- with that maximum distance, these PES packets were sent one after another, however many transport
+-- packets were lost. `check` with `--pace` accepts only such transmissions. So if it accepts a
+-- recording, no loss of any length went unnoticed.
 abbrev pub LawOfPacedCheck : Type 0
 LawOfPacedCheck =
     (number distance pace : ℕ) (m : Multiplex Fated) (recording : List ℕ)

@@ -27,8 +27,9 @@ pub fn law_of_neighbours()
 {}
 
 /// Assume that the multiplexer sends PES packets more than `pace` frames apart if they begin 16 or
-/// more transport packets apart. If PES packets are read at most `pace` frames apart, without a gap
-/// marker among them, they were sent one after another, however many packets were lost.
+/// more transport packets with payload apart. If PES packets are read at most `pace` frames apart,
+/// without a gap marker among them, they were sent one after another, however many packets were
+/// lost.
 pub fn law_of_pace()
     ensures { LawOfPace }
 {}

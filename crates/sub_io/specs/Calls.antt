@@ -95,8 +95,8 @@ pub record ReadsAhead
   -- source.
   pub straight : old.buffered ≡ [] → old.room ≤ borrowed → IsPull old.device borrowed answer
       new.device
-  -- If no bytes are buffered, a pull shorter than the buffer makes the inner source fill the whole
-  -- buffer.
+  -- If no bytes are buffered, a pull shorter than the buffer requests as many bytes as the buffer
+  -- holds from the inner source, once.
   pub ahead :
       old.buffered ≡ []
       → borrowed < old.room

@@ -109,8 +109,10 @@ pub record SendsText
   pub odd : All (IsOddRow w) (text_span keeps (kind w) sent)
   pub codes : All (HasCodes w text) (text_span keeps (kind w) sent)
 
--- The packet may follow the packets before it: if it is a row that is sent while the page is open,
--- its bytes are odd, and it has the codes of the first packet of its row in the long span.
+-- The packet may follow the packets before it: its address and header are code words; if repeats
+-- must not keep earlier text, a header of the page erases the page; and a row that is sent while
+-- the page is open has bytes of odd parity, and the codes of the first packet of its row in the
+-- long span.
 pub record MayFollow
     (keeps : Bool) (w : PageIdValue) (before : List (List ℕ)) (packet : List ℕ)
     : Type 0 where

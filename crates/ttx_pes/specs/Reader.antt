@@ -21,7 +21,7 @@ progress_after p (Err _) = Broken
 progress_after (Reading given) (Ok (Some _)) = Reading (given + 1)
 progress_after p (Ok _) = AtEnd
 
--- The reader has read at most `most` PES packets.
+-- The reader has read at most `most` PES packets, unless it is at the end or has reported a fault.
 abbrev pub GivesAtMost : ℕ → Progress → Type 0
 GivesAtMost most (Reading given) = given ≤ most
 GivesAtMost most AtEnd = Unit {0}
