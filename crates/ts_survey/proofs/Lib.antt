@@ -1,5 +1,6 @@
 pub mod RequestedLemmas
 pub mod CountedLemmas
+pub mod FilePesPacketsLemmas
 pub mod FirstLinesLemmas
 pub mod FollowingLemmas
 pub mod InStepLemmas

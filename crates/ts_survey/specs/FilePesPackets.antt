@@ -1,9 +1,30 @@
 -- The PES packets of a file: each is as long as its PES_packet_length says (ISO/IEC 13818-1,
 -- PES_packet), followed by what comes after the last complete one (own; docs/manual/survey.md).
-use Rattle.std.specs.Prelude.{ℕ, ◌&&◌, not, nat_le, Bool}
-use Rattle.std.specs.Prelude.{List, length}
-use Rattle.ttx_pes.specs.Reading.{is_start}
+use Rattle.std.specs.Prelude.{◌≡◌, ℕ, ◌&&◌, ◌||◌, not, nat_le, nat_lt, Bool, if◌then◌else◌}
+use Rattle.std.specs.Prelude.{List, length, drop, Option, Some, None}
+use Rattle.ttx_pes.specs.Reading.{is_start, stated_size}
+use Rattle.ts_survey.specs.InStep.{counted_on}
 
 -- The bytes have another start code.
 abbrev pub has_other_start_code : List ℕ → Bool
 has_other_start_code bytes = nat_le 6 (length bytes) && not (is_start bytes)
+
+-- The size of the complete PES packet with which the bytes begin, if they do.
+unfoldable pub complete_size : List ℕ → Option ℕ
+complete_size bytes =
+    if nat_lt (length bytes) 6 || not (is_start bytes)
+    || nat_lt (length bytes) (stated_size bytes) then None
+    else Some (stated_size bytes)
+
+-- The complete PES packets with which the bytes begin were counted, in order, each once. The rest
+-- of the bytes begins with none.
+pub data CountsPesPackets : ℕ → List ℕ → List ℕ → ℕ → Type 0 where
+  counts_none :
+      (count : ℕ) (rest : List ℕ)
+      → complete_size rest ≡ None
+      → CountsPesPackets count rest rest count
+  counts_next :
+      (old new size : ℕ) (bytes rest : List ℕ)
+      → complete_size bytes ≡ Some size
+      → CountsPesPackets (counted_on old 1) (drop size bytes) rest new
+      → CountsPesPackets old bytes rest new

@@ -3,6 +3,8 @@ ghost use Rattle.std.specs.Prelude.{◌≡◌, ◌≤◌, ◌<◌, ◌+◌, IfNo
 ghost use Rattle.std.specs.Prelude.{length};
 ghost use Rattle.ttx_pes.specs.Reading as reading;
 ghost use Rattle.ts_survey.specs.FilePesPackets as pes_packets;
+ghost use Rattle.ts_survey.specs.FilePesPackets.{CountsPesPackets};
+ghost use Rattle.ts_survey.specs.InStep.{counted_on};
 ghost use Rattle.ts_survey.specs.ReadBuffer.{most_retained_bytes};
 
 use crate::pes_lines::PesLines;
@@ -34,7 +36,9 @@ fn has_other_start_code(bytes: &[u8]) -> bool
 }
 
 // Returns the size of the complete PES packet at the beginning of the bytes, from its length field.
+#[tactic(auto, unfolding(crate::specs::FilePesPackets::complete_size))]
 fn complete_size(bytes: &[u8]) -> Option<usize>
+    ensures value { result ≡ pes_packets.complete_size bytes.now }
     ensures some { IfSome result (λ size. (6 ≤ size) × (size ≤ length bytes.now)) }
     ensures unfinished { IfNone result (pes_packets.has_other_start_code bytes.now ≡ false
         → length bytes.now < most_retained_bytes) }
@@ -45,7 +49,7 @@ fn complete_size(bytes: &[u8]) -> Option<usize>
     if !is_start(bytes) {
         return None;
     }
-    let size = bytes[4] as usize * 0x100 + bytes[5] as usize + 6;
+    let size = 0x100 * bytes[4] as usize + bytes[5] as usize + 6;
     if bytes.len() < size {
         return None;
     }
@@ -87,10 +91,14 @@ impl PesFile {
     }
 
     // Processes the complete PES packets at the beginning of the bytes, and returns the rest.
+    #[tactic(auto, using(crate::proofs::FilePesPacketsLemmas::counted_one_by_one))]
     fn take_complete<'a>(&mut self, bytes: &'a [u8], text: &mut Text) -> &'a [u8]
         ensures unfinished { pes_packets.has_other_start_code result.now ≡ false
             → length result.now < most_retained_bytes }
         ensures within { length result.now ≤ length bytes.now }
+        // They are counted in order, each once.
+        ensures taken { CountsPesPackets self.old.lines.count bytes.now result.now
+            self.new.lines.count }
     {
         let mut rest = bytes;
         for _ in 0..bytes.len() {
@@ -105,7 +113,9 @@ impl PesFile {
     }
 
     // Processes a PES packet, or a gap marker.
-    fn take_pes_packet(&mut self, pes_packet: &[u8], text: &mut Text) {
+    fn take_pes_packet(&mut self, pes_packet: &[u8], text: &mut Text)
+        ensures { self.new.lines.count ≡ counted_on self.old.lines.count 1 }
+    {
         if is_gap_marker(pes_packet) {
             self.lines.gap_marker(0, 0, text);
             return;

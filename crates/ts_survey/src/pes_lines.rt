@@ -1,4 +1,6 @@
 //! The lines of the PES packets of a PID: runs of them, gap markers, and the decoded page.
+ghost use Rattle.std.specs.Prelude.{◌≡◌, IfSome};
+ghost use Rattle.ts_survey.specs.InStep.{counted_on};
 
 use crate::adaptation::pts_stated;
 use crate::heard::Heard;
@@ -46,7 +48,9 @@ fn refusal(pes: &[u8], frame: &mut PesFrame) -> u16 {
 
 impl PesLines {
     /// Returns the state before the first PES packet; `None` if memory runs out.
-    pub fn new(alloc: Global, pid: u16, page: PageId) -> Option<PesLines> {
+    pub fn new(alloc: Global, pid: u16, page: PageId) -> Option<PesLines>
+        ensures { IfSome result (λ lines. lines.count ≡ 0) }
+    {
         let page = Following::new(alloc, page)?;
         Some(PesLines {
             pid,
@@ -68,7 +72,9 @@ impl PesLines {
     }
 
     /// Returns the number of PES packets and gap markers so far.
-    pub fn count(&self) -> u64 {
+    pub fn count(&self) -> u64
+        ensures { result ≡ self.now.count }
+    {
         self.count
     }
 
@@ -83,7 +89,9 @@ impl PesLines {
     }
 
     /// Processes a PES packet.
-    pub fn take(&mut self, pes: &[u8], text: &mut Text) {
+    pub fn take(&mut self, pes: &[u8], text: &mut Text)
+        ensures { self.new.count ≡ counted_on self.old.count 1 }
+    {
         let pts = pts_stated(pes);
         self.hear(pes, pts, text);
         let is_changed = self.reports_rows(pts);
@@ -103,7 +111,9 @@ impl PesLines {
     }
 
     // Passes a PES packet with a PTS to the receiver.
-    fn hear(&mut self, pes: &[u8], pts: Option<u64>, text: &mut Text) {
+    fn hear(&mut self, pes: &[u8], pts: Option<u64>, text: &mut Text)
+        ensures { self.new.count ≡ self.old.count }
+    {
         self.heard.begin(refusal(pes, &mut self.frame));
         if pts.is_some() {
             self.page.hear(pes, self.pid, &mut self.heard, text);
@@ -111,7 +121,9 @@ impl PesLines {
     }
 
     // Adds a PES packet to the run, or prints it if rows or stray rows follow it.
-    fn put(&mut self, pts: Option<u64>, is_changed: bool, has_strays: bool, text: &mut Text) {
+    fn put(&mut self, pts: Option<u64>, is_changed: bool, has_strays: bool, text: &mut Text)
+        ensures { self.new.count ≡ counted_on self.old.count 1 }
+    {
         let number = self.count;
         self.count = self.count.saturating_add(1);
         let is_reported = is_changed || has_strays;
@@ -131,7 +143,9 @@ impl PesLines {
         is_changed: bool,
         has_strays: bool,
         text: &mut Text,
-    ) {
+    )
+        ensures { self.new.count ≡ self.old.count }
+    {
         self.flush(text);
         self.begin(number, pts);
         self.flush(text);
@@ -139,7 +153,9 @@ impl PesLines {
     }
 
     // Adds a PES packet to the run if it continues it, and returns whether it does.
-    fn join(&mut self, pts: Option<u64>) -> bool {
+    fn join(&mut self, pts: Option<u64>) -> bool
+        ensures { self.new.count ≡ self.old.count }
+    {
         let Some(now) = pts else {
             return false;
         };
@@ -157,7 +173,9 @@ impl PesLines {
     }
 
     // Begins a run.
-    fn begin(&mut self, number: u64, pts: Option<u64>) {
+    fn begin(&mut self, number: u64, pts: Option<u64>)
+        ensures { self.new.count ≡ self.old.count }
+    {
         self.run.first = number;
         self.run.count = 1;
         self.run.pts = pts;
@@ -167,19 +185,25 @@ impl PesLines {
     }
 
     /// Prints the run, if there is one.
-    pub fn flush(&mut self, text: &mut Text) {
+    pub fn flush(&mut self, text: &mut Text)
+        ensures { self.new.count ≡ self.old.count }
+    {
         self.report_kept(text);
         self.run.count = 0;
     }
 
     // Prints the decoded page and stray rows after the PES packet.
-    fn report_page(&mut self, number: u64, is_changed: bool, has_strays: bool, text: &mut Text) {
+    fn report_page(&mut self, number: u64, is_changed: bool, has_strays: bool, text: &mut Text)
+        ensures { self.new.count ≡ self.old.count }
+    {
         self.report_rows(number, is_changed, text);
         self.report_strays(number, has_strays, text);
     }
 
     // Prints the decoded page, if it has to be printed.
-    fn report_rows(&mut self, number: u64, is_reported: bool, text: &mut Text) {
+    fn report_rows(&mut self, number: u64, is_reported: bool, text: &mut Text)
+        ensures { self.new.count ≡ self.old.count }
+    {
         if !is_reported {
             return;
         }
@@ -190,7 +214,9 @@ impl PesLines {
     }
 
     // Prints stray rows, if they have to be printed.
-    fn report_strays(&mut self, number: u64, is_reported: bool, text: &mut Text) {
+    fn report_strays(&mut self, number: u64, is_reported: bool, text: &mut Text)
+        ensures { self.new.count ≡ self.old.count }
+    {
         if !is_reported {
             return;
         }
@@ -209,7 +235,9 @@ impl PesLines {
     }
 
     /// Prints a gap marker: so many packets were lost and scrambled.
-    pub fn gap_marker(&mut self, lost: u64, scrambled: u64, text: &mut Text) {
+    pub fn gap_marker(&mut self, lost: u64, scrambled: u64, text: &mut Text)
+        ensures { self.new.count ≡ counted_on self.old.count 1 }
+    {
         self.flush(text);
         report_gap(self.pid, self.count, lost, scrambled, text);
         self.count = self.count.saturating_add(1);
