@@ -377,7 +377,7 @@ found_skips IsTaken old mid new before reported after bytes is_end at next first
     let passed = skipped_in-skipped (next - at) in
     let none_in = packet_count-skipped (next - at) in
     subst (λ (s : PacketsInStep). ItemsFound IsTaken old before bytes is_end next 0 s after)
-        (sym is)
+    (sym is)
     (found_more IsTaken old mid
     (record mid {
       in_step = false;

@@ -2,7 +2,7 @@
 ghost use Rattle.std.specs.Prelude.{◌≡◌, IfSome};
 
 use crate::adaptation::is_scrambled;
-use crate::clock::{SECOND, IrregularPcr};
+use crate::clock::{IrregularPcr, SECOND};
 use crate::given::Given;
 use crate::lead::{Lead, Picture};
 use crate::pes_header::PesHeader;

@@ -16,7 +16,7 @@ use crate::lead::Picture;
 use crate::packets_in_step::TakesPackets;
 use crate::pes_header::stream_id_in;
 use crate::pictures::Pictures;
-use crate::pid_state::{PacketLink, NO_INDEX, NULL_PID, PidState, Pids, link_of};
+use crate::pid_state::{NO_INDEX, NULL_PID, PacketLink, PidState, Pids, link_of};
 use crate::section::{FIRST_PMT, Stream, pmt_pid_at, programme_of, stream_at};
 use crate::tables::{SECTION_CAPACITY, Section, Tables, parts_of};
 use crate::text::Text;
@@ -232,8 +232,14 @@ impl Multiplex {
     // Processes a packet of interest: few are, and doing this out of line takes no registers of the
     // loop over all packets.
     #[inline(never)]
-    fn show_on(&mut self, place: u8, kind: u8, link: PacketLink, packet: &[u8; PACKET], text: &mut
-        Text)
+    fn show_on(
+        &mut self,
+        place: u8,
+        kind: u8,
+        link: PacketLink,
+        packet: &[u8; PACKET],
+        text: &mut Text,
+    )
         ensures requested { KeepsRequested self.old self.new }
     {
         let Some(pictures) = self.videos.get_mut(place as usize) else {

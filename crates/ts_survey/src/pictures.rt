@@ -106,8 +106,13 @@ impl Pictures {
     }
 
     // Processes a packet with a payload, which may be a repeat.
-    fn take_unless_repeat(&mut self, packet: &[u8; PACKET], kind: u8, link: PacketLink, text: &mut
-        Text) {
+    fn take_unless_repeat(
+        &mut self,
+        packet: &[u8; PACKET],
+        kind: u8,
+        link: PacketLink,
+        text: &mut Text,
+    ) {
         if self.is_repeat(packet, link) {
             self.has_repeat = true;
             return;

@@ -102,5 +102,10 @@ pub hears_state_after : (w : PageIdValue) (old : State) (packets : List (List �
     → Hears w old packets (state_after w old packets)
 hears_state_after w old [] = refl
 hears_state_after w old (packet ∷ packets) =
-    grind (arith, nat_tests, stepped, hears_state_after w (state_at (kind w packet) packet old)
-        packets)
+    grind (
+      arith,
+      nat_tests,
+      stepped,
+      hears_state_after w (state_at (kind w packet) packet old)
+          packets,
+    )

@@ -467,5 +467,5 @@ module _ (keeps anew : Bool) (class : ReceiverClass) (w : PageIdValue) (row colu
       (over start _ ps ms gs hears.0 new named exact.1 erases.1 may.1 near.1 hears.2
       (StateAfterItems-push start items p (Some g) old hears.0
       (at_received_item keeps anew class w row column p g old hears.0 named exact.0 erases.0 near.0
-          hears.1)
+      hears.1)
       was))

@@ -89,7 +89,7 @@ module _ (class : ReceiverClass) (w : PageIdValue) (sent : List (List ℕ)) (arr
     becomes : (row column : ℕ)
         → IsCell row column
         → StateAfterItems keeps anew class w row column (text row column) (Excused row column) old
-            items new
+        items new
     becomes row column named =
         over keeps anew class w row column _ _ old [] sent arrived got old new named
         (recursion_from_All _ sent sends.exact)

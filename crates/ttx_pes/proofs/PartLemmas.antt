@@ -30,7 +30,7 @@ pub part_is : (r : PesPacketRangeValue) (known_bytes : Option (List ℕ))
 unfolding in_range
 part_is r known_bytes =
     part_of r.first (range_length r) known_bytes ∙ limited_remaining_eq (range_length r) r.first
-        known_bytes
+    known_bytes
 
 pub number_is : (r : PesPacketRangeValue) (known_bytes : Option (List ℕ))
     → part_number (record { skipped = 0; to_skip = r.first }) known_bytes

@@ -109,7 +109,7 @@ pes_packet_sized p h =
     let lo = h.size.0 in
     let hi = h.size.1 in
     let head : take 6 p ≡ first_six_bytes h.n = ap (take 6) parts ∙ take_at (first_six_bytes h.n)
-        h.body 6 refl in (
+    h.body 6 refl in (
       ap size_at head ∙ head_complete h.n lo hi ∙ ap (λ (k : ℕ). Ok k) (sym long),
       omega (arith, long, lo),
       omega (arith, long, hi),

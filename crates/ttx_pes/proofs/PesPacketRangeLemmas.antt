@@ -38,7 +38,7 @@ pes_packet_stated b size e = elim (cases_lt (length b) 6) [
       let long = le-ltb (length b) 6 le in
       let reported = complete_stated (length b) size (size_at (take 6 b))
       (ap (λ c. size_if_complete (length b) (cond c None (result_ok (size_at (take 6 b)))))
-          (sym long) ∙
+      (sym long) ∙
       e)
       in
       (size_counts (take 6 b) size reported.0, reported.0, reported.1)

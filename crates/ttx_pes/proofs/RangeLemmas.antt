@@ -81,7 +81,7 @@ module _ (rest : List ℕ) (end : pes_packet_size rest ≡ None) where
       let joined = append_assoc p (concat ps) rest in
       ap (rest_after_pes_packets (suc n)) joined
       ∙ rest_after_pes_packets_suc n (p ++ (concat ps ++ rest)) (length p)
-          (pes_packet_eq p (concat ps ++ rest)
+      (pes_packet_eq p (concat ps ++ rest)
       each.0)
       ∙ ap (rest_after_pes_packets n) (drop_at p (concat ps ++ rest) (length p) refl)
       ∙ rest_after_all n ps each.1
@@ -97,7 +97,7 @@ module _ (rest : List ℕ) (end : pes_packet_size rest ≡ None) where
       let more = count_all n ps each.1 in
       ap (count_pes_packets (suc n)) joined
       ∙ count_pes_packets_suc n (p ++ (concat ps ++ rest)) (length p)
-          (pes_packet_eq p (concat ps ++ rest)
+      (pes_packet_eq p (concat ps ++ rest)
       each.0)
       ∙ ap (λ b. suc (count_pes_packets n b)) (drop_at p (concat ps ++ rest) (length p) refl)
       ∙ omega (arith, more)

@@ -97,7 +97,7 @@ packet_is_read v b rest h =
     let sized = head_complete h.n h.size.0 h.size.1 in
     let parts : b ++ rest ≡ first_six_bytes h.n ++ (body ++ rest) =
     ap (λ (x : List ℕ). x ++ rest) (packet_of_body v b h) ∙ append_assoc (first_six_bytes h.n) body
-        rest in
+    rest in
     ap packet_at parts
     ∙ packet_parts (first_six_bytes h.n) body rest (184 * h.n) refl sized
     (let lo = h.size.0 in omega arith) c.1

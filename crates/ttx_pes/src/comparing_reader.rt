@@ -180,7 +180,7 @@ impl ComparingReader {
         ensures following { self.new.following ≡ taken_count_after self.old.progress result }
         ensures progress { self.new.progress
             ≡ progress_after self.old.progress (yielded_frame (next_into_result result)
-                self.new.frame) }
+            self.new.frame) }
         ensures few { (given : ℕ) → self.new.progress ≡ Reading given → given ≤ most_packets }
         // After the end of the source or a fault, the reader consumes nothing.
         ensures at_end { self.old.progress ≡ AtEnd → pes_packets.new ≡ pes_packets.old }

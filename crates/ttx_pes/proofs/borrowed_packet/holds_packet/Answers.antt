@@ -10,7 +10,7 @@ returns-in-Ok c =
     let long : 6 ≤ length c.args.borrowed.now = search rules in
     let head : take 6 c.args.borrowed.now ≡ c.in-Some.head.now = search rules in
     holds_packet_read c.args.borrowed.now (Ok c.in-Ok.size) long
-        (ap size_at head ∙ c.in-Ok.ensures.exact)
+    (ap size_at head ∙ c.in-Ok.ensures.exact)
 
 pub returns-in-Err : goal.returns-in-Err
 returns-in-Err c =

@@ -103,7 +103,7 @@ returns-clause-reads g c =
     from c.fill_on-all.ensures.kept (search rules) c.in-Ok.ensures.exact in
     let fits = length-take-le buffered c.args.room.now (omega arith) in
     let few = buffered_at_most buffered got size c.fill_on-got.ensures.bound
-        c.fill_on-got.ensures.none
+    c.fill_on-got.ensures.none
     (λ six. omega (
       arith,
       fits,
