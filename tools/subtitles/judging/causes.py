@@ -24,8 +24,8 @@ from .transmissions import DuePages, Sendings, left_at
 LATE, EARLY, NEVER, OTHER = "late", "early", "never sent", "another subtitle's text"
 TEXT, PLACE, ATTRIBUTE = "wrong text", "wrong place", "wrong colour or attribute"
 NOT_ERASED, IN_PART, UNKNOWN = "not erased", "not repeated whole", "unknown"
-# A header without rows came before its TCO; a text of no subtitle came in the pause after it; TS
-# packets are lost at its time.
+# ERASED: a header without rows came before the TCO. IN_PAUSE: a text of no subtitle came in the
+# pause after the subtitle. NOT_RECEIVED: TS packets are lost at the time of the subtitle.
 ERASED, IN_PAUSE, NOT_RECEIVED = "erased", "another text in a pause", "not received"
 NAMES = (LATE, EARLY, NEVER, OTHER, TEXT, PLACE, ATTRIBUTE, NOT_ERASED, IN_PART, ERASED, IN_PAUSE,
          NOT_RECEIVED, UNKNOWN)
@@ -37,11 +37,12 @@ EVEN = "a byte of its rows has even parity"
 
 
 class Cause(NamedTuple):
-    """Why a subtitle is refused.
+    """The reason why a subtitle is refused.
 
-    `place` is its position in the file; `frames` says how late or early it is; `sent` is the
-    transmitted page, and `other` the position of the subtitle whose text that is. From frame
-    `known` on, more of the recording cannot change the cause.
+    `place` is the position of the subtitle in the file; `frames` says by how many frames the
+    subtitle is late or early; `sent` is the transmitted page, and `other` the position of the
+    subtitle that has the transmitted text. More of the recording after frame `known` cannot change
+    the cause.
     """
 
     place: int
@@ -55,13 +56,13 @@ class Cause(NamedTuple):
     @property
     def is_unseen(self) -> bool:
         """Return whether the subtitle may be correct: PES packets can't be read, or it is the last
-        one and the next programme begins at its TCO."""
+        subtitle and the next programme begins at its TCO."""
         return self.words in (UNSEEN, NEXT)
 
 
 class Faulty:
-    """The frames of a subtitle with a wrong page: the first such stretch before its TCO, and the
-    first after it."""
+    """The frames of a subtitle with a wrong page: the first such frames before the TCO, and the
+    first after the TCO."""
 
     def __init__(self) -> None:
         self.within: Span | None = None
@@ -76,7 +77,7 @@ class Faulty:
 
 
 class Namer(Sendings):
-    """Classify the causes of subtitles, from the decoded pages and the faults that `check` reports.
+    """Classify the causes of subtitles from the decoded pages and the faults that `check` reports.
     """
 
     def __init__(self, programme: DuePages, held: Timeline, answer: Answer | None = None) -> None:
@@ -84,8 +85,8 @@ class Namer(Sendings):
         self.answer = answer
 
     def cause(self, place: int, faulty: Faulty) -> Cause:
-        """Return the cause of a subtitle; it is unknown if a pause in the PES packets explains it.
-        """
+        """Return the cause of a subtitle; the cause is unknown if a pause in the PES packets
+        explains the fault."""
         cause, subtitle = self.cause_of_sendings(place, faulty), self.subtitles[place]
         pause = self.held.pause_at(subtitle.end if cause.name == NOT_ERASED else subtitle.begin)
         if pause is None:
@@ -118,7 +119,7 @@ class Namer(Sendings):
         return self.never(place) if came is None else self.moved(place, came)
 
     def moved(self, place: int, came: int) -> Cause:
-        """Return that the page came late or early, at frame `came`."""
+        """Return the cause of a subtitle whose page came late or early, at frame `came`."""
         subtitle = self.subtitles[place]
         if came > subtitle.begin and not self.held.is_seen(subtitle.begin, came):
             return self.unknown(place, subtitle.begin, came,
@@ -131,8 +132,8 @@ class Namer(Sendings):
         return Cause(place, name, frames, self.pages[place], None, words, max(came, subtitle.begin))
 
     def is_in_time(self, place: int, came: int) -> bool:
-        """Return whether a page came after its TCI, but within the allowed number of frames, and so
-        was not incomplete for longer than that."""
+        """Return whether a page came after the TCI, but within the allowed delay, and so was not
+        incomplete for longer than that."""
         late = came - self.subtitles[place].begin
         return 0 < late <= self.held.within and \
             came - self.broken_since(came - 1) <= self.held.within
@@ -146,8 +147,8 @@ class Namer(Sendings):
         return first
 
     def row_words(self, came: int) -> str:
-        """Return for how many consecutive frames the page was incomplete before it came. If it was
-        incomplete before the TCI too, these are more frames than it is late."""
+        """Describe for how many consecutive frames the page was incomplete before frame `came`:
+        more frames than the subtitle is late if the page was incomplete before the TCI too."""
         first = self.broken_since(came - 1)
         return f"the page is not whole for {counted(came - first, 'frame')} in a row, from " \
             f"{time_of(first)} on"
@@ -187,8 +188,8 @@ class Namer(Sendings):
         return f"rows came while {page_name(*self.held.page)} was not open"
 
     def differs(self, place: int, number: int) -> Cause:
-        """Return how the page sent at the time of a subtitle, which is no other subtitle's,
-        differs."""
+        """Return how the page at the time of a subtitle differs, if the page is not that of another
+        subtitle."""
         subtitle, due, sent = self.subtitles[place], self.pages[place], self.held.pages[number]
         words = words_on(sent)
         if words != words_on(due):
@@ -203,11 +204,12 @@ class Namer(Sendings):
         return Cause(place, ATTRIBUTE, None, sent, None, attribute_words(due, sent), subtitle.end)
 
     def of_other(self, place: int, other: int, known: int) -> Cause:
+        """Return that a subtitle has the text of another subtitle."""
         return Cause(place, OTHER, None, self.pages[other], other, "", known)
 
     def later(self, place: int, faulty: Faulty) -> Cause:
-        """Return the cause of a subtitle whose page came at its TCI; the fault is after or before
-        that."""
+        """Return the cause of a subtitle whose page came at its TCI: the fault is before or after
+        that frame."""
         subtitle = self.subtitles[place]
         span = faulty.within or faulty.after
         if span and self.is_due(span.first):
@@ -231,7 +233,8 @@ class Namer(Sendings):
                      self.gone_words(place, number), subtitle.end)
 
     def hidden_words(self, frame: int) -> str:
-        """Return why `check` reports a wrong page at a frame that ends with the expected one."""
+        """Describe why `check` reports a wrong page at a frame at whose end the expected page is
+        decoded."""
         if len(self.held.members(frame)) > 1:
             return IN_PARTS
         if not self.held.is_seen(frame, frame):
@@ -239,23 +242,24 @@ class Namer(Sendings):
         return EVEN if HIT in b"".join(self.held.state_at(frame).rows) else ""
 
     def rows_left(self, frame: int) -> str:
-        """Return which rows of the expected page a repeat left out, if that explains the fault at a
-        frame: everything sent then can be read, and without --within it is one PES packet."""
+        """Describe which rows of the expected page a repeat left out, if these explain the fault at
+        a frame: everything sent in this frame can be read, and without --within the frame has only
+        one PES packet."""
         is_one = self.held.within or len(self.held.members(frame)) == 1
         return left_at(self.held, self.programme.page_at(frame), frame, self.answer) \
             if is_one and self.held.is_seen(frame, frame) else ""
 
     @functools.cached_property
     def subcode_words(self) -> str:
-        """Return that sub-pages alternate, if they do."""
+        """Describe the sub-pages that alternate, if any."""
         subcodes = turns_of(self.held.packets, self.held.inside)
         return subcode_words(subcodes, page_name(*self.held.page)) if subcodes else ""
 
     def after(self, place: int, number: int, frame: int) -> Cause:
         """Return the cause of a page sent after the TCO of a subtitle.
 
-        A page of no subtitle is another text in the pause, but at the last TCO it is the next
-        programme's.
+        A page of no subtitle is another text in the pause; at the last TCO it belongs to the next
+        programme.
         """
         subtitle, page = self.subtitles[place], self.held.pages[number]
         is_other = page not in self.programme.by_page and page != BLANK_PAGE
@@ -268,7 +272,8 @@ class Namer(Sendings):
         return self.unknown(place, frame, subtitle.end, f"sent after its TCO, at {time_of(frame)}")
 
     def gone_words(self, place: int, number: int) -> str:
-        """Return how long after its TCO a page stayed, or which next subtitle has the same page."""
+        """Describe how long after the TCO a page stayed, or which next subtitle has the same page.
+        """
         until, end = self.held.stretch(number).last, self.subtitles[place].end
         following = self.subtitles[place + 1:place + 2]
         if following and following[0].begin <= until and \
@@ -280,7 +285,7 @@ class Namer(Sendings):
         return f"gone {counted(until + 1 - end, 'frame')} later"
 
     def broken(self, place: int, span: Span) -> Cause:
-        """Return the cause of a subtitle whose page came, and was replaced before its TCO."""
+        """Return the cause of a subtitle whose page came, and was replaced before the TCO."""
         subtitle, number = self.subtitles[place], self.held.number_at(span.first)
         page = self.held.pages[number]
         other = self.programme.of_page(page, span.first)
@@ -302,16 +307,17 @@ class Namer(Sendings):
         return self.differs(place, number)
 
     def is_erased(self, number: int) -> bool:
-        """Return whether a header without rows erased the page: the next page must have its own
-        header."""
+        """Return whether a header without rows erased the page; the next page must have a header of
+        its own."""
         begins = self.held.frames[number:number + 2]
         return all(any(HEADER in run.does for run in self.held.members(frame)) for frame in begins)
 
     def unseen_words(self, first: int, last: int) -> str:
-        """Return why it is not certain what was sent in some frames."""
+        """Describe why the transmission in some frames is not certain."""
         return NOT_RECEIVED if self.held.lost.has(first, last) else UNSEEN
 
     def unknown(self, place: int, frame: int, known: int, words: str) -> Cause:
+        """Return a cause that is not known, or that the subtitle was not received."""
         sent = self.held.page_at(frame)
         name, words = (NOT_RECEIVED, "") if words == NOT_RECEIVED else (UNKNOWN, words)
         return Cause(place, name, None, None if sent == BLANK_PAGE else sent, None, words, known)
@@ -325,9 +331,9 @@ BEFORE = f"its page transmission is before what was cut, so {BEGIN} is reported"
 class Causes:
     """The causes of subtitles, from the list of `check --all` and the decoded pages.
 
-    `named` are the certain ones, in order; `of_edge` is the subtitle that a 63 or 74 is about, if
-    the recording continues there. `reach` are the frames that the recording covers, if its PCR
-    shows more than its PES packets.
+    `named` has the causes that are certain, by subtitle; `of_edge` the subtitle that a fault 63 or
+    74 is about, if the recording continues there. `reach` are the frames that the recording covers,
+    if its PCR shows more frames than its PES packets.
     """
 
     def __init__(self, programme: DuePages, held: Timeline, reach: Span | None = None) -> None:
@@ -360,13 +366,13 @@ class Causes:
             self.add_to(self.namer.owner(span.first), span)
 
     def add_to(self, place: int, span: Span) -> int:
-        """Add frames with a wrong page to those of a subtitle; return its position."""
+        """Add frames with a wrong page to a subtitle; return the position of the subtitle."""
         self.first_frames.setdefault(place, span.first)
         if place not in self.named:
             self.open.setdefault(place, Faulty()).add(span, self.programme.subtitles[place])
         return place
 
-    # Frames before the first one that is judged, and after the last one
+    # Frames before the first judged frame, and after the last one
 
     def reached(self) -> Span:
         """Return the frames that the recording covers."""
@@ -375,10 +381,10 @@ class Causes:
         return Span(min(first, known.first), max(last, known.last)) if known else Span(first, last)
 
     def look_before(self, frame: int) -> None:
-        """Compare the frames from the first TCI up to `frame`, the first one judged.
+        """Compare the frames from the first TCI up to `frame`, the first judged frame.
 
-        Do so only if the recording covers them, or begins as long before the first TCI as `frame`
-        is after it: then a late first subtitle was not early.
+        Do so only if the recording covers these frames, or begins as long before the first TCI as
+        `frame` is after the TCI: then a late first subtitle was not early.
         """
         begin, held = self.programme.begins[0], self.held
         if not (held.frames and held.frames[0] <= begin or
@@ -390,8 +396,9 @@ class Causes:
         self.compare(BEGIN, begin, frame - 1)
 
     def name_first(self, frame: int) -> None:
-        """Classify the first subtitle as late if the recording begins with its page, and that
-        begins or ends as late as the next one begins: by itself it could have been cut off."""
+        """Classify the first subtitle as late if the recording begins with its page, and the page
+        begins or ends as late as the next page begins: the first page alone could have been cut
+        off."""
         page, following = self.programme.pages[0], self.named.get(1)
         if following is None or following.name != LATE or BEGIN in self.of_edge \
                 or self.held.first != frame or self.held.page_at(frame) != page:
@@ -406,13 +413,14 @@ class Causes:
         self.named[0] = Cause(0, LATE, late, page, None, "", max(frame, first.begin + late))
 
     def look_after(self, frame: int) -> None:
-        """Compare the frames from `frame`, the last one judged, to the last TCO, if recorded."""
+        """Compare the frames from `frame`, the last judged frame, to the last TCO, if they were
+        recorded."""
         end = self.programme.subtitles[-1].end
         if self.reached().last >= end:
             self.compare(END, frame + 1, end)
 
     def compare(self, number: int, first: int, last: int) -> None:
-        """Add the frames with a wrong page between two frames, as those of a 63 or 74."""
+        """Add the frames between two frames that have a wrong page, for a fault 63 or 74."""
         for span in self.namer.split(first, last):
             if not self.namer.is_due(span.first):
                 place = self.add_to(self.namer.owner(span.first), span)
@@ -424,7 +432,7 @@ class Causes:
         begin = self.programme.begins[place]
         if cause.name == LATE and begin + (cause.frames or 0) == self.held.first \
                 and begin < self.reached().first:
-            cause = self.namer.later(place, self.open[place])  # it may have come earlier
+            cause = self.namer.later(place, self.open[place])  # the page may have come earlier
         is_before = cause.name == EARLY and self.of_edge.get(BEGIN) == place
         return cause._replace(words=BEFORE) if is_before else cause
 
@@ -449,7 +457,7 @@ class Causes:
 
 
 def counts_of(several: Iterable[Causes]) -> dict[str, int]:
-    """Return the number of causes by name."""
+    """Count the causes of several parts by name."""
     counted = collections.Counter(cause.name for one in several for cause in one.named.values())
     return {name: counted[name] for name in NAMES}
 
@@ -494,7 +502,8 @@ class Wording:
                 f'"{self.due_text(cause)}": {self.said(cause)}')
 
     def said(self, cause: Cause, has_text: bool = True) -> str:
-        """Return the cause with its details, and the transmitted text if it differs."""
+        """Describe a cause with its details, and with the transmitted text if that is not the
+        expected text."""
         subtitle = self.subtitles[cause.place]
         words = cause.name
         if cause.name in (LATE, EARLY):
@@ -518,11 +527,11 @@ class Wording:
 
 
 def count_line(several: list[Causes]) -> str:
-    """Return how many subtitles have a cause, and how many have each."""
+    """Return a line with the number of subtitles that have a cause, and the count of each cause."""
     count = sum(len(one.named) for one in several)
     return f"causes of {counted(count, 'subtitle')}: {names_line(several)}"
 
 
 def names_line(several: list[Causes]) -> str:
-    """Return how many subtitles have each cause."""
+    """List the number of subtitles with each cause."""
     return ", ".join(f"{count} {name}" for name, count in counts_of(several).items() if count)

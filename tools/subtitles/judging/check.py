@@ -21,7 +21,7 @@ from .status import NOT_JUDGED, Said, UNSAID, word_of
 
 
 class End(NamedTuple):
-    """The last frame of a fault that lasted, or its last PES packet."""
+    """Last frame of a fault, or its last PES packet."""
 
     time: str | None
     pes: int | None
@@ -34,12 +34,12 @@ TIME = re.compile(r"\d\d:\d\d:\d\d:\d\d")
 
 
 class Answer:
-    """The output of `check --all`; the file at `path` has all its lines.
+    """Output of `check --all`; all its lines are in the file at `path`.
 
     `first` is the first fault, as `check` prints it without `--all`. By fault number, `counts` are
-    the faults, `firsts` the first of each, and `marks` the frames of faults, to their ends. `ends`
-    are by position of a fault in the list. `passed` are the numbers of skipped PES packets,
-    `trusted` the clean frames.
+    the faults, `firsts` the first fault of each number, and `marks` the frames from the beginning
+    to the end of each fault. `ends` has the end of each fault by its position in the list. `passed`
+    are the numbers of the PES packets that `check` skipped, `trusted` the clean frames.
     """
 
     def __init__(self, path: str) -> None:
@@ -53,7 +53,7 @@ class Answer:
         self.file: BinaryIO = open(path, "wb")
 
     def forget(self) -> None:
-        """Clear all faults."""
+        """Clear all faults of the output."""
         self.count = 0
         self.counts: collections.Counter[int] = collections.Counter()
         self.firsts: dict[int, FaultLine] = {}
@@ -66,11 +66,11 @@ class Answer:
 
     @property
     def numbers(self) -> set[int]:
-        """Return the fault numbers."""
+        """Return the numbers of the reported faults."""
         return set(self.counts)
 
     def take_fault(self, line: str, words: list[str]) -> None:
-        """Read a line `refused`."""
+        """Read a line `refused`, split into words."""
         number, place = int(words[1]), words[3:5]
         if number not in self.counts:
             fault = fault_of_line(line)
@@ -109,7 +109,7 @@ class Answer:
                    if number not in STL_FAULTS | {UNDECIDED})
 
     def take(self, line: str) -> None:
-        """Read one line, and append it to the file."""
+        """Read one line of output, and append it to the file."""
         with naming(self.path):
             self.file.write(line.encode() + b"\n")
         self.last, self.is_accepted = line, False
@@ -127,7 +127,7 @@ class Answer:
             self.strange = line
 
     def end(self, status: int) -> None:
-        """Store the exit status; raise `Unsaid` if the output is not a verdict."""
+        """Store the exit status of `check`; raise `Unsaid` if the output is not a verdict."""
         with naming(self.path):
             self.file.close()
         self.status = status
@@ -136,7 +136,7 @@ class Answer:
             raise Unsaid(f"{UNSAID}: {line or 'it printed nothing'}, status {status}")
 
     def stop(self) -> None:
-        """Close the file of an incomplete list."""
+        """Close the file of a list that is incomplete."""
         with naming(self.path):
             self.file.close()
 
@@ -152,12 +152,12 @@ class Answer:
         return self.rows[at][1] if at >= 0 else None
 
     def told_up_to(self) -> str | None:
-        """Return the time of the last line, up to which faults were reported."""
+        """Return the time on the last line of output, up to which `check` reported faults."""
         times: list[str] = TIME.findall(self.last)
         return times[-1] if times else None
 
     def move(self, path: str) -> None:
-        """Move the file of its lines."""
+        """Move the file with the lines of output."""
         with naming(path):
             shutil.move(self.path, path)
         self.path = path
@@ -170,7 +170,8 @@ class Answer:
             pass
 
     def said(self, is_read: bool = True) -> Said:
-        """Return what decides the verdict; a line that is not of `check` makes it not judged."""
+        """Return what decides the verdict on a part; a line that is not from `check` makes the part
+        not judged."""
         is_clear = self.strange is None
         is_list = is_clear and self.first is not None and self.frames is None
         counted = count_of(self.last) if is_list else None
@@ -179,11 +180,11 @@ class Answer:
 
     @property
     def verdict(self) -> str:
-        """Return the verdict in one word."""
+        """Return the verdict on a part in one word."""
         return word_of(self.said())
 
     def without(self, number: int, path: str) -> Answer:
-        """Return a copy at `path` without the faults of a number."""
+        """Return a copy at `path` without the faults of one number."""
         made = Answer(path)
         for line in self.lines():
             if count_of(line) is not None:
@@ -199,17 +200,17 @@ class Answer:
         return self.first.line if self.first else self.last
 
     def raw(self) -> Iterator[bytes]:
-        """Yield the list as bytes."""
+        """Yield the list of faults as bytes."""
         return pieces_of(self.path)
 
     def lines(self) -> Iterator[str]:
-        """Yield the lines of the list."""
+        """Yield the lines of the list of faults."""
         with open(self.path, encoding="utf-8") as file:
             for line in file:
                 yield line.rstrip("\n")
 
     def told(self) -> Iterator[tuple[FaultLine, End]]:
-        """Yield the faults in order, each with its end."""
+        """Yield the faults in the order of the list, each with its end."""
         faults = (fault for fault in map(fault_of_line, self.lines()) if fault and fault.is_fault)
         return ((fault, self.ends.get(index, NO_END)) for index, fault in enumerate(faults))
 

@@ -30,7 +30,7 @@ REPLACED = {TEXT, PLACE, ATTRIBUTE, OTHER}  # causes with another page in place 
 
 class Cue(NamedTuple):
     """A subtitle with its expected page; the frame at which a receiver decoded this page, or the
-    one sent in its place, and the first frame without it. `None`: not seen."""
+    page sent instead, and the first frame without that page. `None`: not seen."""
 
     subtitle: Subtitle
     expected: Rows
@@ -41,12 +41,12 @@ class Cue(NamedTuple):
 
     @property
     def late_in(self) -> int | None:
-        """How many frames late the in-cue is; negative if early."""
+        """Return by how many frames the in-cue is late; negative if it is early."""
         return None if self.begin is None else self.begin - self.subtitle.begin
 
     @property
     def late_out(self) -> int | None:
-        """How many frames late the out-cue is; negative if early."""
+        """Return by how many frames the out-cue is late; negative if it is early."""
         return None if self.end is None else self.end - self.subtitle.end
 
 
@@ -62,7 +62,7 @@ def cues_of(part: Part) -> Iterator[Cue]:
 
 def decoded_cue(cue: Cue, place: int, expected: DuePages, timeline: Timeline,
                 delay: int | None) -> Cue:
-    """Return a cue with the times between which a receiver had its page."""
+    """Return a cue with the frames between which a receiver had the page."""
     number = page_number(cue, expected, timeline, delay)
     if number is None:
         return cue
@@ -77,13 +77,13 @@ def decoded_cue(cue: Cue, place: int, expected: DuePages, timeline: Timeline,
         begin = max(first, subtitle.begin)  # the same page twice without a change between
     elif subtitle.begin < first == timeline.first and not (
             cue.cause and subtitle.begin + (cue.cause.frames or 0) == first):
-        begin = None  # it was there when the recording began
+        begin = None  # the page was there when the recording began
     end: int | None = last + 1
     if after and after[0].begin == subtitle.end and expected.pages[place + 1] == page:
         end = min(last + 1, subtitle.end)
     elif number + 1 == len(timeline.pages) or last + 1 != subtitle.end and not timeline.is_seen(
             min(subtitle.end, last + 1), max(subtitle.end, last + 1)):
-        end = None  # it was still there when the recording ended, or that part was lost
+        end = None  # the page was still there when the recording ended, or packets are lost
     return cue._replace(decoded=page, begin=begin, end=end)
 
 
@@ -109,8 +109,8 @@ def page_number(cue: Cue, expected: DuePages, timeline: Timeline, delay: int | N
 
 
 def is_variant(page: Rows, decoded: Rows, expected: DuePages) -> bool:
-    """Return whether a page is another one once more, damaged or corrected: it is not the page of
-    another subtitle, and most of its characters are the same."""
+    """Return whether a page is a damaged or corrected repeat of another page: most characters are
+    the same, and no other subtitle has the page."""
     if page == decoded or page in expected.by_page:
         return page == decoded
     differing: int = sum(map(operator.ne, b"".join(page), b"".join(decoded)))
@@ -124,8 +124,8 @@ NOT_ALL_RECEIVED = "not received completely"
 
 
 class CueVerdict(NamedTuple):
-    """The verdict on a subtitle, and the reason if it is not right: the words of its cause, the
-    numbers of the other faults at its time, or why nobody knows."""
+    """The verdict on a subtitle, and the reason if the subtitle is not right: its cause, the
+    numbers of the other faults at its time, or why the verdict is not known."""
 
     word: str
     cause: str = ""
@@ -165,8 +165,9 @@ class CueJudge:
         return CueVerdict(word, words, numbers)
 
     def missing_words(self, cue: Cue) -> str:
-        """Return why nobody knows whether a cue without a fault is right; nothing if it is: a
-        receiver had it, if its part is accepted or `check` trusts all its frames."""
+        """Describe why it is not known whether a cue without a fault is right; return an empty text
+        if a receiver had the page: the part is accepted, or `check` trusts all frames of the cue.
+        """
         begin, end = cue.subtitle.begin, cue.subtitle.end
         if self.part.answer.verdict == ACCEPTED:
             is_lost = any(span.first < end and begin <= span.last for span in self.part.losses)
@@ -181,7 +182,7 @@ class CueJudge:
         return f"{words}: the out-cue is moved" if cue.late_out else words
 
     def reason(self, verdict: CueVerdict) -> str:
-        """Return the reason of a verdict in words; nothing if it is right."""
+        """Return the text of the reason for a verdict; an empty text if the cue is right."""
         firsts = self.part.answer.firsts
         faults = [f"{number} {firsts[number].name}" for number in verdict.numbers]
         return "; ".join(filter(None, [verdict.cause, *faults, verdict.unsure]))
@@ -194,20 +195,20 @@ AFTER_IT = "not judged: the next subtitle is refused"
 
 
 class SubtitleFaults(NamedTuple):
-    """The faults of one subtitle of a file; of the GSI block there is no subtitle."""
+    """The faults of one subtitle of a file; the GSI block has no subtitle."""
 
     subtitle: NamedSubtitle | None
     faults: Sequence[FaultLine]
 
     def is_waived(self, severity: Severity) -> bool:
-        """Return whether all of them are warnings."""
+        """Return whether all faults of the subtitle are warnings."""
         return not any(severity.is_error(fault.number) for fault in self.faults)
 
 
 def refused_subtitles(part: Part, file: SubtitleFile, beside: JudgedBeside | None) \
         -> Iterator[SubtitleFaults]:
-    """Yield the refused subtitles of a file, each with its faults; then those without a fault that
-    cannot be judged, since the next one is refused."""
+    """Yield the refused subtitles of a file, each with its faults; then the subtitles without a
+    fault that cannot be judged, since the next subtitle is refused."""
     left_out = set(beside.left_out) if beside else set[int]()
     faults = [fault for fault, _ in itertools.islice(part.answer.told(), MOST_REFUSED)
               if fault.number in STL_FAULTS]
@@ -228,7 +229,7 @@ def first_block(file: SubtitleFile, fault: FaultLine) -> int:
 
 
 def block_text(file: SubtitleFile, block: int) -> bytes:
-    """Return the text of a block's subtitle, as far as there are blocks of it."""
+    """Return the text of a block's subtitle, as far as the file has blocks of that subtitle."""
     first, last = file.firsts[block], block
     for number in range(block, len(file.firsts)):
         data = file.block(number)
@@ -245,8 +246,8 @@ LONGEST = 3600 * 90_000  # ticks: a longer step, or one back, is a jump of the c
 
 
 def recording_start(part: Part) -> int | None:
-    """Return the PTS that the beginning of a recording would have by the clock of a part: its first
-    PCR, or without one its first PTS. A jump of the PTS before the part counts as no time."""
+    """Return the PTS that the beginning of a recording would have by the clock of a part: the first
+    PCR, or without a PCR the first PTS. A jump of the PTS before the part counts as no time."""
     if part.recording is None or part.pes is None:
         return None
     clock = part.recording.survey.clock_of(part.packets.pid) if part.recording.is_stream else None
@@ -260,7 +261,8 @@ def recording_start(part: Part) -> int | None:
 
 
 def into_recording(part: Part, start: int | None, frame: int) -> str:
-    """Return how far into the recording a frame is, as H:MM:SS; nothing if it is not known."""
+    """Return how far into the recording a frame is, as H:MM:SS; an empty text if that is not known.
+    """
     if start is None or part.origin is None:
         return ""
     seconds = ticks_between(start, pts_of(frame, part.origin)) // 90_000
@@ -279,13 +281,14 @@ def text_spans(timeline: Timeline) -> Iterator[Span]:
 
 def subtitle_values(part: Part, severity: Severity, beside: JudgedBeside | None) \
         -> Iterator[Members]:
-    """Yield the subtitles of a part in the order of the file, each with its times and verdict."""
+    """Yield the JSON rows of the subtitles of a part in the order of the file, with times and
+    verdicts."""
     rows = [*judged_values(part, severity), *refused_values(part, severity, beside)]
     yield from sorted(rows, key=lambda row: int(row["position"]))
 
 
 def judged_values(part: Part, severity: Severity) -> Iterator[Members]:
-    """Yield the values of the subtitles that were judged."""
+    """Yield the JSON rows of the subtitles that were judged."""
     judge, option = CueJudge(part, severity), BY_WORD[part.request.option].bits
     start = recording_start(part)
     for place, cue in enumerate(cues_of(part)):
@@ -311,7 +314,7 @@ def judged_values(part: Part, severity: Severity) -> Iterator[Members]:
 
 def refused_values(part: Part, severity: Severity, beside: JudgedBeside | None) \
         -> Iterator[Members]:
-    """Yield the values of the subtitles that the subtitle file has wrong."""
+    """Yield the JSON rows of the subtitles with faults in the subtitle file."""
     file = SubtitleFile(part.names.given, part.request.between)
     for refused in refused_subtitles(part, file, beside):
         if refused.subtitle and (refused.faults or beside):
@@ -323,7 +326,7 @@ def refused_values(part: Part, severity: Severity, beside: JudgedBeside | None) 
 
 def file_values(part: Part, subtitle: NamedSubtitle, verdict: str, reason: str | None,
                 text: str | None) -> Members:
-    """Return the values of a subtitle of which the file alone is known."""
+    """Return the JSON row of a subtitle that is known only from the subtitle file."""
     unknown = dict.fromkeys(("recording_offset", "actual_in", "actual_out", "delay_in",
                              "delay_out", "decoded_text", "complete_after"))
     return {"part": part.number, "position": subtitle.position, "number": subtitle.number,

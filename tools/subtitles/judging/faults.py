@@ -33,8 +33,8 @@ from .verdict import Verdict
 
 
 class FaultPlace(NamedTuple):
-    """A PES packet (`None` between two), its PTS, and the page decoded then; for refused control
-    bits (67) each header of the page."""
+    """A PES packet (`None` between two packets), its PTS, and the page decoded then; for refused
+    control bits (67) each header of the page."""
 
     pes: int | None
     pts: int | None
@@ -66,19 +66,20 @@ def fault_place(fault: FaultLine, packets: Packets, held: Timeline | None,
 
 
 def member_of(members: Sequence[Run], packet: int) -> Run:
-    """Return the PES packet of a frame that has a Teletext packet; their numbers run on."""
+    """Return the PES packet of a frame that has a Teletext packet; the packet numbers run on
+    through all PES packets of the frame."""
     ends = itertools.accumulate(run.units for run in members)
     return next((run for run, end in zip(members, ends) if packet < end), members[-1])
 
 
 def code_of(fault: FaultLine, rows: Rows) -> int | None:
-    """Return the code of the cell that a fault names, or `None`."""
+    """Return the code of the cell that a fault names, or `None` if the fault names no cell."""
     return None if fault.row is None or fault.column is None else \
         code_at(rows, fault.row, fault.column)
 
 
 def code_at(rows: Rows | None, row: int, column: int) -> int | None:
-    """Return the code of a cell, or `None` if it is left from a page before the recording."""
+    """Return the code of a cell, or `None` if no code was received for the cell."""
     if rows is None or rows[row - 1][column] == OLD:
         return None
     return rows[row - 1][column] & 0x7F
@@ -87,7 +88,7 @@ def code_at(rows: Rows | None, row: int, column: int) -> int | None:
 # Hints on the first fault of some numbers
 
 HINTED = {EMPTY_TIME, CHARACTER, OUT_OF_ORDER, OFF_FRAME, CONTROL, GAP, PARITY, SILENT}
-NAMED = {DISPLAY, CONTENT}  # their hint names the option, or the difference
+NAMED = {DISPLAY, CONTENT}  # faults whose hint names the option, or the difference
 OF_HEADERS = {32, 35}  # lengths of PES packets and of their headers
 OF_ENDS = {BEGIN, END}  # the recording begins late or ends early
 HINTS = HINTED | NAMED | OF_HEADERS | OF_ENDS
@@ -95,7 +96,7 @@ DSC = slice(11, 12)  # the field in the GSI block
 
 
 def hints_of(verdict: Verdict) -> Iterator[str]:
-    """Yield a line on the first fault of each number with a hint, in the order of the list."""
+    """Yield a line on the first fault of each number with a hint, in the order of the faults."""
     for part in verdict.parts:
         for number, fault in part.answer.firsts.items():
             if number in HINTS and (words := hint_words(fault, part, verdict)):
@@ -103,7 +104,7 @@ def hints_of(verdict: Verdict) -> Iterator[str]:
 
 
 def hint_words(fault: FaultLine, part: Part, verdict: Verdict) -> str:
-    """Return the hint on a fault, or nothing."""
+    """Return the hint on a fault, or an empty text."""
     request = verdict.request
     if fault.number == CHARACTER:
         if not fault.block or fault.at is None:
@@ -137,8 +138,8 @@ def hint_words(fault: FaultLine, part: Part, verdict: Verdict) -> str:
 
 
 def lead_words(fault: FaultLine, part: Part, verdict: Verdict) -> str:
-    """Return the hint on the fault to report first. For a header it begins with its subtitle and
-    its effect on receivers."""
+    """Return the hint on the fault to report first. The hint on a header begins with the subtitle
+    and the effect on receivers."""
     words = hint_words(fault, part, verdict)
     if fault.number != CONTROL or not words or fault.frame is None:
         return words
@@ -147,8 +148,8 @@ def lead_words(fault: FaultLine, part: Part, verdict: Verdict) -> str:
 
 
 def whose_words(frame: int, part: Part) -> str:
-    """Return the expected subtitle at a frame with its text, or else the page and the subtitle
-    before."""
+    """Describe the subtitle expected at a frame with its text; in a pause, the page and the
+    subtitle before."""
     due = part.due()
     count, is_due = due.due(frame)
     if not is_due:
@@ -158,7 +159,7 @@ def whose_words(frame: int, part: Part) -> str:
 
 
 def letter_words(fault: FaultLine, part: Part) -> str:
-    """Return which character of which subtitle has even parity, or nothing."""
+    """Describe which character of a subtitle has even parity; an empty text if none is known."""
     rows = fault_place(fault, part.packets, part.held).rows
     if fault.frame is None or rows is None:
         return ""
@@ -176,13 +177,15 @@ def letter_words(fault: FaultLine, part: Part) -> str:
 
 
 def end_words(part: Part) -> str:
-    """Return why the PID has no Teletext after the last PES packet judged, or nothing."""
+    """Describe why the PID has no Teletext after the last judged PES packet; an empty text if it
+    does."""
     is_last = part.pes is not None and part.pes[1] == part.packets.count - 1
     return (why_refused(part.packets) or "") if is_last and part.packets.refusal else ""
 
 
 def unrecorded_words(fault: FaultLine, part: Part) -> str:
-    """Return how many subtitles were not recorded, and the option that judges the others."""
+    """Describe how many subtitles were not recorded, and the option that judges the other
+    subtitles."""
     frame, subtitles = fault.frame, part.due().subtitles
     if frame is None or not subtitles or part.causes and fault.number in part.causes.of_edge:
         return ""
@@ -202,7 +205,8 @@ def unrecorded_words(fault: FaultLine, part: Part) -> str:
 
 
 def block_words(fault: FaultLine, subtitles: SubtitleFile) -> str:
-    """Return the subtitle of the block of a fault, with its time and text, or nothing."""
+    """Describe the subtitle of the block of a fault, with its time and text; an empty text without
+    a block."""
     subtitle = subtitles.at_block(fault.block) if fault.block else None
     if subtitle is None or not fault.block:
         return ""
@@ -211,7 +215,8 @@ def block_words(fault: FaultLine, subtitles: SubtitleFile) -> str:
 
 
 def stored_text(text: bytes) -> str:
-    """Return the text of a subtitle as readable characters, its lines separated by slashes."""
+    """Return the stored text of a subtitle as readable characters, its lines separated by slashes.
+    """
     lines = list[str]()
     for line in text.split(NEW_LINE):
         at, characters = 0, ""
@@ -225,13 +230,13 @@ def stored_text(text: bytes) -> str:
 
 
 def open_words(subtitles: SubtitleFile) -> str:
-    """Return how to accept a display standard code of open subtitles, or of none."""
+    """Describe how to accept a display standard code of open subtitles, or of none."""
     kind = {b"0": "0, open subtitles", b" ": "a space, none"}.get(subtitles.data[DSC])
     return f"its DSC is {kind}: --open takes it" if kind else ""
 
 
 def silent_words(fault: FaultLine, part: Part) -> str:
-    """Return from when on, and for how long, no PES packet came."""
+    """Describe from which time on, and for how many frames, no PES packet came."""
     request, pes, origin = part.request, part.pes, part.origin
     if request is None or request.pace is None or pes is None or origin is None \
             or fault.frame is None:
@@ -245,8 +250,8 @@ def silent_words(fault: FaultLine, part: Part) -> str:
 
 def gap_words(sent: tuple[Sequence[int], Sequence[int]], origin: int, request: Request,
               numbers: set[int], times: Sequence[tuple[int, int]]) -> str:
-    """Return the longest gap between headers of the page, or after the last one, if all PES packets
-    can be read. `sent` has the PTS of headers, and that of the last PES packet."""
+    """Describe the longest gap between headers of the page, or after the last header; an empty text
+    if some PES packets can't be read. `sent` has the PTS of headers and of the last PES packet."""
     headers, last = ([frame for pts in some if (frame := frame_at(pts, origin, request.within))
                       is not None] for some in sent)
     end = last[0] + 1 if last else 0
@@ -277,7 +282,7 @@ class PartFaults:
         return itertools.starmap(self.fault, self.part.answer.told())
 
     def fault(self, fault: FaultLine, end: End) -> Members:
-        """Return the details of a fault."""
+        """Return a fault with its details for the JSON result."""
         is_stl = fault.number in STL_FAULTS
         due = self.part.due().page_at(fault.frame) if fault.number == CONTENT and \
             fault.frame is not None else None
@@ -310,27 +315,27 @@ class PartFaults:
         }
 
     def cause_of(self, fault: FaultLine) -> Members | None:
-        """Return the cause of the subtitle of a 63, 72 or 74."""
+        """Return the cause of the subtitle of a fault 63, 72 or 74."""
         if self.wording is None or fault.number not in WITH_CAUSE or fault.frame is None:
             return None
         cause = self.wording.causes.of(fault.number, fault.frame)
         return self.wording.values(cause) if cause else None
 
     def subtitle_of(self, fault: FaultLine) -> NamedSubtitle | None:
-        """Return the subtitle of a block, or the latest one at a frame."""
+        """Return the subtitle of the block of a fault, or the subtitle expected at its frame."""
         if fault.block is not None:
             return self.subtitles.at_block(fault.block)
         return self.subtitles.at_frame(fault.frame) if fault.frame is not None else None
 
     def time_at(self, pts: int | None) -> str | None:
-        """Return the time code of a PTS, or `None` if it is not that of a frame."""
+        """Return the time code of a PTS, or `None` if the PTS is not that of a frame."""
         if pts is None or self.part.origin is None:
             return None
         frame = frame_at(pts, self.part.origin, self.request.within)
         return None if frame is None else time_of(frame)
 
     def cell(self, rows: Rows | None, fault: FaultLine) -> Members | None:
-        """Return the cell that a fault names."""
+        """Return the cell that a fault names, for the JSON result."""
         if fault.row is None or fault.column is None:
             return None
         code = code_at(rows, fault.row, fault.column)
@@ -351,7 +356,7 @@ def words_of_subtitle(subtitle: NamedSubtitle) -> Members:
 
 
 def named_fault(verdict: Verdict, fault: NamedFault) -> Members:
-    """Return the details of a fault without a number."""
+    """Return a fault without a number, with its details for the JSON result."""
     part = next((part for part in verdict.parts if part.number == fault.part), None)
     file = part.subtitle_file() if part else None
     frame = frame_of(fault.time) if fault.time else None
@@ -367,7 +372,7 @@ def named_fault(verdict: Verdict, fault: NamedFault) -> Members:
 
 
 def faults_of(verdict: Verdict) -> Iterator[Members]:
-    """Yield the faults without a number, then those of all parts."""
+    """Yield the faults without a number, then the numbered faults of all parts."""
     yield from (named_fault(verdict, fault) for fault in verdict.named)
     for part in verdict.parts:
         if part.answer.count:

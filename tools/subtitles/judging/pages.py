@@ -29,7 +29,8 @@ SPACES = bytes(max(code, SPACE) for code in range(256))  # spacing attributes ar
 
 
 class LetteredRow(NamedTuple):
-    """A row with characters: its number, the column of the first, its text and attributes."""
+    """A row with characters: the row number, the column of the first character, the text and the
+    attributes."""
 
     row: int
     column: int
@@ -51,7 +52,7 @@ def lettered_rows(rows: Rows) -> tuple[LetteredRow, ...]:
 
 
 def words_on(rows: Rows) -> str:
-    """Return the text of a page, wherever it stands."""
+    """Return the text of a page in one line, wherever the text is on the page."""
     return " ".join(b" ".join(line.words for line in lettered_rows(rows)).decode("latin-1").split())
 
 
@@ -63,7 +64,8 @@ def page_text(rows: Rows, option: int) -> str:
 
 
 def cells_text(rows: Rows) -> str:
-    """Return the rows that have cells: attributes in hexadecimal, characters as they are."""
+    """Return the rows of a page that have cells: attributes in hexadecimal, characters as they are.
+    """
     lines = []
     for number, row in enumerate(rows, 1):
         cells = row.strip(b" ")
@@ -89,7 +91,7 @@ def code_words(code: int) -> str:
 
 
 def moved_words(due: Rows, sent: Rows) -> str:
-    """Return the first difference in the places of the same text."""
+    """Describe the first difference between the places of the same text on two pages."""
     for row, other in zip(lettered_rows(due), lettered_rows(sent)):
         if row.row != other.row:
             return f"row {other.row} instead of {row.row}"
@@ -99,7 +101,8 @@ def moved_words(due: Rows, sent: Rows) -> str:
 
 
 def attribute_words(due: Rows, sent: Rows) -> str:
-    """Return the first differing cell, and how far its row begins or ends elsewhere."""
+    """Describe the first differing cell of two pages, and how far its row begins or ends elsewhere.
+    """
     for number, (row, other) in enumerate(zip(due, sent), 1):
         for column, (code, held) in enumerate(zip(row, other)):
             if code != held:
@@ -109,7 +112,7 @@ def attribute_words(due: Rows, sent: Rows) -> str:
 
 
 def ends_words(due: bytes, sent: bytes) -> str:
-    """Return by how many columns a row begins or ends early or late, attributes included."""
+    """Describe by how many columns a row begins or ends early or late, attributes included."""
     (first, end), (begins, ends) = extent(due), extent(sent)
     words = [] if begins == first else [columns_words("begins", begins - first)]
     words += [] if ends == end else [columns_words("ends", ends - end)]
@@ -117,19 +120,20 @@ def ends_words(due: bytes, sent: bytes) -> str:
 
 
 def extent(row: bytes) -> tuple[int, int]:
-    """Return the columns of the first cell that is no space, and after the last one."""
+    """Return the first column of a row that is not a space, and the column after the last such one.
+    """
     return len(row) - len(row.lstrip(b" ")), len(row.rstrip(b" "))
 
 
 def columns_words(what: str, columns: int) -> str:
-    """Return `begins a column early` or the like; positive columns are late."""
+    """Return text such as `begins a column early`; positive columns are late."""
     count = "a column" if abs(columns) == 1 else counted(abs(columns), "column")
     return f"{what} {count} {'late' if columns > 0 else 'early'}"
 
 
 def is_moved(due: Rows, sent: Rows) -> bool:
-    """Return whether the same text is in other places for another reason than a different
-    attribute, which takes a cell too."""
+    """Return whether the same text is at other places on two pages, and not only because an
+    attribute differs, which takes a cell too."""
     rows, other = lettered_rows(due), lettered_rows(sent)
     if [line.row for line in rows] != [line.row for line in other]:
         return True
@@ -138,7 +142,8 @@ def is_moved(due: Rows, sent: Rows) -> bool:
 
 
 def beside_words(due: Rows, sent: Rows) -> str:
-    """Return the rows that a page has in addition to the expected ones, if these are all right."""
+    """Describe the rows that a page has in addition to the expected rows, if these are all right.
+    """
     if any(row != other for row, other in zip(due, sent) if row.strip()):
         return ""
     *others, last = ["", *(str(line.row) for line in lettered_rows(sent)
@@ -150,7 +155,7 @@ def beside_words(due: Rows, sent: Rows) -> str:
 
 
 def is_part(sent: Rows, due: Rows) -> bool:
-    """Return whether a page has some rows of another one, and nothing else."""
+    """Return whether a page has only some rows of another page."""
     return all(row == wanted or not row.strip() for row, wanted in zip(sent, due))
 
 
@@ -158,8 +163,8 @@ def is_part(sent: Rows, due: Rows) -> bool:
 
 
 class LetterRow(NamedTuple):
-    """A row with characters: its number, the column of its first cell, the codes before the first
-    character, the cells up to the last one, and the codes after it."""
+    """A row with characters: the row number, the column of the first cell, the codes before the
+    first character, the cells from the first character to the last, and the codes after that."""
 
     row: int
     column: int
@@ -180,8 +185,8 @@ def lines_of(rows: Rows) -> Iterator[LetterRow]:
 
 def otherwise(subtitles: Sequence[Subtitle], pages: Sequence[Rows], held: Timeline,
               option: NationalOption) -> str:
-    """Return how many subtitles were sent with the right characters and drawn otherwise, and the
-    difference of the first."""
+    """Describe how many subtitles were sent with the right characters but drawn differently, and
+    the difference of the first."""
     differing = [(subtitle, page, sent.rows) for subtitle, page in zip(subtitles, pages)
                  for sent in sent_in([subtitle], held, option) if sent.rows != page]
     if not differing:
@@ -194,7 +199,7 @@ def otherwise(subtitles: Sequence[Subtitle], pages: Sequence[Rows], held: Timeli
 
 
 def cells_words(due: Rows, sent: Rows) -> str:
-    """Return the first differing row of a page with the right characters: its row, column and
+    """Describe the first differing row of a page with the right characters: its row, column and
     codes."""
     lines, others = [*lines_of(due)], [*lines_of(sent)]
     if len(lines) != len(others):
@@ -230,7 +235,7 @@ HIDDEN = "hidden"  # kind of a warning
 
 class Cell(NamedTuple):
     """A character of a row: its column and code; whether two start boxes open its box, or at least
-    one does; and whether it has the colour of its background."""
+    one start box does; and whether it has the colour of its background."""
 
     column: int
     code: int
@@ -240,12 +245,12 @@ class Cell(NamedTuple):
 
     @property
     def is_seen(self) -> bool:
-        """Return whether libzvbi shows it."""
+        """Return whether libzvbi shows the character."""
         return self.is_boxed and not self.is_alike
 
     @property
     def is_seen_somewhere(self) -> bool:
-        """Return whether any of the tested decoders shows it."""
+        """Return whether any of the tested decoders shows the character."""
         return self.is_begun and not self.is_alike
 
 
@@ -279,7 +284,7 @@ def letters_in(cells: bytes) -> Iterator[Cell]:
 
 @functools.lru_cache(maxsize=1000)
 def sight_of(cells: bytes) -> Sight:
-    """Return how much of a row receivers show; cached, since most rows are blank."""
+    """Return how much of a row receivers show. Results are cached, since most rows are blank."""
     drawn_cells = [*letters_in(cells)]
     if all(cell.is_seen for cell in drawn_cells):
         return Sight.ALL
@@ -287,7 +292,7 @@ def sight_of(cells: bytes) -> Sight:
 
 
 def hidden_words(cells: bytes, option: str) -> str:
-    """Return which characters of a row which decoders hide, and why."""
+    """Describe which characters of a row are hidden, by which decoders, and why."""
     table = letters(BY_WORD[option].bits)
 
     def text(several: Sequence[Cell]) -> str:
@@ -319,7 +324,7 @@ def may_hide(subtitles: Sequence[Subtitle], has_layout: bool) -> bool:
 
 def hidden_rows(subtitles: Sequence[Subtitle], pages: Sequence[Rows], file: SubtitleFile,
                 option: str) -> HiddenRows:
-    """Return the faults and warnings of the rows of all subtitles."""
+    """Return the faults and warnings on hidden rows of all subtitles."""
     hidden = HiddenRows([], [])
     for subtitle, page in zip(subtitles, pages):
         for row, cells in enumerate(page, 1):

@@ -57,7 +57,7 @@ def explained(part: Part, verdict: Verdict, listener: Listener, is_summed: bool)
 
 
 def drawn_otherwise(part: Part, causes: Causes, option: str) -> str:
-    """Return how receivers draw a refused page otherwise though all characters are right."""
+    """Describe how receivers draw a refused page differently though all characters are right."""
     if CONTENT not in part.answer.numbers:
         return ""
     due = part.due()
@@ -66,7 +66,8 @@ def drawn_otherwise(part: Part, causes: Causes, option: str) -> str:
 
 def delays_in(part: Part, causes: Causes | None, request: Request, is_summed: bool) \
         -> Sequence[int | None]:
-    """Return the delay of each subtitle in frames, or nothing if no output has it."""
+    """Return the delay of each subtitle of a part in frames; an empty list if no output has the
+    delays."""
     held = causes.held if causes else part.held
     if not (is_summed or request.within) or not held:
         return ()
@@ -94,7 +95,7 @@ def part_options(part: Part) -> list[str]:
 
 
 def check_part(part: Part, typed: CommandWords, listener: Listener) -> None:
-    """List all faults of the PES packets of a part."""
+    """Run `check` on the PES packets of a part, and list all faults."""
     recording, words = part.recorded[0], [*part_options(part), "--all"]
     listener.written(typed.program_word, "check", part.request.stl, recording.shown, *words)
     check([typed.program_path, "check", *words, "--", part.names.given, recording.path],
@@ -106,7 +107,8 @@ def check_part(part: Part, typed: CommandWords, listener: Listener) -> None:
 
 
 class Located(NamedTuple):
-    """A recording that was read, its parts with their clocks, and the subtitles of the file."""
+    """A recording that was read, the parts of it with their clocks, and the subtitles of the file.
+    """
 
     recording: Recording
     clocks: PartClocks
@@ -114,7 +116,7 @@ class Located(NamedTuple):
 
 
 def adjoining_at(part: Part) -> int | None:
-    """Return the last TCO of a part if its only fault is the page shown then, or `None`."""
+    """Return the last TCO of a part if its only fault is the page decoded then, or `None`."""
     fault, (_, alignment) = part.answer.first, part.recorded
     is_alone = part.answer.count == 1 and fault is not None and fault.number == CONTENT
     frame = fault.frame if fault else None
@@ -123,8 +125,8 @@ def adjoining_at(part: Part) -> int | None:
 
 
 def pauses_near(subtitles: Sequence[Subtitle], at: int) -> list[int]:
-    """Return the last TCO before frame `at` that a pause follows, and the first after it. The end
-    of the file counts as a pause."""
+    """Return the last TCO before frame `at` that a pause follows, and the first such TCO after the
+    frame. The end of the file counts as a pause."""
     ends = [subtitle.end for subtitle, other in zip(subtitles, subtitles[1:])
             if subtitle.end < other.begin]
     ends += [subtitles[-1].end] if subtitles else []
@@ -147,7 +149,7 @@ class Pair:
         return again(self.request, self.typed, *more)
 
     def judge(self) -> None:
-        """Judge the pair; raise `Unclear` if something must be settled first."""
+        """Judge the pair; raise `Unclear` if the operator must settle something first."""
         request = self.request
         refuse_files(request)
         if request.language is not None:
@@ -167,7 +169,8 @@ class Pair:
 
     @contextlib.contextmanager
     def naming_faults(self) -> Iterator[None]:
-        """Add the fault of a page that is never sent, after which nothing more can be judged."""
+        """Add the fault of a page that is never sent to the verdict; after that nothing more can be
+        judged."""
         try:
             yield
         except NeverSent as never:
@@ -192,7 +195,7 @@ class Pair:
 
     def judge_file(self) -> Answer:
         """Return the faults of the subtitle file alone. If some subtitles are refused, store in the
-        verdict which of the others are judged."""
+        verdict which other subtitles are judged."""
         request, verdict = self.request, self.verdict
         if self.is_summed:
             verdict.stl = file_of(request.stl_path, request.stl)
@@ -206,7 +209,8 @@ class Pair:
         return answer
 
     def look_at_rows(self) -> None:
-        """Add faults of rows that no receiver shows, and warnings of rows that some hide."""
+        """Add faults for rows that no receiver shows, and warnings for rows that some receivers
+        hide."""
         request, file = self.request, SubtitleFile(self.names.given)
         if not may_hide(subtitles_read(file.data), bool(request.layout)):
             return
@@ -217,7 +221,8 @@ class Pair:
         self.verdict.warn(hidden.warnings)
 
     def check_alone(self) -> Answer:
-        """Return the faults of the subtitle file, and that there is no PES packet."""
+        """Return the faults of the subtitle file; the fault of missing PES packets is among them.
+        """
         answer = check_alone(self.request, self.typed.program_path, self.names)
         if answer.verdict != REFUSED or not answer.numbers <= STL_FAULTS | {EMPTY}:
             raise Unsaid(f"{UNSAID}: {answer.last}, where there is no PES packet")
@@ -238,7 +243,7 @@ class Pair:
         return self.verdict.beside.left_out if self.verdict.beside else frozenset()
 
     def judge_alone(self, answer: Answer, is_refused: bool) -> None:
-        """Finish with the subtitle file, which is refused or has no recording."""
+        """Finish a pair whose subtitle file is refused, or that has no recording."""
         say_alone(self.request, self.typed, self.listener)
         answer.move(self.names.list_path)
         if is_refused:
@@ -258,7 +263,8 @@ class Pair:
                 of_block=block_words(answer.first, part.subtitle_file()))
 
     def subtitles(self) -> list[Subtitle]:
-        """Return the subtitles to judge; raise `Unclear` if there are none between the times."""
+        """Return the subtitles to judge; raise `Unclear` if no subtitle is between --from and --to.
+        """
         between = self.request.between
         if self.verdict.beside:
             return self.verdict.beside.judged
@@ -273,7 +279,8 @@ class Pair:
 
     @functools.cached_property
     def located(self) -> Located:
-        """Read the recording, once, and find its parts; raise `Unclear` if that fails."""
+        """Read the recording, once, and find its parts; raise `Unclear` if the parts are not clear.
+        """
         request = self.request
         subtitles = self.subtitles()
         self.verdict.count = len(subtitles)
@@ -300,8 +307,8 @@ class Pair:
         return Located(recording, clocks, subtitles)
 
     def is_continued(self, first: Subtitle) -> bool:
-        """Return whether a subtitle that is not judged adjoins the first one and has the same text.
-        """
+        """Return whether a subtitle that is not judged adjoins the first judged one and has the
+        same text."""
         request, option = self.request, BY_WORD[self.request.option]
         if not request.between.begin and not self.left_out:
             return False
@@ -310,7 +317,7 @@ class Pair:
                    for one in subtitles_read(SubtitleFile(self.names.given).data))
 
     def refuse_range(self, recording: Recording) -> None:
-        """Raise `Unclear` if the recording has none of the PES packets of --pes."""
+        """Raise `Unclear` if the recording has no PES packet in the range of --pes."""
         count, pes = recording.packets.count, self.request.pes
         if pes and count and pes[0] >= count:
             has = f"{counted(count, 'PES packet')}, 0-{count - 1}"
@@ -319,7 +326,7 @@ class Pair:
 
     def judge_beside(self, answer: Answer) -> None:
         """Judge the transmission of the subtitles that are not refused. If that fails, the file is
-        refused all the same, and a note says why."""
+        refused all the same, and a note gives the reason."""
         try:
             with self.naming_faults():
                 self.judge_transmission()
@@ -369,7 +376,7 @@ class Pair:
         return parts
 
     def judge_part(self, part: Part, programme: PartSearch, subtitles: list[Subtitle]) -> None:
-        """Judge a part: cut its PES packets, measure their pace, run `check` and explain its
+        """Judge a part: find its PES packets, measure their pace, run `check` and explain its
         faults."""
         listener, request, (recording, _) = self.listener, part.request, part.recorded
         own = [subtitle for subtitle in subtitles if request.between.has(subtitle.begin)]
@@ -389,8 +396,8 @@ class Pair:
         self.warn_of(part, subtitles)
 
     def refuse_middle(self, part: Part) -> None:
-        """Raise `Unclear` if the only fault is that the next subtitle comes at the last TCO: --to
-        cuts the file where subtitles adjoin."""
+        """Raise `Unclear` if the only fault is that the next subtitle comes at the last TCO, since
+        --to cuts the file where subtitles adjoin."""
         at = adjoining_at(part) if self.request.to_time and not self.verdict.beside else None
         if at is None or part.held is None:
             return
@@ -401,7 +408,7 @@ class Pair:
         fault = part.answer.first
         if not due.pages or not fault or part.held.page_at(fault.frame or at) != due.pages[0]:
             return
-        # With any range but the whole day refused subtitles are skipped, not an error.
+        # Unless the range is the default one, refused subtitles are skipped, not an error.
         subtitles = subtitles_in(program, given, Between(0, FRAMES_OF_A_DAY + 1), request.is_open)
         raise Unclear(f"at {time_of(at)}, where --to cuts the file, the next subtitle adjoins: all "
                       "before it is as it is due, and nothing ends there",
@@ -417,7 +424,7 @@ class Pair:
         self.listener.noted(*notes)
 
     def due_of(self, request: Request, subtitles: list[Subtitle]) -> DuePages:
-        """Return the expected pages of a part; in a file with refused subtitles, those of the
+        """Return the expected pages of a part; if the file has refused subtitles, only those of the
         others."""
         if self.verdict.beside:
             layout = layout_of(request.layout or "") or PLAIN
@@ -438,7 +445,7 @@ class Pair:
         self.verdict.warn([*warnings, *notices.character_set_notices(packets, self.request)])
 
     def warn_of(self, part: Part, subtitles: list[Subtitle]) -> None:
-        """Add warnings about pauses in a part, and about how often it repeats its page."""
+        """Add warnings about pauses in a part, and about how often the page is repeated."""
         origin = part.recorded[1].origin
         times = [(subtitle.begin, subtitle.end) for subtitle in subtitles]
         self.verdict.warn([

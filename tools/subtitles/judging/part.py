@@ -29,19 +29,20 @@ from .transmissions import DuePages, Kept
 
 
 def nothing_due() -> DuePages:
-    """Return no pages: a file that is refused has no expected pages."""
+    """Return no pages: a subtitle file that is refused has no expected pages."""
     return DuePages([], [])
 
 
 @dataclasses.dataclass(frozen=True)
 class Part:
-    """What is judged separately: the whole pair, or the subtitles of one clock. Each step of
-    judging returns a part with more fields.
+    """A pair, or the subtitles of one clock, which are judged separately. Each step of judging
+    returns a part with more fields.
 
     `alignment`, the frames and their clock, comes first; a subtitle file alone has none. Then come
-    `pes`, the PES packets, with the file `judged` if they came through a pipe; then an option of
-    the request for the pace, and `jumps`, the PTS around announced jumps of the counter during
-    which more time passes than usual. Then `check` fills `answer`, and the rest explains that.
+    `pes`, the PES packets, with the file `judged` if the packets came through a pipe; then an
+    option of the request for the pace, and `jumps`, the PTS around announced jumps of the counter
+    during which more time passes than usual. Then `check` fills `answer`, and the other fields
+    explain the result of `check`.
     """
 
     number: int
@@ -57,19 +58,19 @@ class Part:
     due: Callable[[], DuePages] = nothing_due
     timeline: Callable[[], Timeline | None] = lambda: None
     severity: Severity | None = None
-    causes: Causes | None = None  # of its refused content
+    causes: Causes | None = None  # of refused content
     delays: Sequence[int | None] = ()  # frames until each subtitle was complete
-    was_read: bool = False  # also if it has no recording
-    hint: str = ""  # on the fault that is reported first
+    was_read: bool = False  # also if there is no recording
+    hint: str = ""  # on the fault to report first
     of_block: str = ""  # the subtitle of the refused block
-    sent_hint: str = ""  # on the first fault of its transmission
-    of_header: str = ""  # what is wrong with its PES headers
-    otherwise: str = ""  # what receivers draw otherwise though all characters are right
-    kept: Kept | None = None  # headers that don't erase the page, if that is their only fault
+    sent_hint: str = ""  # on the first fault of the transmission
+    of_header: str = ""  # the fault of the PES headers
+    otherwise: str = ""  # how receivers draw pages with the right characters differently
+    kept: Kept | None = None  # headers that don't erase the page, if they have no other fault
 
     @property
     def packets(self) -> Packets:
-        """Return the packets on the PID of its recording."""
+        """Return the packets on the PID of the part's recording."""
         return self.recording.packets if self.recording else Packets(PES)
 
     @property
@@ -82,27 +83,27 @@ class Part:
 
     @property
     def stream(self) -> tuple[int, int] | None:
-        """Return the PID and the TS packet size in bytes, or `None` unless it is a transport
-        stream."""
+        """Return the PID and the TS packet size in bytes, or `None` unless the recording is a
+        transport stream."""
         return self.recording.stream() if self.recording else None
 
     @property
     def recorded(self) -> tuple[Recording, Found]:
-        """Return the recording and the frames; only for parts that have them."""
+        """Return the recording and the frames of a part that has both."""
         assert self.recording and self.alignment
         return self.recording, self.alignment
 
     @property
     def waived(self) -> set[int]:
-        """Return the fault numbers that the severity file makes warnings, or none if it makes all
-        of them warnings: then the verdict is about them."""
+        """Return the fault numbers that the severity file makes warnings; none if all fault numbers
+        of the part are warnings, since these then decide the verdict."""
         numbers = {number for number in self.answer.numbers
                    if self.severity and not self.severity.is_error(number)}
         return numbers if numbers != self.answer.numbers else set()
 
     @functools.cached_property
     def worst(self) -> Lead | None:
-        """Return the fault to report first, if any; a waived one never comes first."""
+        """Return the fault to report first, if any; never a waived fault."""
         return lead_of(self.answer, self.causes, self.waived)
 
     @functools.cached_property
@@ -122,7 +123,7 @@ class Part:
 
     @property
     def held(self) -> Timeline | None:
-        """Return the pages that a receiver decodes from what is judged."""
+        """Return the pages that a receiver decodes from the judged PES packets."""
         return self.timeline()
 
     def with_range(self, pes: Range, judged: SummedFile | None = None) -> Part:
@@ -137,20 +138,20 @@ class Part:
                                    timeline=functools.lru_cache(maxsize=None)(timeline))
 
     def subtitle_file(self) -> SubtitleFile:
-        """Return its subtitle file, to look up subtitles by block or frame."""
+        """Open the subtitle file of a part, to look up subtitles by block or frame."""
         return SubtitleFile(self.names.given, self.request.between, self.left_out)
 
     def said(self) -> Said:
-        """Return what decides its verdict."""
+        """Return what decides the verdict on a part."""
         return self.answer.said(self.was_read)
 
     @property
     def is_refused(self) -> bool:
-        """Return whether it has faults, of any severity."""
+        """Return whether a part has faults, of any severity."""
         return self.answer.verdict == REFUSED
 
     def is_read(self) -> bool:
-        """Return whether at least one of its PES packets could be read."""
+        """Return whether at least one PES packet of a part could be read."""
         if self.pes is None:
             return False
         numbers = self.answer.numbers - STL_FAULTS
@@ -162,7 +163,7 @@ class Part:
         return count > self.answer.passed.total()
 
     def places(self) -> list[Place]:
-        """Return the places of its recording where packets are missing."""
+        """Return the places of the part's recording where packets are missing."""
         return self.recording.places(self.jumps) if self.recording else []
 
     @functools.cached_property
@@ -176,21 +177,22 @@ class Part:
 
     @functools.cached_property
     def trusted(self) -> Spans:
-        """Return the clean frames, without those that lost packets."""
+        """Return the clean frames, except frames with lost packets."""
         return self.answer.trusted.without(self.losses)
 
     def pts(self, does: str = "") -> array.array[int]:
-        """Return the PTS of its PES packets, or of those with some of the flags `does`."""
+        """Return the PTS of the part's PES packets, or only of packets with some of the flags
+        `does`."""
         return array.array("q", self.packets.pts(self.pes, does) if self.pes else ())
 
     def options_sent(self) -> set[str]:
-        """Return the national options of the headers of the page."""
+        """Return the national options in the headers of the page."""
         bits = {national_option(header) for run in self.packets.inside(*self.pes or NO_RANGE)
                 for header in headers_in(run.control)}
         return {BY_BITS[one].word for one in bits if one != RESERVED}
 
     def headers_sent(self) -> collections.Counter[bytes]:
-        """Count each of the headers that `check` reads."""
+        """Count each header of the page that `check` reads."""
         counts: collections.Counter[bytes] = collections.Counter()
         for run in self.packets.inside(*self.pes or NO_RANGE):
             if run.pts is not None and not run.fault:
@@ -200,18 +202,18 @@ class Part:
 
     @property
     def pes_name(self) -> str | None:
-        """Return the range of its PES packets as an argument of --pes."""
+        """Return the range of the part's PES packets as an argument of --pes."""
         return self.pes and f"{self.pes[0]}-{self.pes[1]}"
 
     def times(self) -> tuple[str, str] | tuple[None, None]:
-        """Return its first and last frame as time codes."""
+        """Return the first and the last frame of a part as time codes."""
         alignment = self.alignment
         return (time_of(alignment.begin), time_of(alignment.end)) if alignment else (None, None)
 
 
 def is_in(place: Place, part: Part) -> bool:
-    """Return whether packets missing at a place belong to a part: the gap marker is one of its PES
-    packets, or without one its frames may lack packets."""
+    """Return whether packets missing at a place belong to a part: the gap marker is among the
+    part's PES packets, or if there is no gap marker, frames of the part may lack packets."""
     if part.alignment is None:
         return False
     if place.mark is not None and part.pes is not None:
@@ -227,8 +229,8 @@ def is_in(place: Place, part: Part) -> bool:
 
 
 def parted(alignments: Sequence[Found], whole: Found) -> list[Found]:
-    """Return the parts to judge: the whole file, or if there are several parts, each with the
-    subtitles that begin in its frames."""
+    """Return the parts to judge: the file as one part, or several parts, each with the subtitles
+    that begin in its frames."""
     if len(alignments) == 1:
         return [whole._replace(clock=alignments[0].clock, packets=alignments[0].packets)]
     return [alignment._replace(between=Between(alignment.begin, alignment.end))
@@ -236,7 +238,8 @@ def parted(alignments: Sequence[Found], whole: Found) -> list[Found]:
 
 
 def refuse_others(parts: Sequence[Found], subtitles: Sequence[Subtitle], stl: str) -> None:
-    """Raise `Unclear` unless the parts together have the subtitles of `stl`, in their order."""
+    """Raise `Unclear` unless the parts together have the subtitles of `stl`, in the order of the
+    file."""
     own = [subtitle for part in parts for subtitle in subtitles if part.between.has(subtitle.begin)]
     left = len(subtitles) - len(own)
     if left > 0:
@@ -250,7 +253,7 @@ def refuse_others(parts: Sequence[Found], subtitles: Sequence[Subtitle], stl: st
 
 
 def part_causes(part: Part) -> Causes | None:
-    """Return the causes of a part that was judged, or `None` if there are none."""
+    """Return the causes of faults in a part that was judged, or `None` if there are no causes."""
     request, (recording, alignment) = part.request, part.recorded
     lost = part.places() if recording.is_stream else []
     held = timeline_near(part.packets, request.page, alignment.origin, request.within,
@@ -263,7 +266,7 @@ def part_causes(part: Part) -> Causes | None:
 
 
 def reach(pts: tuple[int, int] | None, alignment: Found) -> Span | None:
-    """Return the frames between two PTS, all of which were recorded, or `None` if PTS go back."""
+    """Return the frames between two PTS, which were all recorded, or `None` if PTS go back."""
     if pts is None or alignment.packets:
         return None
     first, last = (ticks_within(pts_of(alignment.begin, alignment.origin),
@@ -273,8 +276,8 @@ def reach(pts: tuple[int, int] | None, alignment: Found) -> Span | None:
 
 def unseen(places: Sequence[Place], origin: int, within: int, is_with_next: bool = True) \
         -> Iterator[Span]:
-    """Return the frames that may lack packets at some places, with the frame of the next PES packet
-    or without."""
+    """Return the frames that may lack packets at some places, with or without the frame of the next
+    PES packet."""
     for place in places:
         first, last = (None if pts is None else frame_in(pts, origin, within)
                        for pts in (place.before, place.after))
@@ -283,7 +286,7 @@ def unseen(places: Sequence[Place], origin: int, within: int, is_with_next: bool
 
 
 def tell_causes(listener: Listener, causes: Causes, option: str) -> None:
-    """Report the first causes, and how many more there are."""
+    """Print the first causes, and how many more there are."""
     wording, every = Wording(causes, option), causes.all()
     for cause in every[:MOST_LINES]:
         listener.said(wording.line(cause))

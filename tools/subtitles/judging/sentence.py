@@ -22,8 +22,7 @@ from .pages import page_text
 from .status import ACCEPTED, LOST, NOT_JUDGED, REFUSED, RELATIVE, WAIVED, WARNED
 
 
-# The fault to report first, in the sentence, in `lead`, in reports and in batch tables, is the one
-# of the worst rank.
+# The sentence, reports and batch tables begin with the fault of the worst rank.
 
 
 class Rank(enum.IntEnum):
@@ -35,7 +34,7 @@ class Rank(enum.IntEnum):
     MOVED = 3  # viewers see it late or early
     COLOUR = 4  # viewers see it in another colour, height or box
     SOME = 5  # viewers of some receivers see that something is wrong
-    UNSEEN = 6  # nobody has seen what was sent
+    UNSEEN = 6  # the transmission was not received there
     LATER = 7  # viewers may see it with other receivers, in weak reception, or when they switch on
 
 
@@ -59,30 +58,31 @@ OF_NAME = {NEVER_SENT: Rank.NEVER, NOT_SHOWN: Rank.WRONG, PICTURES_LEFT: Rank.MO
 
 
 def worst_name(faults: Sequence[NamedFault], than: Rank | None) -> NamedFault | None:
-    """Return the first of the worst named faults, or `None` if `than` is worse."""
+    """Return the first of the worst named faults, or `None` if the rank `than` is worse."""
     worst = min(faults, key=lambda fault: OF_NAME[fault.name]) if faults else None
     return worst if worst and (than is None or OF_NAME[worst.name] <= than) else None
 
 
 def rank_of(number: int) -> Rank:
-    """Return the rank of a fault number."""
+    """Return how severe a fault number is for viewers."""
     return OF_NUMBER.get(number, Rank.LATER)
 
 
 def rank_of_cause(cause: Cause) -> Rank:
-    """Return the rank of a cause. Faults that nobody could see come after those that are certain.
-    """
+    """Return how severe a cause is for viewers. Causes that may be no fault come after certain
+    ones."""
     return Rank.UNSEEN if cause.is_unseen else OF_CAUSE[cause.name]
 
 
 def worst_cause(causes: Iterable[Cause]) -> Cause | None:
-    """Return the first of the worst causes."""
+    """Return the first of the most severe causes, or `None` if there are no causes."""
     several = [*causes]
     return min(several, key=lambda cause: (rank_of_cause(cause), cause.place)) if several else None
 
 
 class Lead(NamedTuple):
-    """The fault to report first: its rank, its position among those of its rank, and its line."""
+    """The fault to report first: its rank, its position among the faults of that rank, and its
+    line."""
 
     rank: Rank
     place: int
@@ -91,7 +91,8 @@ class Lead(NamedTuple):
 
 
 def lead_of(answer: Answer, causes: Causes | None, left_out: Collection[int] = ()) -> Lead | None:
-    """Return the first of the worst faults, except those with numbers in `left_out`."""
+    """Return the first of the most severe faults of a part, except faults with a number in
+    `left_out`."""
     is_caused = bool(causes and causes.named)
     leads = [Lead(rank_of(number), at, told)
              for at, (number, told) in enumerate(answer.firsts.items())
@@ -104,8 +105,8 @@ def lead_of(answer: Answer, causes: Causes | None, left_out: Collection[int] = (
 
 
 def line_of(answer: Answer, causes: Causes, cause: Cause) -> FaultLine | None:
-    """Return the fault line of a cause: the last one up to the first frame with a wrong page, or
-    else the first one."""
+    """Return the fault line of a cause: the last line up to the first frame with a wrong page, or
+    else the first line."""
     edge = next((number for number in (BEGIN, END) if causes.of_edge.get(number) == cause.place
                  and number in answer.firsts), None)
     first = causes.first_frames.get(cause.place)
@@ -184,7 +185,7 @@ WORDS = {
 }
 
 
-# The sentence of a verdict: what is wrong, from when on, and with how many subtitles
+# The sentence of a verdict: the fault, its first time, and the number of subtitles
 
 # The predicate of a cause, for one subtitle and for several.
 SAID = {
@@ -198,13 +199,13 @@ SAID = {
     ERASED: ("is erased while it is due", "are erased while they are due"),
     NOT_RECEIVED: ("was not received", "were not received"),
     UNKNOWN: ("is not held as it is due", "are not held as they are due")}
-OF_ALL = {GAP, OFF_FRAME}  # their hint is about everything that was judged
-BY_HINT = {CONTROL, PARITY}  # their hint replaces the clause
+OF_ALL = {GAP, OFF_FRAME}  # faults whose hint is about everything that was judged
+BY_HINT = {CONTROL, PARITY}  # faults whose hint replaces the clause
 MOST_NUMBERS = 4  # listed in a sentence
 
 
 class Count(NamedTuple):
-    """How many faults there are of a number."""
+    """The number of faults that have one fault number."""
 
     number: int
     name: str
@@ -212,7 +213,7 @@ class Count(NamedTuple):
 
 
 class Facts(NamedTuple):
-    """Everything that the sentence is made of.
+    """Everything that the sentence of a verdict is made from.
 
     `word` is the verdict and `first` the fault to report first. `hint` explains that fault,
     `counts` has all faults by number, `lost` the lines of gaps, `warnings` the kinds of warnings
@@ -238,8 +239,8 @@ class Facts(NamedTuple):
     named: str = ""
     waived: Sequence[Count] = ()  # if something else is refused
     parts: int = 1  # each with its own clock
-    delay: int = 0  # frames by which all subtitles are later than the given clock has them
-    has_picture: bool = False  # one that `--start` can be the time code of
+    delay: int = 0  # frames by which all subtitles are late by the given clock
+    has_picture: bool = False  # the recording has a first picture for `--start`
 
 
 def sentence_of(seen: Facts) -> str:
@@ -267,12 +268,12 @@ def sentence_of(seen: Facts) -> str:
 
 
 def describe_waived_faults(seen: Facts) -> str:
-    """Return the clause on faults that are all warnings."""
+    """Describe faults that the severity file makes warnings."""
     return f"Waived, since these faults are named warnings: {describe_faults(seen)}"
 
 
 def describe_relative_match(seen: Facts) -> str:
-    """Return how the subtitles match by an estimated clock, and which delay it hides."""
+    """Describe how the subtitles match by an estimated clock, and which delay is not checked."""
     within = f" within {counted(seen.within, 'frame')}" if seen.within else ""
     if seen.faults or seen.refused:
         found, delay = describe_waived_faults(seen), "a delay that all subtitles share"
@@ -288,7 +289,7 @@ def describe_relative_match(seen: Facts) -> str:
 
 
 def describe_success(seen: Facts) -> str:
-    """Return the clause on subtitles without a fault."""
+    """Describe subtitles without a fault."""
     subtitles = counted(seen.subtitles, "subtitle")
     if seen.is_file:
         return f"nothing is wrong with {subtitles}"
@@ -298,7 +299,7 @@ def describe_success(seen: Facts) -> str:
 
 
 def describe_valid_subtitles(seen: Facts) -> str:
-    """Return which subtitles are refused, and the result of judging the others."""
+    """Describe which subtitles are refused, and the result of judging the others."""
     others = f"{counted(seen.subtitles, 'other subtitle')} " \
         f"{'was' if seen.subtitles == 1 else 'were'} judged"
     sent = seen._replace(refused="")
@@ -311,13 +312,13 @@ def describe_valid_subtitles(seen: Facts) -> str:
 
 
 def describe_text_period(seen: Facts) -> str:
-    """Return during which frames subtitles must have their text."""
+    """Describe in which frames subtitles must have their text."""
     return f"within {counted(seen.within, 'frame')}" if seen.within else \
         "from the first frame to the last"
 
 
 def describe_faults(seen: Facts) -> str:
-    """Return the worst fault with its first place, then counts of the others."""
+    """Describe the worst fault with its first place, then count the other faults."""
     if seen.refused:
         return describe_valid_subtitles(seen)
     words = fault_clause(seen)
@@ -329,13 +330,13 @@ def describe_faults(seen: Facts) -> str:
 
 
 def describe_delay(subtitles: int, delay: int) -> str:
-    """Return by how many frames all subtitles are late, or early."""
+    """Describe by how many frames all subtitles are late or early."""
     which = f"all {subtitles:,} subtitles are" if subtitles > 1 else "the subtitle is"
     return f"{which} {counted(abs(delay), 'frame')} {LATE if delay > 0 else EARLY}"
 
 
 def fault_clause(seen: Facts) -> str:
-    """Return the first fault with its place, and the number of faults by fault number."""
+    """Describe the first fault with its place, and count the faults by fault number."""
     fault = seen.first
     if fault is None and seen.named:
         return seen.named + (f"; in all {counted(seen.faults, 'fault')}" * (seen.faults > 1))
@@ -359,7 +360,7 @@ def fault_clause(seen: Facts) -> str:
 
 
 def describe_other_faults(seen: Facts) -> str:
-    """Return counts of the faults other than content faults and the first fault's number."""
+    """Count the faults that are neither content faults nor have the first fault's number."""
     first = seen.first.number if seen.first else None
     others = [count for count in seen.counts
               if count.number not in WITH_CAUSE and count.number != first]
@@ -367,7 +368,7 @@ def describe_other_faults(seen: Facts) -> str:
 
 
 def describe_counts(several: Sequence[Count]) -> str:
-    """Return counts by fault number, worst first; only the first few if there are many."""
+    """Describe counts by fault number, worst first; only the first few if there are many."""
     rising = sorted(several, key=lambda count: (rank_of(count.number), count.number))
     words = [f"{count.number} {count.name}" + (f" ({count.faults:,})" if count.faults > 1 else "")
              for count in rising]
@@ -377,7 +378,7 @@ def describe_counts(several: Sequence[Count]) -> str:
 
 
 def describe_causes(causes: Causes, option: str) -> str:
-    """Return the worst cause with its first subtitle, and counts of the other causes."""
+    """Describe the worst cause with its first subtitle, and count the other causes."""
     every = causes.all()
     worst = worst_cause(every)
     assert worst
@@ -394,7 +395,7 @@ def describe_causes(causes: Causes, option: str) -> str:
 
 
 def describe_single_cause(cause: Cause, causes: Causes, option: str) -> str:
-    """Return the clause on the cause of one subtitle."""
+    """Describe the cause of one subtitle."""
     subtitle = causes.programme.subtitles[cause.place]
     if cause.name == IN_PAUSE:
         return f"another text was sent in a pause, {cause.words}" + (
@@ -410,7 +411,7 @@ def describe_single_cause(cause: Cause, causes: Causes, option: str) -> str:
 
 
 def describe_shared_cause(causes: Sequence[Cause], subtitles: Sequence[Subtitle]) -> str:
-    """Return the clause on a cause that several subtitles share: their count, first and last."""
+    """Describe a cause that several subtitles share: how many subtitles, the first and the last."""
     first, last = subtitles[causes[0].place], subtitles[causes[-1].place]
     name = causes[0].name
     if name == IN_PAUSE:

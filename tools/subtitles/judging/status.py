@@ -16,7 +16,7 @@ OTHERS = "others"  # all numbers and names that the severity file does not list
 # The fault numbers of all commands: packets and files, texts, transmissions.
 REFUSALS = {3, 4, *range(10, 26), *range(30, 41), 44, LOST_PACKETS, *range(50, 58), *range(60, 75),
             *range(76, 80), 82}
-OF_CHECK = REFUSALS - {3, 4, 82}  # those that `check` reports
+OF_CHECK = REFUSALS - {3, 4, 82}  # the fault numbers that `check` reports
 
 
 class Severity:
@@ -37,7 +37,8 @@ class Severity:
                 self.take(path, at, line.partition("#")[0].split())
 
     def take(self, path: str, at: int, words: list[str]) -> None:
-        """Read the words of one line of the file; raise `Stop` if it is malformed."""
+        """Read the words of one line of the severity file; raise `Stop` if the line is malformed.
+        """
         if not words:
             return
         *names, severity = words
@@ -55,7 +56,7 @@ class Severity:
             raise Stop(f"{path}, line {at}: no refusal has the number {name}")
 
     def of(self, number: int | str) -> str:
-        """Return the severity of a fault number or name."""
+        """Return whether a fault number or a fault name is an error or a warning."""
         if number in ENDS_READING:
             return ERROR
         if number == LOST_PACKETS:
@@ -85,12 +86,12 @@ UNREAD = "nothing of the recording was read, and --severity leaves no fault an e
 
 
 class Said(NamedTuple):
-    """What the program reported on one part.
+    """Result of `check` for one part.
 
-    `status` is its exit status: negative if a signal ended it, `None` if it has not ended.
-    `is_accepted`: its last line accepts. `faults` is the number of reported faults, `numbers` are
-    their fault numbers, and `counted` is the total on its last line. `is_read`: it read some of the
-    recording, or there is none.
+    `status` is the exit status: negative if a signal ended `check`, `None` if `check` is still
+    running. `is_accepted`: the last line accepts the part. `faults` is the number of reported
+    faults, `numbers` are their fault numbers, and `counted` is the total on the last line.
+    `is_read`: `check` read some of the recording, or there is no recording.
     """
 
     status: int | None
@@ -105,9 +106,9 @@ class Grounds(NamedTuple):
     """Everything that decides a verdict.
 
     `losses` has an entry for each place where only the PCR shows that TS packets are lost: whether
-    the verdict covers frames there. `check` reports all other losses as 45, and these count in the
-    same way. `warnings` are the kinds of anomalies that break no rule. `reasons` say why the pair
-    was not judged. `failed` names outputs that could not be written, or that would describe other
+    the verdict covers frames there. `check` reports all other losses as fault 45, with the same
+    effect. `warnings` are the kinds of anomalies that break no rule. `reasons` say why the pair was
+    not judged. `failed` names outputs that could not be written, or that would describe other
     files. `names` are the faults without a number. `has_clock`: the clock of the recording was
     given, or there is no recording. Without a given clock a delay that all subtitles share cannot
     be seen, so the best verdict is `relative`.
@@ -139,7 +140,7 @@ class Decision(NamedTuple):
 
 
 def word_of(said: Said) -> str:
-    """Return the verdict on one part. Its last line, faults and exit status must all agree."""
+    """Return the verdict on one part; its last line, faults and exit status must all agree."""
     if said.status == 0 and said.is_accepted and not said.faults and not said.numbers:
         return ACCEPTED
     if said.status == 1 and said.numbers and said.faults == said.counted and \
@@ -149,11 +150,11 @@ def word_of(said: Said) -> str:
 
 
 def decide(seen: Grounds) -> Decision:
-    """Return the verdict on all parts.
+    """Return the verdict on all parts of a pair.
 
     Anything missing, unread or unwritten makes the pair not judged. After that an error counts
-    before a loss, a loss before a warning, and a warning before a clock that was not given. A fault
-    without a number, as of a page that is never sent, counts even if there are no parts.
+    before a loss, a loss before a warning, and a warning before a missing clock. A fault without a
+    number, such as a page that is never sent, counts even if there are no parts.
     """
     words = [word_of(part) for part in seen.parts]
     if seen.reasons or seen.failed:
@@ -175,14 +176,14 @@ def decide(seen: Grounds) -> Decision:
 
 
 def is_of_call(word: str, status: int, ended: int) -> bool:
-    """Return whether a call ended with the status of its JSON result, and the verdict can have that
-    status."""
+    """Return whether a call ended with the status of its JSON result, and that status can belong to
+    the verdict."""
     return status == ended and (word, status) in POSSIBLE
 
 
 def of_all(statuses: Iterable[int], is_stopped: bool = False) -> int:
-    """Return the exit status of several verdicts: the worst one, or 2 if there is none or some
-    pairs are missing."""
+    """Return the exit status of several verdicts: the worst status, or 2 if there is no verdict or
+    some pairs are missing."""
     found = {*statuses}
     if is_stopped or not found or not found <= {*WORST_FIRST}:
         return 2

@@ -29,7 +29,8 @@ AT_MIDNIGHT = "midnight: cut the file there"
 
 
 def midnight_words(fault: FaultLine, subtitles: SubtitleFile) -> str:
-    """Return advice on times that fall from over 23:00 to under 01:00, or nothing."""
+    """Advise to cut a file with a fault where times fall from over 23:00 to under 01:00; return an
+    empty text for other faults."""
     if fault.block is None or fault.number not in (EMPTY_TIME, OUT_OF_ORDER):
         return ""
     if fault.number == EMPTY_TIME:
@@ -43,7 +44,8 @@ def midnight_words(fault: FaultLine, subtitles: SubtitleFile) -> str:
 
 
 def title_words(subtitles: SubtitleFile) -> str:
-    """Return how to skip a first subtitle at 00:00:00:00 an hour before all others, or nothing."""
+    """Describe how to skip a first subtitle at 00:00:00:00, an hour before all others; return an
+    empty text if there is none."""
     rest = min((frame for frame in subtitles.begins if frame), default=0)
     if not rest >= HOUR or subtitles.begins[0]:
         return ""
@@ -52,7 +54,8 @@ def title_words(subtitles: SubtitleFile) -> str:
 
 
 def falls_at_midnight(earlier: bytes, later: bytes) -> bool:
-    """Return whether a time is in the last hour of a day, and the next in the first."""
+    """Return whether a time code is in the last hour of a day, and the next time code in the first
+    hour."""
     first, second = frame_of_code(earlier), frame_of_code(later)
     return first is not None and second is not None and \
         first >= FRAMES_OF_A_DAY - HOUR and second < HOUR
@@ -69,13 +72,13 @@ class OptionAdvice:
 
     @functools.cached_property
     def drawing(self) -> list[NationalOption]:
-        """Return the other options that have every character of the file."""
+        """Return the other national options that have every character of the file."""
         texts = {self.subtitles.text(block) for block in self.subtitles.lasts()}
         return [option for option in OPTIONS if option.word != self.option
                 and all(has_characters(text, option) for text in texts)]
 
     def of(self, block: int, at: int) -> str:
-        """Return advice on byte `at` of the text that ends in a block."""
+        """Return advice on the byte at offset `at` of the text that ends in a block."""
         text = self.subtitles.text(block)
         return "" if at >= len(text) else advice_of(letter_at(text, at), self.drawing)
 
@@ -96,37 +99,38 @@ def advice_of(letter: bytes, drawing: list[NationalOption]) -> str:
 
 
 def listed(options: list[NationalOption]) -> str:
-    """Return options as an argument to type."""
+    """Return national options as an argument to type."""
     return "--option " + ", ".join(option.word for option in options)
 
 
 # The subtitles that are judged though others are refused
 #
 # `check --all` judges the transmission from each subtitle without a fault to the next such one. No
-# line names such a subtitle, and none says that the next one compared with it is out of order or
-# overlaps it.
+# fault line names such a subtitle, nor says that the next subtitle is out of order or overlaps.
 
 # Subtitles with these faults are not compared with others.
 NO_RECORD = {16, *range(18, 22)}
-COMPARED = {56, 57}  # faults of comparing with the subtitle before
+COMPARED = {56, 57}  # faults of a comparison with the previous subtitle
 MOST_NAMED = 3  # refused subtitles in the sentence
 OPENS, ERASES = "heo", "heb"  # flags of a PES packet with a page, or a blank one
 
 
 class Counts(NamedTuple):
-    """How many subtitles were judged, and how many are refused or skipped with them."""
+    """The number of judged subtitles, and the number of subtitles that are refused or skipped with
+    them."""
 
     judged: int
     refused: int
 
     def words(self) -> str:
-        """Return both as a clause, or nothing if none is refused."""
+        """Return both numbers as a clause, or an empty text if no subtitle is refused."""
         return f"{counted(self.judged, 'subtitle')} judged, {self.refused:,} refused" \
             if self.refused else ""
 
 
 class RefusedSubtitle(NamedTuple):
-    """A refused subtitle, the first fault line that names it, its refused character, and advice."""
+    """A refused subtitle, the first fault line that names the subtitle, the refused character, and
+    advice."""
 
     subtitle: NamedSubtitle
     fault: FaultLine
@@ -134,7 +138,7 @@ class RefusedSubtitle(NamedTuple):
     do: str
 
     def name(self) -> str:
-        """Return its name, as all tools print it, and its time."""
+        """Return the name of the subtitle, as all tools print it, and its time."""
         subtitle = self.subtitle
         return f"{subtitle_name(subtitle.position, subtitle.number)} at {subtitle.begin}"
 
@@ -145,12 +149,13 @@ class RefusedSubtitle(NamedTuple):
         return f"{self.fault.number} {self.fault.name}, {more}{do}"
 
     def line(self) -> str:
-        """Return its line for the output."""
+        """Return the line of output on the refused subtitle."""
         return f"undecided: {self.name()}, to {self.subtitle.end}, is refused by {self.why()}"
 
 
 class JudgedBeside(NamedTuple):
-    """The subtitles that are judged, those that are refused, and the positions of all skipped."""
+    """Subtitles that are judged although others of their file are refused; the refused subtitles;
+    and the positions of all skipped subtitles."""
 
     judged: list[Subtitle]
     refused: list[RefusedSubtitle]
@@ -163,7 +168,7 @@ class JudgedBeside(NamedTuple):
             yield f"undecided: {counted(len(self.refused) - MOST_LINES, 'more subtitle')}"
 
     def words(self) -> str:
-        """Return the first refused subtitles, and how many more there are."""
+        """Describe the first refused subtitles, and count the other ones."""
         if len(self.refused) == 1:
             return f"{self.refused[0].name()} is refused by {self.refused[0].why()}"
         named = [f"{refused.name()} by {refused.why()}" for refused in self.refused[:MOST_NAMED]]
@@ -174,13 +179,13 @@ class JudgedBeside(NamedTuple):
 
 
 def is_judged_beside(numbers: set[int]) -> bool:
-    """Return whether the program judges the others though it refused some subtitles: it then
-    reports that there was no PES packet, too."""
+    """Return whether the program judges other subtitles though it refused some: the program then
+    also reports that there was no PES packet."""
     return EMPTY in numbers and bool(numbers & STL_FAULTS)
 
 
 def beside_of(file: SubtitleFile, faults: Iterable[FaultLine], option: str) -> JudgedBeside:
-    """Return which subtitles of a file can be judged, by its faults."""
+    """Return which subtitles of a file can be judged, by the faults of the file."""
     by_position: dict[int, list[FaultLine]] = {}
     for fault in faults:
         subtitle = file.at_block(fault.block) if fault.block is not None else None
@@ -209,7 +214,7 @@ def positions_in(file: SubtitleFile) -> Iterator[int]:
 
 def refused_of(file: SubtitleFile, fault: FaultLine, advice: OptionAdvice,
                known: dict[int, Meaning]) -> RefusedSubtitle:
-    """Return a refused subtitle, by the first line that names it."""
+    """Return a refused subtitle, by the first fault line that names the subtitle."""
     assert fault.block is not None
     subtitle = file.at_block(fault.block)
     assert subtitle
@@ -224,7 +229,7 @@ def refused_of(file: SubtitleFile, fault: FaultLine, advice: OptionAdvice,
 
 def due_beside(subtitles: Sequence[Subtitle], page: Page, option: str, layout: Layout = PLAIN) \
         -> DuePages:
-    """Return the pages of the judged subtitles, drawn here since `schedule` refuses the file."""
+    """Draw the pages of the judged subtitles here, since `schedule` refuses their file."""
     pages = [page_drawn(one, option, layout) for one in subtitles]
     packets = Packets(PES)
     for place, (subtitle, rows) in enumerate(zip(subtitles, pages)):
@@ -236,7 +241,7 @@ def due_beside(subtitles: Sequence[Subtitle], page: Page, option: str, layout: L
 
 
 def page_drawn(subtitle: Subtitle, option: str, layout: Layout) -> Rows:
-    """Return the page of a subtitle."""
+    """Draw the page of a subtitle."""
     lines = drawn(subtitle.text, subtitle.row, subtitle.justify, layout, BY_WORD[option])
     assert not isinstance(lines, Refused)
     return page_rows(lines)

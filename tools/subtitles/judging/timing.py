@@ -1,5 +1,5 @@
-"""Find the parts of a recording in time: their clocks, PES packets and pace, and whether pictures
-drift."""
+"""Find the parts of a recording in time: their clocks, PES packets and pace, and drifting pictures.
+"""
 from __future__ import annotations
 
 import dataclasses
@@ -28,16 +28,16 @@ from ..stream.survey import Survey
 from .part import Part
 
 
-NO_CLOCK = Clock(0, RECORDING)  # before one is found
-SAID = "origin: "  # prefix of lines about it
+NO_CLOCK = Clock(0, RECORDING)  # before the clock is known
+SAID = "origin: "  # prefix of lines about the origin
 
 
 class PartSearch(NamedTuple):
     """What to search for in a recording.
 
-    `whole` has the first and the last frame of the subtitles, and the clock if one was given.
+    `whole` has the first and the last frame of the subtitles, and the clock if a clock was given.
     `inside` are the PES packets that may be judged, `left_out` the positions of subtitles to skip.
-    `is_continued`: a subtitle that is not judged adjoins the first one and has its text.
+    `is_continued`: a subtitle that is not judged adjoins the first one and has the same text.
     """
 
     request: Request
@@ -48,7 +48,7 @@ class PartSearch(NamedTuple):
 
 
 class PartClocks(NamedTuple):
-    """The parts with their clocks, and notes on the delay of the first one."""
+    """The parts of a recording with their clocks, and notes on the delay of the first part."""
 
     programme: PartSearch
     alignments: list[Found]
@@ -56,8 +56,8 @@ class PartClocks(NamedTuple):
 
 
 def parts_of(programme: PartSearch, recording: Recording, listener: Listener) -> PartClocks:
-    """Find the parts and their clocks. The first part has the clock that was given, or that of the
-    first picture."""
+    """Find the parts of a recording and their clocks. The first part has the given clock, or that
+    of the first picture."""
     request, whole = programme.request, programme.whole
     given = given_clock(request) or by_start(programme, recording, listener)
     origin = fitted_origin(programme, recording, given, listener)
@@ -81,7 +81,7 @@ def given_clock(request: Request) -> Clock | None:
 
 
 def by_start(programme: PartSearch, recording: Recording, listener: Listener) -> Clock | None:
-    """Return the clock by the first picture, or `None` without --start."""
+    """Return the clock of the first picture, or `None` without --start."""
     request, whole = programme.request, programme.whole
     if request.start is None:
         return None
@@ -102,7 +102,8 @@ def by_start(programme: PartSearch, recording: Recording, listener: Listener) ->
 
 def fitted_origin(programme: PartSearch, recording: Recording, clock: Clock | None,
                   listener: Listener) -> Origin:
-    """Estimate the origin, compare it with a given clock, and report both."""
+    """Estimate the origin of a recording, compare the origin with a given clock, and report both.
+    """
     request = programme.request
     sought = Sought(request.stl_path, recording.shown, request.page, request.option,
                     clock and clock.origin, request.within, request.breaks, programme.inside,
@@ -117,7 +118,7 @@ def fitted_origin(programme: PartSearch, recording: Recording, clock: Clock | No
 
 
 def found_in(origin: Origin, whole: Found) -> list[Found]:
-    """Return the parts, or none if the origin is not clear."""
+    """Return the parts with their clocks, or no parts if the origin is not clear."""
     if origin.status:
         return []
     return [Found(*(part.frames or (whole.begin, whole.end)), fitted_clock(part), part.packets)
@@ -131,7 +132,7 @@ def fitted_clock(part: OfPart) -> Clock:
 
 
 def with_delay(clock: Clock, origin: Origin) -> tuple[Clock, list[str]]:
-    """Return a given clock with the delay of the cues of the first part, and notes on it."""
+    """Return a given clock with the delay of the cues of the first part, and notes on the delay."""
     if origin.away is None or origin.status:
         return clock, []
     frames, ticks = divmod(abs(origin.away), TICKS)
@@ -151,8 +152,8 @@ def with_delay(clock: Clock, origin: Origin) -> tuple[Clock, list[str]]:
 
 
 def refuse_another_time(programme: PartSearch, recording: Recording, part: Found) -> None:
-    """Raise `Unclear` if the given clock is wrong: by it the recording has nothing at the time of
-    the subtitles, but it has them at another time."""
+    """Raise `Unclear` if the given clock is wrong: by this clock the recording has nothing at the
+    time of the subtitles, but the recording has the subtitles at another time."""
     clock = part.clock
     if not clock.delay_frames or cut_within(programme, recording, part,
                                             programme.request.within).range is not None:
@@ -161,7 +162,7 @@ def refuse_another_time(programme: PartSearch, recording: Recording, part: Found
 
 
 def another_time_words(request: Request, clock: Clock, delay: int) -> str:
-    """Return how far a given clock is from the subtitles, which are `delay` frames late."""
+    """Describe how far a given clock is from the subtitles, which are `delay` frames late."""
     if clock.source == GIVEN:
         return f"by --origin {clock.origin} all subtitles come {duration_text(abs(delay))} too " \
             f"{'late' if delay > 0 else 'early'}: none is in the recording at its time"
@@ -176,7 +177,7 @@ def another_time_words(request: Request, clock: Clock, delay: int) -> str:
 
 
 def unclear_origin(origin: Origin, again: Iterable[str]) -> Unclear:
-    """Return why the origin is not clear, with the commands `again`."""
+    """Return an error that says why the origin is not clear, with the commands `again`."""
     is_said = origin.runs or origin.breaks is not None
     reason = "\n".join(origin.lines) if is_said else \
         f"the origin is not clear: {'; '.join(origin.lines)}"
@@ -184,7 +185,7 @@ def unclear_origin(origin: Origin, again: Iterable[str]) -> Unclear:
 
 
 def clock_options(recording: Recording, origin: Origin) -> Iterator[str]:
-    """Yield what the operator may type if the origin is not clear."""
+    """Yield commands that the operator may type if the origin is not clear."""
     if origin.runs:
         yield recording.again("--pes", "I-J")
     elif origin.breaks is None:
@@ -195,14 +196,14 @@ def clock_options(recording: Recording, origin: Origin) -> Iterator[str]:
 # The PES packets of a part
 
 def cut_within(programme: PartSearch, recording: Recording, alignment: Found, within: int) -> Cut:
-    """Cut the PES packets of the time of the subtitles, allowing some frames of delay."""
+    """Find the PES packets of the time of the subtitles, allowing some frames of delay."""
     return cut_of(recording.packets, alignment.begin, alignment.end, alignment.origin,
                   programme.request.every, within, alignment.packets or programme.inside,
                   programme.is_continued and alignment.begin == programme.whole.begin)
 
 
 def cut_part(programme: PartSearch, part: Part, listener: Listener) -> Range:
-    """Return the range of the PES packets of a part, and report it."""
+    """Find the range of the PES packets of a part, and report the range."""
     recording, alignment = part.recorded
     cut = cut_within(programme, recording, alignment, programme.request.within)
     damage, line = recording.packets.damage, f"cut: {cut.words()}"
@@ -223,12 +224,13 @@ def cut_part(programme: PartSearch, part: Part, listener: Listener) -> Range:
 
 # The pace of PES packets if they are regular; else the losses that nothing shows
 
-NEXT = 1  # frame from a PES packet to one that comes in the next frame
+NEXT = 1  # distance in frames of two PES packets in consecutive frames
 UNCHECKED = "not checked: whether"  # prefix of a note
 
 
 def paced_part(part: Part, times: Sequence[tuple[int, int]], listener: Listener) -> Part:
-    """Return a part with the pace of its PES packets if it is regular and not configured.
+    """Return a part with the maximum PES interval, if PES packets are regular and no interval is
+    configured.
 
     Add notes on losses that nothing would show. `times` are the frames of the subtitles.
     """
@@ -271,19 +273,21 @@ def late_jumps(part: Part, pace: Pace) -> tuple[list[PTSPair], int]:
 
 
 def jump_words(count: int, recording: Recording) -> str:
-    """Return that losses are invisible at some jumps of the counter, if there are any."""
+    """Describe at how many announced jumps of the counter losses are invisible; an empty text if at
+    none."""
     return f"{UNCHECKED} some of {pid_name(recording.packets.pid)} is missing at " \
         f"{counted(count, 'place')} where a jump of its counter is announced" if count else ""
 
 
 def chosen_of(pace: Pace, is_stream: bool, part: int) -> Selection:
-    """Return the pace as a choice, with the number of places where it would show a loss."""
+    """Return the pace as a choice of qc, with the number of places where the pace would show a
+    loss."""
     return Selection(PACE_CHOICE, str(pace.frames), regular_words(pace, is_stream),
                      pace.among - pace.closer, pace.among, part)
 
 
 def regular_words(pace: Pace, is_stream: bool) -> str:
-    """Return how regular the PES packets are, and the pace chosen from that."""
+    """Describe how regular the PES packets are, and the pace chosen from that."""
     more = ", and so may three" if pace.is_dense else \
         f", and in {pace.lost} at best where 16 TS packets are lost" if is_stream else ""
     return f"pace: a PES packet comes within {counted(pace.apart, 'frame')} of the one before" \
@@ -291,7 +295,8 @@ def regular_words(pace: Pace, is_stream: bool) -> str:
 
 
 def unseen_words(pace: Pace, unseen: int | None, recording: Recording) -> str:
-    """Return which losses nothing shows, or nothing if --every or the pace shows all."""
+    """Describe which losses nothing shows; an empty text if --every or the pace shows all losses.
+    """
     if pace.kind == BY_EVERY or pace.kind == REGULAR and not pace.closer:
         return ""
     if without := clock_words(recording):
@@ -313,7 +318,7 @@ def unseen_words(pace: Pace, unseen: int | None, recording: Recording) -> str:
 
 
 def clock_words(recording: Recording) -> str:
-    """Return that no PCR shows losses, if there is none."""
+    """Describe that no PCR shows losses; an empty text if there is a PCR."""
     if not recording.is_stream or recording.survey.clock_of(recording.packets.pid) is not None:
         return ""
     return f"there is no PCR of the programme of {pid_name(recording.packets.pid)}: a hole that " \
@@ -326,7 +331,8 @@ NOT_CHECKED = "not checked: whether the pictures leave the subtitles"
 
 
 class PicturesFound(NamedTuple):
-    """Faults of pictures, and notes: on what --within allows, and on what is not checked."""
+    """Faults of drifting pictures, and notes on drifts that --within allows and on places not
+    checked."""
 
     faults: list[NamedFault]
     notes: list[str]
@@ -334,7 +340,8 @@ class PicturesFound(NamedTuple):
 
 def left_by_pictures(survey: Survey, pid: int, alignment: Found, within: int, number: int
                      ) -> PicturesFound:
-    """Return where pictures drift from part `number`, whose Teletext is on PID `pid`."""
+    """Find where pictures drift from the subtitles of part `number`, whose Teletext is on PID
+    `pid`."""
     kinds = {pid for programme in survey.programmes_of(pid) for pid in programme.kinds}
     faults, notes = list[NamedFault](), list[str]()
     for (own, video), leads in survey.leads.items():
@@ -349,8 +356,8 @@ def left_by_pictures(survey: Survey, pid: int, alignment: Found, within: int, nu
 
 
 def departures_in(several: Sequence[Departure], alignment: Found) -> list[Departure]:
-    """Return the departures within a part, or from its first picture on if its clock is that of the
-    picture. One that may lie outside is unclear."""
+    """Return the drifts within a part, or from its first picture on if the clock is that of the
+    picture. A drift that may lie outside of the part is unclear."""
     first = pts_of(alignment.begin, alignment.origin)
     length = TICKS * (alignment.end - alignment.begin)
     is_of_picture = alignment.clock.source in (START, TCP)
@@ -364,7 +371,7 @@ def departures_in(several: Sequence[Departure], alignment: Found) -> list[Depart
 
 
 class Away(NamedTuple):
-    """Frames from `first` up to `end` at which subtitles come `ticks` early for viewers, or late if
+    """Frames from `first` up to `end` in which subtitles are `ticks` early for viewers, or late if
     negative."""
 
     first: int
@@ -380,7 +387,8 @@ class Away(NamedTuple):
 
 
 def aways_of(several: Sequence[Departure], alignment: Found) -> Iterator[Away]:
-    """Yield when subtitles are apart from the pictures, adding up all departures."""
+    """Yield the spans of frames in which subtitles are apart from the pictures, adding up all
+    drifts."""
     first = pts_of(alignment.begin, alignment.origin)
     length, total = alignment.end - alignment.begin, 0
     frames = [alignment.begin + max(ticks_within(first, TICKS * length, one.pts), 0) // TICKS
@@ -392,26 +400,28 @@ def aways_of(several: Sequence[Departure], alignment: Found) -> Iterator[Away]:
 
 
 def is_allowed(ticks: int, within: int) -> bool:
-    """Return whether subtitles are late, and by no more than `within` frames."""
+    """Return whether subtitles are late by no more than `within` frames; early subtitles are not
+    allowed."""
     return -TICKS * within <= ticks < 0
 
 
 def faults_of(several: Sequence[Departure], alignment: Found, within: int, number: int) \
         -> list[NamedFault]:
-    """Return faults where subtitles come early, or later than allowed."""
+    """Return faults for subtitles that come early, or later than allowed."""
     return [NamedFault(PICTURES_LEFT, away.words(), time_of(away.first), time_of(away.end - 1),
                        part=number)
             for away in aways_of(several, alignment) if not is_allowed(away.ticks, within)]
 
 
 def late_notes(several: Sequence[Departure], alignment: Found, within: int) -> list[str]:
-    """Return notes where subtitles are late as --within allows."""
+    """Return notes on subtitles that are late by no more than --within allows."""
     return [f"{away.words()}, as --within {within} allows"
             for away in aways_of(several, alignment) if is_allowed(away.ticks, within)]
 
 
 def unclear_notes(is_steady: bool, count: int) -> list[str]:
-    """Return what is not checked: everything unless `is_steady`, or `count` places."""
+    """Return notes on unchecked drifts: all of them unless `is_steady`, else those at `count`
+    places."""
     if not is_steady:
         return [f"{NOT_CHECKED}: their decoding times have no usual step"]
     return [f"{NOT_CHECKED} at {counted(count, 'place')} where their decoding times step: the "

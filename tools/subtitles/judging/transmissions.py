@@ -46,7 +46,8 @@ OTHER_LETTERS = "has other letters"
 
 
 class Headed(NamedTuple):
-    """A header of the page, the one before it, and whether the page was open when it came."""
+    """A header of the page, the page's previous header, and whether the page was open when the
+    header came."""
 
     numbers: bytes
     before: bytes | None = None
@@ -54,7 +55,8 @@ class Headed(NamedTuple):
 
 
 def headed(run: Run, state: State) -> list[Headed]:
-    """Return the headers of the page in a PES packet; `state` is what was decoded before it."""
+    """Return the headers of the page in a PES packet; `state` is the decoder's state before this
+    packet."""
     heard: list[Headed] = []
     before, is_open = state.header, state.is_open
     headers = iter(headers_in(run.control))
@@ -69,12 +71,13 @@ def headed(run: Run, state: State) -> list[Headed]:
 
 
 def keeps(header: bytes) -> bool:
-    """Return whether a header keeps the page, with C4 clear."""
+    """Return whether a header leaves the page in memory, with C4 (erase page) clear."""
     return not has_bit(header, ERASE)
 
 
 def unerased_words(headed: Headed, request: Request) -> str:
-    """Return why a header should erase the page but does not, or nothing."""
+    """Describe why a header that should erase the page does not; return an empty text if the header
+    is right."""
     if not keeps(headed.numbers):
         return ""
     if not request.may_keep:
@@ -88,7 +91,8 @@ def unerased_words(headed: Headed, request: Request) -> str:
 
 
 def control_words(header: bytes, option: str, unerased: str = "") -> list[str]:
-    """Return the faults of the control bits of a header, beginning with that of C4, `unerased`."""
+    """Return the faults of the control bits of a header, beginning with `unerased`, the fault of
+    C4."""
     faults = [unerased] if unerased else []
     faults += [words for bit, is_set, words in ASKED if has_bit(header, bit) != is_set]
     bits = national_option(header)
@@ -100,7 +104,7 @@ def control_words(header: bytes, option: str, unerased: str = "") -> list[str]:
 
 
 def effect_of(headers: Sequence[Headed], request: Request) -> str:
-    """Return what some receivers do with the page, by the first header with a fault."""
+    """Describe what some receivers do with the page because of the first faulty header."""
     numbers = next((header.numbers for header in headers if control_words(
         header.numbers, request.option, unerased_words(header, request))), b"")
     wrong = (words for bit, is_set, words in EFFECTS if numbers and has_bit(numbers, bit) != is_set
@@ -109,7 +113,7 @@ def effect_of(headers: Sequence[Headed], request: Request) -> str:
 
 
 def header_words(headers: Sequence[Headed], request: Request) -> str:
-    """Return the faults of the first header with any."""
+    """Describe the faults of the first faulty header."""
     wrong = (control_words(header.numbers, request.option, unerased_words(header, request))
              for header in headers)
     return "; ".join(next(filter(None, wrong), []))
@@ -120,19 +124,19 @@ def header_words(headers: Sequence[Headed], request: Request) -> str:
 
 
 class Kept(NamedTuple):
-    """How many headers of the page there are, and how many of them keep it."""
+    """The number of headers of the page, and how many of them leave the page in memory."""
 
     headers: int
     keeping: int
 
     def words(self) -> str:
-        """Return both as a clause."""
+        """Return both numbers as a clause."""
         return f"{CLEAR} in {self.keeping} of {counted(self.headers, 'header')}"
 
 
 def kept_in(headers: Mapping[bytes, int], option: str) -> Kept | None:
-    """Return how many headers keep the page, or `None` if none does or some header has another
-    fault too."""
+    """Count the headers that leave the page in memory; return `None` if there are none, or if some
+    header has another fault too."""
     keeping = sum(count for one, count in headers.items() if keeps(one))
     if not keeping or any(control_words(one, option) for one in headers):
         return None
@@ -140,10 +144,11 @@ def kept_in(headers: Mapping[bytes, int], option: str) -> Kept | None:
 
 
 def left_at(held: Timeline, due: Rows, frame: int, answer: Answer | None) -> str:
-    """Return which rows the last header up to a frame left out, or nothing if they came.
+    """Describe which rows the last header up to a frame left out; return an empty text if all rows
+    came.
 
-    They came if that header erases, if the decoded page is not the expected one, or if a row
-    changed after the page was last erased.
+    The rows came if that header erases the page, if the decoded page is not the expected page, or
+    if a row changed after the page was last erased.
     """
     header = held.state_at(frame).header
     at = bisect.bisect_right(held.sendings, frame) - 1
@@ -163,8 +168,8 @@ def left_at(held: Timeline, due: Rows, frame: int, answer: Answer | None) -> str
 
 
 def left_rows_words(rows: Sequence[int], row: int | None, came: int) -> str:
-    """Return which rows are missing if only `came` packets followed the header: all of them, or
-    `row`, where `check` reports the fault, and how many more at least."""
+    """Describe which rows are missing if only `came` packets followed the header: all rows, or
+    `row`, at which `check` reports the fault, and at least how many more."""
     if not rows:
         return ""
     if came <= 0:
@@ -183,7 +188,7 @@ EVERY = "1500"  # frames: the fewest repeats
 
 class DuePages(SubtitleList):
     """The subtitles of a programme with their expected pages. `timeline` has the pages that a
-    receiver decodes, or is `None` without subtitles."""
+    receiver decodes; it is `None` if there are no subtitles."""
 
     def __init__(self, subtitles: list[Subtitle], pages: list[Rows],
                  timeline: Timeline | None = None) -> None:
@@ -207,7 +212,8 @@ class DuePages(SubtitleList):
         return by_words
 
     def of_page(self, page: Rows, frame: int) -> int | None:
-        """Return the subtitle with a page that begins nearest to a frame; none for a blank page."""
+        """Return the subtitle that has a page and begins nearest to a frame; `None` for a blank
+        page."""
         places = self.by_page.get(page)
         return self.nearest(places, frame) if places and page != BLANK_PAGE else None
 
@@ -219,7 +225,7 @@ class DuePages(SubtitleList):
 
 
 def program_answer(program: str, *words: str) -> list[str]:
-    """Return the output lines of the program; raise `Unsaid` if it fails."""
+    """Run the program and return its lines of output; raise `Unsaid` if the program fails."""
     done = subprocess.run([program, *words], stdin=subprocess.DEVNULL, check=False,
                           stdout=subprocess.PIPE, encoding="utf-8", errors="replace")
     lines = done.stdout.splitlines()
@@ -230,9 +236,10 @@ def program_answer(program: str, *words: str) -> list[str]:
 
 def subtitles_in(program: str, stl: str, between: Between = ALL_DAY,
                  is_open: bool = False) -> list[Subtitle]:
-    """Return the subtitles that begin in some frames, as `subttx show` prints them.
+    """Return the subtitles of a file that begin in some frames, as `subttx show` prints them.
 
-    It refuses a file with any refused or open subtitle; then they are parsed here.
+    `subttx show` rejects a file with any refused or open subtitle; then the subtitles are parsed
+    here.
     """
     try:
         subtitles = subtitles_read(stl_bytes(stl)) if is_open else \
@@ -260,8 +267,8 @@ def due_pages_of(program: str, stl: str, subtitles: list[Subtitle], page: Page, 
     return DuePages(subtitles, [due.page_at(subtitle.begin) for subtitle in subtitles], due)
 
 
-# A page transmission belongs to the nearest subtitle with this page. The search is from the TCO
-# before the subtitle to the TCI after it, and at least 250 frames before and after its own TCI.
+# A page transmission belongs to the nearest subtitle with this page. The search begins at the
+# previous subtitle's TCO and ends at the next one's TCI, but at least 250 frames around the TCI.
 
 
 class Sendings:
@@ -274,11 +281,12 @@ class Sendings:
     # The subtitle of a fault
 
     def is_due(self, frame: int) -> bool:
-        """Return whether the decoded page at a frame is the expected one."""
+        """Return whether the decoded page at a frame is the expected page."""
         return self.held.page_at(frame) == self.programme.page_at(frame)
 
     def split(self, first: int, last: int) -> list[Span]:
-        """Split frames with a fault so that neither page changes within a span."""
+        """Split frames with a fault into spans in which neither the expected nor the decoded page
+        changes."""
         begins = {first, *self.programme.edges(first, last)}
         begins.update(self.held.frames[number] for number in self.held.numbers(first, last + 1)
                       if self.held.frames[number] > first)
@@ -286,8 +294,8 @@ class Sendings:
         return [Span(begin, end - 1) for begin, end in zip(rising, [*rising[1:], last + 1])]
 
     def owner(self, frame: int) -> int:
-        """Return the subtitle to which a wrong page at a frame belongs: the latest one expected, or
-        the one that was sent at another time."""
+        """Return the subtitle that a wrong page at a frame belongs to: the latest expected
+        subtitle, or the subtitle whose page was sent at another time."""
         place = self.programme.place_at(frame)
         number = self.held.number_at(frame)
         if place < 0 or number < 0:
@@ -314,7 +322,7 @@ class Sendings:
 
     def is_left_over(self, number: int, place: int, frame: int) -> bool:
         """Return whether a page stays for an allowed delay, until the page of the next subtitle:
-        then its fault is that of the subtitle before."""
+        the fault of such a page belongs to the previous subtitle."""
         begin, following = self.subtitles[place].begin, number + 1
         limit = begin + self.held.within
         return self.held.frames[number] < begin <= frame < limit and \
@@ -322,8 +330,8 @@ class Sendings:
             not self.is_due(begin - 1)
 
     def is_ahead(self, number: int, place: int) -> bool:
-        """Return whether a page of no subtitle is meant for the next one: it came after the
-        subtitle's own page, and lasts longer in the time of the next."""
+        """Return whether a page of no subtitle is meant for the next subtitle: the page came after
+        the subtitle's own page, and lasts longer in the time of the next subtitle."""
         if place + 1 >= len(self.subtitles) or not self.is_strange(number, place):
             return False
         one, following = self.subtitles[place], self.subtitles[place + 1]
@@ -334,23 +342,24 @@ class Sendings:
     # Transmissions
 
     def window(self, place: int) -> Span:
-        """Return the frames in which to search for the transmission of a subtitle."""
+        """Return the frames to search for the page transmission of a subtitle."""
         begin = self.subtitles[place].begin
         return Span(min(self.programme.before(place), begin - LEAST),
                     max(self.programme.after(place), begin + LEAST))
 
     def sending(self, place: int) -> int | None:
-        """Return the frame nearest to its TCI at which the page of a subtitle came, or `None`.
+        """Return the frame nearest to the TCI at which the page of a subtitle came, or `None`.
 
-        A page at the TCI of another subtitle replaces that one, unless both are moved by as many
-        frames.
+        A page at the TCI of another subtitle replaces the page of that subtitle, unless both
+        subtitles are moved by as many frames.
         """
         numbers = [frame for frame in self.sendings(place) if self.in_place_of(frame)
                    in (None, place) or self.are_moved(place, frame)]
         return nearest(numbers, self.subtitles[place].begin)
 
     def sendings(self, place: int) -> list[int]:
-        """Return all frames of the window at which the page of a subtitle came as its own."""
+        """Return all frames in the search window at which the page of a subtitle came for this
+        subtitle."""
         page, window = self.pages[place], self.window(place)
         frames = self.held.when.get(page)
         if not frames or page == BLANK_PAGE:
@@ -361,14 +370,15 @@ class Sendings:
                 if self.programme.of_page(page, frame) == place]
 
     def in_place_of(self, frame: int) -> int | None:
-        """Return the subtitle whose page may come at a frame, at its TCI or within the delay."""
+        """Return the subtitle that begins at a frame, or up to the allowed delay before the frame.
+        """
         place = self.programme.place_at(frame)
         is_in_time = place >= 0 and frame <= self.subtitles[place].begin + self.held.within
         return place if is_in_time else None
 
     def are_moved(self, place: int, frame: int) -> bool:
-        """Return whether the subtitle expected at a frame is moved as far as the one that came
-        then, allowing for delays."""
+        """Return whether the subtitle expected at a frame is moved as far as the subtitle whose
+        page came then, allowing for delays."""
         other = self.programme.place_at(frame)
         begin = self.subtitles[other].begin
         came = nearest(self.sendings(other), begin)
@@ -377,7 +387,8 @@ class Sendings:
 
     def strange(self, place: int, came: int | None) -> int | None:
         """Return the number of the page of no subtitle that lasts longest in the time of a
-        subtitle, before its own page came, or `None`. Pages from before that time don't count."""
+        subtitle, before the subtitle's own page came, or `None`. Pages from before that time don't
+        count."""
         subtitle = self.subtitles[place]
         end = subtitle.end if came is None or came <= subtitle.begin else min(came, subtitle.end)
         least = subtitle.begin if place == 0 and came is not None else 0
@@ -388,24 +399,27 @@ class Sendings:
         return numbers[lengths.index(max(lengths))] if numbers else None
 
     def is_of_its_time(self, number: int, place: int) -> bool:
-        """Return whether a page came after the TCO of the subtitle before, or for this one."""
+        """Return whether a page came after the TCO of the previous subtitle, or was meant for this
+        subtitle."""
         begin = min(self.programme.before(place), self.subtitles[place].begin)
         return self.held.frames[number] >= begin or \
             place > 0 and self.is_ahead(number, place - 1)
 
     def is_strange(self, number: int, place: int) -> bool:
+        """Return whether a page belongs to no subtitle, and is neither blank nor a part of a
+        subtitle's page."""
         page = self.held.pages[number]
         return page != BLANK_PAGE and page not in self.programme.by_page and \
             not is_part(page, self.pages[place])
 
     def length(self, number: int, begin: int, end: int) -> int:
-        """Return for how many of some frames a page is decoded."""
+        """Count the frames between two frames in which a page is decoded."""
         stretch = self.held.stretch(number)
         return min(stretch.last + 1, end) - max(stretch.first, begin)
 
     def other_at(self, place: int) -> int | None:
-        """Return another subtitle whose page came at the TCI of one, or within the delay, unless
-        both are moved by as many frames."""
+        """Return another subtitle whose page came at the TCI of a subtitle, or within the allowed
+        delay, unless both subtitles are moved by as many frames."""
         subtitle = self.subtitles[place]
         limit = min(subtitle.begin + self.held.within + 1, subtitle.end)
         for number in self.held.numbers(subtitle.begin, limit):
@@ -417,7 +431,8 @@ class Sendings:
         return None
 
     def others_in(self, place: int) -> int | None:
-        """Return another subtitle whose page came in the time of one, but not at its own."""
+        """Return another subtitle whose page came in the time of a subtitle, but not at its own
+        time."""
         subtitle = self.subtitles[place]
         for number in self.held.numbers(subtitle.begin, subtitle.end):
             frame = self.held.frames[number]

@@ -24,7 +24,7 @@ from .status import (
 from .subtitles import Counts, JudgedBeside
 
 
-# Delays until subtitles are complete, by which a broadcaster chooses --within N
+# Delays until subtitles are complete: a broadcaster chooses --within N from these
 
 # With --within 0 and none of these faults, each page is complete in the frame of its TCI.
 MOVED = {*range(30, 33), 44, 45, 60, 62, 63, 71, 72, 74, 77}
@@ -46,7 +46,8 @@ class Spread(NamedTuple):
 
 
 def spread_of(several: Iterable[int | None]) -> Spread | None:
-    """Return the spread of delays, `None` being a subtitle that was never complete."""
+    """Return minimum, median and maximum of delays; `None` is a subtitle that was never complete.
+    """
     all_of = list(several)
     known = sorted(frames for frames in all_of if frames is not None)
     if not known:
@@ -55,8 +56,10 @@ def spread_of(several: Iterable[int | None]) -> Spread | None:
 
 
 def frames_until(subtitle: Subtitle, page: Rows, held: Timeline, is_complete: bool) -> int | None:
-    """Return the delay in frames until the page of a subtitle is complete, and closed if
-    `is_complete`. Return `None` if that never happens, or if nothing was received before its TCI.
+    """Return after how many frames the page of a subtitle is complete, and with `is_complete` also
+    closed.
+
+    Return `None` if that never happens, or if nothing was received before the TCI.
     """
     if held.first > subtitle.begin:
         return None
@@ -72,7 +75,7 @@ def frames_until(subtitle: Subtitle, page: Rows, held: Timeline, is_complete: bo
 
 
 def worst_of(parts: Sequence[Part], lead: Callable[[Part], Lead | None]) -> Part | None:
-    """Return the first of the parts whose `lead` is the worst."""
+    """Return the first part whose `lead` is the most severe fault."""
     def rank(part: Part) -> Rank:
         worst = lead(part)
         return worst.rank if worst else Rank.LATER
@@ -81,12 +84,12 @@ def worst_of(parts: Sequence[Part], lead: Callable[[Part], Lead | None]) -> Part
 
 
 def with_lead(said: Facts, lead: Lead | None) -> Facts:
-    """Return the facts with the fault to report first."""
+    """Return the facts of a sentence with the fault to report first."""
     return said._replace(first=lead.fault, is_caused=lead.is_caused) if lead else said
 
 
 def counts_of_numbers(parts: Sequence[Part], left_out: Collection[int] = ()) -> list[Count]:
-    """Return how many faults of each number all parts have, except those in `left_out`."""
+    """Count the faults of all parts by fault number, except numbers in `left_out`."""
     counts: collections.Counter[int] = collections.Counter()
     names: dict[int, str] = {}
     for part in parts:
@@ -103,10 +106,10 @@ ESTIMATED = "estimated"  # a kind of warning: the clock after a break was estima
 
 @dataclasses.dataclass
 class Gap:
-    """A place where packets are missing: the times before and after it, and a description.
+    """A place where packets are missing: the times before and after the place, and a description.
 
-    `is_judged`: the verdict covers frames between. `check` has already reported a gap marker in
-    what is judged, as 45.
+    `is_judged`: the verdict covers frames between these times. `check` has already reported a gap
+    marker among the judged PES packets, as fault 45.
     """
 
     after: str | None
@@ -116,16 +119,16 @@ class Gap:
     is_judged: bool
 
     def line(self) -> str:
-        """Return where the gap is, and what is missing."""
+        """Return a line with the times around the gap and a description of the loss."""
         return f"between {self.after or 'the beginning'} and {self.before or 'the end'}: " \
             f"{self.words}"
 
 
 class Unjudged(NamedTuple):
-    """Why a pair is not judged, in lines, and what the operator may type then.
+    """Why a pair is not judged, in lines, and commands that the operator may type then.
 
-    `is_passing`: the cause is a failure of the machine, so another run may judge it. `is_stopped`:
-    a signal stopped it.
+    `is_passing`: the cause is a failure of the machine, so another run may judge the pair.
+    `is_stopped`: a signal stopped the run.
     """
 
     reason: str
@@ -168,18 +171,18 @@ class Verdict:
     stl: SummedFile | None = None
     recording: SummedFile | None = None
     is_kept: bool = False  # the judged files stay in the folder
-    unjudged: Unjudged | None = None  # if it is not judged
+    unjudged: Unjudged | None = None  # if the pair is not judged
     # Outputs that could not be written, or would describe other files than were judged.
     failed: list[str] = dataclasses.field(default_factory=list)
     files: dict[str, object] = dataclasses.field(default_factory=dict)
     seconds: float = 0.0
     count: int = 0  # of the subtitles
-    beside: JudgedBeside | None = None  # where some subtitles are refused, and others are judged
+    beside: JudgedBeside | None = None  # if some subtitles are refused, and others are judged
     named: list[NamedFault] = dataclasses.field(default_factory=list)  # faults without a number
 
     @property
     def is_lost(self) -> bool:
-        """Return whether TS packets are lost of frames that the verdict is about."""
+        """Return whether TS packets are lost in frames that the verdict covers."""
         return any(gap.is_judged for gap in self.gaps)
 
     def warn(self, notices: Iterable[Notice]) -> None:
@@ -193,7 +196,8 @@ class Verdict:
 
     @property
     def fitted(self) -> str | None:
-        """Return a note that the clock, or the clock after a break, was estimated."""
+        """Return a note that the clock, or the clock after a break, was estimated; `None` if a
+        clock was given."""
         if not any(part.clock and part.clock.is_fitted for part in self.parts):
             return None
         return FITTED_LATER if self.has_clock else f"{FITTED}: {clock_advice(self.has_picture)}"
@@ -226,18 +230,19 @@ class Verdict:
 
     @property
     def is_final(self) -> bool:
-        """Return whether another run would give the same verdict: nothing failed or was stopped."""
+        """Return whether another run would give the same verdict, since nothing failed or was
+        stopped."""
         known = self.unjudged
         return not (known and (known.is_passing or known.is_stopped) or self.failed)
 
     @property
     def is_stopped(self) -> bool:
-        """Return whether a signal stopped it."""
+        """Return whether a signal stopped the run."""
         return bool(self.unjudged and self.unjudged.is_stopped)
 
     @property
     def to_type(self) -> tuple[str, ...]:
-        """Return what the operator may type if the pair is not judged."""
+        """Return commands that the operator may type if the pair is not judged."""
         return self.unjudged.to_type if self.unjudged else ()
 
     @property
@@ -247,7 +252,8 @@ class Verdict:
 
     @property
     def why_not(self) -> str | None:
-        """Return why the pair is not judged, in lines, or `None` if it is."""
+        """Return the reason why the pair is not judged, in lines, or `None` if the pair is judged.
+        """
         reasons = [*([self.unjudged.reason] if self.unjudged else []), *self.failed]
         return "\n".join(reasons) if reasons else self.decision.reason
 
@@ -274,15 +280,15 @@ class Verdict:
 
     @property
     def delay_of_all(self) -> int:
-        """Return by how many frames all subtitles are later than the given clock has them; 0 if
-        they have no delay in common, or --within allows delays."""
+        """Return by how many frames all subtitles are late by the given clock; 0 if subtitles have
+        different delays, or --within allows delays."""
         clock = self.parts[0].clock if len(self.parts) == 1 else None
         is_measured = clock and clock.is_delay_of_all and not self.request.within
         return clock.delay_frames or 0 if clock and is_measured else 0
 
     def sent_beside(self, said: Facts, beside: JudgedBeside) -> Facts:
-        """Return the facts about the transmission, for a file with refused subtitles: those of its
-        worst part."""
+        """Return the facts about the transmission of a file with refused subtitles, from the worst
+        part."""
         answers = [part.answer for part in self.parts]
         parts = [part for part in self.parts if part.worst_sent]
         part = worst_of(parts, lambda one: one.worst_sent)
@@ -303,7 +309,7 @@ class Verdict:
         return None if is_refused else Counts(self.count, 0)
 
     def of_part(self, part: Part, gaps: list[Gap]) -> Verdict:
-        """Return the verdict on one part alone, with its gaps."""
+        """Return the verdict on one part alone, with the gaps of that part."""
         return dataclasses.replace(self, parts=[part], gaps=gaps)
 
     @property
@@ -325,8 +331,8 @@ class Verdict:
     def line(self) -> str | None:
         """Return the last line on standard output.
 
-        It is the first error as `check` prints it, or else the first waived fault. Without a fault
-        it is the line of the only part, or sums over all parts.
+        The line has the first error as `check` prints it, or else the first waived fault. Without a
+        fault it is the last line of the only part, or sums over all parts.
         """
         faults: list[FaultLine | NamedFault] = [
             fault for part in self.parts for fault in part.answer.firsts.values()]
@@ -337,7 +343,8 @@ class Verdict:
 
     @property
     def lead(self) -> str | None:
-        """Return the first line of reports and batch tables: `line` with the worst error."""
+        """Return the first line of reports and batch tables: the last line of output, but with the
+        worst error."""
         if self.first_named:
             return self.line_of(self.first_named.line)
         return self.line_of(self.leading.lead if self.leading else None)
@@ -359,14 +366,15 @@ class Verdict:
 
     @property
     def waived(self) -> set[int]:
-        """Return the fault numbers that are only warnings, if the pair is refused for others."""
+        """Return the fault numbers that are only warnings, if the pair is refused for other faults.
+        """
         numbers = {number for part in self.parts for number in part.answer.numbers}
         left_out = STL_FAULTS | {UNDECIDED} if self.beside else set[int]()
         return {number for number in numbers - left_out if not self.severity.is_error(number)} \
             if self.word == REFUSED else set()
 
     def line_of(self, refused: str | None) -> str | None:
-        """Return a line of `check` with the verdict before it, or `None` if not judged."""
+        """Return a line of `check` after the verdict, or `None` if the pair is not judged."""
         word = self.word
         if word == NOT_JUDGED:
             return None
@@ -385,7 +393,7 @@ class Verdict:
         return line
 
     def good_line(self) -> str:
-        """Return the line of the only part, or sums over all parts. It begins with `relative` if no
+        """Return the line of the only part, or sums over all parts; `relative` comes first if no
         clock was given."""
         answers = [part.answer for part in self.parts]
         line = answers[0].line if len(answers) == 1 else (
@@ -395,7 +403,7 @@ class Verdict:
         return line if self.has_clock else f"{RELATIVE}{line.removeprefix(ACCEPTED)}"
 
     def lines(self) -> list[str]:
-        """Return a line for each of several parts: its times and its last line."""
+        """Return a line for each of several parts: the times of the part and its last line."""
         return [f"part {part.number}, from {' to '.join(map(str, part.times()))}: "
                 f"{part.answer.line}" for part in self.parts] if len(self.parts) > 1 else []
 
@@ -404,13 +412,13 @@ class Verdict:
 
 
 def gaps_in(recording: Recording, parts: Sequence[Part]) -> list[Gap]:
-    """Return the gaps of a recording, including those that announced jumps of a part hide."""
+    """Return the gaps of a recording, including gaps that announced jumps of the counter hide."""
     return gaps_of(recording.places([jump for part in parts for jump in part.jumps]), parts)
 
 
 def gaps_of(places: Sequence[Place], parts: Sequence[Part]) -> list[Gap]:
-    """Return gaps at these places, with times by the clock of the first part that contains them, or
-    else of the first part."""
+    """Return gaps at these places, with times by the clock of the first part that contains the
+    place, or else of the first part."""
     gaps = []
     for place in places:
         own = [part for part in parts if is_in(place, part)]
