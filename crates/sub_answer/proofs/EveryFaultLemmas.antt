@@ -295,8 +295,8 @@ module _ (drawing : Drawing) (options : OptionsValue) (stl pes : SourceCall) (fi
     listed = listed;
   }
 
-  -- If the subtitle file gives a programme it has no events, so the events of the PES file decide
-  -- the answer of `check`.
+  -- If the subtitle file gives a programme, its events are none, so the events of the PES file
+  -- decide the answer of `check`.
   verdict : (events : List Event) (a : Accepted)
       → IfKnown pes.known (λ bytes.
       (programme : ProgrammeValue)

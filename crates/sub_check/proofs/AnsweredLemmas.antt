@@ -26,8 +26,8 @@ use Rattle.sub_check.proofs.RuleReportedLemmas.{first_of_rule}
 use Rattle.sub_check.proofs.VerdictLemmas.{Decides, IsAllRead, ReadsSoFar, checked_at_once}
 use Rattle.sub_check.proofs.VerdictLemmas.{checked_by}
 
--- The answer of `check` with any options, and if each header has to erase the page, which has to be
--- right at the end of each frame.
+-- The answer of `check` agrees with the bytes of the file: with any options, and if each header has
+-- to erase the page, which has to be right at the end of each frame.
 pub record IsAnswered
     (programme : ProgrammeValue) (options : OptionsValue) (bytes : List ℕ)
     (answer : Result Accepted CheckFault)

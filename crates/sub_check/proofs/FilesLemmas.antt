@@ -33,7 +33,8 @@ pub same_programme :
     (a b : ProgrammeValue) (r : Result ProgrammeValue LoadFault) → r ≡ Ok a → r ≡ Ok b → a ≡ b
 same_programme a b r e f = let both = sym e ∙ f in cc
 
--- After the subtitle file was loaded, an answer that is no failure is no failed read.
+-- If the subtitle file was loaded, an answer that reports no failure reports no failed read of the
+-- PES file.
 answer_after_loading :
     (answer : Result Accepted CheckFault)
     → failed is_subtitle_fault answer ≡ false

@@ -94,8 +94,6 @@ pub end_before_after_gap : (frames : Transmission) (n f : ℕ) → latest frames
     → end_before frames n (f + 1) ≡ f
 end_before_after_gap frames n f l = grind (arith, nat_tests)
 
--- ---- an end
-
 end_events_agree :
     (g : Criteria) (frames : Transmission) (i n f : ℕ) (old new : ActiveFaults) (last : ℕ)
     → old ≡ active_faults_before g frames i f

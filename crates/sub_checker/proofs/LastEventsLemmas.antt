@@ -119,8 +119,8 @@ module _ (g : Criteria) (frames : Transmission) (n : ℕ) (last : List (List ℕ
         ∙ ap (λ (k : ℕ). active_faults_at g frames (suc n) (frame_at frames k)) (omega arith) in
         rw (active_faults_of, last_is, end_eq) refl
 
--- Two lists of events have the same effect. They may differ only in the PES packet that a fault
--- names, since the tracker sets that itself.
+-- Two lists of events have the same effect on the tracker. They may differ only in the PES packet
+-- that a fault names, since the tracker sets the number of the PES packet itself.
 pub record AreSameReports (es fs : List Event) : Type 0 where
   pub reports_none_eq : reports_none es ≡ reports_none fs
   pub reported_by_emits : (t : TrustTracker) → reported_by t (map Emits es) ≡ reported_by t
@@ -133,7 +133,7 @@ same_equal es fs is =
     rw is (record { reports_none_eq = refl; reported_by_emits = λ t. refl; kept_are = λ t. refl })
 
 module _ (k n : ℕ) (u : Unread) where
-  -- The events, followed by the fault of the unread rest at PES packet i.
+  -- A list of events, followed by the fault of the unread rest at PES packet i.
   abbrev with_last : List Event → ℕ → List Event
   with_last es i = es ++ Reported (unread_fault i (Some u)) ∷ []
 

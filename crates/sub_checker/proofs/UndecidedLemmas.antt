@@ -103,7 +103,7 @@ module _ (undecided : ℕ → Bool) (first f : ℕ) where
           at (inr same) = absurd (omega (arith, l, same))
       by (inr l) rest = let nearer = rest l in grind (arith, nat_tests)
 
-  -- If `within` is 0, only the frame itself counts.
+  -- If `within` is 0, only the due page of the frame itself has to be known.
   pub was-once : (n : ℕ) → n ≡ 0 → was_undecided undecided first f n ≡ undecided f
   unfolding was_undecided
   was-once n none = rw none refl

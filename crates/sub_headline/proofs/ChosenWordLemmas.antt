@@ -134,7 +134,7 @@ emitted_by stated text = option_map_or (λ text. option_map Some (stated text)) 
 abbrev pace_of_text : Text → Option ℕ
 pace_of_text text = between 1 day (number_of_text text)
 
--- The values of the arguments give these settings for reading and drawing.
+-- The values of the arguments mean the settings l for reading and drawing.
 record Meant (held : Text → List (List Text)) (l : DisplayOptions) : Type 0 where
   pub page_is :
       page_of_text (text_in (codes "888") (held (codes "page"))) ≡ Some l.reading.options.page

@@ -52,7 +52,7 @@ use Rattle.sub_rules.proofs.PacketLists.{Each-find, Each-join, Each-map, Each-no
 use Rattle.sub_rules.proofs.PacketLists.{no_row}
 use Rattle.sub_rules.proofs.CodeWordLemmas.{address_decided, header_decided}
 
--- A test that fails exactly if a property holds.
+-- The test b fails exactly if the property P holds.
 abbrev pub Refutes : Bool → Type 0 → Type 0
 Refutes b P = Decides (not b) P
 
@@ -239,7 +239,6 @@ module _ (w : Watched) (packets : List (List ℕ)) (s : IsSoundSpan w packets) (
         )
   ]
 
--- A property of each packet holds for the packets since the text began, of the first n packets.
 Each-span : (keeps : Bool) (page : PageIdValue) (P : List ℕ → Type 0) (xs : List (List ℕ))
     → ((k : ℕ) → k < length xs → P (get_or xs k [])) → (n : ℕ) → n ≤ length xs
     → AllByRecursion P (text_span keeps (kind page) (take n xs))

@@ -126,7 +126,6 @@ module _ (g : Criteria) (frames : Transmission) where
   abbrev Begun : ℕ → List (List ℕ) → List Event → Type 0
   Begun n packets so_far = so_far ≡ begun n packets
 
-  -- The property S of the events so far still holds with the events of more steps.
   abbrev EmitsOn : (List Event → Type 0) → List Event → List CheckStep → Type 0
   EmitsOn S so_far ms = S (so_far ++ emitted ms)
 

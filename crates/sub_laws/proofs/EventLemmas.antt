@@ -49,8 +49,8 @@ any_event event = Some event
 abbrev pub IsNamed : (CheckFault → Type 0) → Event → Type 0
 IsNamed Named event = (f : CheckFault) × (event ≡ Reported f) × Named f
 
--- The list has no events exactly if `Holds`, and its first event is a fault with the property
--- `Named`.
+-- The list of events is empty exactly if `Holds` is true, and otherwise begins with a fault that
+-- has the property `Named`.
 abbrev pub FirstOf : (CheckFault → Type 0) → Type 0 → List Event → Type 0
 FirstOf Named Holds reported = Finds any_event (IsNamed Named) Holds Holds reported
 

@@ -31,8 +31,8 @@ module _ {X : Type 0} where
   found-append lookup [] ys = refl
   found-append lookup (x ∷ xs) ys = let rest = found-append lookup xs ys in grind arith
 
-  -- The first result of the search has the property `At`. If there is no result, `Holds`; and if
-  -- `Given`, there is no result.
+  -- The first result of the search has the property `At`. If there is no result, `Holds` is true;
+  -- and if `Given` is true, there is no result.
   pub record Finds (lookup : Event → Option X) (At : X → Type 0) (Given Holds : Type 0)
       (es : List Event) : Type 0 where
     pub at : (x : X) → first_found lookup es ≡ Some x → At x
@@ -43,8 +43,8 @@ module _ {X : Type 0} {lookup : Event → Option X} {At : X → Type 0} where
   pub Finds-none : {A B : Type 0} → B → Finds lookup At A B []
   Finds-none b = record { at = λ x e. cc; fault_free = λ e. b; calm = λ h. refl }
 
-  -- For joined lists: if the search of the first list has no result, its property is available for
-  -- the second.
+  -- If the search finds nothing in the first of two joined lists, this fact may be used for the
+  -- search of the second list.
   pub Finds-append : {A B C D : Type 0} {xs ys : List Event} → Finds lookup At A B xs
       → (B → Finds lookup At C D ys) → (C → A) → Finds lookup At C D (xs ++ ys)
   Finds-append {xs = xs} {ys = ys} one next back =
@@ -79,7 +79,7 @@ of_each_rule P all = recursion_from_All P packet_rules (λ k d l. all (get_or pa
 module _ {X : Type 0} (lookup : Event → Option X) (At : X → Type 0) (frame k : ℕ)
     (at : (r : PacketRule) (x : X) → lookup (Reported (packet_fault r frame k)) ≡ Some x → At x)
   where
-    -- No rule of the list that passes the test is searched for.
+    -- The search finds nothing in the events of the rules that pass the test.
     abbrev NoRulePasses : (PacketRule → Bool) → List PacketRule → Type 0
     NoRulePasses test rs =
         AllByRecursion (λ r. test r ≡ true → lookup (Reported (packet_fault r frame k)) ≡ None) rs
@@ -94,9 +94,9 @@ module _ {X : Type 0} (lookup : Event → Option X) (At : X → Type 0) (frame k
     pub packet_found : (w : Watched) (before : List (List ℕ)) (p : List ℕ)
         → Finds lookup At
         ((r : PacketRule) → breaks r w before p ≡ true
-            → lookup (Reported (packet_fault r frame k)) ≡ None)
+        → lookup (Reported (packet_fault r frame k)) ≡ None)
         ((r : PacketRule) → breaks r w before p ≡ true
-            → lookup (Reported (packet_fault r frame k)) ≡ None)
+        → lookup (Reported (packet_fault r frame k)) ≡ None)
         (rules_reported w frame k before p)
     unfolding rules_reported broken_rules
     packet_found w before p =

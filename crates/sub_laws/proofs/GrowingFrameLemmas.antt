@@ -53,7 +53,7 @@ pub record Grows (sent frames : Transmission) : Type 0 where
   pub more : Transmission
   pub whole : frames ≡ with_packets rest sent ++ more
 
--- Frames before the last frame sent do not change.
+-- Frames before the last frame sent do not change when more PES packets are sent.
 pub grown : (sent : Transmission) (s : SentFrame) (frames : Transmission)
     → Grows (sent ++ s ∷ []) frames
     → (more : Transmission) × (frames ≡ sent ++ more)
@@ -75,7 +75,6 @@ grows_without_last sent s frames is =
       whole = all.1 ∙ sym (ap (λ (l : Transmission). l ++ all.0) (with_no_packets sent));
     }
 
--- The relation `Grows` also holds for the frames before the last PES packet.
 pub grows_before : (within : ℕ) (sent : Transmission) (s : SentFrame) (frames : Transmission)
     → Grows (sent_after within sent s) frames
     → Grows sent frames
@@ -127,7 +126,6 @@ module _ (g : Criteria) (sent frames : Transmission) (is : Grows sent frames) (n
     pub before_eq : packets_before frames n ≡ packets_before sent n
     before_eq = grind (arith, nat_tests, packets_before-prefix, length_of_all, with_packets-before)
 
-    -- The packets sent so far are those of the first n frames, and those so far in frame n.
     pub so_far : packets_before sent (length sent)
         ≡ packets_before frames n ++ packets_of_frame sent n
     so_far =

@@ -92,8 +92,8 @@ module _ (X : Type 0) (reported_of : ℕ → X → X) (g : Criteria) (frames : T
           → O n (packets_of_frame sent n) t
           → T (O n (packets_of_frame sent n)) t (skipped_steps pes u)
 
-    -- The state while frames are sent: all frames have ended, since each ends at once or no frame
-    -- was sent; or the last frame may continue.
+    -- The possible states while frames are sent: all frames have ended, since each frame ends at
+    -- once or none was sent; or the last frame may continue.
     abbrev pub Sends : Transmission → X → Type 0
     Sends sent t =
         ((((g.within == 0) ≡ true) ⊎ (length sent ≡ 0)) × C (length sent) t)

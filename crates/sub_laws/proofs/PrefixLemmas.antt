@@ -37,8 +37,8 @@ before_all : (t : Transmission) (i : ℕ) → i < length t
     → before t i (length (packets_of_frame t i)) ≡ packets_before t (i + 1)
 before_all t i l = grind (arith, take_all, joined_more)
 
--- Assume a property of the empty list of packets that each packet of the first m frames preserves.
--- It holds for each beginning of their packets.
+-- Assume a property of lists of packets that holds for the empty list and that each packet of the
+-- first m frames preserves. It holds for each beginning of the list of their packets.
 module _ (t : Transmission) (m : ℕ) (fits : m ≤ length t) (Q : List (List ℕ) → Type 0) (none : Q [])
     (more : (i k : ℕ) → i < m → k < length (packets_of_frame t i) → Q (before t i k)
     → Q (before t i k ++ packet_at t i k ∷ [])) where

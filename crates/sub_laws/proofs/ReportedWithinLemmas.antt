@@ -143,7 +143,7 @@ module _ (programme : ProgrammeValue) (options : OptionsValue) (t : Transmission
   abbrev order : RiseTo t (length t)
   order = rises_each t good.rules.rising
 
-  -- A finished frame is before the frame from which on the ends are unfinished.
+  -- Each finished frame is earlier than the frame from which on all ends are unfinished.
   first_unfinished_later : (n f r e : ℕ) → IsEnd t n f → unfinished_run_start requested t n f ≡ Some
       r
       → from ≤ e

@@ -64,7 +64,7 @@ module _ (test : CheckStep → Bool) where
   SkippedPass pes (Skipped u ∷ pes_packets) =
       (on (Reported (unread_fault pes (Some u))) ≡ false) × SkippedPass (suc pes) pes_packets
 
-  -- The test fails for each step of a frame.
+  -- A test of steps fails for each step of a frame.
   pub record FramesPass (g : Criteria) : Type 0 where
     pub at_pes : (n : ℕ) → test (AtPes n) ≡ false
     pub begins : (f : ℕ) → test (Begins f) ≡ false
@@ -172,7 +172,7 @@ module _ (test : CheckStep → Bool) where
         both_pass (each_passes [] 0 pes_packets (skipped 0))
         (pending_passes (sent_by_pes_packets g pes_packets))
 
--- Assume a test of faults that does not depend on the PES packet.
+-- Assume a test of faults whose result does not depend on the PES packet that the fault names.
 module _ (bad : CheckFault → Bool)
     (anywhere : (pes : ℕ) (f : CheckFault) → bad f ≡ false → bad (fault_at_pes pes f) ≡ false) where
   -- The event reports a fault for which the test `bad` succeeds.

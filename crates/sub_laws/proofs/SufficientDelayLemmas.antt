@@ -34,7 +34,7 @@ use Rattle.sub_laws.proofs.SoundUnreportedLemmas.{repeated_unreported}
 use Rattle.sub_laws.proofs.ActiveFaultsLemmas.{always_late, due_known_at, none_wrong, unexpected_eq}
 use Rattle.sub_laws.proofs.UnfinishedLemmas.{finished_from, first_unfinished_some, unfinished_at}
 
--- From frame a to frame b the content at each end is as required, and the due page is known; the
+-- In the frames a to b the content at each end is as required, and the due page is known; the
 -- frames of the list rise.
 pub record IsStill (g : Criteria) (t : Transmission) (a b : ℕ) : Type 0 where
   pub up : RiseTo t (length t)
@@ -48,7 +48,7 @@ pub record IsStill (g : Criteria) (t : Transmission) (a b : ℕ) : Type 0 where
       → f ≤ b
       → (broken_cell g t n f ≡ None) × (undecided_within g t f ≡ false)
 
--- From frame a to frame b the content and the end of the page are as required.
+-- In the frames a to b the content and the end of the page are as required.
 pub record HoldsAtEnds (g : Criteria) (t : Transmission) (a b : ℕ) : Type 0 where
   pub still : IsStill g t a b
   pub shut :

@@ -198,8 +198,8 @@ received_again heard last ps headers s known is same =
           (grind (arith, nat_tests))),
     )
 
--- After packets that begin the text and break no rule, the listener's record of the last packets is
--- right.
+-- After packets that begin the text and break no rule, the listener stores how many headers of the
+-- page these packets have.
 pub kept_last :
     (w : Watched) (heard ps : List (List ℕ)) (headers from : ℕ) (before begun begins clean : Bool)
     (s : Listener)

@@ -97,7 +97,8 @@ module _ (g : Criteria) (frames : Transmission) (a b i : ℕ)
   abbrev OpenHere : ℕ → List CheckStep → Type 0
   OpenHere n t = Open g frames a b i fits n (packets_of_frame frames n) t
 
-  -- The end of frame n was checked, and the stretch is still on its way to be reported.
+  -- The end of frame n was checked, and the tracker's state still has the run that will report the
+  -- stretch.
   record Finishing (n : ℕ) (t : List CheckStep) : Type 0 where
     follows : Follow n (frame_at frames n + 1) t
     clean : i ≤ n → stays_fault_free t ≡ true

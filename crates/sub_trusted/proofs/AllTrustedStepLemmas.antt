@@ -88,8 +88,6 @@ pub clean_without_doubt : (clean : Bool) (d : Option ℕ) → clean ≡ true →
     → (clean && is_none d) ≡ true
 clean_without_doubt clean d is none = rw (is, none) refl
 
--- ---- packets of a frame
-
 keeps_part : (w : Watched) (before xs ys zs : List (List ℕ))
     → KeepsAll w before (xs ++ ys ++ zs)
     → KeepsAll w (before ++ xs) ys

@@ -105,14 +105,14 @@ module _ (P : ℕ → ℕ → Type 0) where
   on_at pes (Trusted from to) p = p
   on_at pes e p = tt
 
-  -- A property of the trusted frames of a run before frame x, if the run has any.
+  -- The trusted frames of a run before frame x, if the run has any, have the property P.
   pub each_put : (run whole : Option ℕ) (x : ℕ)
       → ((from w : ℕ) → run ≡ Some from → whole ≡ Some w → w < x → P from (x - 1))
       → EachTrusted P (trusted run whole x)
   each_put run whole x h1 = grind (arith, nat_tests, ltb-true)
 
-  -- The property holds for the trusted frames that the events report and for the run up to the
-  -- frame in doubt, so it holds for the steps with these events.
+  -- If the trusted frames of the events, and the frames of the run up to the frame in doubt, have
+  -- the property P, so have the trusted frames of the steps with these events.
   each_emitted : (t : List CheckStep) (es : List Event) → EachTrusted P es
       → ((x from w : ℕ)
       → invalidation_of t es ≡ Some x

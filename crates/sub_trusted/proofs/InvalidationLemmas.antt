@@ -18,13 +18,14 @@ use Rattle.sub_rules.proofs.AnyReportedLemmas.{is_foreign}
 use Rattle.sub_rules.proofs.PacketLists.{Each-map, Each-none}
 use Rattle.sub_rules.specs.PesPacketEvents.{SkippedRun}
 
--- A property of the first and last trusted frame, if the event reports trusted frames.
+-- The property P of the first and last trusted frame holds if the event reports trusted frames.
 abbrev pub OnTrusted : (ℕ → ℕ → Type 0) → Event → Type 0
 OnTrusted P (Trusted from to) = P from to
 OnTrusted P e = ⊤
 
 module _ (P : ℕ → ℕ → Type 0) where
-  -- The property holds for each event that reports trusted frames.
+  -- The property P holds for the first and last trusted frame of each event that reports trusted
+  -- frames.
   abbrev pub EachTrusted : List Event → Type 0
   EachTrusted es = All (OnTrusted P) es
 

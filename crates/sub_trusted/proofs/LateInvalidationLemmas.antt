@@ -242,7 +242,8 @@ module _ (g : Criteria) (frames : Transmission) where
   before_eq zero f some = absurd (omega arith)
   before_eq (suc n) f some = refl
 
-  -- The first frame of the unfinished run that the steps of an end name: none if `within` is 0.
+  -- The first frame of the unfinished run, as the steps at the end of a frame name it; none if
+  -- `within` is 0.
   abbrev pub seen_unfinished : ℕ → ℕ → Option ℕ
   seen_unfinished n f = if g.within == 0 then None else unfinished_run_start g frames n f
 

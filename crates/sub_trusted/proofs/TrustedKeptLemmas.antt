@@ -230,8 +230,8 @@ module _ (g : Criteria) (frames : Transmission) where
   }
 
 module _ (g : Criteria) (frames : Transmission) (base : ℕ) where
-  -- The run is within the first n frames, after the first `base` frames; no fault is active at any
-  -- of its ends before frame x.
+  -- The current run is within the first n frames, after the first `base` frames; no fault is active
+  -- at any of its ends before frame x.
   pub record Keeps (n x : ℕ) (t : List CheckStep) : Type 0 where
     pub run : (from : ℕ) → run_of t ≡ Some from → Run g frames n from
     pub ends : (from : ℕ) → run_of t ≡ Some from → EndsFaultFree g frames n from x

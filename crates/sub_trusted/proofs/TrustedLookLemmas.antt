@@ -43,8 +43,8 @@ module _ (g : Criteria) (frames : Transmission) where
         else None)
     pub plain : goes_back g ≡ false → back_of u ≡ back_of t
 
-  -- The state names the frame from which on the page has been wrong up to the end before frame f,
-  -- as the rules define it.
+  -- The tracker's state has the frame from which on the page has been wrong up to the end before
+  -- frame f, as the rules define it.
   abbrev pub WrongSince : ℕ → ℕ → List CheckStep → Type 0
   WrongSince i f u = (r : ℕ) → back_of u ≡ Some r → first_unfinished_before g frames i f ≡ Some r
 

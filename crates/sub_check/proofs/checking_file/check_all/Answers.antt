@@ -1,4 +1,5 @@
--- The clauses for PES packets hold for the bytes of the source.
+-- The contract of `check_all` follows from that of `check_all_pes_packets`, for the PES packets of
+-- its source.
 use Rattle.std.proofs.Common.{rules}
 use Rattle.sub_check.proofs.checking_file.check_all.Goals as goal
 

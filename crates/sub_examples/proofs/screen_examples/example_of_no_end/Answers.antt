@@ -1,4 +1,4 @@
--- Proves the example in ScreenTests.
+-- The example of a good transmission that is not shown follows from ScreenTests.
 use Rattle.sub_examples.proofs.ScreenTests as example
 use Rattle.sub_examples.proofs.screen_examples.example_of_no_end.Goals as goal
 

@@ -1,4 +1,5 @@
--- The clauses for PES packets hold for the bytes of the source.
+-- The contract of `listen` follows from that of `listen_pes_packets`, for the PES packets of its
+-- source.
 use Rattle.std.proofs.Common.{rules}
 use Rattle.sub_listen.proofs.listening.listen.Goals as goal
 

@@ -1,4 +1,4 @@
--- The remaining flips change the bytes so far to the packet with all flips.
+-- Applying the remaining flips to the bytes gives the packet with all flips.
 use Rattle.std.proofs.Common.{◌≡◌, drop}
 use Rattle.sub_request.specs.Flips.{with_flips}
 use Rattle.sub_listen.proofs.reception.flipped.Given as goal

@@ -1,4 +1,5 @@
--- The reporter relayed the steps of all frame ends so far, and the state agrees with these ends.
+-- The reporter relayed the steps of all frame ends so far, and the checker's state agrees with
+-- these ends.
 use Rattle.std.proofs.Common.{◌≡◌, ℕ, ◌+◌, ◌-◌, ◌<◌, ◌≤◌, List}
 use Rattle.sub_rules.specs.Events.{latest}
 use Rattle.sub_rules.specs.PesPacketEvents.{steps_of_gap}

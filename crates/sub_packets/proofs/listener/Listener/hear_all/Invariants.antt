@@ -1,4 +1,5 @@
--- The broken rules of the packets so far were reported, and the state agrees with the packets.
+-- The broken rules of the packets so far were reported, and the listener's state agrees with these
+-- packets.
 use Rattle.std.proofs.Common.{◌≡◌, ◌≤◌, ◌<◌, ℕ, List, [], ◌++◌, take, get_or, length}
 use Rattle.std.proofs.Common.{◌-◌, true}
 use Rattle.ttx_page.specs.PacketKind.{begins_text, kind}
