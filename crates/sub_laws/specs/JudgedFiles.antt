@@ -15,8 +15,8 @@ use Rattle.sub_rules.specs.PesPacketEvents.{all_of_pes_packets}
 use Rattle.sub_rules.specs.PesPackets.{PesPacket}
 
 -- A part of a subtitle file gives the same reliable subtitles as the file from which the blocks of
--- all other subtitles were removed, if both are read to the end. A transmission can be judged by
--- both or by neither.
+-- all other subtitles were removed, if the file can be read to its end. A transmission can be
+-- judged by both or by neither.
 abbrev pub LawOfJudgedParts : Type 0
 LawOfJudgedParts =
     (drawing : Drawing) (gsi : List ℕ) (blocks : List (List ℕ))

@@ -223,8 +223,9 @@ pub fn law_of_kept_on_air()
     ensures { LawOfKeptOnAir }
 {}
 
-/// If text ends or changes at a frame, a header that erases the page is sent in that frame, or at
-/// most `within` frames later. So old text is gone by then, whatever a receiver contained before.
+/// If text ends or changes at a frame, a header that begins the text of the page is sent in that
+/// frame, or at most `within` frames before or after it. So old text is gone by then, whatever a
+/// receiver contained before.
 pub fn law_of_old_text()
     ensures { LawOfOldText }
 {}

@@ -14,7 +14,7 @@ use sub_request::UsageFault;
 /// # Errors
 ///
 /// Returns `Memory` if memory ran out, and `Words` if the system gave no arguments. The system
-/// gives none if an argument is not valid UTF-8.
+/// gives none if an argument is no text, which belongs to no command.
 pub fn collect_arguments(alloc: Global, given: io::Result<Args>) -> Result<Vec<String>, UsageFault>
     ensures arguments { IfOk result (λ arguments.
         arguments_given given ≡ Ok (map (λ word. string_bytes word) arguments.items)) }
