@@ -12,8 +12,8 @@ use Rattle.sub_rules.specs.Transmission.{Transmission, first_frame, last_frame, 
 use Rattle.sub_laws.specs.LostRows.{IsReceivedWithLosses}
 
 -- The page that a receiver has at the end of frame f. The receiver was switched on in frame g, with
--- the state `old`, and observed at the end of frame f, with the state `new`. The packets `sent` were
--- on air between these two points.
+-- the state `old`, and observed at the end of frame f, with the state `new`. The packets `sent`
+-- were on air between these two points.
 --
 -- If f is at least `every` frames after g, `sent` has a header of the page (`every` is the repeat
 -- bound). The receiver has received a header of the page exactly if it had before or `sent` has
