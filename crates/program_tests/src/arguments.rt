@@ -132,7 +132,7 @@ fn refuses_digits_that_are_no_packet(rt: HostRuntime) {
 // line.
 #[rattlefmt::skip]
 const SCHEDULES: [[&str; 5]; 18] = [
-    // The columns: page, every, origin, option, line.
+    // The columns of the table: page, every, origin, option, line.
     ["8FF", "0", "x", "polish", "usage 1 BadPage\n"],
     ["088", "250", "0", "english", "usage 1 BadPage\n"],
     ["", "250", "0", "english", "usage 1 BadPage\n"],
@@ -192,7 +192,8 @@ fn reports_the_first_fault_of_a_schedule(rt: HostRuntime) {
 // The arguments of a check and of a receiver, one of which is `--within`, and the lines of both.
 #[rattlefmt::skip]
 const WITHINS: [[&str; 6]; 14] = [
-    // The columns: option, within, origin, time, line of the check, line of the receiver.
+    // The columns of the table: option, within, origin, time, line of the check, line of the
+    // receiver.
     ["polish", "x", "x", "x", "usage 81 Origin\n", "usage 81 Origin\n"],
     ["polish", "51", "0", "x", "usage 83 BadOption\n", "usage 85 Within\n"],
     ["english", "51", "0", "x", "usage 85 Within\n", "usage 85 Within\n"],
@@ -234,7 +235,7 @@ fn refuses_frames_that_are_not_allowed(rt: HostRuntime) {
 // line.
 #[rattlefmt::skip]
 const PES_PACKETS: [[&str; 4]; 20] = [
-    // The columns: PID, packet size, range, line.
+    // The columns of the table: PID, packet size, range, line.
     ["8191", "190", "2-1", "usage 86 Pid\n"],
     ["8191", "188", "0-1", "usage 86 Pid\n"],
     ["x", "188", "0-1", "usage 86 Pid\n"],
@@ -285,7 +286,7 @@ fn refuses_pes_packets_that_can_not_be_meant(rt: HostRuntime) {
 // The range of PES packets and the maximum distance of a check, and the expected line.
 #[rattlefmt::skip]
 const PACES: [[&str; 3]; 7] = [
-    // The columns: range, pace, line.
+    // The columns of the table: range, pace, line.
     ["2-1", "0", "usage 88 Range\n"],
     ["0-1", "0", "usage 92 Pace\n"],
     ["0-1", "2160001", "usage 92 Pace\n"],
@@ -334,7 +335,8 @@ fn reports_faults_of_other_arguments_before_those_of_pes_packets(rt: HostRuntime
 // line.
 #[rattlefmt::skip]
 const RECEIVERS: [[&str; 8]; 14] = [
-    // The columns: page, origin, time, skipped packets, flips, lost packets, receiver, line.
+    // The columns of the table: page, origin, time, skipped packets, flips, lost packets, receiver,
+    // line.
     ["8FF", "x", "x", "x", "x", "x", "x", "usage 1 BadPage\n"],
     ["888", "8589934592", "x", "x", "x", "x", "x", "usage 81 Origin\n"],
     ["888", "0", "24:00:00:00", "x", "x", "x", "x", "usage 6 BadTime\n"],

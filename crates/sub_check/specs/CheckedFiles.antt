@@ -56,7 +56,7 @@ pub record HasCounts (page : PageIdValue) (frames : Transmission) (a : Accepted)
   pub transmissions_eq :
       a.transmissions ≡ header_count page (flat_map (λ (s : SentFrame). s.packets) frames)
 
--- ---- both files
+-- ---- the contents of both files
 
 -- The bytes of a subtitle file and of a PES file have these subtitles and this transmission as
 -- their contents.

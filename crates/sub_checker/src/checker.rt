@@ -136,8 +136,8 @@ impl<'a> Checker<'a> {
         }
     }
 
-    /// Moves to frame `f`. Draws the due page again if `f` is an earlier frame, or if a subtitle
-    /// begins or ends on the way.
+    /// Moves the checker to frame `f`. Draws the due page again if `f` is an earlier frame, or if a
+    /// subtitle begins or ends on the way.
     pub fn move_to(&mut self, f: u32)
         requires day { f < day }
         ensures { self.new ≡ at_frame f self.old }
@@ -170,7 +170,7 @@ impl<'a> Checker<'a> {
         self.frame = f;
     }
 
-    /// Moves to the frame of the first PES packet.
+    /// Moves the checker to the frame of the first PES packet.
     pub fn start(&mut self, frame: u32)
         requires day { frame < day }
         ensures { self.new ≡ checker_at_first frame self.old }
@@ -188,7 +188,7 @@ impl<'a> Checker<'a> {
         );
     }
 
-    /// Moves to the frame of a later PES packet.
+    /// Moves the checker to the frame of a later PES packet.
     pub fn arrive(&mut self, frame: u32)
         requires day { frame < day }
         ensures { self.new ≡ checker_at_next frame self.old }

@@ -1,5 +1,5 @@
-//! Moves to the frame of a PES packet: checks that frames rise, and ends the frames of the day
-//! before the new frame.
+//! Moves the checker to the frame of a PES packet: checks that frames rise, and ends the frames of
+//! the day before the new frame.
 ghost use Rattle.std.specs.Prelude.{◌≡◌, ℕ, ◌<◌, List};
 ghost use Rattle.stl_file.specs.TimeCode.{day};
 ghost use Rattle.sub_rules.specs.Events.{gap_length, is_early};
@@ -17,7 +17,8 @@ use sub_packets::report_if;
 use sub_rules::{CheckFault, Event};
 
 impl<'a> Checker<'a> {
-    /// Moves to the frame of a PES packet, which differs from the frame of the packet before it.
+    /// Moves the checker to the frame of a PES packet, which differs from the frame of the packet
+    /// before it.
     pub fn reach<A: Audience<Event>>(&mut self, frame: u32, reporter: &mut Reporter<'_, A>)
         requires day { frame < day }
         ensures counts { self.new.counts ≡ self.old.counts }
@@ -34,7 +35,7 @@ impl<'a> Checker<'a> {
         }
     }
 
-    // Moves to the frame of the first PES packet.
+    // Moves the checker to the frame of the first PES packet.
     fn begin<A: Audience<Event>>(&mut self, frame: u32, reporter: &mut Reporter<'_, A>)
         requires day { frame < day }
         ensures counts { self.new.counts ≡ self.old.counts }
@@ -53,7 +54,7 @@ impl<'a> Checker<'a> {
         self.start(frame);
     }
 
-    // Moves to the frame of a later PES packet.
+    // Moves the checker to the frame of a later PES packet.
     fn go_to<A: Audience<Event>>(&mut self, frame: u32, reporter: &mut Reporter<'_, A>)
         requires day { frame < day }
         ensures counts { self.new.counts ≡ self.old.counts }

@@ -19,7 +19,7 @@ abbrev pub chunks_of : ℕ → List ℕ → List (List ℕ)
 chunks_of size bytes =
     map (λ k. take size (drop (size * k) bytes)) (range_with_len 0 (length bytes / size))
 
--- ---- a PES file
+-- ---- reading a PES file by the places of its fields
 
 -- The size of the first PES packet (ISO/IEC 13818-1): PES_packet_length, bytes 4 and 5, counts from
 -- byte 6.
@@ -65,7 +65,7 @@ frame_read origin b = record {
 abbrev pub frames_by_place : ℕ → List ℕ → Transmission
 frames_by_place origin bytes = map (frame_read origin) (packets_read (length bytes) bytes)
 
--- ---- a subtitle file
+-- ---- reading a subtitle file by the places of its fields
 
 -- The block belongs to a subtitle (EBU Tech 3264, TTI block): it is neither user data (EBN, byte 3,
 -- is FE) nor a comment (CF, byte 15, is 01).

@@ -50,7 +50,7 @@ abbrev pub BeginsText : Criteria → Transmission → ℕ → Type 0
 BeginsText g frames i =
     holds_beginning g.watched.keeps (kind g.watched.page) (packets_of_frame frames i) ≡ true
 
--- ---- whatever is on air elsewhere
+-- ---- packets on air outside the trusted frames
 
 -- In the frames `from` to `to` exactly the packets that were read are on air: the frames on air
 -- rise, they begin no later than the first frame that was read, and each frame has the packets that
