@@ -50,8 +50,8 @@ fn assert_checks_changed(
 fn refuses_a_page_that_is_open_at_a_frames_end(rt: HostRuntime) {
     let content = "refused 72 Content frame 10:00:00:00 row 22 column 17\n";
     let at_the_end = "refused 77 Incomplete frame 10:00:02:00\n";
-    // The schedule is unchanged; then the first closing header becomes a stuffing unit, and then
-    // the second one.
+    // The schedule of `Hi` is checked unchanged, then with a stuffing unit in place of its first
+    // closing header, and then in place of its second one.
     assert_checks_changed(&rt, [(138, 0x03), (138, 0x03)], ACCEPTED, ACCEPTED);
     assert_checks_changed(&rt, [(138, 0xFF), (138, 0xFF)], ACCEPTED, OPEN);
     assert_checks_changed(&rt, [(276, 0xFF), (276, 0xFF)], ACCEPTED, at_the_end);

@@ -195,14 +195,14 @@ fn reports_repeats_while_the_page_is_open(rt: HostRuntime) {
     assert_lines(&rt, &file_of_hi(), &OPEN);
 }
 
-// Repeats of a blank page.
+// Transmissions that repeat a blank page, with C4 clear in the header of the repeat.
 #[rattlefmt::skip]
 const BLANK: [[&[&str]; 3]; 2] = [
     [&["0:hrc", "50:hc", "51:kc"], &["--keeping"], &["accepted 52 frames 3 transmissions\n"]],
     [&["0:hrc", "50:hc", "51:ksc"], &["--keeping"], &["accepted 52 frames 3 transmissions\n"]],
 ];
 
-// Repeats before the subtitle begins.
+// A transmission that sends a header of the page with C4 clear before the subtitle begins.
 #[rattlefmt::skip]
 const BEFORE: [[&[&str]; 3]; 1] = [
     [&["0:kc", "10:krc", "50:hc"], &["--keeping"], &[THREE]],

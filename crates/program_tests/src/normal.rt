@@ -7,7 +7,7 @@ use std::process::Abort;
 use sub_answer::Status;
 use sub_io::{FailAt, MemSink, MemSource, Sink};
 
-/// The arguments of `normal`.
+/// The words of a call of the command `normal` with the files `a` and `b`.
 pub const NORMAL: [&str; 4] = ["subttx", "normal", "a", "b"];
 
 // Asserts the line if one byte of a file with a comment, user data and a subtitle has another

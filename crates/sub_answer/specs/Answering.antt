@@ -81,8 +81,8 @@ pub record AnswersCheck
   pub starts : failed is_subtitle_fault answer ≡ false → StartsAt first pes number
   -- The line of the answer is printed, or `out` failed and has a prefix of the line.
   pub printed : PrintsOrFails out (verdict number answer) status
-  -- A failed source is reported at the block that was being read, with no fault before it, or at
-  -- the PES packet in which it failed.
+  -- If a source failed, the fault names the block of the subtitle file, or the PES packet, in which
+  -- the source failed, unless an earlier fault is reported.
   pub sources :
       ReportsSources (FailsLoading drawing stl.known stl.left)
       (λ index. FailsAtPacket index pes.known pes.left)
@@ -113,8 +113,8 @@ pub record PrintsHeard
       → (listing : Listing)
       × Listens leaves listening first frames unread pes.known pes.left listing
       × PrintsOrFails out listing status)
-  -- A failed source is reported at the PES packet in which it failed, if no fault before it is
-  -- reported.
+  -- If the source of PES packets failed, the fault names the PES packet in which the source failed,
+  -- unless an earlier fault is reported.
   pub read :
       pes.new_count ≢ pes.old_count
       → (f : ListenFault)

@@ -156,7 +156,7 @@ pub record IsClosedAfter
   pub left : BufferState D
   pub call_eq : call ≡ buffered_call contents failure_count old left
   pub closed : IsClose left.device new.device
-  -- The bytes in the buffer are unchanged.
+  -- Closing the file does not change the bytes in the file's buffer.
   pub buffered_eq : new.buffered ≡ left.buffered
   -- All bytes written have reached the device of the file before the source of a recording may ask
   -- its device, which may fail. So if the source failed, the buffer of the file is empty.

@@ -136,7 +136,8 @@ at_packets test frames a b e i k l m low high =
     each_below _ (length (packets_of_frame frames i))
     ((implied _ _ (in_stretch_decided a b (frame_at frames i)) (holds _)).0 frame (low, high)) k m
 
--- A test succeeds for each end of a frame of the stretch, given the number of frames so far.
+-- `test` succeeds at the end of each frame from a to b. Its first argument is the number of frames
+-- sent so far.
 abbrev ends_pass : (ℕ → ℕ → Bool) → Transmission → ℕ → ℕ → Bool
 ends_pass test frames a b =
     all_below

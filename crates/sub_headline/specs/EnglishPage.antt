@@ -47,7 +47,7 @@ pub record LineFits (row : ℕ) (is_under_double : Bool) (line : List ℕ) : Typ
   pub double_not_in_row_23 : IsTrue (is_double line) → row ≢ 23
   pub seen : IsTrue is_under_double → line ≡ []
 
--- Prepared lines fit on a page from a row on.
+-- The prepared lines of a subtitle fit on the page if the first line is in row `row`.
 abbrev pub LinesFit : ℕ → Bool → List (List ℕ) → Type 0
 LinesFit row is_under_double [] = ⊤
 LinesFit row is_under_double (line ∷ lines) =

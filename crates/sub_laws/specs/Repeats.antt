@@ -156,7 +156,8 @@ pub record MayBeTrustedBy
   pub recovers :
       (anew : Bool) (class : ReceiverClass)
       → RecoversForgetting keeps anew class programme transmission options a b
-  -- If a page has ended, the due page is on the receivers' screens.
+  -- Receivers have the due page on their screens at the end of each frame at which the page is
+  -- right and has ended.
   pub shown :
       (anew : Bool) (class : ReceiverClass)
       → ShownForgetting keeps anew class programme transmission options a b

@@ -95,7 +95,7 @@ orders_invalidated t [] none = refl
 orders_invalidated t (e ∷ es) none = grind
     (arith, nat_tests, order_invalidated, (orders_invalidated t es))
 
--- The steps with one more step that names the next PES packet.
+-- The step that names PES packet `pes`, followed by the steps `t`.
 abbrev pub reported_of : ℕ → List CheckStep → List CheckStep
 reported_of pes t = AtPes pes ∷ t
 

@@ -63,7 +63,7 @@ fn explain_arguments(rt: &HostRuntime) {
 /// The end of a run of the program.
 #[derive(Drop)]
 pub(crate) struct Ended<K> {
-    /// The exit status, 0 to 2.
+    /// The program's exit status, 0 to 2.
     code: u8,
     /// Standard output after the answer was printed.
     standard_output: K,

@@ -184,7 +184,8 @@ fn reads_packets_of_other_sizes(rt: HostRuntime) {
 #[test]
 fn finds_a_loss_of_15_packets_of_their_size(rt: HostRuntime) {
     let zeros: [u8; 4] = [0; 4];
-    // First 2876 bytes are skipped, and then 2880 bytes, after a time stamp.
+    // After a time stamp of 4 bytes, 2876 bytes are skipped in the first stream, and 2880 bytes in
+    // the second stream.
     assert_output_of(
         &rt,
         0x101,
