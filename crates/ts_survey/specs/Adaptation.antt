@@ -26,11 +26,15 @@ begins_access p =
 abbrev pub is_scrambled : List ℕ → Bool
 is_scrambled p = not (slice_index p 3 / 0x40 == 0)
 
--- program_clock_reference_base, if there is one.
+-- An adaptation field that can be used: transport_error_indicator is not set.
+abbrev pub has_usable_adaptation : List ℕ → Bool
+has_usable_adaptation p = has_adaptation p && (slice_index p 1 / 0x80 == 0)
+
+-- program_clock_reference_base, if there is one that can be used.
 abbrev pub pcr_base : List ℕ → Option ℕ
 pcr_base p =
-    if not (has_adaptation p) || nat_lt (slice_index p 4) 7 || (slice_index p 5 / 0x10 % 2 == 0)
-    then None
+    if not (has_usable_adaptation p) || nat_lt (slice_index p 4) 7
+    || (slice_index p 5 / 0x10 % 2 == 0) then None
     else Some (slice_index p 6 * 0x200_0000 + slice_index p 7 * 0x2_0000 + slice_index p 8 * 0x200
     + slice_index p 9 * 2 + slice_index p 10 / 0x80)
 

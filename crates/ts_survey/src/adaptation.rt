@@ -1,7 +1,7 @@
 //! Reads adaptation fields (ISO/IEC 13818-1, adaptation_field), and the times in the header of a
 //! PES packet.
 ghost use Rattle.std.specs.Prelude.{◌≡◌, ◌≤◌, ◌<◌, ◌+◌, ◌^◌, length, IfSome};
-ghost use Rattle.ts_survey.specs.Adaptation.{begins_access, decoding_time};
+ghost use Rattle.ts_survey.specs.Adaptation.{begins_access, decoding_time, has_usable_adaptation};
 ghost use Rattle.ts_survey.specs.Adaptation.{is_scrambled, payload_in, pcr_base, pts_stated};
 ghost use Rattle.ts_survey.specs.Adaptation.{time_at};
 
@@ -21,12 +21,20 @@ pub fn is_scrambled(packet: &[u8; PACKET]) -> bool
     packet[3] / 0x40 != 0
 }
 
-/// Returns program_clock_reference_base, 33 bits, if the packet has one.
+/// Returns whether a packet has an adaptation field that can be used: transport_error_indicator is
+/// not set.
+pub fn has_usable_adaptation(packet: &[u8; PACKET]) -> bool
+    ensures { result ≡ has_usable_adaptation packet.now }
+{
+    has_adaptation(packet) && packet[1] / 0x80 == 0
+}
+
+/// Returns program_clock_reference_base, 33 bits, if the packet has one that can be used.
 pub fn pcr_base(packet: &[u8; PACKET]) -> Option<u64>
     ensures value { result ≡ pcr_base packet.now }
     ensures range { IfSome result (λ pcr. pcr < 2 ^ 33) }
 {
-    if !has_adaptation(packet) || packet[4] < 7 || packet[5] / 0x10 % 2 == 0 {
+    if !has_usable_adaptation(packet) || packet[4] < 7 || packet[5] / 0x10 % 2 == 0 {
         return None;
     }
     Some(

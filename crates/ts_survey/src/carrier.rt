@@ -115,6 +115,7 @@ impl Carrier {
         }
         let is_seam = self.packets_of.is_after_seam(packet);
         self.packets_of.to.note_seam(is_seam);
+        self.packets_of.to.note_begin(begins(packet));
         let follows = self.count_lost(packet);
         if self
             .header
@@ -288,7 +289,7 @@ impl Carrier {
         text.number(self.packets);
         text.number(self.scrambled);
         text.number(given.refusal() as u64);
-        text.put(cut_word(self.begun, given.last()));
+        text.put(cut_word(given.is_cut()));
         text.time(self.begun);
         text.put(b"\n");
     }
@@ -327,11 +328,7 @@ fn report_clock(pid: u16, one: &Pending, reported: &[u8], text: &mut Text) {
     text.put(b"\n");
 }
 
-// Returns as a word whether the last PES packet that began is incomplete.
-fn cut_word(begun: Option<u64>, last: Option<u64>) -> &'static [u8] {
-    if begun.is_some() && last != begun {
-        b" 1"
-    } else {
-        b" 0"
-    }
+// Returns as a word whether the PES packet that began last is incomplete.
+fn cut_word(is_cut: bool) -> &'static [u8] {
+    if is_cut { b" 1" } else { b" 0" }
 }

@@ -10,15 +10,19 @@ use ttx_pes::{is_gap_marker, size_of};
 #[derive(Drop)]
 pub struct Given {
     lines: PesLines,
-    // Whether a gap marker was pending at any time since the last packet came.
+    // Whether a gap marker came since the last PES packet; and whether one had come when the last
+    // packet came, or with it.
+    is_after_gap: bool,
     is_broken: bool,
-    // Since the last PES packet: whether a gap marker is pending, and the packets that were lost or
-    // scrambled.
+    // Since the last PES packet: whether a gap marker for missing packets is pending, and the
+    // packets that were lost or scrambled.
     has_gap_marker: bool,
     lost: u64,
     scrambled: u64,
     // Whether there is a seam after the last PES packet.
     has_seam: bool,
+    // Whether the PES packet that began last is incomplete.
+    is_cut: bool,
     // Why nothing more comes; 0 if something may.
     refusal: u16,
 }
@@ -28,11 +32,13 @@ impl Given {
     pub fn new(lines: PesLines) -> Given {
         Given {
             lines,
+            is_after_gap: false,
             is_broken: false,
             has_gap_marker: false,
             lost: 0,
             scrambled: 0,
             has_seam: false,
+            is_cut: false,
             refusal: 0,
         }
     }
@@ -47,6 +53,16 @@ impl Given {
         self.has_seam = self.has_seam || is_seam;
     }
 
+    /// Notes that a PES packet begins in a packet.
+    pub fn note_begin(&mut self, begins: bool) {
+        self.is_cut = self.is_cut || begins;
+    }
+
+    /// Returns whether the PES packet that began last is incomplete.
+    pub fn is_cut(&self) -> bool {
+        self.is_cut
+    }
+
     /// Counts a scrambled packet.
     pub fn add_scrambled(&mut self) {
         self.scrambled = self.scrambled.saturating_add(1);
@@ -59,17 +75,12 @@ impl Given {
 
     /// Notes another packet.
     pub fn go_on(&mut self) {
-        self.is_broken = self.has_gap_marker;
+        self.is_broken = self.is_after_gap;
     }
 
     /// Returns whether something is missing before what the last packet carries.
     pub fn is_broken(&self) -> bool {
         self.is_broken
-    }
-
-    /// Returns the PTS of the last PES packet.
-    pub fn last(&self) -> Option<u64> {
-        self.lines.last()
     }
 
     // Prints a pending gap marker.
@@ -90,21 +101,26 @@ impl Given {
         self.lines.report_seam(text);
     }
 
-    // Processes a gap marker, or a PES packet, before which a pending gap marker is printed.
-    fn take_known(&mut self, pes_packet: &[u8], text: &mut Text) {
-        if is_gap_marker(pes_packet) {
-            self.has_gap_marker = true;
-            self.is_broken = true;
-            return;
-        }
-        self.report_gap_marker(text);
-        self.take_packet(pes_packet, text);
+    // Processes a gap marker for missing packets: it is printed before the next PES packet.
+    fn take_missing(&mut self) {
+        self.has_gap_marker = true;
+        self.is_after_gap = true;
+        self.is_broken = true;
     }
 
-    // Processes a PES packet.
-    fn take_packet(&mut self, pes: &[u8], text: &mut Text) {
+    // Processes a PES packet, or a gap marker that the PID carries. What came before is printed
+    // first.
+    fn take_known(&mut self, pes_packet: &[u8], text: &mut Text) {
+        self.report_gap_marker(text);
+        self.is_cut = false;
+        self.is_after_gap = is_gap_marker(pes_packet);
+        self.is_broken = self.is_broken || self.is_after_gap;
         self.report_seam(text);
-        self.lines.take(pes, text);
+        if self.is_after_gap {
+            self.lines.gap_marker(0, 0, text);
+        } else {
+            self.lines.take(pes_packet, text);
+        }
         self.lost = 0;
         self.scrambled = 0;
     }
@@ -141,10 +157,15 @@ impl Given {
 
 impl TakesPesPackets for Given {
     /// Processes a PES packet, a gap marker, or other bytes, after which nothing comes.
-    fn take(&mut self, pes_packet: &[u8], text: &mut Text) {
+    fn take(&mut self, pes_packet: &[u8], is_missing: bool, text: &mut Text) {
+        if is_missing {
+            self.take_missing();
+            return;
+        }
         match refusal_of(pes_packet) {
             Some(number) => {
                 self.refusal = number;
+                self.is_after_gap = false;
                 self.report_gap_marker(text);
             }
             None => self.take_known(pes_packet, text),

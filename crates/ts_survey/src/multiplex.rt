@@ -7,7 +7,7 @@ ghost use Rattle.ts_survey.specs.FirstLines.{requested_texts, teletext_line};
 ghost use Rattle.ts_survey.specs.Lines.{AddsTexts};
 ghost use Rattle.ts_survey.specs.Payload as specs;
 
-use crate::adaptation::{payload_in, pcr_base};
+use crate::adaptation::{has_usable_adaptation, payload_in, pcr_base};
 use crate::announcements::{report_pages, report_programme, report_stream};
 use crate::begun::begin_pts;
 use crate::carrier::{Carrier, INSPECTED_PACKETS};
@@ -266,6 +266,9 @@ impl Multiplex {
     fn read_clock(&mut self, place: u8, packet: &[u8; PACKET], text: &mut Text)
         ensures requested { KeepsRequested self.old self.new }
     {
+        if !has_usable_adaptation(packet) {
+            return;
+        }
         let Some(clock) = self.clocks.get_mut(place as usize) else {
             return;
         };

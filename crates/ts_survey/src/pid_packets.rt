@@ -8,7 +8,7 @@ ghost use Rattle.mpeg_ts.specs.TransportPacket.{has_payload, is_wrong};
 ghost use Rattle.ts_survey.specs.Following.{GivesNext, TakesBytes, any_pes_packet};
 
 use crate::text::Text;
-use mpeg_ts::{Joining, PACKET};
+use mpeg_ts::{Joining, Next, PACKET};
 
 /// Receives what the packets of a PID carry: PES packets and gap markers; and at the end perhaps
 /// bytes that are neither.
@@ -17,7 +17,8 @@ pub trait TakesPesPackets {
     ghost is_taken: { Self → List ℕ → Self → Type 0 } = { any_pes_packet };
 
     /// Processes a PES packet, a gap marker or other bytes, and prints what there is to report.
-    fn take(&mut self, pes_packet: &[u8], text: &mut Text)
+    /// `is_missing` if the gap marker is for missing packets, and not one that the PID carries.
+    fn take(&mut self, pes_packet: &[u8], is_missing: bool, text: &mut Text)
         ensures { is_taken self.old pes_packet.now self.new };
 }
 
@@ -101,5 +102,13 @@ fn give_next<T: TakesPesPackets>(joining: &mut Joining, to: &mut T, text: &mut T
     ensures { GivesNext T.is_taken joining.old to.old joining.new to.new }
 {
     let next = joining.take_first();
-    to.take(joining.taken(next), text);
+    to.take(joining.taken(next), is_gap(next), text);
+}
+
+// Returns whether what is ready is a gap marker for missing packets.
+fn is_gap(next: Next) -> bool {
+    match next {
+        Next::GapMarker => true,
+        _ => false,
+    }
 }

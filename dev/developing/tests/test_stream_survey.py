@@ -442,6 +442,29 @@ class Clocks(Case):
         self.check("audio sent twice", told(self, twice, "clock"),
                    [f"clock {TELETEXT_PID} {FIRST} {LAST} 20000 10 3600 5 whole"])
 
+    def test_uses_no_adaptation_field_of_a_damaged_packet(self) -> None:
+        """A TS packet with transport_error_indicator has no PCR and announces no jump; one that is
+        scrambled, or whose adaptation_field_length is wrong, does."""
+        data = with_pcr([*[(3600, 5)] * 30, (20_000, 9)], 2)
+        place = len(data) - 3 * PACKET  # of the late PCR
+        late = data[place:place + PACKET]
+        line = f"clock {TELETEXT_PID} {FIRST} {LAST} 20000 10 3600 5 whole"
+        pcr = f"pcr {VIDEO_PID} {FIRST + 30 * 3600}"
+
+        def announcing(error: int, control: int, length: int) -> bytes:
+            plain = head(VIDEO_PID, 0, ADAPTATION_ALONE)
+            return (bytes([plain[0], plain[1] | error, plain[2], plain[3] | control, length, 0x80])
+                    .ljust(PACKET, b"\xff"))
+
+        damaged = late[:1] + bytes([late[1] | 0x80]) + late[2:]
+        self.check("a PCR", told(self, data[:place] + damaged + data[place + PACKET:],
+                                 "clock", "pcr")[-1], pcr)
+        rows: dict[str, tuple[bytes, list[str]]] = {
+            "plain": (announcing(0, 0, 183), []), "error": (announcing(0x80, 0, 183), [line]),
+            "scrambled": (announcing(0, 0xC0, 183), []), "wrong": (announcing(0, 0x10, 184), [])}
+        for name, (more, wanted) in rows.items():
+            self.check(name, told(self, data[:place] + more + data[place:], "clock"), wanted)
+
     def test_samples_pts_against_pcr_once_a_second(self) -> None:
         """Once a second, by the last PCR, of a clock that runs fast or slow against the PTS."""
         for first in (FIRST, CLOCK - 40 * TICKS):
@@ -565,6 +588,30 @@ class PesPackets(Case):
                 f"refused {refusal} " if refusal else "written 5 pes") and status == (refusal > 0),
                 out)
 
+    def test_says_whether_the_last_pes_packet_is_cut(self) -> None:
+        """Whatever its PTS is, and wherever it ends."""
+        long = pes_packet(FIRST, [CLOSING] * 4)
+        untimed = long[:7] + bytes([long[7] & 0x3F]) + long[8:]
+        whole = pes_packet(FIRST, [CLOSING])
+        rows: dict[str, tuple[list[bytes], int, int]] = {
+            "not cut": ([whole, long], 0, 0),
+            "cut": ([whole, pes_packet(LAST, [CLOSING] * 4)], 1, 1),
+            "the same PTS": ([whole, long], 1, 1), "no PTS": ([whole, untimed], 1, 1),
+            "not cut, no PTS": ([long, untimed], 0, 0)}
+        for name, (several, left_out, cut) in rows.items():
+            maker = Maker(components())
+            maker.put_tables()
+            for pes in several:
+                maker.put(TELETEXT_PID, pes)
+            data = b"".join(maker.packets[:-1] if left_out else maker.packets)
+            self.check(name, told(self, data, "end")[0].split()[7], str(cut))
+        maker = Maker(components())
+        maker.put_tables()
+        maker.put(TELETEXT_PID, whole)
+        maker.put_packet(TELETEXT_PID, BEGINS, long[:9])
+        self.check("cut before the PTS", told(self, maker.data, "end"),
+                   [f"end {TELETEXT_PID} 1 0 2 0 0 1 {FIRST}"])
+
     def test_reads_more_than_is_buffered(self) -> None:
         """More than is read at once, with bytes of no packet before it, in it and behind it."""
         pes = each_frame(1500)
@@ -588,6 +635,10 @@ class PesPackets(Case):
 
 
 # All lines of a recording, in their order.
+
+FRAMES = each_frame(3)
+GAP_MARKER = b"\0\0\1\xbd\0\xb2" + b"\xff" * 178
+
 
 def of_teletext(pes: Iterable[bytes], change: Callable[[list[bytes]], list[bytes]] = list
                 ) -> bytes:
@@ -674,6 +725,19 @@ class Listings(Case):
                 of_teletext(each_frame(3), repeat_first_for_second),
                 "pes 257 0 1 1000000 0 b/ 1 0; gap 257 1 1 0; "
                 "pes 257 2 1 1007200 0 b/ 1 0; end 257 3 1 3 0 0 0 1007200; over 0 5"),
+            "a gap marker": (
+                of_teletext([FRAMES[0], GAP_MARKER, FRAMES[1]]),
+                "pes 257 0 1 1000000 0 b/ 1 0; gap 257 1 0 0; "
+                "pes 257 2 1 1003600 0 b/ 1 0; end 257 3 1 3 0 0 0 1003600; over 0 5"),
+            "a loss before a gap marker": (
+                of_teletext([FRAMES[0], FRAMES[1], GAP_MARKER, FRAMES[2]], without_second),
+                "pes 257 0 1 1000000 0 b/ 1 0; gap 257 1 1 0; gap 257 2 0 0; "
+                "pes 257 3 1 1007200 0 b/ 1 0; end 257 4 2 3 0 0 0 1007200; over 0 5"),
+            "a loss after a gap marker": (
+                of_teletext([FRAMES[0], GAP_MARKER, *FRAMES[1:3]],
+                            lambda packets: [*packets[:2], *packets[3:]]),
+                "pes 257 0 1 1000000 0 b/ 1 0; gap 257 1 0 0; gap 257 2 1 0; "
+                "pes 257 3 1 1007200 0 b/ 1 0; end 257 4 2 3 0 0 0 1007200; over 0 5"),
             "a scrambled packet": (
                 of_teletext(each_frame(3), scramble_second),
                 "pes 257 0 1 1000000 0 b/ 1 0; gap 257 1 1 1; pes 257 2 1 1007200 0 b/ 1 0; "
