@@ -11,7 +11,7 @@
 --   ..     then for each stream: stream_type (8 bits), reserved (3), elementary_PID (13), reserved
 --          (4), ES_info_length (12), and so many bytes of descriptors
 --   ..     CRC_32
-use Rattle.std.specs.Prelude.{ℕ, ◌+◌, ◌-◌, ◌*◌, ◌/◌, ◌%◌, ◌==◌, ◌||◌, Bool, min, nat_le}
+use Rattle.std.specs.Prelude.{ℕ, ◌+◌, ◌-◌, ◌*◌, ◌/◌, ◌%◌, ◌==◌, ◌&&◌, ◌||◌, Bool, min, nat_le}
 use Rattle.std.specs.Prelude.{if◌then◌else◌, List, [], ◌∷◌, length, slice_index, bit_xor}
 use Rattle.std.specs.Prelude.{Option, Some, None, nat_lt}
 use Rattle.std.specs.List.{fold}
@@ -65,6 +65,10 @@ name_of s =
       number = number_at s 3;
       section = slice_index s 6;
     })
+
+-- current_next_indicator: the section is in force, and not only the next one that will be.
+abbrev pub is_current : List ℕ → Bool
+is_current s = nat_le 6 (length s) && (slice_index s 5 % 2 == 1)
 
 -- The PID of the PMT that a PAT names at a place; 1FFF if it names a network.
 abbrev pub pmt_pid_at : List ℕ → ℕ → Option ℕ

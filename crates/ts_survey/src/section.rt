@@ -2,7 +2,8 @@
 ghost use Rattle.std.specs.Prelude.{◌≡◌, ◌≤◌, ◌<◌, ◌+◌, length, IfSome};
 ghost use Rattle.ts_survey.specs.Section.{crc_after, crc_of, crc_shifted, descriptor_at, length_at};
 ghost use Rattle.ts_survey.specs.Section.{name_of, number_at, page_at, pid_at, pmt_pid_at};
-ghost use Rattle.ts_survey.specs.Section.{is_of_teletext, programme_of, section_size, stream_at};
+ghost use Rattle.ts_survey.specs.Section.{is_current, is_of_teletext, programme_of, section_size};
+ghost use Rattle.ts_survey.specs.Section.{stream_at};
 
 /// The number of bytes before the first entry of a PAT, and before the descriptors of a PMT.
 const PAT_HEAD: usize = 8;
@@ -103,6 +104,13 @@ pub fn name_of(section: &[u8]) -> Option<SectionName>
         number: number_at(section, 3),
         section: section[6],
     })
+}
+
+/// Returns current_next_indicator: the section is in force, and not only the next one that will be.
+pub fn is_current(section: &[u8]) -> bool
+    ensures { result ≡ is_current section.now }
+{
+    section.len() >= 6 && section[5] % 2 == 1
 }
 
 /// Returns the PID of the PMT at a place of a PAT section, 8 and then each fourth byte; `None`

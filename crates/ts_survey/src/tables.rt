@@ -2,7 +2,7 @@
 ghost use Rattle.std.specs.Prelude.{◌≤◌, IfSome};
 ghost use Rattle.std.specs.Prelude.{length};
 
-use crate::section::{SectionName, crc_of, name_of, section_size};
+use crate::section::{SectionName, crc_of, is_current, name_of, section_size};
 use arrayvec::ArrayVec;
 use mpeg_ts::{PACKET, begins};
 use std::alloc::Global;
@@ -160,7 +160,7 @@ impl Tables {
         }
     }
 
-    /// Returns whether a complete section is new, and keeps it then.
+    /// Returns whether a complete section is new and in force, and keeps it then.
     pub fn is_new(&mut self, section: &[u8]) -> bool {
         let Some(name) = name_of(section) else {
             return false;
@@ -168,7 +168,10 @@ impl Tables {
         let Some(crc) = section.last_chunk::<4>() else {
             return false;
         };
-        if is_known_section(self.known.as_slice(), name, crc) || crc_of(section) != 0 {
+        if is_known_section(self.known.as_slice(), name, crc) {
+            return false;
+        }
+        if !is_current(section) || crc_of(section) != 0 {
             return false;
         }
         let is_there = is_named(self.known.as_slice(), name);

@@ -9,7 +9,7 @@ import os
 import random
 from typing import Callable, Iterable, NamedTuple, Sequence
 
-from developing.multiplex import ADAPTATION_ALONE, BEGINS, PACKET, head, section
+from developing.multiplex import ADAPTATION_ALONE, BEGINS, PACKET, crc, head, section
 from developing.pes import packet, pes_packet, pts_bytes
 from subtitles.common.command_line import Unanswered
 from subtitles.common.times import CLOCK, TICKS
@@ -341,6 +341,30 @@ class Tables(Case):
             maker.packets += [filler(AUDIO_PID, maker.counters).data] * 5
             self.check(name, told(self, maker.data, *self.kinds), [
                 "programme 1 8191", "stream 257 6", "announce 257 888 656e67 2", "teletext 257"])
+
+    def test_ignores_tables_that_are_not_in_force(self) -> None:
+        """A PAT or PMT with current_next_indicator 0 is ignored until it is sent with 1."""
+        def sent_early(data: bytes) -> bytes:
+            body = data[1:6] + bytes([data[6] & 0xFE]) + data[7:-4]
+            return b"\0" + body + crc(body).to_bytes(4, "big")
+
+        pat = Maker([]).tables[0][1]
+        table = program_map(1, [(TELETEXT_PID, PRIVATE, teletext_descriptor())], 0x1FFF)
+        programme = ["programme 1 8191", "stream 257 6", "announce 257 888 656e67 2",
+                     "teletext 257"]
+        rows: dict[str, tuple[list[bytes], list[str]]] = {
+            "PMT": ([pat, sent_early(table)], []),
+            "PMT, then in force": ([pat, sent_early(table), table], programme),
+            "PMT between": ([pat, table, sent_early(table), table], programme),
+            "PAT": ([sent_early(pat), table], []),
+            "PAT, then in force": ([sent_early(pat), pat, table], programme)}
+        for name, (several, wanted) in rows.items():
+            maker = Maker([])
+            for data in several:
+                maker.put_packet(PMT_PID if data[1] == 2 else 0, BEGINS,
+                                 data.ljust(PACKET - 4, b"\xff"))
+            maker.packets += [filler(AUDIO_PID, maker.counters).data] * 5
+            self.check(name, told(self, maker.data, *self.kinds), wanted)
 
     def test_reads_the_last_of_twenty_programmes(self) -> None:
         """Twenty programmes, of which the last has Teletext and a PCR of its own."""
